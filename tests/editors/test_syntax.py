@@ -16,7 +16,7 @@ from tests.harness import TOP, NotHere, Result, matched, results_of
 
 VIM = TOP / "editors/vim"
 VSCODE = TOP / "editors/vscode"
-NAME = re.compile(r'(?:Name|Act|ActWith)::\w+ => b"([a-z-]+)"')
+NAME = re.compile(r'(?:Name|NodeCommand|NodeCommandWithArg)::\w+ => b"([a-z-]+)"')
 
 # Lines of a script, each with what is in it: those that Vim shows, in order, and then those of the grammar.
 SHOWN = [

@@ -66,24 +66,24 @@ def faults(code: str) -> list[str]:
     return found
 
 
-TRACKER, CHANGE, LOG, MESSAGE = (SOURCE.parents[1] / crate / "src" for crate in ("rb_tracker", "rb_change", "rb_raftlog", "rb_message"))
+TRACKER, CHANGE, LOG, MESSAGE = (SOURCE.parents[1] / crate / "src" for crate in ("rb_tracker", "rb_vocab", "rb_raftlog", "rb_message"))
 # What stands where: the folder, the file, the type or call that keeps it, what it keeps it in, and whose that is.
 KEPT = [
     (TRACKER, "window.rt", r"struct Window \{(.*?)\n\}", r":\s*HeapCircularBuffer<u64>", r"use circular_buffer::HeapCircularBuffer;"),
     (TRACKER, "tracker.rt", r"struct Tracker \{(.*?)\n\}", r":\s*IndexMap<u64, Progress>", r"use indexmap::IndexMap;"),
     (TRACKER, "id_set.rt", r"struct IdSet \{(.*?)\n\}", r":\s*SmallVec<u64, \d+>", r"use smallvec::SmallVec;"),
-    (TRACKER, "tracker/commit.rt", r"fn most_held\((.*?)\n    \}", r":\s*SmallVec<u64, 16>.*sort_unstable", r"use smallvec::SmallVec;"),
+    (TRACKER, "tracker/commit.rt", r"fn held_by_majority\((.*?)\n    \}", r":\s*SmallVec<u64, 16>.*sort_unstable", r"use smallvec::SmallVec;"),
     (LOG, "split_store.rt", r"struct SplitStore \{(.*?)\n\}", r"all: Pages<Entry>", r"use crate::pages::Pages;"),
     (LOG, "entries.rt", r"struct Entries \{(.*?)\n\}", r"list: Option<Rc<Pages<Entry>>>", r"use std::rc::Rc;"),
     (LOG, "pages.rt", r"struct Pages<T> \{(.*?)\n\}", r"pages: PageList<T>", r"use crate::page_list::PageList;"),
-    (LOG, "page_list.rt", r"struct PageList<T> \{(.*?)\n\}", r"shelf: Option<Shelf<Page<T>>>.*last: Option<Page<T>>", r"use crate::page::Page;"),
-    (LOG, "shelf.rt", r"struct Shelf<T> \{(.*?)\n\}", r"items: Rc<Vec<T>>", r"use std::rc::Rc;"),
+    (LOG, "page_list.rt", r"struct PageList<T> \{(.*?)\n\}", r"shared_vec: Option<SharedVec<Page<T>>>.*last: Option<Page<T>>", r"use crate::page::Page;"),
+    (LOG, "shared_vec.rt", r"struct SharedVec<T> \{(.*?)\n\}", r"items: Rc<Vec<T>>", r"use std::rc::Rc;"),
     (LOG, "page.rt", r"struct Page<T> \{(.*?)\n\}", r"items: Rc<Vec<T>>", r"use std::rc::Rc;"),
     (LOG, "page.rt", r"fn try_copy(.*?)\n    \}", r"items: self\.items\.clone\(\)\?", r"use std::rc::Rc;"),
-    (LOG, "content.rt", r"struct Content \{(.*?)\n\}", r"pieces: Pages<Shared<u8>>", r"use rb_change::Shared;"),
+    (LOG, "content.rt", r"struct Content \{(.*?)\n\}", r"pieces: Pages<Shared<u8>>", r"use rb_vocab::Shared;"),
     (CHANGE, "shared.rt", r"struct Shared<T> \{(.*?)\n\}", r"items: RcSlice<T>", r"use std::rc::RcSlice;"),
     (CHANGE, "shared.rt", r"fn try_copy(.*?)\n    \}", r"items: self\.items\.clone\(\)\?", r"use std::rc::RcSlice;"),
-    (MESSAGE, "outbox.rt", r"struct Outbox \{(.*?)\n\}", r"pages: Pages<Shared<Message>>", r"use rb_change::Shared;"),
+    (MESSAGE, "outbox.rt", r"struct Outbox \{(.*?)\n\}", r"pages: Pages<Shared<Message>>", r"use rb_vocab::Shared;"),
 ]
 SETS = ("incoming", "outgoing", "learners", "next")
 
@@ -144,7 +144,7 @@ WRONG_LINES = [
     "use rb_cluster::Meter;",
     "let c: Cluster = x;",
 ]
-WRONG_ROWS = ["rb_replay: rb_machine rb_cluster", "rb_replay: rb_machine rb_line\nrb_line: rb_cluster"]
+WRONG_ROWS = ["rb_replay: rb_machine rb_cluster", "rb_replay: rb_machine rb_document\nrb_document: rb_cluster"]
 WRONG_NAMES = ["pub(crate) struct Entry {", "trait Machine {"]
 
 

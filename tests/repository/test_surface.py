@@ -13,7 +13,7 @@ from tests.repository.test_sources import sources
 
 # The crate, the type or trait (or none), and its calls.
 CALLS = [
-    ("rb_script", "", "DirectiveRef Edit Grouped Lines Sink Through WriteFault"),
+    ("rb_script", "", "DirectiveRef Edit ChunkedList Lines Sink Through WriteFault"),
     ("rb_script", "Script", "read len block edited write_to write_with"),
     ("rb_script", "Block", "read directive"),
     ("rb_script", "DirectiveRef", "name args key values value has_equals inputs input"),
@@ -147,7 +147,7 @@ TAKEN = [
     ("rb_node/src/ticking.rt", "    pub fn tick(", "    pub fn ticks(", "rb_node doesn't give Node::tick"),
     ("rb_machine/src/machine.rt", "    type Meter:", "    type Counter:", "rb_cluster doesn't give Machine::Meter"),
     ("rb_texts/src/lib.rt", "level_of", "", "rb_texts doesn't give level_of"),
-    ("rb_level/src/lib.rt", "pub use level::{Level, level_of};", "", "rb_texts doesn't give Level"),
+    ("rb_vocab/src/lib.rt", "pub use level::{Level, level_of};", "", "rb_texts doesn't give Level"),
     ("rb_replay/src/session.rt", "    pub fn checkpoints(", "    fn checkpoints(", "rb_replay doesn't give Session::checkpoints"),
     ("rb_bench/src/lib.rt", "pub use session::serve;", "use session::serve;", "rb_bench doesn't give serve"),
 ]

@@ -1,10 +1,10 @@
 //! `raftbench lsp`: an editor over standard input and output.
 
 use rb_actions::lsp;
-use rb_line::ReadSource;
 use rb_program::Refusal;
 use rb_script::Through;
 use rb_server::{ExitStatus, ServeFault};
+use rb_text::ReadSource;
 use std::io;
 
 /// Serves an editor, and gives the program's status.

@@ -11,11 +11,11 @@ use crate::publishing::add_list;
 use rb_check::Table;
 use rb_cluster::{Cluster, Meter};
 use rb_document::Encoding;
-use rb_line::Source;
 use rb_offers::{add_completion, add_folds, add_formatting, add_symbols};
 use rb_raftlog::SplitLog;
 use rb_script::Sink;
 use rb_server::{Client, ExitStatus, Query, ServeFault, Service, serve};
+use rb_text::Source;
 use std::alloc::{AllocError, Global};
 
 /// Knows what scripts mean.

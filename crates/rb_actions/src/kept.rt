@@ -107,7 +107,7 @@ impl<M: Machine> Sessions<M> {
             Some(session) => session,
             None => begun(self.alloc, meter)?,
         };
-        session.turn_into(script, meter)?;
+        session.replace_script(script, meter)?;
         Ok(session)
     }
 }

@@ -10,8 +10,8 @@ use Rattle.rb_script.specs.Lines.{Line, lines}
 use Rattle.rb_script.proofs.LineLaws.{lines_nil}
 use Rattle.rb_bench.specs.declared.command.Command.{Command}
 use Rattle.rb_bench.specs.Commands.{command_of}
-use Rattle.rb_line.specs.declared.source.InputFault.{InputFault}
-use Rattle.rb_line.specs.Given.{LosesLine, LosesLong, IsFirstLong}
+use Rattle.rb_text.specs.declared.source.InputFault.{InputFault}
+use Rattle.rb_text.specs.Given.{LosesLine, LosesLong, IsFirstLong}
 use Rattle.rb_bench.specs.declared.given_lines.GivenLines.{GivenLines}
 use Rattle.rb_bench.specs.declared.hear.HeardCommand.{HeardCommand}
 use Rattle.rb_bench.specs.declared.hear.HeardCommand.TheVariants as heards

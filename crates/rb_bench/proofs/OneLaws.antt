@@ -46,17 +46,17 @@ reused_once (Some c) old m n ps qs one other =
 
 -- the session of a script that was run
 abbrev fresh_of : PlainScript → ℕ → List ℕ → Holding
-fresh_of s spacing points = record { script = s; spacing = spacing; outputs = outputs s; mismatches = mismatches s; points = points; kept = map (state s) points }
+fresh_of s checkpoint_interval points = record { script = s; checkpoint_interval = checkpoint_interval; outputs = outputs s; mismatches = mismatches s; points = points; kept = map (state s) points }
 
-fresh_is : (h : Holding) → IsOneRun h → h ≡ fresh_of h.script h.spacing h.points
+fresh_is : (h : Holding) → IsOneRun h → h ≡ fresh_of h.script h.checkpoint_interval h.points
 fresh_is h f = let answered = f.answered in let compared = f.compared in let states = f.states in
-    ap (λ o. record { script = h.script; spacing = h.spacing; outputs = o; mismatches = h.mismatches; points = h.points; kept = h.kept }) answered
-    ∙ ap (λ m. record { script = h.script; spacing = h.spacing; outputs = outputs h.script; mismatches = m; points = h.points; kept = h.kept }) compared
-    ∙ ap (λ k. record { script = h.script; spacing = h.spacing; outputs = outputs h.script; mismatches = mismatches h.script; points = h.points; kept = k }) states
+    ap (λ o. record { script = h.script; checkpoint_interval = h.checkpoint_interval; outputs = o; mismatches = h.mismatches; points = h.points; kept = h.kept }) answered
+    ∙ ap (λ m. record { script = h.script; checkpoint_interval = h.checkpoint_interval; outputs = outputs h.script; mismatches = m; points = h.points; kept = h.kept }) compared
+    ∙ ap (λ k. record { script = h.script; checkpoint_interval = h.checkpoint_interval; outputs = outputs h.script; mismatches = mismatches h.script; points = h.points; kept = k }) states
 
-held_once : (g h : Holding) → IsOneRun g → IsOneRun h → g.script ≡ h.script → g.spacing ≡ h.spacing → g.points ≡ h.points → g ≡ h
+held_once : (g h : Holding) → IsOneRun g → IsOneRun h → g.script ≡ h.script → g.checkpoint_interval ≡ h.checkpoint_interval → g.points ≡ h.points → g ≡ h
 held_once g h f e s k p =
-    fresh_is g f ∙ ap (λ t. fresh_of t g.spacing g.points) s ∙ ap (λ t. fresh_of h.script t g.points) k ∙ ap (λ t. fresh_of h.script h.spacing t) p ∙ sym (fresh_is h e)
+    fresh_is g f ∙ ap (λ t. fresh_of t g.checkpoint_interval g.points) s ∙ ap (λ t. fresh_of h.script t g.points) k ∙ ap (λ t. fresh_of h.script h.checkpoint_interval t) p ∙ sym (fresh_is h e)
 
 made_once : (made : Result PlainScript EditFault) (s t : PlainScript) → made ≡ Ok s → made ≡ Ok t → s ≡ t
 made_once made s t e f = let same : Ok s ≡ Ok t = sym e ∙ f in cc
@@ -78,7 +78,7 @@ done_once h edit answer after other next a b =
     let counts : a.changed.mismatches ≡ b.changed.mismatches = one.mismatches_are ∙ ap (λ (s : PlainScript). length (mismatches s)) script ∙ sym two.mismatches_are in
     let texts : done a.changed ≡ done b.changed =
     ap (λ (n : ℕ). done (record { executed = n; mismatches = a.changed.mismatches })) cost ∙ ap (λ (n : ℕ). done (record { executed = b.changed.executed; mismatches = n })) counts in
-    (a.answer_is ∙ texts ∙ sym b.answer_is, held_once after next one.fresh two.fresh script (one.spacing ∙ sym two.spacing) points, λ _. one.fresh)
+    (a.answer_is ∙ texts ∙ sym b.answer_is, held_once after next one.fresh two.fresh script (one.checkpoint_interval ∙ sym two.checkpoint_interval) points, λ _. one.fresh)
 
 made_answer : (h : Holding) (edit : Edit) (made : Result PlainScript EditFault) (no_memory : Bool) (answer : List ℕ) (after : Holding) (other : List ℕ) (next : Holding) → AnswersMade h edit made no_memory answer after → AnswersMade h edit made no_memory other next
     → IsOne h answer after other next

@@ -36,7 +36,7 @@ some_refused mode bytes s fault old new r a = a.0 s r
 -- ---- the session that is started
 
 abbrev held : PlainScript → ℕ → List (List Line) → List ℕ → List ℕ → List Cluster → Holding
-held s spacing os wrong points kept = record { script = s; spacing = spacing; outputs = os; mismatches = wrong; points = points; kept = kept }
+held s checkpoint_interval os wrong points kept = record { script = s; checkpoint_interval = checkpoint_interval; outputs = os; mismatches = wrong; points = points; kept = kept }
 
 abbrev began : ℕ → PlainScript → Holding
 began every s = held s every (outputs s) (mismatches s) (start_points every (length s.blocks)) (map (state s) (start_points every (length s.blocks)))
@@ -45,7 +45,7 @@ is_began : (script : List ℕ) (every : ℕ) (h : Holding) → IsStarted script 
 is_began script every h a =
     let s = h.script in
     let points = start_points every (length s.blocks) in
-    ap (λ (x : ℕ). held s x h.outputs h.mismatches h.points h.kept) a.spacing
+    ap (λ (x : ℕ). held s x h.outputs h.mismatches h.points h.kept) a.checkpoint_interval
     ∙ ap (λ (x : List (List Line)). held s every x h.mismatches h.points h.kept) a.fresh.run.answered
     ∙ ap (λ (x : List ℕ). held s every (outputs s) x h.points h.kept) a.fresh.run.compared
     ∙ ap (λ (x : List Cluster). held s every (outputs s) (mismatches s) h.points x) a.fresh.run.states

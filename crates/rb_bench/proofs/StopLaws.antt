@@ -8,14 +8,14 @@ use Rattle.rb_script.specs.Lines.{Line, lines, without_returns}
 use Rattle.rb_bench.specs.declared.command.Command.{Command}
 use Rattle.rb_bench.specs.Commands.{command_of}
 use Rattle.rb_replay.specs.Holding.{Holding}
-use Rattle.rb_line.specs.declared.line_reader.LineReader.{LineReader}
-use Rattle.rb_line.specs.declared.source.InputFault.{InputFault}
-use Rattle.rb_line.specs.Begun.{HasNoFeed}
-use Rattle.rb_line.specs.Given.{LosesLine}
-use Rattle.rb_line.specs.Left.{left_of}
-use Rattle.rb_line.specs.Taken.{AreWhole, StopsInLine, TakesWhole}
-use Rattle.rb_line.proofs.CutLaws.{lines_none, lines_whole, lines_of_whole, whole_both}
-use Rattle.rb_line.proofs.TakenLaws.{takes_then}
+use Rattle.rb_text.specs.declared.line_reader.LineReader.{LineReader}
+use Rattle.rb_text.specs.declared.source.InputFault.{InputFault}
+use Rattle.rb_text.specs.Begun.{HasNoNewline}
+use Rattle.rb_text.specs.Given.{LosesLine}
+use Rattle.rb_text.specs.Left.{left_of}
+use Rattle.rb_text.specs.Taken.{AreWhole, StopsInLine, TakesWhole}
+use Rattle.rb_text.proofs.CutLaws.{lines_none, lines_whole, lines_of_whole, whole_both}
+use Rattle.rb_text.proofs.TakenLaws.{takes_then}
 use Rattle.rb_bench.specs.declared.given_lines.GivenLines.{GivenLines}
 use Rattle.rb_bench.specs.declared.hear.HeardCommand.{HeardCommand}
 use Rattle.rb_bench.specs.declared.hear.HeardCommand.TheVariants as heards
@@ -35,7 +35,7 @@ three all whole mid begun rest e f = e ∙ ap (λ (l : List ℕ). whole ++ l) f 
 
 -- so many lines were taken whole, and then the beginning of one came
 came_short : (all mid after : Option (List ℕ)) (count wanted : ℕ) (given : GivenLines) (whole begun : List ℕ) → Takes all mid count given → AreWhole whole → Consumes all mid whole
-    → HasNoFeed begun → length (without_returns begun) ≤ MAX_LINE → Consumes mid after begun → count < wanted → IfCame all after (Came (AreTooFew wanted))
+    → HasNoNewline begun → length (without_returns begun) ≤ MAX_LINE → Consumes mid after begun → count < wanted → IfCame all after (Came (AreTooFew wanted))
 came_short None mid after count wanted given whole begun t w c free short lost lt = tt
 came_short (Some all) None after count wanted given whole begun t w c free short lost lt = absurd t
 came_short (Some all) (Some mid) None count wanted given whole begun t w c free short lost lt = absurd lost
@@ -48,7 +48,7 @@ came_short (Some all) (Some mid) (Some rest) count wanted given whole begun t w 
         begun = begun;
         bytes_are = refl;
         are_whole = w;
-        no_feed = free;
+        no_newline = free;
         short = short;
         held = (omega (arith, ap length same, t.count_is, lt), ap (list_any is_long) same ∙ t.short);
       },
@@ -59,18 +59,18 @@ pub stops_short : (x y : LineReader) (a b after : Option (List ℕ)) (count want
 stops_short x y a b after count wanted given t whole s lt =
     let took = whole s.going in record {
       going = took.going;
-      came = came_short (left_of x a) (left_of y b) after count wanted given took.bytes s.begun t took.are_whole took.taken s.no_feed s.short s.lost lt;
+      came = came_short (left_of x a) (left_of y b) after count wanted given took.bytes s.begun t took.are_whole took.taken s.no_newline s.short s.lost lt;
     }
 
 -- nothing but the beginning of a line came
-came_first : (all after : Option (List ℕ)) (begun : List ℕ) → HasNoFeed begun → length (without_returns begun) ≤ MAX_LINE → Consumes all after begun → IfCame all after (Came IsUnfinished)
+came_first : (all after : Option (List ℕ)) (begun : List ℕ) → HasNoNewline begun → length (without_returns begun) ≤ MAX_LINE → Consumes all after begun → IfCame all after (Came IsUnfinished)
 came_first None after begun free short lost = tt
 came_first (Some all) None begun free short lost = absurd lost
 came_first (Some all) (Some rest) begun free short lost =
-    (begun, lost, record { whole = []; begun = begun; bytes_are = refl; are_whole = inl refl; no_feed = free; short = short; held = inl lines_none })
+    (begun, lost, record { whole = []; begun = begun; bytes_are = refl; are_whole = inl refl; no_newline = free; short = short; held = inl lines_none })
 
 pub stops_first : (x : LineReader) (a after : Option (List ℕ)) → StopsInLine x a after → StopsBehind IsUnfinished x a after
-stops_first x a after s = record { going = s.going; came = came_first (left_of x a) after s.begun s.no_feed s.short s.lost }
+stops_first x a after s = record { going = s.going; came = came_first (left_of x a) after s.begun s.no_newline s.short s.lost }
 
 -- a command came whose lines are too few
 came_after : (all mid after : Option (List ℕ)) (line : Line) (whole : List ℕ) → LosesLine all mid line → length line ≤ MAX_LINE → AreWhole whole → Consumes all mid whole
@@ -88,7 +88,7 @@ came_after (Some all) (Some mid) (Some rest) line whole l le w c (bytes, e, came
         begun = came.begun;
         bytes_are = ap (λ (l : List ℕ). whole ++ l) came.bytes_are ∙ sym (append_assoc whole came.whole came.begun);
         are_whole = whole_both whole came.whole w came.are_whole;
-        no_feed = came.no_feed;
+        no_newline = came.no_newline;
         short = came.short;
         held = inr (cut_after line (lines came.whole) (lines (whole ++ came.whole)) lines_are (short_line line le) came.held.1 came.held.0);
       },
@@ -130,7 +130,7 @@ answers_came (Some all) (Some mid) (Some rest) first now old new whole gone w c 
         begun = came.begun;
         bytes_are = ap (λ (l : List ℕ). whole ++ l) came.bytes_are ∙ sym (append_assoc whole came.whole came.begun);
         are_whole = whole_both whole came.whole w came.are_whole;
-        no_feed = came.no_feed;
+        no_newline = came.no_newline;
         short = came.short;
         held = record {
           rest = lines came.whole;

@@ -1,4 +1,4 @@
--- One turn, and the turns so far.
+-- One serve_one, and the turns so far.
 use Rattle.std.proofs.Common.{◌≡◌, ℕ, ◌⊎◌, inl, inr, Bool, List, [], ◌∷◌, ◌++◌, Option, Some, None, Ok, Err, refl, ap, sym, subst, ◌∙◌, append_assoc, append-nil}
 use Rattle.std.specs.List.{flat_map}
 use Rattle.std.specs.Io.KnownBytes.{Appends}
@@ -40,14 +40,14 @@ pub exchange_heard : (h : Holding) (heard : HeardCommand) (command : Command) (g
     → ((given_lines : List Line) → IsGiven given given_lines → (no_memory : Bool) × AnswersCommand h command given_lines no_memory answer after) → IsExchange h ls rest answer after
 exchange_heard h heard command given ls rest answer after e hears answers = exchanged h command given ls rest answer after (subst (λ (m : HeardCommand). Hears m ls rest) e hears) answers
 
--- ---- a turn
+-- ---- a serve_one
 
 -- what was answered went out
 pub turned : (before left : Option (List ℕ)) (heard : HeardCommand) (h after : Holding) (text : List ℕ) (status : Option Status) (old new : Option (List ℕ)) → HearsOf before left heard
     → ((ls rest : List Line) → Hears heard ls rest → IsTurn h ls rest text after status) → Appends old new text → TurnsOut before left (Ok status) h after old new
 turned None left heard h after text status old new hears turns out = tt
 turned (Some bytes) None heard h after text status old new hears turns out = absurd hears
-turned (Some bytes) (Some rest) heard h after text status old new hears turns out = record { text = text; turn = turns (lines bytes) (lines rest) hears; went_out = out }
+turned (Some bytes) (Some rest) heard h after text status old new hears turns out = record { text = text; serve_one = turns (lines bytes) (lines rest) hears; went_out = out }
 
 -- a beginning of it
 pub turn_failed : (before left : Option (List ℕ)) (heard : HeardCommand) (h after : Holding) (text : List ℕ) (status : Option Status) (fault : BenchFault) (old new : Option (List ℕ)) → HearsOf before left heard
@@ -57,7 +57,7 @@ turn_failed (Some bytes) None heard h after text status fault old new hears turn
 turn_failed (Some bytes) (Some rest) heard h after text status fault old new hears turns out =
     record { text = text; is_due = inr (lines rest, after, status, turns (lines bytes) (lines rest) hears); went_out = out }
 
--- ---- turn after turn
+-- ---- serve_one after serve_one
 
 -- the turns so far, from the first session and all lines to this session and the lines that are left, went out
 pub record Goes (first now : Holding) (all rest : List Line) (old new : Option (List ℕ)) : Type 0 where
@@ -98,7 +98,7 @@ gone_none (Some bytes) h old = record { text = []; begins = record { exchanges =
 goes_more : (first now after : Holding) (all ls rest : List Line) (old mid new : Option (List ℕ)) → Goes first now all ls old mid → Turned now ls rest after None mid new → Goes first after all rest old new
 goes_more first now after all ls rest old mid new g t = record {
   text = g.text ++ t.text;
-  begins = begins_more first now after all ls rest g.text t.text g.begins t.turn;
+  begins = begins_more first now after all ls rest g.text t.text g.begins t.serve_one;
   went_out = Appends-trans old mid new g.text t.text g.went_out t.went_out;
 }
 
@@ -116,7 +116,7 @@ talks_more first now all ls said text status b e =
 closes : (first now : Holding) (all ls : List Line) (after : Holding) (rest : List Line) (status : Status) (old mid new : Option (List ℕ)) → Goes first now all ls old mid → Turned now ls rest after (Some status) mid new → WentOut first all status old new
 closes first now all ls after rest status old mid new g t = record {
   text = g.text ++ t.text;
-  talks = talks_more first now all ls g.text t.text status g.begins t.turn;
+  talks = talks_more first now all ls g.text t.text status g.begins t.serve_one;
   went_out = Appends-trans old mid new g.text t.text g.went_out t.went_out;
 }
 

@@ -1,4 +1,4 @@
--- What the arguments choose of a run or a session. (This project's.)
+-- The choices of a run or a session. (This project's.)
 use Rattle.std.specs.Prelude.{◌≡◌, List, Option, codes, option_map, option_and_then, string_bytes}
 use Rattle.clap.specs.Words.{Row, Text, first_of}
 use Rattle.rb_args.specs.Chosen.{named_by}

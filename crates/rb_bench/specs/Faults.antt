@@ -3,8 +3,8 @@ use Rattle.std.specs.Prelude.{Result, ⊤}
 use Rattle.rb_script.specs.declared.fault.ScriptFault.{ScriptFault}
 use Rattle.rb_script.specs.Script.{PlainScript}
 use Rattle.rb_script.specs.Reading.{Refuses}
-use Rattle.rb_line.specs.declared.reading.ReadFault.{ReadFault}
-use Rattle.rb_line.specs.declared.reading.ReadFault.TheVariants as reads
+use Rattle.rb_text.specs.declared.reading.ReadFault.{ReadFault}
+use Rattle.rb_text.specs.declared.reading.ReadFault.TheVariants as reads
 use Rattle.rb_replay.specs.declared.fault.StartFault.{StartFault}
 use Rattle.rb_replay.specs.declared.fault.StartFault.TheVariants as starts
 use Rattle.rb_bench.specs.declared.fault.BenchFault.{BenchFault}

@@ -1,4 +1,4 @@
--- A command with its lines, as they come in. (This project's.)
+-- Reading a command with its lines. (This project's.)
 use Rattle.std.specs.Prelude.{◌≡◌, ℕ, ◌<◌, ◌≤◌, false, true, List, [], ◌∷◌, ◌++◌, length, take, Option, ⊤}
 use Rattle.std.specs.List.{list_any}
 use Rattle.rb_script.specs.declared.limits.TheConstants.{MAX_SCRIPT}

@@ -1,4 +1,4 @@
--- What is said of the lines of an input whose bytes may not be known. (This project's.)
+-- Statements about the lines of an input, if its bytes are known. (This project's.)
 use Rattle.std.specs.Prelude.{ℕ, List, Option, Some, None, ⊤}
 use Rattle.rb_script.specs.Lines.{Line, lines}
 

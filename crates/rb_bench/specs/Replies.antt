@@ -1,4 +1,4 @@
--- What is written of a reply. (This project's.)
+-- The texts of replies. (This project's.)
 use Rattle.std.specs.Prelude.{ℕ, List, [], codes}
 use Rattle.rb_script.specs.Script.{text}
 use Rattle.rb_replay.specs.Run.{output_at}

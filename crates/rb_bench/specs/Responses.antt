@@ -1,4 +1,4 @@
--- What a session answers to a command, and the session after it. (This project's.)
+-- The response of a session to a command, and the session after it. (This project's.)
 use Rattle.std.specs.Prelude.{◌≡◌, ℕ, nat_lt, Bool, false, MatchBool, List, [], ◌++◌, length, Option, Some, None, Result, Ok, Err, codes, decimal}
 use Rattle.rb_script.specs.declared.limits.TheConstants.{MAX_SCRIPT}
 use Rattle.rb_script.specs.declared.fault.ScriptFault.{ScriptFault}
@@ -37,7 +37,7 @@ fault_text fault = script_name fault ++ at_line (fault_line fault)
 abbrev pub refused : List ℕ → List ℕ
 refused name = line_text (codes "refused " ++ name)
 
--- what an edit came to
+-- the answer to an accepted edit
 abbrev pub done : Changed → List ℕ
 done changed = line_text (codes "done executed=" ++ decimal changed.executed ++ codes " mismatches=" ++ decimal changed.mismatches)
 

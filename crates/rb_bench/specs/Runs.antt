@@ -1,4 +1,4 @@
--- What is written for a script, and the status. (This project's.)
+-- The text and the status of a run. (This project's.)
 use Rattle.std.specs.Prelude.{◌≡◌, ℕ, ◌+◌, ◌⊎◌, nat_lt, if◌then◌else◌, List, length, take, Option, Some, Result, Ok, Err}
 use Rattle.std.specs.Io.KnownBytes.{Appends, Consumes, Keeps}
 use Rattle.rb_script.specs.declared.limits.TheConstants.{MAX_SCRIPT}
@@ -13,9 +13,9 @@ use Rattle.rb_check.specs.declared.status.Status.{Status}
 use Rattle.rb_check.specs.declared.status.Status.TheVariants as statuses
 use Rattle.rb_bench.specs.declared.fault.BenchFault.{BenchFault}
 use Rattle.rb_bench.specs.declared.fault.BenchFault.TheVariants as faults
-use Rattle.rb_line.specs.declared.reading.ReadFault.{ReadFault}
+use Rattle.rb_text.specs.declared.reading.ReadFault.{ReadFault}
 use Rattle.rb_bench.specs.Faults.{of_reading}
-use Rattle.rb_line.specs.Reading.{StopsWithin}
+use Rattle.rb_text.specs.Reading.{StopsWithin}
 
 -- what is written for a script
 abbrev pub text_for : Mode → PlainScript → List ℕ
@@ -38,7 +38,7 @@ most_read = MAX_SCRIPT + 1
 abbrev pub read_part : List ℕ → List ℕ
 read_part all = take most_read all
 
--- no script fits
+-- the bytes are not a script
 abbrev pub IsNoScript : List ℕ → Type 0
 IsNoScript bytes = (s : PlainScript) → Reads bytes s → ⊥
 

@@ -32,7 +32,7 @@ TalksOut all (Err fault) first old new = IfSome all (λ bytes. WentOutInPart fir
 pub record IsStarted (script : List ℕ) (every : ℕ) (h : Holding) : Type 0 where
   pub reads : Reads script h.script
   pub fresh : IsFresh h
-  pub spacing : h.spacing ≡ every
+  pub checkpoint_interval : h.checkpoint_interval ≡ every
   pub points : h.points ≡ start_points every (length h.script.blocks)
 
 -- a conversation that began with it

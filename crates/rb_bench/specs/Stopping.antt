@@ -5,10 +5,10 @@ use Rattle.std.specs.Io.KnownBytes.{Appends}
 use Rattle.rb_script.specs.declared.limits.TheConstants.{MAX_LINE}
 use Rattle.rb_script.specs.Lines.{Line, lines, without_returns}
 use Rattle.rb_replay.specs.Holding.{Holding}
-use Rattle.rb_line.specs.declared.line_reader.LineReader.{LineReader}
-use Rattle.rb_line.specs.Begun.{HasNoFeed}
-use Rattle.rb_line.specs.Left.{left_of}
-use Rattle.rb_line.specs.Taken.{AreWhole, TakesWhole}
+use Rattle.rb_text.specs.declared.line_reader.LineReader.{LineReader}
+use Rattle.rb_text.specs.Begun.{HasNoNewline}
+use Rattle.rb_text.specs.Left.{left_of}
+use Rattle.rb_text.specs.Taken.{AreWhole, TakesWhole}
 use Rattle.rb_bench.specs.declared.hear.HeardCommand.{HeardCommand}
 use Rattle.rb_bench.specs.declared.hear.HeardCommand.TheVariants as heards
 use Rattle.rb_check.specs.declared.status.Status.{Status}
@@ -29,7 +29,7 @@ pub record Came (holds : List Line → Type 0) (bytes : List ℕ) : Type 0 where
   pub begun : List ℕ
   pub bytes_are : bytes ≡ whole ++ begun
   pub are_whole : AreWhole whole
-  pub no_feed : HasNoFeed begun
+  pub no_newline : HasNoNewline begun
   pub short : length (without_returns begun) ≤ MAX_LINE
   pub held : holds (lines whole)
 
@@ -51,7 +51,7 @@ TakesHeard heards.End input later left after = ⊤
 TakesHeard heards.LineTooLong input later left after = ⊤
 TakesHeard heards.CutOff input later left after = ⊤
 
--- the same of a turn after which the session goes on
+-- the same for an exchange after which the session continues
 abbrev pub TakesTurn : Option Status → LineReader → LineReader → Option (List ℕ) → Option (List ℕ) → Type 0
 TakesTurn None input later left after = TakesWhole input later left after
 TakesTurn (Some status) input later left after = ⊤

@@ -1,4 +1,4 @@
--- One turn of a conversation. (This project's.)
+-- One serve_one of a conversation. (This project's.)
 use Rattle.std.specs.Prelude.{◌≡◌, ℕ, ◌⊎◌, List, [], ◌++◌, Option, Some, None, Result, Ok, Err, IfSome}
 use Rattle.std.specs.Io.KnownBytes.{Appends}
 use Rattle.rb_script.specs.Lines.{Line, lines}
@@ -22,13 +22,13 @@ abbrev pub IsTurn : Holding → List Line → List Line → List ℕ → Holding
 IsTurn h ls rest text after None = IsExchange h ls rest text after
 IsTurn h ls rest text after (Some status) = Ends h ls text status
 
--- a turn went out whole
+-- a serve_one went out whole
 pub record Turned (h : Holding) (ls rest : List Line) (after : Holding) (status : Option Status) (old new : Option (List ℕ)) : Type 0 where
   pub text : List ℕ
-  pub turn : IsTurn h ls rest text after status
+  pub serve_one : IsTurn h ls rest text after status
   pub went_out : Appends old new text
 
--- what was to go out where a call failed: nothing yet, or the text of a turn
+-- what was to go out where a call failed: nothing yet, or the text of a serve_one
 abbrev pub IsDue : Holding → List Line → List ℕ → Type 0
 IsDue h ls text = (text ≡ []) ⊎ ((rest : List Line) × (after : Holding) × (status : Option Status) × IsTurn h ls rest text after status)
 
@@ -38,7 +38,7 @@ pub record TurnedInPart (h : Holding) (ls : List Line) (old new : Option (List �
   pub is_due : IsDue h ls text
   pub went_out : AppendsFront old new text
 
--- what a turn came to, of bytes that may not be known
+-- the result of an exchange, if the bytes are known
 abbrev pub TurnsOut : Option (List ℕ) → Option (List ℕ) → Result (Option Status) BenchFault → Holding → Holding → Option (List ℕ) → Option (List ℕ) → Type 0
 TurnsOut before left (Ok status) h after old new = IfKnown before left (λ ls rest. Turned h ls rest after status old new)
 TurnsOut before left (Err fault) h after old new = IfSome before (λ bytes. TurnedInPart h (lines bytes) old new)

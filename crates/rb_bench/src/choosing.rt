@@ -1,4 +1,4 @@
-//! What the arguments choose of a run or a session: a part of what [`rb_args::chosen`] finds in them.
+//! The choices of a run or a session: a subset of those of [`rb_args::chosen`].
 
 ghost use Rattle.std.specs.Prelude.{◌≡◌, [], IfOk, IfErr, map, true};
 ghost use Rattle.clap.specs.Words.{fault_of, subcommand_of, takes};
@@ -10,10 +10,10 @@ use rb_args::{ChoiceFault, Subcommand};
 use std::alloc::Global;
 use std::convert::AsStr;
 
-/// What the arguments choose of a run or a session. What they don't give is `None`.
+/// The choices of a run or a session. Arguments that aren't given are `None`.
 #[derive(Drop)]
 pub struct Choice {
-    /// What is done.
+    /// The subcommand.
     pub mode: Option<Subcommand>,
     /// Its FILE, as it was given.
     pub file: Option<String>,
@@ -21,7 +21,7 @@ pub struct Choice {
     pub every: Option<String>,
 }
 
-/// What the arguments of a command line choose, the program's name first.
+/// Reads the arguments of a command line, which begin with the program's name.
 ///
 /// # Errors
 ///

@@ -1,4 +1,4 @@
-//! What a line asks for.
+//! The commands of a session.
 
 ghost use Rattle.std.specs.Prelude.{◌≡◌, ◌≢◌};
 ghost use Rattle.std.specs.Str.{bytes_eq};
@@ -11,7 +11,7 @@ ghost use Rattle.rb_bench.specs.Commands.{command_of, alone, placed, given, purp
 use crate::limits::MAX_GIVEN;
 use rb_text::{first_word, number_of};
 
-/// What a command does with the lines that follow it.
+/// The use of a command's lines.
 #[derive(Clone, Copy, Debug, PartialEq, Eq)]
 pub enum Purpose {
     /// They are a block to put in.
@@ -45,7 +45,7 @@ pub enum Command {
     Rewrite,
 }
 
-/// The command of a line, which stands without its end.
+/// Reads the command of a line without its end.
 pub fn command_of(line: &[u8]) -> Command
     // Its name and its numbers are the words of the line.
     ensures means { result ≢ Command.Bad → Spells result (words line.now) }
@@ -122,7 +122,7 @@ fn placed(name: &[u8], place: Option<usize>) -> Command
     }
 }
 
-/// What a command with a place and a count does.
+/// Reads the name of a command with a place and a count.
 fn purpose_of(name: &[u8]) -> Option<Purpose>
     ensures { result ≡ purpose_of name.now }
 {

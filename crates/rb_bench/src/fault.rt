@@ -4,9 +4,9 @@ ghost use Rattle.std.specs.Prelude.{◌≡◌};
 ghost use Rattle.rb_bench.specs.declared.fault.BenchFault.TheVariants.{Io};
 ghost use Rattle.rb_bench.specs.Faults.{of_reading, of_starting};
 
-use rb_line::ReadFault;
 use rb_replay::StartFault;
 use rb_script::{ScriptFault, WriteFault};
+use rb_text::ReadFault;
 use thiserror::Error;
 
 /// Why a script is not run to its end.
@@ -15,7 +15,7 @@ pub enum BenchFault {
     /// The number of directives from one checkpoint to the next is outside 1 to 64.
     #[error("checkpoints stand 1 to 64 directives apart")]
     Spacing,
-    /// The bytes are no script.
+    /// The bytes are not a script.
     #[error(transparent)]
     Script(ScriptFault),
     /// The reader or the writer failed.

@@ -1,8 +1,8 @@
 //! Taking the lines that a command is given.
 
 ghost use Rattle.std.specs.Prelude.{◌≡◌, IsOk, IfOk, OnOk, OnErr};
-ghost use Rattle.rb_line.specs.Left.{left_of};
-ghost use Rattle.rb_line.specs.Asked.{GoesOn, HasCallsFor, Stops};
+ghost use Rattle.rb_text.specs.Left.{left_of};
+ghost use Rattle.rb_text.specs.Asked.{GoesOn, HasCallsFor, Stops};
 ghost use Rattle.rb_bench.specs.Talk.{given_count};
 ghost use Rattle.rb_bench.specs.Hearing.{GathersOf};
 ghost use Rattle.rb_bench.specs.Stopping.{AreTooFew, StopsBehind, TakesHeard};
@@ -10,7 +10,7 @@ ghost use Rattle.rb_bench.specs.Stopping.{AreTooFew, StopsBehind, TakesHeard};
 use crate::command::Command;
 use crate::given_lines::GivenLines;
 use crate::hear::HeardCommand;
-use rb_line::{InputFault, LineReader, Next, Source};
+use rb_text::{InputFault, LineReader, Next, Source};
 use std::alloc::Global;
 
 /// How many lines are given to a command.

@@ -3,7 +3,7 @@
 use rb_script::{Lines, MAX_SCRIPT};
 use std::alloc::Global;
 
-/// Lines that were given to a command, kept as long as they may be an edit's and there is memory.
+/// The lines of a command, stored while they may be those of an edit and there is memory.
 #[derive(Drop)]
 pub(crate) struct GivenLines {
     pub(crate) lines: Lines,

@@ -1,18 +1,18 @@
-//! What comes in: a command with the lines that are given to it, or the end.
+//! Reading a command with its lines, or the end of the input.
 
 ghost use Rattle.std.specs.Prelude.{◌<◌, IsOk, IfOk, OnOk, OnErr};
-ghost use Rattle.rb_line.specs.Left.{left_of};
-ghost use Rattle.rb_line.specs.Asked.{GoesOn, HasCallsFor, Stops, size_of};
+ghost use Rattle.rb_text.specs.Left.{left_of};
+ghost use Rattle.rb_text.specs.Asked.{GoesOn, HasCallsFor, Stops, size_of};
 ghost use Rattle.rb_bench.specs.Hearing.{HearsOf, IsCommand};
 ghost use Rattle.rb_bench.specs.Stopping.{IsUnfinished, StopsBehind, TakesHeard};
 
 use crate::command::{Command, command_of};
 use crate::gather::gather;
 use crate::given_lines::GivenLines;
-use rb_line::{InputFault, LineReader, Next, Source};
+use rb_text::{InputFault, LineReader, Next, Source};
 use std::alloc::Global;
 
-/// What came in.
+/// The input that was read.
 #[derive(Drop)]
 pub(crate) enum HeardCommand {
     /// A command, and its lines.
@@ -33,7 +33,7 @@ pub(crate) fn hear<S: Source>(
 ) -> Result<HeardCommand, InputFault>
     ensures heard { IfOk result (λ heard. HearsOf (left_of input.old (S.left source.old)) (left_of input.new (S.left source.new)) heard) }
     ensures takes { IfOk result (λ heard. TakesHeard heard input.old input.new (S.left source.old) (S.left source.new)) }
-    // Where reading stops, no further command had come whole.
+    // If reading stops, no further command was complete.
     ensures failed { OnErr result (StopsBehind IsUnfinished input.old (S.left source.old) (S.left source.new)) }
     ensures goes { OnOk result (GoesOn input.old input.new (S.left source.old) (S.left source.new) (S.asked source.old) (S.asked source.new)) }
     ensures stops { OnErr result (Stops input.old (S.left source.old) (S.asked source.old) (S.asked source.new)) }

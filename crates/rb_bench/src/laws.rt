@@ -31,15 +31,14 @@ pub fn conversations_answer_as_one_run()
     edits_answer_as_one_run();
 }
 
-/// A conversation has one text and one status: over the same lines, from the same session, and where memory refuses the
-/// same commands.
+/// A conversation has one text and one status, given the lines, the session, and the commands for which memory ran out.
 pub fn conversations_are_one()
     ensures { (first : Holding) (ls : List Line) (text other : List ℕ) (status code : Status) (one : Talks first ls text status) (two : Talks first ls other code) → IsOneRun first
         → refusals one.begins.exchanges ≡ refusals two.begins.exchanges → (text ≡ other) × (status ≡ code) }
 {}
 
-/// A run has one text and one status, those of the script that the bytes are: where it ends with a status this is that
-/// script's, and its text was written; where writing failed, a beginning of it was. Where no script fits neither is so.
+/// A run has one text and one status, those of the script. If it ends with a status, its text is written; if writing fails, a beginning
+/// of it is. Neither happens if the bytes are not a script.
 pub fn runs_are_one()
     ensures ended { (mode : Mode) (bytes : List ℕ) (s : PlainScript) (status : Status) (old new : Option (List ℕ)) → Reads bytes s → Answers mode bytes (Ok status) old new
         → (status ≡ status_for mode s) × Appends old new (text_for mode s) }
@@ -50,7 +49,7 @@ pub fn runs_are_one()
     ensures refused { (mode : Mode) (bytes : List ℕ) (s : PlainScript) (fault : ScriptFault) (old new : Option (List ℕ)) → Reads bytes s → Answers mode bytes (Err (faults.Script fault)) old new → ⊥ }
 {}
 
-/// The session that a conversation begins with is the one that the bytes and the spacing determine.
+/// The session that a conversation begins with is the one that the bytes and the checkpoint interval determine.
 pub fn sessions_start_as_one()
     ensures { (script : List ℕ) (every : ℕ) (first other : Holding) → IsStarted script every first → IsStarted script every other → first ≡ other }
 {}

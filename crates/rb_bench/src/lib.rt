@@ -1,10 +1,10 @@
-//! What the program does, over any source and outlet.
+//! Runs and sessions over any source and outlet.
 //!
-//! [`run_over`] runs a script once, and [`run_bytes`] one that was read. [`serve`] holds a session: commands come in, one a line, and each is answered
-//! before the next is read.
+//! [`run_over`] reads and runs a script, and [`run_bytes`] runs one that is already read. [`serve`] serves a session: it reads one command a
+//! line, and answers each before it reads the next.
 //!
-//! [`command_of`] says which command a line is. A line that is none is [`Command::Bad`], and a blank one
-//! [`Command::Blank`]: there is no failure, and nothing is allocated.
+//! [`command_of`] reads the command of a line. A line that isn't a command is [`Command::Bad`], and a blank one is
+//! [`Command::Blank`]. It never fails, and allocates nothing.
 #![tactic(auto)]
 
 mod choosing;
@@ -31,7 +31,7 @@ pub use laws::{
     conversations_answer_as_one_run, conversations_are_one, names_are_distinct, runs_are_one,
     sessions_start_as_one,
 };
-pub use limits::{MAX_GIVEN, MAX_READS, USUAL_SPACING, limits_are};
+pub use limits::{DEFAULT_CHECKPOINT_INTERVAL, MAX_GIVEN, MAX_READS, limits_are};
 pub use names::{edit_fault_name, script_fault_name};
 pub use outlet::Outlet;
 pub use rb_args::ChoiceFault;

@@ -12,7 +12,7 @@ use std::io::Write;
 
 /// Takes text, and hands it on.
 pub trait Outlet: Sink {
-    // the bytes that were handed on, where they are known
+    // the flushed bytes, if they are known
     ghost handed: { Self → Option (List ℕ) };
 
     /// Hands on what it holds back. Where it takes all, this doesn't fail either.

@@ -1,4 +1,4 @@
-//! What a session answers.
+//! The replies of a session.
 
 use rb_replay::Changed;
 use rb_script::{EditFault, ScriptFault};

@@ -1,4 +1,4 @@
-//! What a session answers to a command.
+//! Responding to commands.
 
 ghost use Rattle.std.specs.Prelude.{◌≡◌, [], Bool, List, None, IfOk};
 ghost use Rattle.rb_script.specs.Lines.{Line};
@@ -65,7 +65,7 @@ fn make_given(
     }
 }
 
-/// What is answered to a command and the lines given to it.
+/// Responds to a command with its lines.
 fn respond(alloc: Global, session: &mut BenchSession, command: Command, given: GivenLines) -> Reply
     ensures { (ls : List Line) → IsGiven given ls
         → (no_memory : Bool) × AnswersCommand session.old command ls no_memory (reply_text session.new result) session.new }
@@ -83,14 +83,14 @@ fn respond(alloc: Global, session: &mut BenchSession, command: Command, given: G
     }
 }
 
-/// What is answered to what came in, and the status if that ends the session.
+/// Responds to the input, and returns the status if it ends the session.
 pub(crate) fn reply_to(
     alloc: Global,
     session: &mut BenchSession,
     heard: HeardCommand,
 ) -> (Reply, Option<Status>)
     ensures going { result.1 ≡ None → IsCommand heard }
-    ensures turn { (ls rest : List Line) → Hears heard ls rest
+    ensures serve_one { (ls rest : List Line) → Hears heard ls rest
         → IsTurn session.old ls rest (reply_text session.new result.0) session.new result.1 }
 {
     match heard {

@@ -2,10 +2,10 @@
 
 ghost use Rattle.std.specs.Prelude.{◌≡◌, ◌≢◌, ◌↔◌, ◌⊎◌, ◌≤◌, true, false, ℕ, List, length, Err, IsErrOf, IsOk, IfSome, OnOk};
 ghost use Rattle.std.specs.Io.KnownBytes.{Consumes};
-ghost use Rattle.rb_line.specs.Asked.{AsksFor, Fails};
+ghost use Rattle.rb_text.specs.Asked.{AsksFor, Fails};
 ghost use Rattle.rb_script.specs.Reading.{early_fault};
 ghost use Rattle.rb_script.specs.Writes.{Writes};
-ghost use Rattle.rb_replay.specs.Start.{is_spacing};
+ghost use Rattle.rb_replay.specs.Start.{is_checkpoint_interval};
 ghost use Rattle.rb_bench.specs.Handed.{IsHandedOn};
 ghost use Rattle.rb_bench.specs.Runs.{Answers, RunsOver, IsWritten, text_for, status_for, most_read};
 
@@ -13,13 +13,13 @@ use crate::fault::BenchFault;
 use crate::outlet::Outlet;
 use crate::starting::{BenchSession, run_once};
 use rb_check::Status;
-use rb_line::{Source, read_up_to};
-use rb_replay::is_spacing;
+use rb_replay::is_checkpoint_interval;
 use rb_script::{MAX_SCRIPT, Sink, WriteFault};
+use rb_text::{Source, read_up_to};
 use std::alloc::Global;
 use std::mem::forget;
 
-/// What is written of a run.
+/// The text that a run writes.
 #[derive(Clone, Copy, Debug, PartialEq, Eq)]
 pub enum Mode {
     /// The report: each mismatch, and the counts.
@@ -28,16 +28,15 @@ pub enum Mode {
     Rewrite,
 }
 
-/// Reads a script, runs it and writes what `mode` asks for. The answer is the program's status: `Matched`, or `Mismatched`
-/// where a report shows some. `every` is how many directives a session would have from one checkpoint to the next, 1 to 64;
-/// it changes no text, and a run, which nobody edits, keeps none.
+/// Reads a script, runs it and writes the text of `mode`. Returns the program's status: `Matched`, or `Mismatched` if a report has
+/// mismatches. `every` is the checkpoint interval, 1 to 64; it is checked, and has no other effect.
 ///
-/// What the run held is not given back, since the program ends behind it: who runs many scripts holds sessions of rb_replay.
+/// The memory of the run isn't freed, since the program ends after it. To run many scripts, use sessions of rb_replay.
 ///
 /// # Errors
 ///
-/// `Spacing` before anything is read. `Io` where a call of the source failed, or of the writer, which is called only
-/// for a script. `OutOfMemory`, and `Script` where what was read is no script, as [`run_bytes`] answers.
+/// `Spacing` before anything is read. `Io` if a call of the source or the writer fails; the writer is called only for a script.
+/// `OutOfMemory`, and `Script` if the bytes are not a script, as [`run_bytes`] reports.
 pub fn run_over<S: Source, W: Outlet>(
     alloc: Global,
     source: &mut S,
@@ -46,33 +45,32 @@ pub fn run_over<S: Source, W: Outlet>(
     every: u64,
 ) -> Result<Status, BenchFault>
     // Found before anything is read.
-    ensures spacing { IsErrOf result BenchFault.Spacing ↔ (is_spacing every ≡ false) }
+    ensures checkpoint_interval { IsErrOf result BenchFault.Spacing ↔ (is_checkpoint_interval every ≡ false) }
     ensures unread { IsErrOf result BenchFault.Spacing → (source.new ≡ source.old) × (writer.new ≡ writer.old) }
-    // No more is taken of the source than is wanted, whatever comes of it, and it is asked no more often than for that.
+    // At most one byte more than a script may have is read, by at most as many calls.
     ensures consumed { (taken : List ℕ) × (length taken ≤ most_read) × Consumes (S.left source.old) (S.left source.new) taken }
     ensures asked { IsErrOf result BenchFault.Spacing ⊎ AsksFor (S.left source.old) (S.asked source.old) (S.asked source.new) most_read }
     // Where the source's bytes are known.
     // A call of the source that failed is a failure of the whole.
     ensures unfailed { OnOk result (Fails (S.asked source.old) (S.asked source.new) 0) }
-    ensures answered { is_spacing every ≡ true → IfSome (S.left source.old) (λ all. RunsOver mode all (S.left source.new) result (W.held writer.old) (W.held writer.new)) }
-    // What was written was handed on.
+    ensures answered { is_checkpoint_interval every ≡ true → IfSome (S.left source.old) (λ all. RunsOver mode all (S.left source.new) result (W.held writer.old) (W.held writer.new)) }
+    // The text is flushed.
     ensures handed { OnOk result (IsHandedOn (W.handed writer.new) (W.held writer.new)) }
     // No failure is answered where no call failed.
     ensures io { S.gives_all source.old → W.takes_all writer.old → result ≢ Err BenchFault.Io }
 {
-    if !is_spacing(every) {
+    if !is_checkpoint_interval(every) {
         return Err(BenchFault::Spacing);
     }
     let bytes = read_up_to(alloc, source, MAX_SCRIPT + 1)?;
     run_bytes(alloc, bytes, writer, mode, every)
 }
 
-/// Runs the script of the bytes and writes what `mode` asks for, as [`run_over`] does with what it has read. What it held is not
-/// given back either.
+/// Runs the script of the bytes and writes the text of `mode`, as [`run_over`] does after reading. Its memory isn't freed either.
 ///
 /// # Errors
 ///
-/// `Spacing`, then `Script` where the bytes are no script, `Io` where they are one and the writer failed, and `OutOfMemory`.
+/// `Spacing`, then `Script` if the bytes are not a script, `Io` if the writer fails, and `OutOfMemory`.
 pub fn run_bytes<W: Outlet>(
     alloc: Global,
     bytes: Vec<u8>,
@@ -81,18 +79,18 @@ pub fn run_bytes<W: Outlet>(
     every: u64,
 ) -> Result<Status, BenchFault>
     // Found before anything else.
-    ensures spacing { IsErrOf result BenchFault.Spacing ↔ (is_spacing every ≡ false) }
-    ensures answered { is_spacing every ≡ true → Answers mode bytes.items result (W.held writer.old) (W.held writer.new) }
-    // What is too long is found whether or not there is memory.
-    ensures early { is_spacing every ≡ true → IfSome (early_fault bytes.items) (λ fault. result ≡ Err (BenchFault.Script fault)) }
+    ensures checkpoint_interval { IsErrOf result BenchFault.Spacing ↔ (is_checkpoint_interval every ≡ false) }
+    ensures answered { is_checkpoint_interval every ≡ true → Answers mode bytes.items result (W.held writer.old) (W.held writer.new) }
+    // Faults of length are found whether or not there is memory.
+    ensures early { is_checkpoint_interval every ≡ true → IfSome (early_fault bytes.items) (λ fault. result ≡ Err (BenchFault.Script fault)) }
     ensures unwritten { IsErrOf result BenchFault.Spacing → (writer.new ≡ writer.old) }
     ensures handed { OnOk result (IsHandedOn (W.handed writer.new) (W.held writer.new)) }
     ensures io { W.takes_all writer.old → result ≢ Err BenchFault.Io }
 {
-    if !is_spacing(every) {
+    if !is_checkpoint_interval(every) {
         return Err(BenchFault::Spacing);
     }
-    // No edit follows, and no text depends on what is kept.
+    // No edit follows, and no text depends on checkpoints.
     let session = run_once(alloc, &bytes)?;
     drop(bytes);
     let answer = answer(&session, writer, mode);

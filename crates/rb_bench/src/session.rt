@@ -4,9 +4,9 @@ ghost use Rattle.std.specs.Prelude.{◌≡◌, ◌≢◌, ◌↔◌, ◌⊎◌, 
 ghost use Rattle.rb_script.specs.Script.{PlainScript};
 ghost use Rattle.rb_script.specs.Reads.{Reads};
 ghost use Rattle.rb_script.specs.Reading.{read_of, early_fault};
-ghost use Rattle.rb_replay.specs.Start.{is_spacing};
-ghost use Rattle.rb_line.specs.Left.{left_of};
-ghost use Rattle.rb_line.specs.Asked.{AsksFor, Fails, GoesOn, HasCallsFor, Stops, size_of};
+ghost use Rattle.rb_replay.specs.Start.{is_checkpoint_interval};
+ghost use Rattle.rb_text.specs.Left.{left_of};
+ghost use Rattle.rb_text.specs.Asked.{AsksFor, Fails, GoesOn, HasCallsFor, Stops, size_of};
 ghost use Rattle.rb_bench.specs.Handed.{IsHandedOn};
 ghost use Rattle.rb_bench.specs.Turns.{TurnsOut};
 ghost use Rattle.rb_bench.specs.Faults.{TellsFault};
@@ -21,19 +21,18 @@ use crate::respond::reply_to;
 use crate::send::send;
 use crate::starting::{BenchSession, started};
 use rb_check::Status;
-use rb_line::{LineReader, Source};
+use rb_text::{LineReader, Source};
 use std::alloc::Global;
 
-/// Holds a session of the script over a source and a writer, with a cluster kept every so many directives. Commands
-/// come in, one a line, and each is answered before the next is read. The answer is the program's status: `Matched` if the
-/// input ended and each output was the expected one, `Mismatched` if not, and `Failed` if the session broke off: at a
-/// line that is too long, or at an end within the lines of a command.
+/// Serves a session of the script over a source and a writer, with a checkpoint interval of `every`. Reads one command a line, and
+/// answers each before it reads the next. Returns the program's status: `Matched` if the input ended and there are no mismatches,
+/// `Mismatched` if there are some, and `Failed` if a line was too long or the input ended within the lines of a command.
 ///
 /// # Errors
 ///
-/// `Spacing` and `Script` come before the first read, and so does `OutOfMemory`: a command that finds no memory is
-/// refused, and the session goes on. `Io` comes at the first error of the source or the writer, an interrupted call
-/// and a write that takes no byte too, and where [`MAX_READS`] calls of the source were made.
+/// `Spacing`, `Script` and `OutOfMemory` before the first read. A command for which there is no memory is refused, and the session
+/// continues. `Io` at the first error of the source or the writer, also an interrupted call or a write that accepts no byte, and after
+/// [`MAX_READS`] calls of the source.
 pub fn serve<S: Source, W: Outlet>(
     alloc: Global,
     script: &[u8],
@@ -41,25 +40,25 @@ pub fn serve<S: Source, W: Outlet>(
     source: &mut S,
     writer: &mut W,
 ) -> Result<Status, BenchFault>
-    // What is written is the conversation over the bytes that come in, and the status is that of its end. Where the
-    // source or the writer fails, a beginning of it went out.
+    // The text is the conversation over the input, and the status is that of its end. If the source or the writer fails, a
+    // beginning of it is written.
     ensures talk { ServesOut (S.left source.old) result script.now every (W.held writer.old) (W.held writer.new) }
-    // Where it is the source that fails, exactly the answers to the commands that came whole went out.
+    // If the source fails, exactly the answers to complete commands are written.
     ensures whole { W.takes_all writer.old → result ≡ Err BenchFault.Io
         → ServesCame script.now every (S.left source.old) (S.left source.new) (W.held writer.old) (W.held writer.new) }
     // A call of the source that failed is a failure of the whole.
     ensures unfailed { OnOk result (Fails (S.asked source.old) (S.asked source.new) 0) }
-    // The spacing is looked at first.
-    ensures spacing { (result ≡ Err BenchFault.Spacing) ↔ (is_spacing every ≡ false) }
+    // The checkpoint interval is checked first.
+    ensures checkpoint_interval { (result ≡ Err BenchFault.Spacing) ↔ (is_checkpoint_interval every ≡ false) }
     // Where the bytes are a script, memory is refused or a call fails.
-    ensures only { (s : PlainScript) → Reads script.now s → is_spacing every ≡ true → IfErr result (λ fault. (fault ≡ BenchFault.OutOfMemory) ⊎ (fault ≡ BenchFault.Io)) }
+    ensures only { (s : PlainScript) → Reads script.now s → is_checkpoint_interval every ≡ true → IfErr result (λ fault. (fault ≡ BenchFault.OutOfMemory) ⊎ (fault ≡ BenchFault.Io)) }
     // Which fault of the script it is.
     ensures refused { IfErr result (λ fault. TellsFault fault (read_of script.now)) }
-    // What is too long is found whether or not there is memory.
-    ensures early { is_spacing every ≡ true → IfSome (early_fault script.now) (λ fault. result ≡ Err (BenchFault.Script fault)) }
+    // Faults of length are found whether or not there is memory.
+    ensures early { is_checkpoint_interval every ≡ true → IfSome (early_fault script.now) (λ fault. result ≡ Err (BenchFault.Script fault)) }
     // But for a failed call, nothing was read or written.
     ensures untouched { IfErr result (λ fault. fault ≢ BenchFault.Io → (source.new ≡ source.old) × (writer.new ≡ writer.old)) }
-    // What was answered was handed on.
+    // The answers are flushed.
     ensures handed { OnOk result (IsHandedOn (W.handed writer.old) (W.held writer.old) → IsHandedOn (W.handed writer.new) (W.held writer.new)) }
     // The source is asked no more often than its bytes ask for.
     ensures asked { (source.new ≡ source.old) ⊎ AsksFor (S.left source.old) (S.asked source.old) (S.asked source.new) MAX_READS }
@@ -91,7 +90,7 @@ fn converse<S: Source, W: Outlet>(
     ensures all { S.gives_all source.old → HasCallsFor input.old (S.left source.old) → W.takes_all writer.old → IsOk result }
 {
     'turns: loop {
-        match turn(alloc, session, input, source, writer) {
+        match serve_one(alloc, session, input, source, writer) {
             Ok(None) => {}
             Ok(Some(status)) => return Ok(status),
             Err(fault) => return Err(fault),
@@ -100,7 +99,7 @@ fn converse<S: Source, W: Outlet>(
 }
 
 /// Reads one command, and answers it. The status is there if that ends the session.
-fn turn<S: Source, W: Outlet>(
+fn serve_one<S: Source, W: Outlet>(
     alloc: Global,
     session: &mut BenchSession,
     input: &mut LineReader,

@@ -5,7 +5,7 @@ ghost use Rattle.rb_script.specs.Script.{PlainScript};
 ghost use Rattle.rb_script.specs.Reads.{Reads};
 ghost use Rattle.rb_script.specs.Reading.{read_of, early_fault};
 ghost use Rattle.rb_replay.specs.Holding.{IsOneRun};
-ghost use Rattle.rb_replay.specs.Start.{is_spacing};
+ghost use Rattle.rb_replay.specs.Start.{is_checkpoint_interval};
 ghost use Rattle.rb_bench.specs.Faults.{TellsFault};
 ghost use Rattle.rb_bench.specs.Serves.{IsStarted};
 
@@ -18,16 +18,16 @@ use std::alloc::Global;
 /// The sessions that the program holds: over the cluster of scripts.
 pub(crate) type BenchSession = Session<Cluster<SplitLog>>;
 
-/// A session on the script of the bytes, with a cluster kept every so many directives.
+/// Starts a session of the script, with a checkpoint interval of `every`.
 pub(crate) fn started(alloc: Global, bytes: &[u8], every: u64) -> Result<BenchSession, BenchFault>
     ensures started { IfOk result (λ s. IsStarted bytes.now every s) }
-    // The spacing is looked at first.
-    ensures spacing { (result ≡ Err BenchFault.Spacing) ↔ (is_spacing every ≡ false) }
-    // What is a script is refused for want of memory alone.
-    ensures only { (s : PlainScript) → Reads bytes.now s → is_spacing every ≡ true → IfErr result (λ fault. fault ≡ BenchFault.OutOfMemory) }
+    // The checkpoint interval is checked first.
+    ensures checkpoint_interval { (result ≡ Err BenchFault.Spacing) ↔ (is_checkpoint_interval every ≡ false) }
+    // A script is refused only if there is no memory.
+    ensures only { (s : PlainScript) → Reads bytes.now s → is_checkpoint_interval every ≡ true → IfErr result (λ fault. fault ≡ BenchFault.OutOfMemory) }
     ensures refused { IfErr result (λ fault. TellsFault fault (read_of bytes.now)) }
-    // What is too long is found whether or not there is memory.
-    ensures early { is_spacing every ≡ true → IfSome (early_fault bytes.now) (λ fault. result ≡ Err (BenchFault.Script fault)) }
+    // Faults of length are found whether or not there is memory.
+    ensures early { is_checkpoint_interval every ≡ true → IfSome (early_fault bytes.now) (λ fault. result ≡ Err (BenchFault.Script fault)) }
     // Nothing else is read or written.
     ensures own { IfErr result (λ fault. fault ≢ BenchFault.Io) }
 {
@@ -35,16 +35,16 @@ pub(crate) fn started(alloc: Global, bytes: &[u8], every: u64) -> Result<BenchSe
     Ok(Session::start(alloc, bytes, every, &mut meter)?)
 }
 
-/// A session on the script of the bytes that keeps no cluster, since nobody edits it.
+/// Starts a session of the script without checkpoints, for a script that isn't edited.
 pub(crate) fn run_once(alloc: Global, bytes: &[u8]) -> Result<BenchSession, BenchFault>
     ensures script { IfOk result (λ s. Reads bytes.now s.script) }
     ensures run { IfOk result IsOneRun }
-    // What is a script is refused for want of memory alone.
+    // A script is refused only if there is no memory.
     ensures only { (s : PlainScript) → Reads bytes.now s → IfErr result (λ fault. fault ≡ BenchFault.OutOfMemory) }
     ensures refused { IfErr result (λ fault. TellsFault fault (read_of bytes.now)) }
-    // What is too long is found whether or not there is memory.
+    // Faults of length are found whether or not there is memory.
     ensures early { IfSome (early_fault bytes.now) (λ fault. result ≡ Err (BenchFault.Script fault)) }
-    // Nothing else is read or written, and no spacing is looked at.
+    // Nothing else is read or written, and there is no checkpoint interval to check.
     ensures own { IfErr result (λ fault. (fault ≢ BenchFault.Io) × (fault ≢ BenchFault.Spacing)) }
 {
     let mut meter = Meter::new();

@@ -2,8 +2,8 @@
 
 use crate::names::{RowName, name_of, role_of};
 use crate::row::{RowCells, name_and_cells, row_of};
-use rb_level::{MessageType, type_of};
 use rb_message::Role;
+use rb_vocab::{MessageType, type_of};
 
 /// What happened.
 #[derive(Clone, Copy)]

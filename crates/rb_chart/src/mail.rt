@@ -5,7 +5,7 @@
 
 use crate::event::RowMessage;
 use crate::labels::Label;
-use rb_level::MessageType;
+use rb_vocab::MessageType;
 use std::alloc::{AllocError, Global};
 use std::collections::VecDeque;
 

@@ -6,8 +6,8 @@ use crate::names::short_name;
 use crate::painting::fitted;
 use crate::sentence::{sentence, with_one, with_two};
 use crate::sizes::MOST_LABEL;
-use rb_level::MessageType;
 use rb_text::Piece;
+use rb_vocab::MessageType;
 use std::alloc::{AllocError, Global};
 
 fn vote_words(alloc: Global, name: &[u8], said: [u64; 4]) -> Result<Vec<u8>, AllocError> {

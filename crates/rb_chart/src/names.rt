@@ -1,8 +1,8 @@
 //! What rows call the kinds of rows, of messages and of roles.
 
 use crate::look::MessageLook;
-use rb_level::MessageType;
 use rb_message::Role;
+use rb_vocab::MessageType;
 
 /// The rows that a picture shows something of.
 #[derive(Clone, Copy)]

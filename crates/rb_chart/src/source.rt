@@ -2,7 +2,7 @@
 
 use memchr::memchr;
 use rb_script::{
-    continues, is_blank, is_rule, is_separator, is_space, without_front, without_returns,
+    continues, is_blank, is_rule, is_separator, is_space, trim_blanks, without_returns,
 };
 
 /// What is left of a script's bytes, from the beginning of a line on.
@@ -57,7 +57,7 @@ fn first_line(bytes: &[u8]) -> (&[u8], &[u8]) {
 
 // What a comment says, without its marks and the blanks around it.
 fn comment_words(line: &[u8]) -> &[u8] {
-    let words = without_marks(without_back(without_front(line)));
+    let words = without_marks(without_back(trim_blanks(line)));
     words.strip_prefix(b" ".as_slice()).unwrap_or(words)
 }
 

@@ -2,7 +2,7 @@
 use Rattle.std.specs.Prelude.{ℕ, zero, suc, ◌+◌, ◌-◌, min, Bool, false, ◌&&◌, ◌||◌, not, if◌then◌else◌, List, [], ◌∷◌, length, take, codes, slice_index_or}
 use Rattle.std.specs.Str.{bytes_eq}
 use Rattle.rb_script.specs.Lines.{Line}
-use Rattle.rb_script.specs.Marks.{without_front, is_lead}
+use Rattle.rb_script.specs.Marks.{trim_blanks, is_lead}
 
 abbrev pub begins_error : Line → Bool
 begins_error line = bytes_eq (take 7 line) (codes "error: ")
@@ -17,7 +17,7 @@ is_error output = begins_error (first_line output)
 
 -- the comment that says that an error is expected, blanks before it allowed
 abbrev pub is_mark : Line → Bool
-is_mark line = bytes_eq (without_front line) (codes "# expects an error")
+is_mark line = bytes_eq (trim_blanks line) (codes "# expects an error")
 
 -- whether it is one of the comments and empty lines at the end of the first n lines
 abbrev pub marked : List Line → ℕ → Bool

@@ -2,7 +2,7 @@
 -- (This project's.)
 use Rattle.std.specs.Prelude.{ℕ, ◌+◌, ◌-◌, Bool, true, false, fold, if◌then◌else◌, List, [], ◌∷◌, ◌++◌, Option, Some, None, slice_get, slice_index_or, unwrap_or}
 use Rattle.std.specs.Option.{option_or}
-use Rattle.rb_level.specs.declared.level.Level.{Level}
+use Rattle.rb_vocab.specs.declared.level.Level.{Level}
 use Rattle.rb_script.specs.Lines.{Line}
 use Rattle.rb_script.specs.Directive.{PlainDirective}
 use Rattle.rb_script.specs.Script.{PlainBlock, PlainScript}

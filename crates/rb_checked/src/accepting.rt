@@ -18,7 +18,7 @@ use crate::wanted::{Wanted, is_picked};
 use rb_check::{FileLine, put_left};
 use rb_machine::Machine;
 use rb_replay::Session;
-use rb_script::{Block, Grouped, Lines, Sink, WriteFault};
+use rb_script::{Block, ChunkedList, Lines, Sink, WriteFault};
 use std::alloc::{AllocError, Global};
 use std::rc::Rc;
 
@@ -77,7 +77,7 @@ pub(crate) fn accepted_of<M: Machine>(
     heads: &[usize],
     text: &Lines,
     wanted: Wanted<'_>,
-) -> Result<Grouped<Lines>, AllocError>
+) -> Result<ChunkedList<Lines>, AllocError>
     requires { length heads.now ≡ length session.now.script.blocks }
     ensures { IfOk result (λ all. all ≡ accepted_of wanted.entry text.now heads.now session.now.script.blocks (outputs session.now.script)) }
 {
@@ -88,7 +88,7 @@ pub(crate) fn accepted_of<M: Machine>(
         let line = number_at(heads, i);
         push_accepted(alloc, &mut all, wanted, text, line, block, output)?;
     }
-    Grouped::of(alloc, all)
+    ChunkedList::of(alloc, all)
 }
 
 // The line of the head, where its output is not accepted, after others.

@@ -12,7 +12,7 @@ ghost use Rattle.rb_checked.specs.Errors.{begins_error, first_line, is_error, is
 use crate::answers::{number_at, output_at};
 use rb_machine::Machine;
 use rb_replay::Session;
-use rb_script::{Lines, without_front};
+use rb_script::{Lines, trim_blanks};
 
 const MARK: &[u8] = b"# expects an error";
 
@@ -46,7 +46,7 @@ pub(crate) fn is_error(output: &Lines) -> bool
 pub(crate) fn is_lead(line: &[u8]) -> bool
     ensures { result ≡ is_lead line.now }
 {
-    match without_front(line) {
+    match trim_blanks(line) {
         [] => true,
         [first, ..] => *first == b'#',
     }
@@ -55,7 +55,7 @@ pub(crate) fn is_lead(line: &[u8]) -> bool
 fn is_mark(line: &[u8]) -> bool
     ensures { result ≡ is_mark line.now }
 {
-    without_front(line) == MARK
+    trim_blanks(line) == MARK
 }
 
 // Whether the comment stands above the first of the lines that is no comment, from so many lines up.

@@ -6,10 +6,10 @@ ghost use Rattle.rb_check.specs.Whys.{reasons_in};
 ghost use Rattle.rb_checked.specs.Whys.{last_reason, all_reasons, below_line, below_reason, why_at};
 
 use rb_check::Why;
-use rb_level::Level;
 use rb_machine::Observer;
 use rb_script::Lines;
 use rb_texts::{Item, Reason, is_shown, put_reason, reason_of};
+use rb_vocab::Level;
 use std::alloc::{AllocError, Global};
 
 /// The reasons below the lines that a directive prints, while it runs: why nothing came of a message. A line has one at the most, the first. A
@@ -87,7 +87,7 @@ impl LineReasons {
 }
 
 impl Observer for LineReasons {
-    ghost use Rattle.rb_level.specs.declared.level.Level.{Level};
+    ghost use Rattle.rb_vocab.specs.declared.level.Level.{Level};
     ghost use Rattle.rb_checked.specs.declared.reasons.LineReasons.{LineReasons};
     ghost use Rattle.rb_checked.specs.Whys.{at_level, with_item};
 

@@ -10,7 +10,7 @@ use crate::part::BlockPart;
 use crate::text::next_line;
 use rb_machine::Machine;
 use rb_replay::Session;
-use rb_script::{Block, Grouped, Lines, is_blank, is_rule, without_returns};
+use rb_script::{Block, ChunkedList, Lines, is_blank, is_rule, without_returns};
 use std::alloc::{AllocError, Global};
 
 // What is made so far, and the bytes that are left, with the number of their first line.
@@ -191,7 +191,7 @@ pub(crate) fn spliced<M: Machine>(
     session: &Session<M>,
     bytes: &[u8],
     heads: &[usize],
-    expected: &Grouped<Lines>,
+    expected: &ChunkedList<Lines>,
 ) -> Result<Vec<u8>, AllocError>
     requires heads { length heads.now ≡ length session.now.script.blocks }
     requires expected { length expected.now ≡ length session.now.script.blocks }

@@ -17,7 +17,7 @@ use crate::text::is_same_text;
 use crate::wanted::Wanted;
 use rb_machine::Machine;
 use rb_replay::Session;
-use rb_script::{Edit, EditFault, Grouped, Lines, MAX_LINE, Script, ScriptFault, Through};
+use rb_script::{ChunkedList, Edit, EditFault, Lines, MAX_LINE, Script, ScriptFault, Through};
 use std::alloc::{AllocError, Global};
 use thiserror::Error;
 
@@ -91,7 +91,11 @@ fn chosen(alloc: Global, own: Vec<u8>, script: &Script) -> Result<Vec<u8>, Alloc
 }
 
 // The script of the bytes with these expectations.
-fn expecting(alloc: Global, bytes: &[u8], expected: &Grouped<Lines>) -> Result<Script, EditFault>
+fn expecting(
+    alloc: Global,
+    bytes: &[u8],
+    expected: &ChunkedList<Lines>,
+) -> Result<Script, EditFault>
     requires { (s : PlainScript) → Reads bytes.now s → length expected.now ≡ length s.blocks }
     ensures made { (s : PlainScript) → Reads bytes.now s → IfOk result (λ new. new ≡ with_outputs s expected.now) }
     ensures valid { IfOk result (λ new. IsScript new) }
@@ -113,7 +117,7 @@ fn has_long_line(lines: &Lines) -> bool {
 }
 
 // Which of the lists can't be expected, by the line of its head.
-fn bad_output(expected: &Grouped<Lines>, heads: &[usize]) -> AcceptFault {
+fn bad_output(expected: &ChunkedList<Lines>, heads: &[usize]) -> AcceptFault {
     for i in 0..expected.len() {
         if has_long_line(expected.at(i)) {
             return AcceptFault::BadOutput(heads.get(i).copied().unwrap_or(0));

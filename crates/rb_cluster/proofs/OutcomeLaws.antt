@@ -11,12 +11,12 @@ use Rattle.rb_script.specs.Lines.{Line}
 use Rattle.rb_script.specs.Script.{needs_double}
 use Rattle.rb_script.specs.Edits.{is_expectation}
 use Rattle.rb_script.specs.Directive.{PlainDirective}
-use Rattle.rb_level.specs.declared.level.Level.{Level}
-use Rattle.rb_level.specs.declared.directive_error.DirectiveError.{DirectiveError}
-use Rattle.rb_level.specs.declared.directive_error.DirectiveError.TheVariants as errors
-use Rattle.rb_directive.specs.declared.asking.AddNodes.{AddNodes}
-use Rattle.rb_directive.specs.declared.asking.Request.{Request}
-use Rattle.rb_directive.specs.declared.asking.Request.TheVariants as requests
+use Rattle.rb_vocab.specs.declared.level.Level.{Level}
+use Rattle.rb_vocab.specs.declared.directive_error.DirectiveError.{DirectiveError}
+use Rattle.rb_vocab.specs.declared.directive_error.DirectiveError.TheVariants as errors
+use Rattle.rb_directive.specs.declared.requests.AddNodes.{AddNodes}
+use Rattle.rb_directive.specs.declared.requests.Request.{Request}
+use Rattle.rb_directive.specs.declared.requests.Request.TheVariants as requests
 use Rattle.rb_directive.specs.declared.build.Asked.{Asked}
 use Rattle.rb_directive.specs.declared.limits.TheConstants.{MAX_NODES}
 use Rattle.rb_directive.specs.Requests.{request, nodes_of, IsWithin}

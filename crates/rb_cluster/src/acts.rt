@@ -1,28 +1,27 @@
-//! Directives by which one node acts.
+//! Directives that call one node.
 
 ghost use Rattle.std.specs.Prelude.{◌≡◌, OnOk};
-ghost use Rattle.rb_node.specs.Node.{turn};
+ghost use Rattle.rb_node.specs.Node.{node_step};
 ghost use Rattle.rb_machine.specs.Acts.{ticked_times, act, propose, set_timeout, transfer, report_unreachable};
 ghost use Rattle.rb_machine.specs.Observers.{watched, after};
 
 use crate::cluster::{Cluster, place_of};
-use rb_change::Shared;
-use rb_directive::Act;
-use rb_level::ScriptWord;
+use rb_directive::NodeCommand;
 use rb_machine::{Observer, show_events};
 use rb_message::Event;
 use rb_node::{ELECTION_TICKS, Node};
 use rb_raftlog::RaftLog;
+use rb_vocab::{ScriptWord, Shared};
 use std::alloc::AllocError;
 
-// So many ticks pass at a node.
+// Ticks a node n times.
 #[tactic(auto, using(crate::proofs::TickLaws::ticked_on, crate::proofs::TickLaws::ticked_out))]
 fn tick_times<L: RaftLog>(
     node: &mut Node<L>,
     times: u64,
     events: &mut Vec<Event>,
 ) -> Result<(), AllocError>
-    ensures { OnOk result (turn node.new events.new.items ≡ ticked_times times (turn node.old events.old.items)) }
+    ensures { OnOk result (node_step node.new events.new.items ≡ ticked_times times (node_step node.old events.old.items)) }
 {
     for _tick in 0..times {
         node.tick(events)?;
@@ -31,10 +30,10 @@ fn tick_times<L: RaftLog>(
 }
 
 impl<L: RaftLog> Cluster<L> {
-    /// A node does what it is told to.
+    /// Calls a node, as the directive says.
     pub(crate) fn act<O: Observer>(
         &mut self,
-        what: Act,
+        what: NodeCommand,
         id: u64,
         observer: &mut O,
     ) -> Result<(), AllocError>
@@ -44,17 +43,17 @@ impl<L: RaftLog> Cluster<L> {
         let Some(shared) = self.nodes.get_mut(place_of(id)) else {
             return Ok(());
         };
-        let node = shared.to_change()?;
+        let node = shared.make_mut()?;
         match what {
-            Act::Campaign => node.campaign(&mut events)?,
-            Act::TickElection => tick_times(node, ELECTION_TICKS, &mut events)?,
-            Act::TickHeartbeat => node.tick(&mut events)?,
-            Act::ForgetLeader => node.forget_leader(),
+            NodeCommand::Campaign => node.campaign(&mut events)?,
+            NodeCommand::TickElection => tick_times(node, ELECTION_TICKS, &mut events)?,
+            NodeCommand::TickHeartbeat => node.tick(&mut events)?,
+            NodeCommand::ForgetLeader => node.forget_leader(),
         }
         show_events(observer, &events)
     }
 
-    /// A payload is proposed at a node.
+    /// Proposes a payload at a node.
     pub(crate) fn propose<O: Observer>(
         &mut self,
         id: u64,
@@ -68,22 +67,22 @@ impl<L: RaftLog> Cluster<L> {
         let Some(shared) = self.nodes.get_mut(place_of(id)) else {
             return Ok(());
         };
-        let node = shared.to_change()?;
+        let node = shared.make_mut()?;
         node.propose(bytes, &mut events)?;
         show_events(observer, &events)
     }
 
-    /// A node's election timeout is to have so many ticks.
+    /// Sets a node's election timeout in ticks.
     pub(crate) fn set_timeout(&mut self, id: u64, ticks: u64) -> Result<(), AllocError>
         ensures { OnOk result (self.new ≡ set_timeout id ticks self.old) }
     {
         if let Some(shared) = self.nodes.get_mut(place_of(id)) {
-            shared.to_change()?.set_timeout(ticks);
+            shared.make_mut()?.set_timeout(ticks);
         }
         Ok(())
     }
 
-    /// A node is asked to hand the lead over to another.
+    /// Asks a node to transfer leadership to another.
     pub(crate) fn transfer<O: Observer>(
         &mut self,
         from: u64,
@@ -96,17 +95,17 @@ impl<L: RaftLog> Cluster<L> {
         let Some(shared) = self.nodes.get_mut(place_of(from)) else {
             return Ok(());
         };
-        let node = shared.to_change()?;
+        let node = shared.make_mut()?;
         node.transfer(to, &mut events)?;
         show_events(observer, &events)
     }
 
-    /// It is reported to a node that another can't be reached.
+    /// Reports to a node that another can't be reached.
     pub(crate) fn report_unreachable(&mut self, id: u64, peer: u64) -> Result<(), AllocError>
         ensures { OnOk result (self.new ≡ report_unreachable id peer self.old) }
     {
         if let Some(shared) = self.nodes.get_mut(place_of(id)) {
-            shared.to_change()?.report_unreachable(peer);
+            shared.make_mut()?.report_unreachable(peer);
         }
         Ok(())
     }

@@ -1,8 +1,8 @@
-//! `deliver-msgs`: pending messages reach their nodes, or are dropped.
+//! `deliver-msgs`: delivers or drops pending messages.
 
 ghost use Rattle.std.specs.Prelude.{◌≡◌, IfOk, OnOk, fold, map};
 ghost use Rattle.rb_machine.specs.Pending.{mail, other_mail, with_pending};
-ghost use Rattle.rb_machine.specs.Deliveries.{received, all_received, delivered, delivered_each, drop_item, dropped, dropped_each, is_for_any, meets_any, msgs_delivered};
+ghost use Rattle.rb_machine.specs.Deliveries.{received, all_received, delivered, delivered_each, drop_item, dropped, dropped_each, is_for_any, selects_any, msgs_delivered};
 ghost use Rattle.rb_machine.specs.Observers.{watched, after};
 
 use crate::cluster::{Cluster, place_of};
@@ -16,7 +16,7 @@ use rb_texts::{Item, Verb};
 use std::alloc::AllocError;
 use std::mem;
 
-// Prints that each of the messages is dropped.
+// Shows each message as dropped.
 fn show_dropped<O: Observer>(observer: &mut O, messages: &[SharedMessage]) -> Result<(), AllocError>
     ensures { OnOk result (O.meaning observer.new ≡ fold O.taking (O.meaning observer.old) (map drop_item messages.now)) }
 {
@@ -33,9 +33,9 @@ fn is_for_any(ids: &[u8], types: &Option<TypeSet>, message: &Message) -> bool
     ids.iter().any(|id| is_for(u64::from(*id), types, message))
 }
 
-// Whether a pending message is to be delivered or dropped.
-fn meets_any(asked: &DeliverMsgs, pending: &[SharedMessage]) -> bool
-    ensures { result ≡ meets_any asked.now pending.now }
+// Whether a pending message is selected, to be delivered or dropped.
+fn selects_any(asked: &DeliverMsgs, pending: &[SharedMessage]) -> bool
+    ensures { result ≡ selects_any asked.now pending.now }
 {
     let nodes = asked.nodes.as_slice();
     let dropped = asked.drop.as_slice();
@@ -46,7 +46,7 @@ fn meets_any(asked: &DeliverMsgs, pending: &[SharedMessage]) -> bool
 }
 
 impl<L: RaftLog> Cluster<L> {
-    // A message reaches its node.
+    // Delivers a message to its node.
     fn receive<O: Observer>(
         &mut self,
         id: u64,
@@ -60,12 +60,12 @@ impl<L: RaftLog> Cluster<L> {
         let Some(shared) = self.nodes.get_mut(place_of(id)) else {
             return Ok(());
         };
-        let node = shared.to_change()?;
+        let node = shared.make_mut()?;
         node.step(message, &mut events)?;
         show_events(observer, &events)
     }
 
-    // Messages reach their node, in order.
+    // Delivers messages to their node, in order.
     fn receive_all<O: Observer>(
         &mut self,
         id: u64,
@@ -80,7 +80,7 @@ impl<L: RaftLog> Cluster<L> {
         Ok(())
     }
 
-    // A node's pending messages of the types, which are pending no more.
+    // Removes a node's pending messages of the types, and returns them.
     fn take_mail(
         &mut self,
         id: u64,
@@ -90,12 +90,12 @@ impl<L: RaftLog> Cluster<L> {
         ensures left { OnOk result (self.new ≡ with_pending self.old (other_mail self.old.pending id types.now)) }
     {
         let pending = mem::replace(&mut self.pending, Vec::new(self.alloc));
-        let parted = split(self.alloc, pending, id, types)?;
-        self.pending = parted.others;
-        Ok(parted.mail)
+        let sorted_mail = split(self.alloc, pending, id, types)?;
+        self.pending = sorted_mail.rest;
+        Ok(sorted_mail.for_node)
     }
 
-    /// A node gets its pending messages of the types.
+    /// Delivers a node's pending messages of the types.
     #[tactic(auto, unfolding(rb_machine::specs::Deliveries::delivered))]
     pub(crate) fn deliver<O: Observer>(
         &mut self,
@@ -123,9 +123,9 @@ impl<L: RaftLog> Cluster<L> {
         Ok(())
     }
 
-    // A node's pending messages of the types go.
+    // Drops a node's pending messages of the types.
     #[tactic(auto, unfolding(rb_machine::specs::Deliveries::dropped))]
-    fn drop_for<O: Observer>(
+    fn drop_mail<O: Observer>(
         &mut self,
         id: u64,
         types: &Option<TypeSet>,
@@ -146,7 +146,7 @@ impl<L: RaftLog> Cluster<L> {
         ensures { OnOk result (watched self.new (O.meaning observer.new) ≡ after O.taking (O.meaning observer.old) (dropped_each types.now self.old ids.now)) }
     {
         for id in ids {
-            self.drop_for(u64::from(*id), types, observer)?;
+            self.drop_mail(u64::from(*id), types, observer)?;
         }
         Ok(())
     }
@@ -160,7 +160,7 @@ impl<L: RaftLog> Cluster<L> {
     ) -> Result<(), AllocError>
         ensures { OnOk result (watched self.new (O.meaning observer.new) ≡ after O.taking (O.meaning observer.old) (msgs_delivered asked.now self.old)) }
     {
-        if !meets_any(asked, &self.pending) {
+        if !selects_any(asked, &self.pending) {
             return observer.observe(&Item::NoMessages);
         }
         self.deliver_each(asked.nodes.as_slice(), &asked.types, observer)?;

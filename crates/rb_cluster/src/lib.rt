@@ -1,8 +1,8 @@
 //! A cluster of Raft nodes in memory, and what directives do to it.
 //!
-//! [`Cluster`] is a [`Machine`](rb_machine::Machine): it runs one directive after another, and gives the lines that
-//! each prints. What a directive asks for is read by rb_directive; here are the nodes that must exist, what this
-//! cluster refuses, and one effect a request. What a node does is rb_node's, how it is printed rb_texts'.
+//! [`Cluster`] is a [`Machine`](rb_machine::Machine): it runs one directive after another, and returns the lines that each prints.
+//! rb_directive reads a directive into a request. This crate checks that its nodes exist and that this cluster allows it, and then does it.
+//! rb_node has the nodes, rb_texts the printed lines.
 #![tactic(auto)]
 
 mod acts;
@@ -30,5 +30,5 @@ pub use laws::{
 pub use meter::Meter;
 pub use shared_node::SharedNode;
 
-// What a cluster is, and what counts its directives, which stand in rb_machine.
+// The traits of a cluster and of its meter, from rb_machine.
 pub use rb_machine::{Count, Machine};

@@ -1,7 +1,7 @@
-//! What becomes of a directive.
+//! Running a directive.
 //!
-//! A directive is refused by the first of these that holds: its name is none; what it says is wrong (rb_directive); a node that it speaks of
-//! doesn't exist; this cluster can't do it. Else it has its effect.
+//! The first of these faults refuses a directive: its name is unknown or its arguments are wrong (rb_directive), a node that it names
+//! doesn't exist, or this cluster can't do it. Otherwise it has its effect.
 
 ghost use Rattle.std.specs.Prelude.{◌≡◌, IfOk, OnOk, None};
 ghost use Rattle.rb_script.specs.Tokens.{plain};
@@ -14,12 +14,12 @@ ghost use Rattle.rb_machine.specs.Observers.{watched, after, after_directive};
 use crate::add_nodes::add_nodes_fault;
 use crate::cluster::Cluster;
 use crate::shared_node::SharedNode;
-use rb_directive::{ActWith, Named, Request, request};
-use rb_level::{DirectiveError, Level};
+use rb_directive::{Named, NodeCommandWithArg, Request, request};
 use rb_machine::{Observer, PrintedLines};
 use rb_raftlog::RaftLog;
 use rb_script::{DirectiveRef, Lines};
 use rb_texts::Item;
+use rb_vocab::{DirectiveError, Level};
 use std::alloc::AllocError;
 
 // Whether a node has this id.
@@ -38,7 +38,7 @@ fn absent<'d, L: RaftLog>(nodes: &[SharedNode<L>], id: u64) -> Option<DirectiveE
     Some(DirectiveError::NoSuchNode(id))
 }
 
-// The first of the ids that no node has.
+// The first id without a node.
 fn first_absent<'d, L: RaftLog>(nodes: &[SharedNode<L>], ids: &[u8]) -> Option<DirectiveError<'d>>
     ensures { result ≡ first_absent nodes.now ids.now }
 {
@@ -50,7 +50,7 @@ fn first_absent<'d, L: RaftLog>(nodes: &[SharedNode<L>], ids: &[u8]) -> Option<D
     None
 }
 
-// The first node that must exist and doesn't.
+// The first named node that doesn't exist.
 fn missing_node<'d, L: RaftLog>(
     nodes: &[SharedNode<L>],
     named: &Named,
@@ -64,7 +64,7 @@ fn missing_node<'d, L: RaftLog>(
     }
 }
 
-// Shows that a directive is refused.
+// Shows the error of a refused directive.
 fn refuse<'d, O: Observer>(
     observer: &mut O,
     level: Level,
@@ -77,7 +77,7 @@ fn refuse<'d, O: Observer>(
 }
 
 impl<L: RaftLog> Cluster<L> {
-    // The first thing for which this cluster refuses a request: a node that doesn't exist, or what it can't do.
+    // The first fault for which this cluster refuses a request: a node that doesn't exist, or something that it can't do.
     #[tactic(auto, unfolding(rb_machine::specs::Outcome::fault))]
     fn fault<'d>(&self, wanted: &Request<'d>) -> Option<DirectiveError<'d>>
         ensures { result ≡ fault wanted.now self.now }
@@ -89,18 +89,18 @@ impl<L: RaftLog> Cluster<L> {
         match wanted {
             Request::AddNodes(asked) => add_nodes_fault(asked, &self.nodes),
             Request::ProposeConfChange(asked) => asked.fault.as_ref().map(DirectiveError::copy),
-            Request::ActWith(what, id, number) => match what {
-                ActWith::Compact => self.compact_error(*id, *number),
+            Request::NodeCommandWithArg(what, id, number) => match what {
+                NodeCommandWithArg::Compact => self.compact_error(*id, *number),
                 _ => None,
             },
             _ => None,
         }
     }
 
-    // A node does something with a number.
+    // Calls a node with a number, as the directive says.
     fn act_with<O: Observer>(
         &mut self,
-        what: ActWith,
+        what: NodeCommandWithArg,
         id: u64,
         number: u64,
         observer: &mut O,
@@ -108,21 +108,21 @@ impl<L: RaftLog> Cluster<L> {
         ensures { OnOk result (watched self.new (O.meaning observer.new) ≡ after O.taking (O.meaning observer.old) (act_with what id number self.old)) }
     {
         match what {
-            ActWith::SetRandomizedElectionTimeout => {
+            NodeCommandWithArg::SetRandomizedElectionTimeout => {
                 self.set_timeout(id, number)?;
                 Ok(())
             }
-            ActWith::TransferLeadership => self.transfer(id, number, observer),
-            ActWith::ReportUnreachable => {
+            NodeCommandWithArg::TransferLeadership => self.transfer(id, number, observer),
+            NodeCommandWithArg::ReportUnreachable => {
                 self.report_unreachable(id, number)?;
                 Ok(())
             }
-            ActWith::SendSnapshot => self.send_snapshot(id, number, observer),
-            ActWith::Compact => self.compact(id, number, observer),
+            NodeCommandWithArg::SendSnapshot => self.send_snapshot(id, number, observer),
+            NodeCommandWithArg::Compact => self.compact(id, number, observer),
         }
     }
 
-    // Does what is asked for, and prints what comes of it.
+    // Does what a request asks for, and shows each item of it.
     #[tactic(auto, using(crate::proofs::OutcomeLaws::room_for, crate::proofs::OutcomeLaws::index_for))]
     fn perform<O: Observer>(
         &mut self,
@@ -135,13 +135,15 @@ impl<L: RaftLog> Cluster<L> {
     {
         match wanted {
             Request::AddNodes(asked) => self.add_nodes(asked, observer),
-            Request::Act(what, id) => self.act(*what, *id, observer),
+            Request::NodeCommand(what, id) => self.act(*what, *id, observer),
             Request::Propose(id, payload) => self.propose(*id, payload, observer),
             Request::ProposeConfChange(asked) => self.propose_change(asked, observer),
             Request::ProcessReady(ids) => self.process_ready(ids.as_slice(), observer),
             Request::DeliverMsgs(asked) => self.deliver_msgs(asked, observer),
             Request::Stabilize(ids, rounds) => self.stabilize(ids, *rounds, observer),
-            Request::ActWith(what, id, number) => self.act_with(*what, *id, *number, observer),
+            Request::NodeCommandWithArg(what, id, number) => self.act_with(
+                *what, *id, *number, observer,
+            ),
             Request::LogLevel(level) => {
                 self.level = *level;
                 Ok(())
@@ -152,11 +154,11 @@ impl<L: RaftLog> Cluster<L> {
         }
     }
 
-    /// Runs a directive, and gives an observer each item of what happens: what is wrong with it or with this cluster, or what it does.
+    /// Runs a directive, and shows an observer each item: its error, or its effects.
     ///
     /// # Errors
     ///
-    /// Where memory was refused. Of the cluster and of the observer nothing is known then.
+    /// If memory was refused. The cluster and the observer are then unknown.
     #[tactic(auto, unfolding(rb_machine::specs::Outcome::execution))]
     pub fn run_watched<O: Observer>(
         &mut self,
@@ -165,7 +167,7 @@ impl<L: RaftLog> Cluster<L> {
     ) -> Result<(), AllocError>
         ensures { OnOk result (watched self.new (O.meaning observer.new) ≡ after_directive O.starting O.taking (O.meaning observer.old) (execution self.old (plain directive.now))) }
     {
-        // What is asked for is looked at where it stands: it is large.
+        // The request is borrowed, since it is large.
         let read = request(directive);
         let asked = match &read {
             Ok(asked) => asked,
@@ -178,7 +180,7 @@ impl<L: RaftLog> Cluster<L> {
         self.perform(&asked.request, observer)
     }
 
-    /// Runs a directive, and gives what it prints.
+    /// Runs a directive, and returns what it prints.
     pub(crate) fn printed(&mut self, directive: &DirectiveRef<'_>) -> Result<Lines, AllocError>
         ensures cluster { OnOk result (self.new ≡ (execution self.old (plain directive.now)).cluster) }
         ensures output { IfOk result (λ lines. lines ≡ lines_at (execution self.old (plain directive.now)).level (execution self.old (plain directive.now)).items) }

@@ -1,24 +1,24 @@
-//! Messages on their way.
+//! Messages in flight.
 //!
-//! They stand in one list, in the order in which they were sent. A message never changes, so a copy of the list costs a pointer a message.
+//! They are in one list, in the order in which they were sent. A message never changes, so a copy of the list costs a pointer a message.
 
 ghost use Rattle.std.specs.Prelude.{◌≡◌, IfOk, OnOk};
-ghost use Rattle.rb_machine.specs.Pending.{is_meant, is_for, mail, other_mail, has_room, sent, all_sent};
+ghost use Rattle.rb_machine.specs.Pending.{is_selected, is_for, mail, other_mail, has_room, sent, all_sent};
 ghost use Rattle.rb_machine.specs.Observers.{watched, after};
 
 use crate::cluster::Cluster;
 use crate::shared_message::SharedMessage;
 use rb_directive::TypeSet;
-use rb_level::MessageType;
 use rb_machine::{MAX_PENDING, Observer};
 use rb_message::Message;
 use rb_raftlog::RaftLog;
 use rb_texts::{Item, Verb};
+use rb_vocab::MessageType;
 use std::alloc::{AllocError, Global};
 
-// Whether a message of this type is meant: one of these, or any where none are named.
-fn is_meant(types: &Option<TypeSet>, message_type: MessageType) -> bool
-    ensures { result ≡ is_meant types.now message_type }
+// Whether a directive selects a message of this type. Without types it selects all.
+fn is_selected(types: &Option<TypeSet>, message_type: MessageType) -> bool
+    ensures { result ≡ is_selected types.now message_type }
 {
     match types {
         Some(set) => set.has(message_type),
@@ -30,32 +30,32 @@ fn is_meant(types: &Option<TypeSet>, message_type: MessageType) -> bool
 pub(crate) fn is_for(id: u64, types: &Option<TypeSet>, message: &Message) -> bool
     ensures { result ≡ is_for id types.now message.now }
 {
-    message.to == id && is_meant(types, message.kind.message_type())
+    message.to == id && is_selected(types, message.kind.message_type())
 }
 
-/// Whether a message more has room.
+/// Whether there is room for another message.
 pub(crate) fn has_room(pending: &[SharedMessage]) -> bool
     ensures { result ≡ has_room pending.now }
 {
     pending.len() < MAX_PENDING
 }
 
-/// Pending messages, parted: those for a node, and all others, each in their order.
+/// Pending messages, split into those for a node and the rest, each in their order.
 #[derive(Drop)]
-pub(crate) struct Parted {
-    pub(crate) mail: Vec<SharedMessage>,
-    pub(crate) others: Vec<SharedMessage>,
+pub(crate) struct SplitMail {
+    pub(crate) for_node: Vec<SharedMessage>,
+    pub(crate) rest: Vec<SharedMessage>,
 }
 
-/// Parts the messages of the types for a node from all others.
+/// Splits off the messages of the types for a node.
 pub(crate) fn split(
     alloc: Global,
     pending: Vec<SharedMessage>,
     id: u64,
     types: &Option<TypeSet>,
-) -> Result<Parted, AllocError>
-    ensures mail { IfOk result (λ p. p.mail.items ≡ mail pending.items id types.now) }
-    ensures others { IfOk result (λ p. p.others.items ≡ other_mail pending.items id types.now) }
+) -> Result<SplitMail, AllocError>
+    ensures for_node { IfOk result (λ p. p.for_node.items ≡ mail pending.items id types.now) }
+    ensures rest { IfOk result (λ p. p.rest.items ≡ other_mail pending.items id types.now) }
 {
     let mut mail = Vec::new(alloc);
     let mut others = Vec::new(alloc);
@@ -66,11 +66,14 @@ pub(crate) fn split(
             others.push(shared)?;
         }
     }
-    Ok(Parted { mail, others })
+    Ok(SplitMail {
+        for_node: mail,
+        rest: others,
+    })
 }
 
 impl<L: RaftLog> Cluster<L> {
-    /// Puts a message at the end of the pending ones, or gives it up where there is no room.
+    /// Appends a message to the pending ones, or drops it if there is no room.
     pub(crate) fn send<O: Observer>(
         &mut self,
         message: Message,
@@ -85,7 +88,7 @@ impl<L: RaftLog> Cluster<L> {
         Ok(())
     }
 
-    /// Puts messages there, in their order.
+    /// Appends messages, in their order.
     pub(crate) fn send_all<O: Observer>(
         &mut self,
         messages: Vec<Message>,

@@ -1,11 +1,11 @@
-//! `process-ready`: what is ready at a node is printed and done.
+//! `process-ready`: shows a node's ready and processes it.
 
 ghost use Rattle.std.specs.Prelude.{◌≡◌, ◌+◌, OnOk, fold, map};
 ghost use Rattle.rb_raftlog.specs.Log.{not_durable};
 ghost use Rattle.rb_node.specs.Readying.{ready, applying, others};
 ghost use Rattle.rb_texts.specs.Items as items;
 ghost use Rattle.rb_machine.specs.Entries.{entry_items};
-ghost use Rattle.rb_machine.specs.Readies.{hard_items, snapshot_items, ready_items, node_advanced, ready_done, ready_done_each};
+ghost use Rattle.rb_machine.specs.Readies.{hard_items, snapshot_items, ready_items, node_advanced, ready_processed, ready_processed_each};
 ghost use Rattle.rb_machine.specs.Observers.{watched, after};
 
 use crate::cluster::{Cluster, place_of};
@@ -16,7 +16,7 @@ use rb_raftlog::RaftLog;
 use rb_texts::Item;
 use std::alloc::AllocError;
 
-// Prints the hard state and a restored snapshot, where they are ready.
+// Shows the hard state and a restored snapshot, if they are ready.
 fn show_hard<O: Observer, L: RaftLog>(
     observer: &mut O,
     view: &ReadyView<'_, L>,
@@ -41,7 +41,7 @@ fn show_snapshot<O: Observer, L: RaftLog>(
     }
 }
 
-// Prints the entries of a log that aren't durable, as what is to be saved.
+// Shows the entries of a log that aren't durable, which are to be saved.
 fn show_unsaved<O: Observer, L: RaftLog>(observer: &mut O, log: &L) -> Result<(), AllocError>
     ensures { OnOk result (O.meaning observer.new ≡ fold O.taking (O.meaning observer.old) (entry_items items.save ((L.plain log.now).durable + 1) (not_durable (L.plain log.now)))) }
 {
@@ -55,14 +55,14 @@ fn show_unsaved<O: Observer, L: RaftLog>(observer: &mut O, log: &L) -> Result<()
     Ok(())
 }
 
-// Prints the entries that are to be saved.
+// Shows the entries to save.
 fn show_saved<O: Observer, L: RaftLog>(observer: &mut O, node: &Node<L>) -> Result<(), AllocError>
     ensures { OnOk result (O.meaning observer.new ≡ fold O.taking (O.meaning observer.old) (entry_items items.save (node.now.log.durable + 1) (ready node.now).save)) }
 {
     show_unsaved(observer, &node.status().log)
 }
 
-// Prints the entries that are to be applied.
+// Shows the entries to apply.
 fn show_applied<O: Observer, L: RaftLog>(observer: &mut O, node: &Node<L>) -> Result<(), AllocError>
     ensures { OnOk result (O.meaning observer.new ≡ fold O.taking (O.meaning observer.old) (entry_items items.apply (node.now.applied + 1) (applying node.now))) }
 {
@@ -77,7 +77,7 @@ fn show_applied<O: Observer, L: RaftLog>(observer: &mut O, node: &Node<L>) -> Re
     Ok(())
 }
 
-// Prints the messages that go out: those that were sent, and of those that waited the ones for other nodes.
+// Shows the outgoing messages: the sent ones, and the waiting answers to other nodes.
 fn show_sent<O: Observer>(observer: &mut O, outbox: &Outbox) -> Result<(), AllocError>
     ensures { OnOk result (O.meaning observer.new ≡ fold O.taking (O.meaning observer.old) (map items.send outbox.now)) }
 {
@@ -99,7 +99,7 @@ fn show_waited<O: Observer>(observer: &mut O, id: u64, outbox: &Outbox) -> Resul
     Ok(())
 }
 
-// Prints what is ready at a node.
+// Shows a node's ready.
 #[tactic(auto, unfolding(rb_machine::specs::Readies::ready_items))]
 fn show_ready<O: Observer, L: RaftLog>(
     observer: &mut O,
@@ -119,7 +119,7 @@ fn show_ready<O: Observer, L: RaftLog>(
 }
 
 impl<L: RaftLog> Cluster<L> {
-    // A node goes on, what goes out is sent, and what the node tells is printed.
+    // Advances a node, sends its outgoing messages, and shows its events.
     fn advance<O: Observer>(&mut self, id: u64, observer: &mut O) -> Result<(), AllocError>
         ensures { OnOk result (watched self.new (O.meaning observer.new) ≡ after O.taking (O.meaning observer.old) (node_advanced self.old id)) }
     {
@@ -128,20 +128,20 @@ impl<L: RaftLog> Cluster<L> {
         let Some(shared) = self.nodes.get_mut(place_of(id)) else {
             return Ok(());
         };
-        let node = shared.to_change()?;
+        let node = shared.make_mut()?;
         node.advance(&mut messages, &mut events)?;
         self.send_all(messages, observer)?;
         show_events(observer, &events)
     }
 
-    /// Does what is ready at a node, or prints that there is nothing.
-    #[tactic(auto, unfolding(rb_machine::specs::Readies::all_done))]
-    pub(crate) fn do_ready<O: Observer>(
+    /// Processes a node's ready, or shows that there is none.
+    #[tactic(auto, unfolding(rb_machine::specs::Readies::whole_ready_processed))]
+    pub(crate) fn process_one_ready<O: Observer>(
         &mut self,
         id: u64,
         observer: &mut O,
     ) -> Result<(), AllocError>
-        ensures { OnOk result (watched self.new (O.meaning observer.new) ≡ after O.taking (O.meaning observer.old) (ready_done self.old id)) }
+        ensures { OnOk result (watched self.new (O.meaning observer.new) ≡ after O.taking (O.meaning observer.old) (ready_processed self.old id)) }
     {
         let Some(node) = self.node_with(id) else {
             return Ok(());
@@ -153,16 +153,16 @@ impl<L: RaftLog> Cluster<L> {
         self.advance(id, observer)
     }
 
-    /// Does what is ready at nodes, in their order.
+    /// Processes the ready of nodes, in their order.
     pub(crate) fn process_ready<O: Observer>(
         &mut self,
         ids: &[u8],
         observer: &mut O,
     ) -> Result<(), AllocError>
-        ensures { OnOk result (watched self.new (O.meaning observer.new) ≡ after O.taking (O.meaning observer.old) (ready_done_each self.old ids.now)) }
+        ensures { OnOk result (watched self.new (O.meaning observer.new) ≡ after O.taking (O.meaning observer.old) (ready_processed_each self.old ids.now)) }
     {
         for id in ids {
-            self.do_ready(u64::from(*id), observer)?;
+            self.process_one_ready(u64::from(*id), observer)?;
         }
         Ok(())
     }

@@ -1,12 +1,12 @@
-//! `stabilize`: rounds over nodes until nothing is left to do.
+//! `stabilize`: runs rounds over nodes until there is no work left.
 //!
-//! In a round each chosen node that has something ready does it, and then each gets its pending messages. Whom messages are pending for is
-//! found in one look at all of them, so that a round costs what it does and one look, not a look a node.
+//! A round first processes the ready of each chosen node, and then delivers each one's pending messages. One pass over the pending messages
+//! marks their receivers, so a round doesn't search them once a node.
 
 ghost use Rattle.std.specs.Prelude.{◌≡◌, OnOk, IfOk, None};
 ghost use Rattle.rb_machine.specs.Deliveries.{delivered_each};
-ghost use Rattle.rb_machine.specs.Rounds.{is_chosen, chosen, is_ready, has_mail, has_work, readied_each, round, settled, stabilized};
-ghost use Rattle.rb_cluster.specs.Marks.{IsMarked, is_marked};
+ghost use Rattle.rb_machine.specs.Rounds.{is_chosen, chosen, is_ready, has_mail, has_work, each_ready_processed, round, rounds_run, stabilized};
+ghost use Rattle.rb_cluster.specs.Receivers.{IsMarked, is_marked};
 ghost use Rattle.rb_machine.specs.Observers.{watched, after};
 
 use crate::cluster::Cluster;
@@ -17,18 +17,18 @@ use rb_raftlog::RaftLog;
 use rb_texts::Item;
 use std::alloc::AllocError;
 
-// How many ids the marks are for: 0, and those that nodes can have.
+// The number of ids that can be marked: 0, and those of nodes.
 const MARKS: usize = MAX_ID as usize + 1;
 
-/// For whom messages are pending.
+/// The nodes with pending messages.
 #[derive(Drop)]
-struct Marks {
+struct Receivers {
     has: [bool; MARKS],
 }
 
-impl Marks {
-    // For whom these messages are.
-    fn of(pending: &[SharedMessage]) -> Marks
+impl Receivers {
+    // Marks the receivers of these messages.
+    fn of(pending: &[SharedMessage]) -> Receivers
         ensures { IsMarked pending.now result.has }
     {
         let mut has = [false; MARKS];
@@ -38,10 +38,10 @@ impl Marks {
                 has[to] = true;
             }
         }
-        Marks { has }
+        Receivers { has }
     }
 
-    // Whether one of the messages may be for this node.
+    // Whether a message may be for this node.
     fn has(&self, id: u64) -> bool
         ensures { result ≡ is_marked self.now.has id }
     {
@@ -49,14 +49,14 @@ impl Marks {
     }
 }
 
-// Whether one of the messages is for this node.
+// Whether a message is for this node.
 fn has_mail(pending: &[SharedMessage], id: u64) -> bool
     ensures { result ≡ has_mail pending.now id }
 {
     pending.iter().any(|shared| shared.message().to == id)
 }
 
-// Whether the node is named; each is where none is.
+// Whether the node is chosen. Without named nodes, all are.
 #[tactic(auto, using(crate::proofs::RoundLaws::chosen_named))]
 fn is_chosen(named: &IdList, id: u64) -> bool
     ensures { result ≡ is_chosen named.now id }
@@ -93,34 +93,42 @@ impl<L: RaftLog> Cluster<L> {
     fn has_work(&self, ids: &[u64]) -> bool
         ensures { result ≡ has_work self.now ids.now }
     {
-        let marks = Marks::of(&self.pending);
+        let receivers = Receivers::of(&self.pending);
         for id in ids {
-            if self.is_ready(*id) || (marks.has(*id) && has_mail(&self.pending, *id)) {
+            if self.is_ready(*id) || (receivers.has(*id) && has_mail(&self.pending, *id)) {
                 return true;
             }
         }
         false
     }
 
-    // Each node that has something ready does it.
-    fn ready_each<O: Observer>(&mut self, ids: &[u64], observer: &mut O) -> Result<(), AllocError>
-        ensures { OnOk result (watched self.new (O.meaning observer.new) ≡ after O.taking (O.meaning observer.old) (readied_each self.old ids.now)) }
+    // Processes the ready of each node that has one.
+    fn process_each_ready<O: Observer>(
+        &mut self,
+        ids: &[u64],
+        observer: &mut O,
+    ) -> Result<(), AllocError>
+        ensures { OnOk result (watched self.new (O.meaning observer.new) ≡ after O.taking (O.meaning observer.old) (each_ready_processed self.old ids.now)) }
     {
         for id in ids {
             if self.is_ready(*id) {
-                self.do_ready(*id, observer)?;
+                self.process_one_ready(*id, observer)?;
             }
         }
         Ok(())
     }
 
-    // Each node gets its pending messages.
-    fn reach_each<O: Observer>(&mut self, ids: &[u64], observer: &mut O) -> Result<(), AllocError>
+    // Delivers each node's pending messages.
+    fn deliver_to_each<O: Observer>(
+        &mut self,
+        ids: &[u64],
+        observer: &mut O,
+    ) -> Result<(), AllocError>
         ensures { OnOk result (watched self.new (O.meaning observer.new) ≡ after O.taking (O.meaning observer.old) (delivered_each None self.old ids.now)) }
     {
-        let marks = Marks::of(&self.pending);
+        let receivers = Receivers::of(&self.pending);
         for id in ids {
-            if marks.has(*id) {
+            if receivers.has(*id) {
                 self.deliver(*id, &None, observer)?;
             }
         }
@@ -131,18 +139,18 @@ impl<L: RaftLog> Cluster<L> {
     fn round<O: Observer>(&mut self, ids: &[u64], observer: &mut O) -> Result<(), AllocError>
         ensures { OnOk result (watched self.new (O.meaning observer.new) ≡ after O.taking (O.meaning observer.old) (round ids.now self.old)) }
     {
-        self.ready_each(ids, observer)?;
-        self.reach_each(ids, observer)
+        self.process_each_ready(ids, observer)?;
+        self.deliver_to_each(ids, observer)
     }
 
-    // Rounds while there is work, and so many at the most.
-    fn settle<O: Observer>(
+    // Runs rounds while there is work, up to a limit.
+    fn run_rounds<O: Observer>(
         &mut self,
         rounds: u64,
         ids: &[u64],
         observer: &mut O,
     ) -> Result<(), AllocError>
-        ensures { OnOk result (watched self.new (O.meaning observer.new) ≡ after O.taking (O.meaning observer.old) (settled rounds rounds ids.now self.old)) }
+        ensures { OnOk result (watched self.new (O.meaning observer.new) ≡ after O.taking (O.meaning observer.old) (rounds_run rounds rounds ids.now self.old)) }
     {
         for _round in 0..rounds {
             if !self.has_work(ids) {
@@ -156,7 +164,7 @@ impl<L: RaftLog> Cluster<L> {
         Ok(())
     }
 
-    /// Rounds over the named nodes, or over all where none is named, until nothing is left to do or they are so many.
+    /// Runs rounds over the named nodes, or over all if none is named, until there is no work left or the limit is reached.
     pub(crate) fn stabilize<O: Observer>(
         &mut self,
         named: &IdList,
@@ -166,6 +174,6 @@ impl<L: RaftLog> Cluster<L> {
         ensures { OnOk result (watched self.new (O.meaning observer.new) ≡ after O.taking (O.meaning observer.old) (stabilized named.now rounds self.old)) }
     {
         let ids = self.chosen(named)?;
-        self.settle(rounds, &ids, observer)
+        self.run_rounds(rounds, &ids, observer)
     }
 }

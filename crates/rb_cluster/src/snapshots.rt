@@ -11,12 +11,12 @@ ghost use Rattle.rb_machine.specs.Observers.{watched, after};
 use crate::cluster::{Cluster, place_of};
 use crate::pending::has_room;
 use crate::views::show_log;
-use rb_level::DirectiveError;
 use rb_machine::Observer;
 use rb_message::{Install, Message, MessageKind};
 use rb_node::Node;
 use rb_raftlog::{CompactFault, RaftLog};
 use rb_texts::{Item, Verb};
+use rb_vocab::DirectiveError;
 use std::alloc::{AllocError, Global};
 
 fn error_of(fault: Option<CompactFault>) -> Option<DirectiveError<'static>>
@@ -29,7 +29,7 @@ fn error_of(fault: Option<CompactFault>) -> Option<DirectiveError<'static>>
     }
 }
 
-// Why a log can't be compacted to an index.
+// Why a log can't be compacted to an index, if it can't.
 fn compact_fault<L: RaftLog>(log: &L, index: u64, applied: u64) -> Option<CompactFault>
     ensures { result ≡ compact_fault (L.plain log.now) index applied }
 {
@@ -61,19 +61,19 @@ fn snapshot_message<L: RaftLog>(
 }
 
 impl<L: RaftLog> Cluster<L> {
-    // Puts a message among the pending ones by hand, where there is room.
+    // Queues a message by hand, if there is room.
     #[tactic(auto, unfolding(rb_machine::specs::Snapshots::queued))]
     fn queue<O: Observer>(&mut self, message: Message, observer: &mut O) -> Result<(), AllocError>
         ensures { OnOk result (watched self.new (O.meaning observer.new) ≡ after O.taking (O.meaning observer.old) (queued self.old message)) }
     {
-        // Where there is no room, sending it shows so.
+        // If there is no room, `send` says so.
         if has_room(&self.pending) {
             observer.observe(&Item::Moved(Verb::Queue, &message))?;
         }
         self.send(message, observer)
     }
 
-    /// Puts a node's snapshot for another among the pending messages.
+    /// Queues a node's snapshot for another node.
     pub(crate) fn send_snapshot<O: Observer>(
         &mut self,
         from: u64,
@@ -89,7 +89,7 @@ impl<L: RaftLog> Cluster<L> {
         self.queue(message, observer)
     }
 
-    /// Why a node's log can't be compacted to an index.
+    /// Why a node's log can't be compacted to an index, if it can't.
     #[tactic(auto, unfolding(rb_machine::specs::Snapshots::compact_error))]
     pub(crate) fn compact_error(&self, id: u64, index: u64) -> Option<DirectiveError<'static>>
         ensures { result ≡ compact_error id index self.now }
@@ -100,7 +100,7 @@ impl<L: RaftLog> Cluster<L> {
         error_of(compact_fault(&state.log, index, applied))
     }
 
-    /// Moves the base of a node's log to an index, and prints the log.
+    /// Compacts a node's log to an index, and shows the log.
     pub(crate) fn compact<O: Observer>(
         &mut self,
         id: u64,
@@ -112,7 +112,7 @@ impl<L: RaftLog> Cluster<L> {
         let Some(shared) = self.nodes.get_mut(place_of(id)) else {
             return Ok(());
         };
-        let node = shared.to_change()?;
+        let node = shared.make_mut()?;
         if node.compact(index).is_err() {
             return Err(AllocError);
         }

@@ -1,4 +1,4 @@
-//! `raft-log`, `status` and `raft-state`: what is shown of nodes.
+//! `raft-log`, `status` and `raft-state`: show nodes.
 
 ghost use Rattle.std.specs.Prelude.{◌≡◌, ◌+◌, OnOk, fold, map};
 ghost use Rattle.rb_texts.specs.Items.{plain_node};

@@ -4,7 +4,7 @@ use Rattle.std.specs.Prelude.{Contains}
 use Rattle.std.proofs.lemmas.List.Elements.{All-contains}
 use Rattle.rb_raftlog.specs.Bodies.{is_change}
 use Rattle.rb_message.specs.declared.message.Message.{Message}
-use Rattle.rb_node.specs.Node.{PlainNode, Turn}
+use Rattle.rb_node.specs.Node.{PlainNode, NodeStep}
 use Rattle.rb_node_laws.specs.Calling.{Call, Step, Propose, Transfer, Advance, after}
 use Rattle.rb_node_laws.specs.Sound.{IsSound}
 use Rattle.rb_node_laws.proofs.CallWays.{ways, called_way}
@@ -34,7 +34,7 @@ said_gives w m among to given = record {
 }
 
 -- so all that comes by it is heard
-pub safe_hears : {w : World} (c : Call) (t : Turn) → IsSafe w c t.node → Holds w t.node → Hears w (ways c t)
+pub safe_hears : {w : World} (c : Call) (t : NodeStep) → IsSafe w c t.node → Holds w t.node → Hears w (ways c t)
 safe_hears {w} (Step m) t safe h x is = subst (IsHeard w) (sym is) safe
 safe_hears {w} (Propose body) t safe h x is = subst (IsHeard w) (sym is) ((safe, λ _. tt), λ no. cc)
 safe_hears {w} (Transfer to) t safe h x is = subst (IsHeard w) (sym is) ((tt, λ _. tt), λ no. cc)
@@ -44,5 +44,5 @@ safe_hears {w} Advance t safe h x comes =
     ((own.1, out.1), said_gives w x out.0 (comes.1 ∙ h.itself)))
 safe_hears _ t safe h x never = absurd never
 
-pub called_holds : {w : World} (c : Call) (t : Turn) → IsSafe w c t.node → IsSound t.node → Holds w t.node → Holds w (after c t).node
+pub called_holds : {w : World} (c : Call) (t : NodeStep) → IsSafe w c t.node → IsSound t.node → Holds w t.node → Holds w (after c t).node
 called_holds c t safe s h = (over (moves_hold s (safe_hears c t safe h)) (called_way c t (λ o. o)) (s, h)).1

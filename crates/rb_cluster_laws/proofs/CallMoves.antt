@@ -6,9 +6,9 @@ use Rattle.rb_raftlog.specs.declared.raft_log.LogFault.{LogFault}
 use Rattle.rb_raftlog.specs.Log.{LogValue, last, last_term, term_at, compacted, made_durable}
 use Rattle.rb_raftlog.proofs.TermLaws.{held_in}
 use Rattle.rb_raftlog.proofs.VoteLaws.{compacted-term}
-use Rattle.rb_tracker.specs.Active.{unmarked}
+use Rattle.rb_tracker.specs.Active.{others_marked_inactive}
 use Rattle.rb_message.specs.declared.message.Message.{Message}
-use Rattle.rb_node.specs.Node.{PlainNode, Turn}
+use Rattle.rb_node.specs.Node.{PlainNode, NodeStep}
 use Rattle.rb_node.specs.Readying.{saved}
 use Rattle.rb_node_laws.specs.Choices.{bytes_of}
 use Rattle.rb_node_laws.specs.Calling.{Call, after}
@@ -111,11 +111,11 @@ module _ {g : Ground} {said : List Message} {id : ℕ} {others : Company} where
         words = k.words;
       }) h.speaks (omega arith)
 
-  unmarks_around : (st : History) (n : PlainNode) → Around g said id others st n → Onwards g said id others st (record n { tracker = unmarked n.tracker n.id })
-  unfolding unmarked
+  unmarks_around : (st : History) (n : PlainNode) → Around g said id others st n → Onwards g said id others st (record n { tracker = others_marked_inactive n.tracker n.id })
+  unfolding others_marked_inactive
   unmarks_around st n h =
       let k = h.knows in
-      let m : PlainNode = record n { tracker = unmarked n.tracker n.id } in
+      let m : PlainNode = record n { tracker = others_marked_inactive n.tracker n.id } in
       still_around st n m h
       (record {
         log = k.log;
@@ -192,7 +192,7 @@ moves_around {g} {said} {id} {others} st {w} known own same set once brings hear
       });
 }
 
-pub called_around : {g : Ground} {said : List Message} {id : ℕ} {others : Company} (st : History) (w : World) (c : Call) (t : Turn) → w.id ≡ id → IsSaid w.said said → w.setting ≡ g.setting → AreOnce said → Brings said id (ways c t) → Hears w (ways c t)
+pub called_around : {g : Ground} {said : List Message} {id : ℕ} {others : Company} (st : History) (w : World) (c : Call) (t : NodeStep) → w.id ≡ id → IsSaid w.said said → w.setting ≡ g.setting → AreOnce said → Brings said id (ways c t) → Hears w (ways c t)
     → IsSound t.node → HasSoundViews t.node → Holds w t.node → Around g said id others st t.node → Onwards g said id others st (after c t).node
 called_around {g} {said} {id} {others} st w c t own same set once brings hears s views hold h =
     let start : Through g said id others st w t.node = record { sound = s; views = views; holds = hold; around = record { history = st; more = same_history st; around = h } } in

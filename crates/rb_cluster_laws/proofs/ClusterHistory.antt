@@ -5,12 +5,12 @@ use Rattle.std.specs.List.{range_with_len}
 use Rattle.std.proofs.lemmas.List.Elements.{All-contains_itself, Contains-append_left, Contains-append_right, Contains-append_cases, Contains-push, Contains-push_cases}
 use Rattle.std.proofs.lemmas.Option.{none-some}
 use Rattle.rb_script.specs.Directive.{PlainDirective}
-use Rattle.rb_directive.specs.declared.asking.AddNodes.{AddNodes}
-use Rattle.rb_directive.specs.declared.asking.Request.{Request}
-use Rattle.rb_directive.specs.declared.asking.Request.TheVariants as requests
+use Rattle.rb_directive.specs.declared.requests.AddNodes.{AddNodes}
+use Rattle.rb_directive.specs.declared.requests.Request.{Request}
+use Rattle.rb_directive.specs.declared.requests.Request.TheVariants as requests
 use Rattle.rb_directive.specs.declared.build.Asked.{Asked}
 use Rattle.rb_directive.specs.Requests.{request}
-use Rattle.rb_change.specs.declared.conf_state.ConfState.{ConfState}
+use Rattle.rb_vocab.specs.declared.conf_state.ConfState.{ConfState}
 use Rattle.rb_raftlog.specs.declared.snapshot.Snapshot.{Snapshot}
 use Rattle.rb_raftlog.specs.Log.{entry_at}
 use Rattle.rb_tracker.specs.Configs.{config_of, state_of}
@@ -19,11 +19,11 @@ use Rattle.rb_message.specs.declared.kind.MessageKind.TheVariants as kind
 use Rattle.rb_message.specs.declared.message.Message.{Message}
 use Rattle.rb_message.specs.declared.role.Role.TheVariants as role
 use Rattle.rb_node.specs.declared.options.Options.{Options}
-use Rattle.rb_node.specs.Node.{PlainNode, Turn, message, started}
+use Rattle.rb_node.specs.Node.{PlainNode, NodeStep, message, started}
 use Rattle.rb_node.specs.Calls.{node_started}
 use Rattle.rb_node.specs.Sends.{snapshot_of}
 use Rattle.rb_node_laws.specs.Calling.{Call, Step, Propose, Advance, after}
-use Rattle.rb_machine.specs.AddNodes.{base_term, start, options, began, added_each, nodes_added}
+use Rattle.rb_machine.specs.AddNodes.{base_term, start, options, node_added, added_each, nodes_added}
 use Rattle.rb_machine.specs.Cluster.{Cluster, empty}
 use Rattle.rb_machine.specs.Outcome.{effect, outcome}
 use Rattle.rb_cluster_laws.specs.Clusters.{AreSteady, led}
@@ -73,11 +73,11 @@ honest g s heard ms k (Step m) fair coming brought =
 honest g s heard ms k (Propose body) fair coming brought = (brought refl, tt, brought refl)
 honest g s heard ms k _ fair coming brought = (tt, tt, tt)
 
-still_coming : (g : Setting) (s : Network) (place : ℕ) (c : Call) (t : Turn) (m : Message) → IsComing g s m → IsComing g (called_network s place c t.events t.node) m
+still_coming : (g : Setting) (s : Network) (place : ℕ) (c : Call) (t : NodeStep) (m : Message) → IsComing g s m → IsComing g (called_network s place c t.events t.node) m
 still_coming g s place c t m is =
     elim is as (λ _. IsComing g (called_network s place c t.events t.node) m) [ inl said ↦ inl (Contains-append_left s.said (put_out c t.node) m said) | inr shown ↦ inr shown ]
 
-follows_call : (g : Ground) (since : History) (nodes : List PlainNode) (ms all : List Message) (k : ℕ) (call : Call) (t : Turn) → slice_get nodes k ≡ Some t.node → IsBrought true ms k call → ((m : Message) → Contains all m → Contains ms m ⊎ Contains (put_out call t.node) m) → IsFollowed g since nodes ms
+follows_call : (g : Ground) (since : History) (nodes : List PlainNode) (ms all : List Message) (k : ℕ) (call : Call) (t : NodeStep) → slice_get nodes k ≡ Some t.node → IsBrought true ms k call → ((m : Message) → Contains all m → Contains ms m ⊎ Contains (put_out call t.node) m) → IsFollowed g since nodes ms
     → IsFollowed g since (slice_set nodes k (after call t).node) all
 follows_call g since nodes ms all k call t at brought either f =
     let s = f.network in
@@ -255,7 +255,7 @@ all_begin : (index term : ℕ) (content : List ℕ) (from : Snapshot) (given : O
 all_begin index term content from given zero x at of con before = before
 all_begin index term content from given (suc n) x at of con before =
     let id = length x.nodes + 1 in
-    let y = (began x (node_started id from given [])).cluster in
+    let y = (node_added x (node_started id from given [])).cluster in
     let longer : length y.nodes ≡ id = length-append x.nodes (started id from given ∷ []) in
     subst (λ (low : ℕ). BeginAt index term content (added_each from given y (range_with_len low n)).cluster.nodes) (ap (λ (i : ℕ). i + 1) longer)
     (all_begin index term content from given n y at of con (one_begins index term content from given x.nodes at of con before))

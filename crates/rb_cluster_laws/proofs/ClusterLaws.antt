@@ -5,20 +5,20 @@ use Rattle.std.specs.List.{range_with_len}
 use Rattle.std.proofs.lemmas.List.Elements.{All-contains_itself}
 use Rattle.std.proofs.lemmas.Option.{none-some}
 use Rattle.rb_script.specs.Directive.{PlainDirective}
-use Rattle.rb_level.specs.declared.directive_error.DirectiveError.{DirectiveError}
-use Rattle.rb_directive.specs.declared.asking.AddNodes.{AddNodes}
-use Rattle.rb_directive.specs.declared.asking.Request.{Request}
-use Rattle.rb_directive.specs.declared.asking.Request.TheVariants as requests
+use Rattle.rb_vocab.specs.declared.directive_error.DirectiveError.{DirectiveError}
+use Rattle.rb_directive.specs.declared.requests.AddNodes.{AddNodes}
+use Rattle.rb_directive.specs.declared.requests.Request.{Request}
+use Rattle.rb_directive.specs.declared.requests.Request.TheVariants as requests
 use Rattle.rb_directive.specs.declared.build.Asked.{Asked}
 use Rattle.rb_directive.specs.Requests.{request}
-use Rattle.rb_change.specs.declared.conf_state.ConfState.{ConfState}
+use Rattle.rb_vocab.specs.declared.conf_state.ConfState.{ConfState}
 use Rattle.rb_raftlog.specs.declared.snapshot.Snapshot.{Snapshot}
 use Rattle.rb_raftlog.specs.Laws.{AreMatching}
 use Rattle.rb_message.specs.declared.message.Message.{Message}
 use Rattle.rb_node.specs.declared.options.Options.{Options}
 use Rattle.rb_node.specs.Node.{PlainNode, started}
 use Rattle.rb_node.specs.Calls.{node_started}
-use Rattle.rb_machine.specs.AddNodes.{start, options, began, added_each, nodes_added}
+use Rattle.rb_machine.specs.AddNodes.{start, options, node_added, added_each, nodes_added}
 use Rattle.rb_machine.specs.Cluster.{Cluster, empty}
 use Rattle.rb_machine.specs.Outcome.{effect, outcome}
 use Rattle.rb_cluster_laws.specs.Clusters.{AreSteady, led, IsNew}
@@ -78,14 +78,14 @@ all_started : (members : ConfState) (from : Snapshot) (given : Options) (n : ℕ
 all_started members from given zero x same before = before
 all_started members from given (suc n) x same before =
     let id = length x.nodes + 1 in
-    let y = (began x (node_started id from given [])).cluster in
+    let y = (node_added x (node_started id from given [])).cluster in
     let longer : length y.nodes ≡ id = length-append x.nodes (started id from given ∷ []) in
     subst (λ (low : ℕ). AreStarted members (added_each from given y (range_with_len low n)).cluster.nodes) (ap (λ (i : ℕ). i + 1) longer)
     (all_started members from given n y same (one_started members from given x.nodes same before))
 
 none_sent : (from : Snapshot) (given : Options) (ids : List ℕ) (x : Cluster) → (added_each from given x ids).cluster.pending ≡ x.pending
 none_sent from given [] x = refl
-none_sent from given (id ∷ ids) x = none_sent from given ids (began x (node_started id from given [])).cluster
+none_sent from given (id ∷ ids) x = none_sent from given ids (node_added x (node_started id from given [])).cluster
 
 added_new : (members : ConfState) (r : AddNodes) (x : Cluster) → (start r).config ≡ members → IsNew members x → IsNew members (nodes_added r x).cluster
 unfolding nodes_added

@@ -9,14 +9,14 @@ use Rattle.std.proofs.lemmas.List.{set-set, set-get_or}
 use Rattle.std.proofs.lemmas.List.Elements.{All-nil, All-head, All-tail, All-cons, All-push, All-weaker, All-append, All-filter, All-contains_itself, Contains-append_left, Contains-append_right, Contains-push, filter_passes}
 use Rattle.std.proofs.lemmas.Option.{get_or_from_slice_get}
 use Rattle.rb_script.specs.Directive.{PlainDirective}
-use Rattle.rb_level.specs.declared.directive_error.DirectiveError.{DirectiveError}
-use Rattle.rb_level.specs.declared.directive_error.DirectiveError.TheVariants as errors
-use Rattle.rb_directive.specs.declared.act.Act.{Act}
-use Rattle.rb_directive.specs.declared.act.Act.TheVariants as does
-use Rattle.rb_directive.specs.declared.act_with.ActWith.TheVariants as withs
-use Rattle.rb_directive.specs.declared.asking.DeliverMsgs.{DeliverMsgs}
-use Rattle.rb_directive.specs.declared.asking.Request.{Request}
-use Rattle.rb_directive.specs.declared.asking.Request.TheVariants as requests
+use Rattle.rb_vocab.specs.declared.directive_error.DirectiveError.{DirectiveError}
+use Rattle.rb_vocab.specs.declared.directive_error.DirectiveError.TheVariants as errors
+use Rattle.rb_directive.specs.declared.node_command.NodeCommand.{NodeCommand}
+use Rattle.rb_directive.specs.declared.node_command.NodeCommand.TheVariants as does
+use Rattle.rb_directive.specs.declared.node_command_with_arg.NodeCommandWithArg.TheVariants as withs
+use Rattle.rb_directive.specs.declared.requests.DeliverMsgs.{DeliverMsgs}
+use Rattle.rb_directive.specs.declared.requests.Request.{Request}
+use Rattle.rb_directive.specs.declared.requests.Request.TheVariants as requests
 use Rattle.rb_directive.specs.declared.build.Asked.{Asked}
 use Rattle.rb_directive.specs.declared.type_set.TypeSet.{TypeSet}
 use Rattle.rb_directive.specs.Changes.{input_words}
@@ -32,21 +32,21 @@ use Rattle.rb_message.specs.declared.kind.MessageKind.TheVariants as kind
 use Rattle.rb_message.specs.declared.message.Message.{Message}
 use Rattle.rb_node.specs.declared.limits.TheConstants.{ELECTION_TICKS}
 use Rattle.rb_node.specs.declared.options.Options.{Options}
-use Rattle.rb_node.specs.Node.{PlainNode, Turn, turn, started, message}
+use Rattle.rb_node.specs.Node.{PlainNode, NodeStep, node_step, started, message}
 use Rattle.rb_node.specs.Calls.{node_started}
-use Rattle.rb_node.specs.Readying.{has_ready, handed, others}
+use Rattle.rb_node.specs.Readying.{has_ready, outgoing, others}
 use Rattle.rb_node.specs.Sends.{snapshot_of}
 use Rattle.rb_node.specs.Ticking.{ticked}
 use Rattle.rb_node_laws.specs.Calling.{Call, Step, Campaign, Propose, Transfer, Tick, Advance, ForgetLeader, ReportUnreachable, SetTimeout, Compact, compacted_unless, after}
 use Rattle.rb_machine.specs.Acts.{act, ticked_times}
-use Rattle.rb_machine.specs.AddNodes.{added_each, began, nodes_added, options, start}
+use Rattle.rb_machine.specs.AddNodes.{added_each, node_added, nodes_added, options, start}
 use Rattle.rb_machine.specs.Changes.{words_of}
 use Rattle.rb_machine.specs.Cluster.{Cluster, is_node, node_at, with_node, changed_by}
-use Rattle.rb_machine.specs.Deliveries.{left_by, received, all_received, delivered, delivered_each, dropped, dropped_each, meets_any, msgs_delivered}
+use Rattle.rb_machine.specs.Deliveries.{left_by, received, all_received, delivered, delivered_each, dropped, dropped_each, selects_any, msgs_delivered}
 use Rattle.rb_machine.specs.Outcome.{absent, first_absent, missing_node, own_fault, fault, effect, unless_refused, execution_of, execution, outcome}
-use Rattle.rb_machine.specs.Pending.{is_meant, is_for, mail, has_room, sent, all_sent}
-use Rattle.rb_machine.specs.Readies.{advanced_by, all_done, ready_done_by, ready_done, ready_done_each}
-use Rattle.rb_machine.specs.Rounds.{is_chosen, chosen, is_ready, has_work, readied, readied_each, round, settled}
+use Rattle.rb_machine.specs.Pending.{is_selected, is_for, mail, has_room, sent, all_sent}
+use Rattle.rb_machine.specs.Readies.{advanced_by, whole_ready_processed, ready_processed_by, ready_processed, ready_processed_each}
+use Rattle.rb_machine.specs.Rounds.{is_chosen, chosen, is_ready, has_work, processed_if_ready, each_ready_processed, round, rounds_run}
 use Rattle.rb_machine.specs.Effects.{Effect, each, acted_by, acted}
 use Rattle.rb_machine.specs.Snapshots.{queued, snapshot_sent_by, compact_error_by, compact_error, compact_by}
 use Rattle.rb_machine.specs.Views.{log_shown_by, status_shown_by}
@@ -82,8 +82,8 @@ IsBrought steady ms k _ = Unit {0}
 -- A fact of nodes, and of messages that may come to them. A node is called; it advances, and what it has to send and to answer comes out; a
 -- snapshot of it is sent by hand; and a node joins, unless the directives are steady.
 pub record Lasts (steady : Bool) (P : List PlainNode → List Message → Type 0) : Type 0 where
-  pub calls : (nodes : List PlainNode) (ms : List Message) (k : ℕ) (call : Call) (t : Turn) → slice_get nodes k ≡ Some t.node → IsBrought steady ms k call → P nodes ms → P (slice_set nodes k (after call t).node) ms
-  pub advances : (nodes : List PlainNode) (ms : List Message) (k : ℕ) (t : Turn) → slice_get nodes k ≡ Some t.node → P nodes ms → P (slice_set nodes k (after Advance t).node) (ms ++ (t.node.sent ++ t.node.waiting))
+  pub calls : (nodes : List PlainNode) (ms : List Message) (k : ℕ) (call : Call) (t : NodeStep) → slice_get nodes k ≡ Some t.node → IsBrought steady ms k call → P nodes ms → P (slice_set nodes k (after call t).node) ms
+  pub advances : (nodes : List PlainNode) (ms : List Message) (k : ℕ) (t : NodeStep) → slice_get nodes k ≡ Some t.node → P nodes ms → P (slice_set nodes k (after Advance t).node) (ms ++ (t.node.sent ++ t.node.waiting))
   pub shows : (nodes : List PlainNode) (ms : List Message) (k from to : ℕ) (n : PlainNode) → slice_get nodes k ≡ Some n → P nodes ms → P nodes (ms ++ message from to n.term (kind.Snapshot (snapshot_of n)) ∷ [])
   pub joins : (steady ≡ true → ⊥) → (nodes : List PlainNode) (ms : List Message) (id : ℕ) (from : Snapshot) (given : Options) → P nodes ms → P (nodes ++ started id from given ∷ []) ms
 
@@ -137,10 +137,10 @@ all_mail : (ms : List Message) (id : ℕ) (types : Option TypeSet) (pending : Li
 all_mail ms id types pending coming =
     let came : All (Contains ms) (mail pending id types) = All-filter (is_for id types) (Contains ms) pending coming in
     let theirs : All (λ (m : Message). is_for id types m ≡ true) (mail pending id types) = filter_passes (is_for id types) pending in
-    λ k d low. (came k d low, (let m = slice_index_or (mail pending id types) k d in eqb-true m.to id (and_parts (m.to == id) (is_meant types (type_of m.kind)) (theirs k d low)).0))
+    λ k d low. (came k d low, (let m = slice_index_or (mail pending id types) k d in eqb-true m.to id (and_parts (m.to == id) (is_selected types (type_of m.kind)) (theirs k d low)).0))
 
 -- what is handed over is put out
-handed_out : (n : PlainNode) → All (Contains (n.sent ++ n.waiting)) (handed n)
+handed_out : (n : PlainNode) → All (Contains (n.sent ++ n.waiting)) (outgoing n)
 handed_out n =
     let P : Message → Type 0 = Contains (n.sent ++ n.waiting) in
     All-append P n.sent (others n.id n.waiting)
@@ -160,13 +160,13 @@ module _ {steady : Bool} {P : List PlainNode → List Message → Type 0} (w : L
   -- the node with an id acts
   acts_by : (ms : List Message) (x : Cluster) (id : ℕ) (call : Call) (o : Option PlainNode) → node_at x id ≡ o → IsBrought steady ms (id - 1) call → Covers P ms x → Covers P ms (acted_by o x id (λ t. after call t)).cluster
   acts_by ms x id call None at brought h = h
-  acts_by ms x id call (Some n) at brought h = (w.calls x.nodes ms (id - 1) call (turn n []) at brought h.0, h.1)
+  acts_by ms x id call (Some n) at brought h = (w.calls x.nodes ms (id - 1) call (node_step n []) at brought h.0, h.1)
 
   acts : (ms : List Message) (x : Cluster) (id : ℕ) (call : Call) → IsBrought steady ms (id - 1) call → Covers P ms x → Covers P ms (acted x id (λ t. after call t)).cluster
   acts ms x id call brought h = acts_by ms x id call (node_at x id) refl brought h
 
   -- ticks, one upon another: after a node has become one and then another, the other stands there
-  then_ticks : (ms : List Message) (nodes : List PlainNode) (k times : ℕ) (t : Turn) → slice_get nodes k ≡ Some t.node → P nodes ms → P (slice_set nodes k (ticked_times times t).node) ms
+  then_ticks : (ms : List Message) (nodes : List PlainNode) (k times : ℕ) (t : NodeStep) → slice_get nodes k ≡ Some t.node → P nodes ms → P (slice_set nodes k (ticked_times times t).node) ms
   then_ticks ms nodes k zero t at h = subst (λ (ns : List PlainNode). P ns ms) (sym (set_same nodes k t.node at)) h
   then_ticks ms nodes k (suc times) t at h =
       let u = ticked t in
@@ -175,31 +175,31 @@ module _ {steady : Bool} {P : List PlainNode → List Message → Type 0} (w : L
 
   ticks : (ms : List Message) (x : Cluster) (id times : ℕ) (o : Option PlainNode) → node_at x id ≡ o → Covers P ms x → Covers P ms (acted_by o x id (ticked_times times)).cluster
   ticks ms x id times None at h = h
-  ticks ms x id times (Some n) at h = (then_ticks ms x.nodes (id - 1) times (turn n []) at h.0, h.1)
+  ticks ms x id times (Some n) at h = (then_ticks ms x.nodes (id - 1) times (node_step n []) at h.0, h.1)
 
-  act_lasts : (ms : List Message) (what : Act) (x : Cluster) (id : ℕ) → Covers P ms x → Covers P ms (act what id x).cluster
+  act_lasts : (ms : List Message) (what : NodeCommand) (x : Cluster) (id : ℕ) → Covers P ms x → Covers P ms (act what id x).cluster
   act_lasts ms does.Campaign x id h = acts ms x id Campaign tt h
   act_lasts ms does.TickElection x id h = ticks ms x id ELECTION_TICKS (node_at x id) refl h
   act_lasts ms does.TickHeartbeat x id h = acts ms x id Tick tt h
   act_lasts ms does.ForgetLeader x id h = acts ms x id ForgetLeader tt h
 
   -- changes that tell nothing
-  changes : (ms : List Message) (c : Cluster) (id : ℕ) (call : Call) (o : Option PlainNode) → node_at c id ≡ o → IsBrought steady ms (id - 1) call → Covers P ms c → Covers P ms (changed_by o c id (λ n. (after call (turn n [])).node))
+  changes : (ms : List Message) (c : Cluster) (id : ℕ) (call : Call) (o : Option PlainNode) → node_at c id ≡ o → IsBrought steady ms (id - 1) call → Covers P ms c → Covers P ms (changed_by o c id (λ n. (after call (node_step n [])).node))
   changes ms c id call None at brought h = h
-  changes ms c id call (Some n) at brought h = (w.calls c.nodes ms (id - 1) call (turn n []) at brought h.0, h.1)
+  changes ms c id call (Some n) at brought h = (w.calls c.nodes ms (id - 1) call (node_step n []) at brought h.0, h.1)
 
   compacts : (ms : List Message) (x : Cluster) (id index : ℕ) (o : Option PlainNode) → node_at x id ≡ o → compact_error_by o index ≡ None → Covers P ms x → Covers P ms (compact_by o id index x).cluster
   compacts ms x id index None at none h = h
   compacts ms x id index (Some n) at none h =
       let upto = min n.applied n.log.durable in
       let may : compact_fault n.log index upto ≡ None = may_compact n.log index upto none in
-      let now = w.calls x.nodes ms (id - 1) (Compact index) (turn n []) at tt h.0 in
+      let now = w.calls x.nodes ms (id - 1) (Compact index) (node_step n []) at tt h.0 in
       (subst (λ (f : Option CompactFault). P (slice_set x.nodes (id - 1) (compacted_unless f n index)) ms) may now, h.1)
 
   -- nodes join
   adds : (ms : List Message) (from : Snapshot) (given : Options) (x : Cluster) (ids : List ℕ) → (steady ≡ true → ⊥) → Covers P ms x → Covers P ms (added_each from given x ids).cluster
   adds ms from given x [] free h = h
-  adds ms from given x (id ∷ ids) free h = adds ms from given (began x (node_started id from given [])).cluster ids free (w.joins free x.nodes ms id from given h.0, h.1)
+  adds ms from given x (id ∷ ids) free h = adds ms from given (node_added x (node_started id from given [])).cluster ids free (w.joins free x.nodes ms id from given h.0, h.1)
 
   -- ---- deliveries
 
@@ -233,7 +233,7 @@ module _ {steady : Bool} {P : List PlainNode → List Message → Type 0} (w : L
   unfolding msgs_delivered
   delivers_msgs ms asked x some h =
       let y = (delivered_each asked.types x asked.nodes).cluster in
-      if_both (λ (q : Effect). Covers P ms q.cluster) (meets_any asked x.pending) _ _
+      if_both (λ (q : Effect). Covers P ms q.cluster) (selects_any asked x.pending) _ _
       (λ _. drops_each ms y asked.drop asked.types (delivers_each ms x asked.nodes asked.types some h)) (λ _. h)
 
   -- ---- what is ready
@@ -252,37 +252,37 @@ module _ {steady : Bool} {P : List PlainNode → List Message → Type 0} (w : L
   advances_by x id (Some n) at (ms, h) =
       let out = n.sent ++ n.waiting in (
         ms ++ out,
-        sends_all (ms ++ out) (with_node x id (after Advance (turn n [])).node) (handed n)
-            (All-weaker (Contains out) (Contains (ms ++ out)) (λ m there. Contains-append_right ms out m there) (handed n) (handed_out n))
-            (w.advances x.nodes ms (id - 1) (turn n []) at h.0, still_coming ms out x.pending h.1),
+        sends_all (ms ++ out) (with_node x id (after Advance (node_step n [])).node) (outgoing n)
+            (All-weaker (Contains out) (Contains (ms ++ out)) (λ m there. Contains-append_right ms out m there) (outgoing n) (handed_out n))
+            (w.advances x.nodes ms (id - 1) (node_step n []) at h.0, still_coming ms out x.pending h.1),
       )
 
-  does_all : (x : Cluster) (id : ℕ) (n : PlainNode) → IsCovered P x → IsCovered P (all_done x id n).cluster
-  unfolding all_done
+  does_all : (x : Cluster) (id : ℕ) (n : PlainNode) → IsCovered P x → IsCovered P (whole_ready_processed x id n).cluster
+  unfolding whole_ready_processed
   does_all x id n h = advances_by x id (node_at x id) refl h
 
-  readies_by : (x : Cluster) (id : ℕ) (o : Option PlainNode) → IsCovered P x → IsCovered P (ready_done_by o x id).cluster
+  readies_by : (x : Cluster) (id : ℕ) (o : Option PlainNode) → IsCovered P x → IsCovered P (ready_processed_by o x id).cluster
   readies_by x id None h = h
-  readies_by x id (Some n) h = if_both (λ (y : Effect). IsCovered P y.cluster) (has_ready n) (all_done x id n) _ (λ _. does_all x id n h) (λ _. h)
+  readies_by x id (Some n) h = if_both (λ (y : Effect). IsCovered P y.cluster) (has_ready n) (whole_ready_processed x id n) _ (λ _. does_all x id n h) (λ _. h)
 
-  readies_each : (x : Cluster) (ids : List ℕ) → IsCovered P x → IsCovered P (ready_done_each x ids).cluster
+  readies_each : (x : Cluster) (ids : List ℕ) → IsCovered P x → IsCovered P (ready_processed_each x ids).cluster
   readies_each x [] h = h
-  readies_each x (id ∷ ids) h = readies_each (ready_done x id).cluster ids (readies_by x id (node_at x id) h)
+  readies_each x (id ∷ ids) h = readies_each (ready_processed x id).cluster ids (readies_by x id (node_at x id) h)
 
   -- ---- rounds
 
-  rounds_ready : (x : Cluster) (ids : List ℕ) → IsCovered P x → IsCovered P (readied_each x ids).cluster
+  rounds_ready : (x : Cluster) (ids : List ℕ) → IsCovered P x → IsCovered P (each_ready_processed x ids).cluster
   rounds_ready x [] h = h
   rounds_ready x (id ∷ ids) h =
-      rounds_ready (readied x id).cluster ids
-      (if_both (λ (q : Effect). IsCovered P q.cluster) (is_ready x id) (ready_done x id) _ (λ _. readies_by x id (node_at x id) h) (λ _. h))
+      rounds_ready (processed_if_ready x id).cluster ids
+      (if_both (λ (q : Effect). IsCovered P q.cluster) (is_ready x id) (ready_processed x id) _ (λ _. readies_by x id (node_at x id) h) (λ _. h))
 
   goes_round : (x : Cluster) (ids : List ℕ) → AreIds ids → IsCovered P x → IsCovered P (round ids x).cluster
   unfolding round
-  goes_round x ids some h = let r = rounds_ready x ids h in (r.0, delivers_each r.0 (readied_each x ids).cluster ids None some r.1)
+  goes_round x ids some h = let r = rounds_ready x ids h in (r.0, delivers_each r.0 (each_ready_processed x ids).cluster ids None some r.1)
 
-  settles : (allowed rounds : ℕ) (x : Cluster) (ids : List ℕ) → AreIds ids → IsCovered P x → IsCovered P (settled allowed rounds ids x).cluster
-  unfolding settled
+  settles : (allowed rounds : ℕ) (x : Cluster) (ids : List ℕ) → AreIds ids → IsCovered P x → IsCovered P (rounds_run allowed rounds ids x).cluster
+  unfolding rounds_run
   settles allowed zero x ids some h = if_both (λ (q : Effect). IsCovered P q.cluster) (has_work x ids) _ _ (λ _. h) (λ _. h)
   settles allowed (suc rounds) x ids some h =
       if_both (λ (q : Effect). IsCovered P q.cluster) (has_work x ids) _ _
@@ -307,16 +307,16 @@ module _ {steady : Bool} {P : List PlainNode → List Message → Type 0} (w : L
   has_effect (requests.AddNodes asked) x ms asks may h = (ms, adds ms (start asked) (options asked) x (range_with_len (length x.nodes + 1) asked.count) asks h)
   has_effect (requests.ProposeConfChange asked) x ms asks may h =
       (ms, acts ms x asked.id (Propose (Change asked.transition (words_of (input_words asked.inputs)))) (λ is. absurd (asks is)) h)
-  has_effect (requests.Act what id) x ms asks may h = (ms, act_lasts ms what x id h)
+  has_effect (requests.NodeCommand what id) x ms asks may h = (ms, act_lasts ms what x id h)
   has_effect (requests.Propose id payload) x ms asks may h = (ms, acts ms x id (Propose (Payload payload)) (λ _. refl) h)
   has_effect (requests.ProcessReady ids) x ms asks may h = readies_each x ids (ms, h)
   has_effect (requests.DeliverMsgs asked) x ms asks may h = (ms, delivers_msgs ms asked x (all_present x.nodes asked.nodes may.0) h)
   has_effect (requests.Stabilize ids rounds) x ms asks may h = settles rounds rounds x (chosen ids x.nodes) (chosen_some ids x.nodes) (ms, h)
-  has_effect (requests.ActWith withs.SetRandomizedElectionTimeout id timeout) x ms asks may h = (ms, changes ms x id (SetTimeout timeout) (node_at x id) refl tt h)
-  has_effect (requests.ActWith withs.TransferLeadership from to) x ms asks may h = (ms, acts ms x from (Transfer to) tt h)
-  has_effect (requests.ActWith withs.ReportUnreachable id peer) x ms asks may h = (ms, changes ms x id (ReportUnreachable peer) (node_at x id) refl tt h)
-  has_effect (requests.ActWith withs.SendSnapshot from to) x ms asks may h = sends_snapshot ms x from to (node_at x from) refl h
-  has_effect (requests.ActWith withs.Compact id index) x ms asks may h = (ms, compacts ms x id index (node_at x id) refl may.1 h)
+  has_effect (requests.NodeCommandWithArg withs.SetRandomizedElectionTimeout id timeout) x ms asks may h = (ms, changes ms x id (SetTimeout timeout) (node_at x id) refl tt h)
+  has_effect (requests.NodeCommandWithArg withs.TransferLeadership from to) x ms asks may h = (ms, acts ms x from (Transfer to) tt h)
+  has_effect (requests.NodeCommandWithArg withs.ReportUnreachable id peer) x ms asks may h = (ms, changes ms x id (ReportUnreachable peer) (node_at x id) refl tt h)
+  has_effect (requests.NodeCommandWithArg withs.SendSnapshot from to) x ms asks may h = sends_snapshot ms x from to (node_at x from) refl h
+  has_effect (requests.NodeCommandWithArg withs.Compact id index) x ms asks may h = (ms, compacts ms x id index (node_at x id) refl may.1 h)
   has_effect (requests.LogLevel level) x ms asks may h = (ms, h)
   has_effect (requests.RaftLog id) x ms asks may h = (ms, elim (node_at x id) as (λ o. Covers P ms (log_shown_by o x).cluster) [ None ↦ h | Some n ↦ h ])
   has_effect (requests.Status id) x ms asks may h = (ms, elim (node_at x id) as (λ o. Covers P ms (status_shown_by o x).cluster) [ None ↦ h | Some n ↦ h ])

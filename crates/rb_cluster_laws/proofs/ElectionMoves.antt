@@ -11,7 +11,7 @@ use Rattle.rb_message.specs.declared.role.Role.TheVariants as role
 use Rattle.rb_message.specs.declared.message.Message.{Message}
 use Rattle.rb_node.specs.Leading.{in_lead, leading, with_views}
 use Rattle.rb_node.specs.Node.{PlainNode}
-use Rattle.rb_node.specs.Sends.{viewed}
+use Rattle.rb_node.specs.Sends.{with_view_at}
 use Rattle.rb_node_laws.specs.Sound.{IsSound}
 use Rattle.rb_node_laws.proofs.LeaderLaws.{with_views_only}
 use Rattle.rb_node_laws.proofs.MatchViewLaws.{of, with_views_at_most, place_set}
@@ -95,15 +95,15 @@ leads_knows g said st id n w s stands none h =
     ]) h)
 
 -- a member's answer
-pub counts_knows : (g : Ground) (st : History) (id : ℕ) (n : PlainNode) (at from i : ℕ) (view : PlainProgress) → n.role ≡ role.Leader → place n.tracker.views from ≡ Some at → (i ≤ g.root.index) ⊎ IsSaidUpTo st from n.term i → Knows g st id n → Knows g st id (viewed n at (acked view i))
+pub counts_knows : (g : Ground) (st : History) (id : ℕ) (n : PlainNode) (at from i : ℕ) (view : PlainProgress) → n.role ≡ role.Leader → place n.tracker.views from ≡ Some at → (i ≤ g.root.index) ⊎ IsSaidUpTo st from n.term i → Knows g st id n → Knows g st id (with_view_at n at (acked view i))
 counts_knows g st id n at from i view leads here said h = record {
   log = h.log;
   words = record {
     counts = λ is v.
-        elim (place_set n.tracker.views at from v (acked view i) here) as (λ _. IsCounted g st id n.term v (of (viewed n at (acked view i)) v)) [
+        elim (place_set n.tracker.views at from v (acked view i) here) as (λ _. IsCounted g st id n.term v (of (with_view_at n at (acked view i)) v)) [
           | inl same ↦ subst (IsCounted g st id n.term v) (sym same) (h.words.counts is v)
           | inr new ↦
-              let now : of (viewed n at (acked view i)) v ≡ i = new.1 ∙ acked_matched view.state view i in
+              let now : of (with_view_at n at (acked view i)) v ≡ i = new.1 ∙ acked_matched view.state view i in
               subst (IsCounted g st id n.term v) (sym now)
               (elim said as (λ _. IsCounted g st id n.term v i) [
                 | inl first ↦ inl first

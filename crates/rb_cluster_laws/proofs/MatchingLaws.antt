@@ -1,7 +1,7 @@
 -- Log matching of a network: all logs, at whatever moments, are linked by links of which an index has one of a term
 use Rattle.std.proofs.Common.{◌≡◌, ℕ, ◌+◌, true, List, [], Some, refl}
 use Rattle.std.specs.Prelude.{slice_get}
-use Rattle.rb_change.specs.declared.conf_state.ConfState.{ConfState}
+use Rattle.rb_vocab.specs.declared.conf_state.ConfState.{ConfState}
 use Rattle.rb_raftlog.specs.Laws.{AreMatching}
 use Rattle.rb_tracker.specs.Configs.{config_of}
 use Rattle.rb_node.specs.Node.{PlainNode}

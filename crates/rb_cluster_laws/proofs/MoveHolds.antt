@@ -3,7 +3,7 @@ use Rattle.std.proofs.Common.{◌≡◌, ◌⊎◌, ℕ, ◌-◌, ◌≤◌, ari
 use Rattle.std.specs.Prelude.{All}
 use Rattle.std.proofs.lemmas.Bool.{false≢true}
 use Rattle.std.proofs.lemmas.List.Elements.{All-nil, All-append, All-take, All-drop}
-use Rattle.rb_change.specs.declared.conf_state.ConfState.{ConfState}
+use Rattle.rb_vocab.specs.declared.conf_state.ConfState.{ConfState}
 use Rattle.rb_raftlog.proofs.AppendLaws.{by_append}
 use Rattle.rb_raftlog.specs.Bodies.{is_change}
 use Rattle.rb_raftlog.specs.declared.entry.Body.{Body}
@@ -13,7 +13,7 @@ use Rattle.rb_raftlog.specs.declared.snapshot.Snapshot.{Snapshot}
 use Rattle.rb_raftlog.specs.Log.{LogValue, term_at, compact_fault, compacted, made_durable, appended, restored}
 use Rattle.rb_tracker.proofs.ChangeLaws.{has_with_id}
 use Rattle.rb_tracker.proofs.SetLaws.{if_both, same_id}
-use Rattle.rb_tracker.specs.Active.{unmarked}
+use Rattle.rb_tracker.specs.Active.{others_marked_inactive}
 use Rattle.rb_tracker.specs.Ballots.{has_answered, answered, vote_result}
 use Rattle.rb_tracker.specs.Configs.{is_voter, is_joint, members, config_of, state_of}
 use Rattle.rb_tracker.specs.Sets.{has}
@@ -26,7 +26,7 @@ use Rattle.rb_message.specs.declared.kind.MessageKind.TheVariants as kind
 use Rattle.rb_message.specs.declared.message.Message.{Message}
 use Rattle.rb_message.specs.declared.role.Role.TheVariants as role
 use Rattle.rb_node.specs.Campaigns.{candidate, precandidate}
-use Rattle.rb_node.specs.Following.{heard, with_appended, restored_to}
+use Rattle.rb_node.specs.Following.{leader_contact_recorded, with_appended, restored_to}
 use Rattle.rb_node.specs.Leading.{in_lead, leading}
 use Rattle.rb_node.specs.Node.{PlainNode}
 use Rattle.rb_node.specs.Readying.{saved}
@@ -187,7 +187,7 @@ takes_holds : {w : World} (n : PlainNode) (from : ℕ) (append : PlainAppend) �
 takes_holds {w} n from append is came h =
     let log = appended n.log append.prev append.prev_term append.entries n.commit in
     let sent = log_from append.prev append.prev_term append.entries in
-    with_log (heard n from) log (appended_plain n.log append.prev append.prev_term n.commit append.entries h.log came.0)
+    with_log (leader_contact_recorded n from) log (appended_plain n.log append.prev append.prev_term n.commit append.entries h.log came.0)
     (λ strict ls since linked. appended_linked ls n.log append.prev append.prev_term n.commit append.entries linked (still_linked w.links ls sent since (came.1 strict)))
     (λ leads. absurd (never_leads n is leads)) h
 
@@ -241,7 +241,7 @@ step_holds {w} hears (Restores n snapshot is past came other) s h = restores_hol
 step_holds hears _ s h = h
 
 pub call_holds : {w : World} {v : Ways} {sound : Type 0} → Hears w v → {a b : PlainNode} → CallMove sound v a b → IsSound a → Holds w a → Holds w b
-unfolding unmarked
+unfolding others_marked_inactive
 call_holds hears (CallChanges m has) s h = absurd (has h.log)
 call_holds hears (CallSteps m) s h = step_holds hears m s h
 call_holds hears (Gives_up n) s h = follows_holds n n.term 0 (omega arith) h

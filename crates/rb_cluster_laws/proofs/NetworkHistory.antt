@@ -3,7 +3,7 @@
 use Rattle.std.proofs.Common.{◌⊎◌, ◌≡◌, ℕ, ◌+◌, ◌≤◌, true, List, [], ◌∷◌, ◌++◌, Option, Some, None, refl, sym, ap, subst, ◌∙◌, arith, inl, inr, if◌then◌else◌, ◌==◌, Result}
 use Rattle.std.specs.Prelude.{All, Contains, slice_get}
 use Rattle.std.proofs.lemmas.List.Elements.{All-nil, All-same, All-head, All-tail, All-append, All-contains_itself, Contains-append_left, Contains-append_right, Contains-append_cases, Contains-push, Contains-push_cases, All-push}
-use Rattle.rb_change.specs.declared.conf_state.ConfState.{ConfState}
+use Rattle.rb_vocab.specs.declared.conf_state.ConfState.{ConfState}
 use Rattle.std.specs.Result.{result_unwrap_or}
 use Rattle.rb_message.specs.declared.kind.MessageKind.{MessageKind}
 use Rattle.rb_node.specs.Sends.{snapshot_of}
@@ -16,7 +16,7 @@ use Rattle.rb_message.specs.declared.kind.MessageKind.TheVariants as kind
 use Rattle.rb_message.specs.declared.message.Message.{Message}
 use Rattle.rb_message.specs.declared.role.Role.TheVariants as role
 use Rattle.rb_node.specs.declared.options.Options.{Options}
-use Rattle.rb_node.specs.Node.{PlainNode, Turn, turn, started}
+use Rattle.rb_node.specs.Node.{PlainNode, NodeStep, node_step, started}
 use Rattle.rb_node.specs.Step.{stepped}
 use Rattle.rb_node_laws.specs.Calling.{Call, Step, Propose, Transfer, Advance, after}
 use Rattle.rb_node_laws.specs.Elections.{own_turn}
@@ -123,7 +123,7 @@ puts_out g s heard st id _ n mine h = (let x = no_words g s heard st h in record
 genuine_after : (said out : List Message) (id : ℕ) (m : Message) → IsGenuine said id m → IsGenuine (said ++ out) id m
 genuine_after said out id m is = elim is as (λ _. IsGenuine (said ++ out) id m) [ inl among ↦ inl (Contains-append_left said out m among.0, among.1) | inr none ↦ inr none ]
 
-genuine_by : (heard : List Message) (id : ℕ) (c : Call) (t : Turn) → t.node.id ≡ id → IsTrueCall heard id c → (m : Message) → (ways c t).came m → IsGenuine (heard ++ put_out c t.node) id m
+genuine_by : (heard : List Message) (id : ℕ) (c : Call) (t : NodeStep) → t.node.id ≡ id → IsTrueCall heard id c → (m : Message) → (ways c t).came m → IsGenuine (heard ++ put_out c t.node) id m
 genuine_by heard id (Step m) t itself true_call x is = subst (IsGenuine (heard ++ []) id) (sym is) (genuine_after heard [] id m true_call)
 genuine_by heard id (Propose body) t itself true_call x is = subst (IsGenuine (heard ++ []) id) (sym is) (inr true_call)
 genuine_by heard id (Transfer to) t itself true_call x is = subst (IsGenuine (heard ++ []) id) (sym is) (inr tt)
@@ -135,7 +135,7 @@ genuine_by heard id _ t itself true_call x never = absurd never
 abbrev Says : List Message → ℕ → ℕ → ℕ → ℕ → Type 0
 Says ms id term from i = (m : Message) × (Contains ms m × (m.to ≡ id)) × (m.from ≡ from) × (m.term ≡ term) × (j : ℕ) × (m.kind ≡ kind.AppendResponse j) × (i ≤ j)
 
-own_says : (id : ℕ) (t : Turn) (ms all : List Message) (term from i : ℕ) → All (Contains all) ms → OwnTells id t ms term from i → Says all id term from i
+own_says : (id : ℕ) (t : NodeStep) (ms all : List Message) (term from i : ℕ) → All (Contains all) ms → OwnTells id t ms term from i → Says all id term from i
 own_says id t [] all term from i among none = absurd none
 own_says id t (m ∷ ms) all term from i among told =
     elim told as (λ _. Says all id term from i) [
@@ -143,12 +143,12 @@ own_says id t (m ∷ ms) all term from i among told =
       | inr later ↦ own_says id (if m.to == id then stepped t m else t) ms all term from i (All-tail (Contains all) m ms among) later
     ]
 
-matched_by : (c : Call) (t : Turn) (term from i : ℕ) → (ways c t).matched term from i → (m : Message) × (ways c t).came m × (m.from ≡ from) × (m.term ≡ term) × (j : ℕ) × (m.kind ≡ kind.AppendResponse j) × (i ≤ j)
+matched_by : (c : Call) (t : NodeStep) (term from i : ℕ) → (ways c t).matched term from i → (m : Message) × (ways c t).came m × (m.from ≡ from) × (m.term ≡ term) × (j : ℕ) × (m.kind ≡ kind.AppendResponse j) × (i ≤ j)
 matched_by (Step m) t term from i x = (let a = x.2 in (m, refl, sym x.1, a.of_term ∙ sym x.0, a.index, a.says, a.at_most))
 matched_by Advance t term from i x = own_says t.node.id (own_turn t) t.node.waiting t.node.waiting term from i (All-contains_itself t.node.waiting) x
 matched_by _ t term from i x = absurd x
 
-brings_by : (heard : List Message) (id : ℕ) (c : Call) (t : Turn) → t.node.id ≡ id → IsTrueCall heard id c → Brings (heard ++ put_out c t.node) id (ways c t)
+brings_by : (heard : List Message) (id : ℕ) (c : Call) (t : NodeStep) → t.node.id ≡ id → IsTrueCall heard id c → Brings (heard ++ put_out c t.node) id (ways c t)
 brings_by heard id c t itself true_call = record { genuine = λ m came. genuine_by heard id c t itself true_call m came; matched = λ term from i said_it. matched_by c t term from i said_it }
 
 -- more that may come, of which some is said
@@ -180,7 +180,7 @@ called_then g s heard place c told n saved st sane at honest genuine true_call h
     let out = put_out c n in
     let said = s.said ++ out in
     let now = heard ++ out in
-    let t : Turn = turn n told in
+    let t : NodeStep = node_step n told in
     let good = sane.good place n at in
     let more : IsSaid s.said said = λ m among. Contains-append_left s.said out m among in
     let within : IsSaid said now = more_said s.said heard out h.said in

@@ -10,7 +10,7 @@ use Rattle.rb_message.specs.declared.kind.MessageKind.TheVariants as kind
 use Rattle.rb_message.specs.declared.message.Message.{Message}
 use Rattle.rb_message.specs.declared.role.Role.TheVariants as role
 use Rattle.rb_raftlog.specs.Log.{last}
-use Rattle.rb_node.specs.Node.{PlainNode, Turn, turn}
+use Rattle.rb_node.specs.Node.{PlainNode, NodeStep, node_step}
 use Rattle.rb_node_laws.specs.Calling.{Call, Step, Propose, Advance, after}
 use Rattle.rb_node_laws.specs.Sound.{IsSound}
 use Rattle.rb_node_laws.specs.Words.{IsYes, IsPromised, HasPromises}
@@ -105,9 +105,9 @@ record CallEnds (g : Setting) (said : List Message) (links : List Link) (place :
   own : (l : Link) → Contains now l → Contains links l ⊎ (l.maker ≡ place + 1)
   good : IsGood g said now place n
 
-call_ends : (g : Setting) (said : List Message) (links : List Link) (place : ℕ) (c : Call) (told : List Event) (n : PlainNode) → AreOnce (said ++ put_out c n) → IsGood g said links place n → IsSafe (world_of g (said ++ put_out c n) links place) c n → CallEnds g (said ++ put_out c n) links place (after c (turn n told)).node
+call_ends : (g : Setting) (said : List Message) (links : List Link) (place : ℕ) (c : Call) (told : List Event) (n : PlainNode) → AreOnce (said ++ put_out c n) → IsGood g said links place n → IsSafe (world_of g (said ++ put_out c n) links place) c n → CallEnds g (said ++ put_out c n) links place (after c (node_step n told)).node
 call_ends g said links place c told n once good safe =
-    let t : Turn = turn n told in
+    let t : NodeStep = node_step n told in
     let out = put_out c n in
     let w : World = world_of g (said ++ out) links place in
     let more : IsSaid said (said ++ out) = λ m among. Contains-append_left said out m among in
@@ -185,22 +185,22 @@ once_more g s place c n a b sane at good old now first second from term =
     All-contains (λ (m : Message). IsYes m → m.term ≡ a.term → m.to ≡ a.to) n.waiting b p.alone (out_waits c n b good.promises now second) second (sym term)
 
 abbrev pub called_network : Network → ℕ → Call → List Event → PlainNode → Network
-called_network s place c told n = record { nodes = slice_set s.nodes place (after c (turn n told)).node; said = s.said ++ put_out c n }
+called_network s place c told n = record { nodes = slice_set s.nodes place (after c (node_step n told)).node; said = s.said ++ put_out c n }
 
 given_here : (s : Network) (place : ℕ) (c : Call) (told : List Event) (n : PlainNode) (m : Message) → slice_get s.nodes place ≡ Some n → IsSound n → IsYes m → m.from ≡ place + 1 → IsPromised n m.term m.to → IsGiven (called_network s place c told n).nodes m
 given_here s place c told n m at sound gives own promised =
-    let x = (after c (turn n told)).node in
+    let x = (after c (node_step n told)).node in
     record {
       place = place;
       node = x;
       stands = set_here s.nodes place n x at;
       by = own;
-      promised = (run_promises (c ∷ []) (turn n told)).stays m.term m.to sound gives.1 promised;
+      promised = (run_promises (c ∷ []) (node_step n told)).stays m.term m.to sound gives.1 promised;
     }
 
-nodes_after : (g : Setting) (s : Network) (place : ℕ) (c : Call) (told : List Event) (n : PlainNode) (k : ℕ) (x : PlainNode) (sane : IsSane g s) → slice_get s.nodes place ≡ Some n → (e : CallEnds g (s.said ++ put_out c n) sane.links place (after c (turn n told)).node) → slice_get (called_network s place c told n).nodes k ≡ Some x → IsGood g (s.said ++ put_out c n) e.now k x
+nodes_after : (g : Setting) (s : Network) (place : ℕ) (c : Call) (told : List Event) (n : PlainNode) (k : ℕ) (x : PlainNode) (sane : IsSane g s) → slice_get s.nodes place ≡ Some n → (e : CallEnds g (s.said ++ put_out c n) sane.links place (after c (node_step n told)).node) → slice_get (called_network s place c told n).nodes k ≡ Some x → IsGood g (s.said ++ put_out c n) e.now k x
 nodes_after g s place c told n k x sane at e is =
-    let new = (after c (turn n told)).node in
+    let new = (after c (node_step n told)).node in
     each_set (λ (j : ℕ) (y : PlainNode). IsGood g (s.said ++ put_out c n) e.now j y) s.nodes place n new at e.good
     (λ j y other there. still_good g s.said (put_out c n) sane.links place j new y other e (sane.good j y there)) k x is
 
@@ -228,7 +228,7 @@ given_after g s place c told n m sane at among gives =
             | inr other ↦ record {
               place = was.place;
               node = was.node;
-              stands = set_elsewhere s.nodes place was.place (after c (turn n told)).node other ∙ was.stands;
+              stands = set_elsewhere s.nodes place was.place (after c (node_step n told)).node other ∙ was.stands;
               by = was.by;
               promised = was.promised;
             }

@@ -2,7 +2,7 @@
 use Rattle.std.proofs.Common.{◌≡◌, ℕ, ◌+◌, Bool, false, List, [], refl, sym, ap, subst, ◌∙◌, arith, inl}
 use Rattle.std.proofs.lemmas.Bool.{false≢true}
 use Rattle.std.proofs.lemmas.List.Elements.{All-nil, All-same}
-use Rattle.rb_change.specs.declared.conf_state.ConfState.{ConfState}
+use Rattle.rb_vocab.specs.declared.conf_state.ConfState.{ConfState}
 use Rattle.rb_raftlog.specs.declared.snapshot.Snapshot.{Snapshot}
 use Rattle.rb_tracker.proofs.SetLaws.{set_of_ascending, ascending_set_of}
 use Rattle.rb_tracker.specs.Configs.{config_of, state_of}

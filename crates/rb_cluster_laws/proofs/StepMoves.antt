@@ -29,7 +29,7 @@ use Rattle.rb_node.specs.Campaigns.{precandidate, candidate}
 use Rattle.rb_node.specs.Following.{with_appended, restored_to}
 use Rattle.rb_node.specs.Leading.{can_commit, leading}
 use Rattle.rb_node.specs.Node.{PlainNode}
-use Rattle.rb_node.specs.Sends.{viewed}
+use Rattle.rb_node.specs.Sends.{with_view_at}
 use Rattle.rb_node.specs.Votes.{voted_for, grants}
 use Rattle.rb_node_laws.specs.Sound.{IsSound, HasSoundViews}
 use Rattle.rb_node_laws.specs.Words.{IsYes, SendsBy, Sends, Answers, AnswersBy}
@@ -150,7 +150,7 @@ module _ {g : Ground} {said : List Message} {id : ℕ} {others : Company} where
       (subst (λ (x : WordPart). Speaks id x.term (record { sent = x.sent; waiting = x.waiting })) (sym says) h.speaks) (let t = ap (λ (x : WordPart). x.term) says in omega (arith, t))
   tells_around st (Sent n m plain sent) s views config h = says_around st n m s views (sent s) h
   tells_around st (Viewed n at view new is same sound) s views config h =
-      let m = viewed n at new in
+      let m = with_view_at n at new in
       let k = h.knows in
       still_around st n m h
       (record {
@@ -378,7 +378,7 @@ module _ {g : Ground} {said : List Message} {id : ℕ} {others : Company} where
 
   -- ---- what a leader counts
 
-  counts_around : (st : History) (v : Ways) (n : PlainNode) (at from i : ℕ) (view : PlainProgress) → Brings said id v → n.role ≡ role.Leader → place n.tracker.views from ≡ Some at → v.matched n.term from i → Around g said id others st n → Onwards g said id others st (viewed n at (acked view i))
+  counts_around : (st : History) (v : Ways) (n : PlainNode) (at from i : ℕ) (view : PlainProgress) → Brings said id v → n.role ≡ role.Leader → place n.tracker.views from ≡ Some at → v.matched n.term from i → Around g said id others st n → Onwards g said id others st (with_view_at n at (acked view i))
   counts_around st v n at from i view brings leads here matched h =
       let x = brings.matched n.term from i matched in
       let m = x.0 in
@@ -389,7 +389,7 @@ module _ {g : Ground} {said : List Message} {id : ℕ} {others : Company} where
         | inl low ↦ inl (omega (arith, low, far))
         | inr told ↦ elim told as (λ _. (i ≤ g.root.index) ⊎ IsSaidUpTo st from n.term i) [ inr none ↦ absurd none.0 | inl told ↦ (let upto = told.upto in inr (record { ack = told.ack; among = told.among; by = told.by ∙ x.2; of_term = told.of_term ∙ x.3; upto = omega (arith, upto, far) })) ]
       ] in
-      still_around st n (viewed n at (acked view i)) h (counts_knows g st id n at from i view leads here counted h.knows) h.speaks (omega arith)
+      still_around st n (with_view_at n at (acked view i)) h (counts_knows g st id n at from i view leads here counted h.knows) h.speaks (omega arith)
 
   -- ---- each move of a step
 

@@ -6,7 +6,7 @@ use Rattle.rb_tracker.specs.Configs.{config_of, state_of}
 use Rattle.rb_tracker.specs.declared.config.Config.{Config}
 use Rattle.rb_message.specs.declared.kind.MessageKind.TheVariants as kind
 use Rattle.rb_message.specs.declared.message.Message.{Message}
-use Rattle.rb_node.specs.Node.{PlainNode, Turn, message}
+use Rattle.rb_node.specs.Node.{PlainNode, NodeStep, message}
 use Rattle.rb_node.specs.Sends.{snapshot_of}
 use Rattle.rb_node_laws.specs.Calling.{Call, Step, Propose, Advance, after}
 use Rattle.rb_cluster_laws.specs.Honesty.{Keeps, IsHonestCall, AreHonest, IsNoAppend, IsGenuineCall, AreGenuine}
@@ -62,7 +62,7 @@ fair g s nodes ms k (Propose body) brought tied = (brought refl, tt)
 fair g s nodes ms k _ brought tied = (tt, tt)
 
 -- what may come then may have come before, or is put out
-calls : (g : Setting) (s : Network) (nodes : List PlainNode) (ms all : List Message) (k : ℕ) (call : Call) (t : Turn) → slice_get nodes k ≡ Some t.node → IsBrought true ms k call → ((m : Message) → Contains all m → Contains ms m ⊎ Contains (put_out call t.node) m) → IsReached g s nodes ms → IsReached g s (slice_set nodes k (after call t).node) all
+calls : (g : Setting) (s : Network) (nodes : List PlainNode) (ms all : List Message) (k : ℕ) (call : Call) (t : NodeStep) → slice_get nodes k ≡ Some t.node → IsBrought true ms k call → ((m : Message) → Contains all m → Contains ms m ⊎ Contains (put_out call t.node) m) → IsReached g s nodes ms → IsReached g s (slice_set nodes k (after call t).node) all
 calls g s nodes ms all k call t at brought either r =
     let now = run r.happenings s in
     let h : Happening = record { place = k; call = call; told = t.events } in

@@ -1,13 +1,13 @@
 -- Nodes, and what becomes of what they say: a message may be lost, may come late, more than once, and in any order (Ongaro's thesis,
 -- section 2.1)
 use Rattle.std.specs.Prelude.{ℕ, ◌≡◌, ◌+◌, List, [], ◌∷◌, ◌++◌, Option, Some, None, slice_get, slice_set}
-use Rattle.rb_change.specs.declared.conf_state.ConfState.{ConfState}
+use Rattle.rb_vocab.specs.declared.conf_state.ConfState.{ConfState}
 use Rattle.rb_raftlog.specs.declared.snapshot.Snapshot.{Snapshot}
 use Rattle.rb_message.specs.declared.event.Event.{Event}
 use Rattle.rb_message.specs.declared.message.Message.{Message}
 use Rattle.rb_message.specs.declared.role.Role.TheVariants.{Leader}
 use Rattle.rb_node.specs.declared.options.Options.{Options}
-use Rattle.rb_node.specs.Node.{PlainNode, turn, started}
+use Rattle.rb_node.specs.Node.{PlainNode, node_step, started}
 use Rattle.rb_node_laws.specs.Calling.{Call, Advance, after}
 
 pub record Network : Type 0 where
@@ -33,7 +33,7 @@ put_out _ n = []
 abbrev pub happened_to : Option PlainNode → Network → Happening → Network
 happened_to None s h = s
 happened_to (Some n) s h = record {
-  nodes = slice_set s.nodes h.place (after h.call (turn n h.told)).node;
+  nodes = slice_set s.nodes h.place (after h.call (node_step n h.told)).node;
   said = s.said ++ put_out h.call n;
 }
 

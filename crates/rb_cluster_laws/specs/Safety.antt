@@ -1,7 +1,7 @@
 -- Leader completeness and state machine safety (Ongaro's thesis, section 3.6.3): what is asked of the nodes' beginnings and of the messages
 -- that come, and what a leader then has
 use Rattle.std.specs.Prelude.{ℕ, ◌≡◌, ◌+◌, ◌<◌, ◌≤◌, ◌⊎◌, true, false, List, [], ◌∷◌, Some, Contains, slice_get}
-use Rattle.rb_change.specs.declared.conf_state.ConfState.{ConfState}
+use Rattle.rb_vocab.specs.declared.conf_state.ConfState.{ConfState}
 use Rattle.rb_raftlog.specs.Bodies.{is_change}
 use Rattle.rb_raftlog.specs.Log.{LogValue, last, entry_at}
 use Rattle.rb_message.specs.declared.kind.MessageKind.{MessageKind}

@@ -5,7 +5,7 @@
 //! before that advance. The other premises are those of safety.rt. Log matching needs them too: with a made-up MsgVote, a node could lead twice in a
 //! term that it hadn't saved.
 ghost use Rattle.std.specs.Prelude.{◌≡◌, ◌<◌, ◌≤◌, ℕ, List, [], Some, slice_get};
-ghost use Rattle.rb_change.specs.declared.conf_state.ConfState.{ConfState};
+ghost use Rattle.rb_vocab.specs.declared.conf_state.ConfState.{ConfState};
 ghost use Rattle.rb_raftlog.specs.Laws.{AreMatching};
 ghost use Rattle.rb_raftlog.specs.Log.{entry_at};
 ghost use Rattle.rb_message.specs.declared.role.Role.TheVariants.{Leader};

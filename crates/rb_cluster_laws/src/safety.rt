@@ -10,11 +10,11 @@
 //! `propose-conf-change`.
 ghost use Rattle.std.specs.Prelude.{◌≡◌, ◌<◌, ◌≤◌, ℕ, List, [], Ok, Some, slice_get};
 ghost use Rattle.rb_script.specs.Directive.{PlainDirective};
-ghost use Rattle.rb_directive.specs.declared.asking.AddNodes.{AddNodes};
-ghost use Rattle.rb_directive.specs.declared.asking.Request.TheVariants as requests;
+ghost use Rattle.rb_directive.specs.declared.requests.AddNodes.{AddNodes};
+ghost use Rattle.rb_directive.specs.declared.requests.Request.TheVariants as requests;
 ghost use Rattle.rb_directive.specs.declared.build.Asked.{Asked};
 ghost use Rattle.rb_directive.specs.Requests.{request};
-ghost use Rattle.rb_change.specs.declared.conf_state.ConfState.{ConfState};
+ghost use Rattle.rb_vocab.specs.declared.conf_state.ConfState.{ConfState};
 ghost use Rattle.rb_raftlog.specs.Log.{entry_at};
 ghost use Rattle.rb_message.specs.declared.role.Role.TheVariants.{Leader};
 ghost use Rattle.rb_tracker.specs.Configs.{config_of};

@@ -14,8 +14,8 @@ use Rattle.rb_directive.specs.declared.argument.Argument.TheVariants as argument
 use Rattle.rb_directive.specs.declared.argument.Bytes.TheVariants as bytes
 use Rattle.rb_directive.specs.declared.argument.Ids.{Ids}
 use Rattle.rb_directive.specs.declared.argument.Ids.TheVariants as lists
-use Rattle.rb_directive.specs.declared.asking.AddNodes.{AddNodes}
-use Rattle.rb_directive.specs.declared.asking.Request.TheVariants as requests
+use Rattle.rb_directive.specs.declared.requests.AddNodes.{AddNodes}
+use Rattle.rb_directive.specs.declared.requests.Request.TheVariants as requests
 use Rattle.rb_directive.specs.declared.build.Asked.{Asked}
 use Rattle.rb_directive.specs.IdLists.{holds, share}
 use Rattle.rb_directive.specs.Table.{directives, options}

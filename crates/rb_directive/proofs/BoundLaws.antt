@@ -9,9 +9,9 @@ use Rattle.std.proofs.lemmas.List.Elements.{All-nil, All-cons, All-append}
 use Rattle.rb_script.specs.Lines.{Line}
 use Rattle.rb_script.specs.Directive.{PlainDirective}
 use Rattle.rb_text.specs.Numbers.{number_of}
-use Rattle.rb_level.specs.declared.directive_error.DirectiveError.{DirectiveError}
-use Rattle.rb_directive.specs.declared.act_with.ActWith.{ActWith}
-use Rattle.rb_directive.specs.declared.act_with.ActWith.TheVariants as withs
+use Rattle.rb_vocab.specs.declared.directive_error.DirectiveError.{DirectiveError}
+use Rattle.rb_directive.specs.declared.node_command_with_arg.NodeCommandWithArg.{NodeCommandWithArg}
+use Rattle.rb_directive.specs.declared.node_command_with_arg.NodeCommandWithArg.TheVariants as withs
 use Rattle.rb_directive.specs.declared.name.Name.{Name}
 use Rattle.rb_directive.specs.declared.name.Name.TheVariants as names
 use Rattle.rb_directive.specs.declared.table.Row.{Row}
@@ -25,9 +25,9 @@ use Rattle.rb_directive.specs.declared.argument.Bytes.{Bytes}
 use Rattle.rb_directive.specs.declared.argument.Bytes.TheVariants as bytes
 use Rattle.rb_directive.specs.declared.argument.Ids.{Ids}
 use Rattle.rb_directive.specs.declared.argument.Ids.TheVariants as lists
-use Rattle.rb_directive.specs.declared.asking.AddNodes.{AddNodes}
-use Rattle.rb_directive.specs.declared.asking.Request.{Request}
-use Rattle.rb_directive.specs.declared.asking.Request.TheVariants as requests
+use Rattle.rb_directive.specs.declared.requests.AddNodes.{AddNodes}
+use Rattle.rb_directive.specs.declared.requests.Request.{Request}
+use Rattle.rb_directive.specs.declared.requests.Request.TheVariants as requests
 use Rattle.rb_directive.specs.declared.build.Asked.{Asked}
 use Rattle.rb_directive.specs.declared.limits.TheConstants.{MAX_ID, MAX_NODES, MAX_FIRST_INDEX, MAX_COMPACTED, MAX_BYTES, MAX_WINDOW, MAX_ROUNDS, MAX_TIMEOUT, MAX_IDS, WINDOW, ROUNDS}
 use Rattle.rb_directive.specs.Forms.{Word, is_within, within}
@@ -36,7 +36,7 @@ use Rattle.rb_directive.specs.Names.{number_text}
 use Rattle.rb_directive.specs.Table.{directives, options}
 use Rattle.rb_directive.specs.Arguments.{nothing, number_given, bytes_given, ids_given, listed, number_set, bytes_set, ids_set}
 use Rattle.rb_directive.specs.Reading.{only}
-use Rattle.rb_directive.specs.Requests.{IsFrom, IsId, IsNumber, AreIds, IsWithin, wanted, and_then, add_nodes, deliver_msgs, stabilize, wants, act_with, built, request}
+use Rattle.rb_directive.specs.Requests.{IsFrom, IsId, IsNumber, AreIds, IsWithin, require, and_then, add_nodes, deliver_msgs, stabilize, required, node_command_with_arg, built, request}
 use Rattle.rb_directive.proofs.ReadLaws.{ids_none}
 use Rattle.rb_directive.proofs.BuildLaws.{wanted_some, done, read_of}
 use Rattle.rb_directive.proofs.KeepLaws.{option_fits, row_fits, words_fit, word_of_fits, AllKeep, arguments_kept, numbers_of, bytes_of, lists_of, rest_still, SetKeeps, set_kept}
@@ -229,7 +229,7 @@ arguments_within row fits = record {
 
 -- what must be given is there, and within its limits
 wanted_within : {T : Type 0} (P : T → Type 0) (Q : Type 0) (name : Word) (o : Option T) (next : T → Result Request DirectiveError) (r : Request)
-    → IfSome o P → and_then (wanted name o) next ≡ Ok r → ((x : T) → P x → next x ≡ done r → Q) → Q
+    → IfSome o P → and_then (require name o) next ≡ Ok r → ((x : T) → P x → next x ≡ done r → Q) → Q
 wanted_within P Q name None next r is h follows = absurd (cc)
 wanted_within P Q name (Some x) next r is h follows = follows x is h
 
@@ -262,23 +262,23 @@ nodes_within g r p h =
 
 -- a directive that is given a node
 node_within : (name : Name) (g : Arguments) (next : ℕ → Result Request DirectiveError) (r : Request) → IsGivenWithin name g
-    → and_then (wanted (codes "id") g.id) next ≡ Ok r → ((id : ℕ) → IsId id → next id ≡ done r → IsWithin r) → IsWithin r
+    → and_then (require (codes "id") g.id) next ≡ Ok r → ((id : ℕ) → IsId id → next id ≡ done r → IsWithin r) → IsWithin r
 node_within name g next r p = wanted_within IsId (IsWithin r) (codes "id") g.id next r (p.numbers numbers.Id)
 
-act_within : (act : ActWith) (g : Arguments) (r : Request) → IfSome (number_given (wants act).0 g) IsId → IfSome (number_given (wants act).1 g) (IsNumber (wants act).1) → act_with act g ≡ Ok r → IsWithin r
+act_within : (node_command : NodeCommandWithArg) (g : Arguments) (r : Request) → IfSome (number_given (required node_command).0 g) IsId → IfSome (number_given (required node_command).1 g) (IsNumber (required node_command).1) → node_command_with_arg node_command g ≡ Ok r → IsWithin r
 unfolding IsWithin
-act_within act g r node number h =
-    wanted_within IsId (IsWithin r) (number_text (wants act).0) (number_given (wants act).0 g) _ r node h (λ id is rest.
-    wanted_within (IsNumber (wants act).1) (IsWithin r) (number_text (wants act).1) (number_given (wants act).1 g) _ r number rest (λ value some e. done_within _ r e (is, some)))
+act_within node_command g r node number h =
+    wanted_within IsId (IsWithin r) (number_text (required node_command).0) (number_given (required node_command).0 g) _ r node h (λ id is rest.
+    wanted_within (IsNumber (required node_command).1) (IsWithin r) (number_text (required node_command).1) (number_given (required node_command).1 g) _ r number rest (λ value some e. done_within _ r e (is, some)))
 
-with_within : (act : ActWith) (g : Arguments) (r : Request) → IsGivenWithin (names.ActWith act) g → act_with act g ≡ Ok r → IsWithin r
-with_within withs.Compact g r p = act_within withs.Compact g r (p.numbers (wants withs.Compact).0) (p.numbers (wants withs.Compact).1)
-with_within act g r p = act_within act g r (p.numbers (wants act).0) (p.numbers (wants act).1)
+with_within : (node_command : NodeCommandWithArg) (g : Arguments) (r : Request) → IsGivenWithin (names.NodeCommandWithArg node_command) g → node_command_with_arg node_command g ≡ Ok r → IsWithin r
+with_within withs.Compact g r p = act_within withs.Compact g r (p.numbers (required withs.Compact).0) (p.numbers (required withs.Compact).1)
+with_within node_command g r p = act_within node_command g r (p.numbers (required node_command).0) (p.numbers (required node_command).1)
 
 built_within : (name : Name) (g : Arguments) (inputs : List Line) (r : Request) → IsGivenWithin name g → built name g inputs ≡ Ok r → IsWithin r
 unfolding IsWithin
 built_within names.AddNodes g inputs r p h = nodes_within g r p h
-built_within (names.Act act) g inputs r p h = node_within (names.Act act) g _ r p h (λ id is e. done_within _ r e is)
+built_within (names.NodeCommand node_command) g inputs r p h = node_within (names.NodeCommand node_command) g _ r p h (λ id is e. done_within _ r e is)
 built_within names.Propose g inputs r p h =
     node_within names.Propose g _ r p h (λ id is rest.
     wanted_within (λ (w : Word). IsFrom 1 MAX_BYTES (length w)) (IsWithin r) (codes "payload") g.payload _ r (p.bytes bytes.Payload) rest (λ payload few e. done_within _ r e (is, few)))
@@ -287,7 +287,7 @@ built_within names.ProcessReady g inputs r p h = wanted_within AreIds (IsWithin 
 built_within names.DeliverMsgs g inputs r p h = done_within (deliver_msgs g) r h (or_none g.nodes (p.lists lists.Nodes), or_none g.drop (p.lists lists.Drop))
 built_within names.Stabilize g inputs r p h =
     done_within (stabilize g) r h (or_none g.nodes (p.lists lists.Nodes), or_else 1 MAX_ROUNDS ROUNDS g.rounds (omega arith, omega arith) (p.numbers numbers.Rounds))
-built_within (names.ActWith act) g inputs r p h = with_within act g r p h
+built_within (names.NodeCommandWithArg node_command) g inputs r p h = with_within node_command g r p h
 built_within names.LogLevel g inputs r p h = let level = wanted_some (codes "level") g.level _ r h in done_within _ r level.2 tt
 built_within names.RaftLog g inputs r p h = node_within names.RaftLog g _ r p h (λ id is e. done_within _ r e is)
 built_within names.Status g inputs r p h = node_within names.Status g _ r p h (λ id is e. done_within _ r e is)

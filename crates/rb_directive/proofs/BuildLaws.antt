@@ -4,27 +4,27 @@ use Rattle.std.specs.Prelude.{Result}
 use Rattle.std.specs.List.{list_all}
 use Rattle.rb_script.specs.Lines.{Line}
 use Rattle.rb_script.specs.Directive.{PlainDirective}
-use Rattle.rb_level.specs.declared.directive_error.DirectiveError.{DirectiveError}
-use Rattle.rb_level.specs.declared.directive_error.DirectiveError.TheVariants as errors
+use Rattle.rb_vocab.specs.declared.directive_error.DirectiveError.{DirectiveError}
+use Rattle.rb_vocab.specs.declared.directive_error.DirectiveError.TheVariants as errors
 use Rattle.rb_directive.specs.declared.name.Name.{Name}
 use Rattle.rb_directive.specs.declared.name.Name.TheVariants as names
 use Rattle.rb_directive.specs.declared.table.Row.{Row}
 use Rattle.rb_directive.specs.declared.arguments.Arguments.{Arguments}
-use Rattle.rb_directive.specs.declared.asking.Request.{Request}
-use Rattle.rb_directive.specs.declared.asking.Request.TheVariants as requests
+use Rattle.rb_directive.specs.declared.requests.Request.{Request}
+use Rattle.rb_directive.specs.declared.requests.Request.TheVariants as requests
 use Rattle.rb_directive.specs.declared.build.Asked.{Asked}
 use Rattle.rb_directive.specs.Forms.{Word}
 use Rattle.rb_directive.specs.Names.{name_text, number_text}
 use Rattle.rb_directive.specs.Table.{directives, row_in, has_option}
 use Rattle.rb_directive.specs.Arguments.{nothing, number_given}
 use Rattle.rb_directive.specs.Reading.{with_arguments}
-use Rattle.rb_directive.specs.Requests.{wanted, and_then, at_node, deliver_msgs, stabilize, wants, built, request_of, request}
+use Rattle.rb_directive.specs.Requests.{require, and_then, at_node, deliver_msgs, stabilize, required, built, request_of, request}
 use Rattle.rb_directive.specs.Whole.{name_of}
 use Rattle.rb_directive.proofs.TableLaws.{all_have, row_named}
 
 -- what must be given is there
 pub wanted_some : {T : Type 0} (name : Word) (o : Option T) (next : T → Result Request DirectiveError) (r : Request)
-    → and_then (wanted name o) next ≡ Ok r → (x : T) × (o ≡ Some x) × (next x ≡ Ok r)
+    → and_then (require name o) next ≡ Ok r → (x : T) × (o ≡ Some x) × (next x ≡ Ok r)
 wanted_some name None next r h = absurd (cc)
 wanted_some name (Some x) next r h = (x, refl, h)
 
@@ -78,13 +78,13 @@ node_named make name is g r h = let id = wanted_some (codes "id") g.id (λ id. d
 
 pub built_named : (name : Name) (g : Arguments) (inputs : List Line) (r : Request) → built name g inputs ≡ Ok r → name_of r ≡ name
 built_named names.AddNodes g inputs r h = let count = wanted_some (codes "n") g.count _ r h in done_named names.AddNodes _ r count.2 refl
-built_named (names.Act act) g inputs r h = node_named (requests.Act act) (names.Act act) (λ id. refl) g r h
+built_named (names.NodeCommand node_command) g inputs r h = node_named (requests.NodeCommand node_command) (names.NodeCommand node_command) (λ id. refl) g r h
 built_named names.Propose g inputs r h = let id = wanted_some (codes "id") g.id _ r h in let payload = wanted_some (codes "payload") g.payload _ r id.2 in done_named names.Propose _ r payload.2 refl
 built_named names.ProposeConfChange g inputs r h = let id = wanted_some (codes "id") g.id _ r h in done_named names.ProposeConfChange _ r id.2 refl
 built_named names.ProcessReady g inputs r h = let nodes = wanted_some (codes "id") g.nodes _ r h in done_named names.ProcessReady _ r nodes.2 refl
 built_named names.DeliverMsgs g inputs r h = done_named names.DeliverMsgs (deliver_msgs g) r h refl
 built_named names.Stabilize g inputs r h = done_named names.Stabilize (stabilize g) r h refl
-built_named (names.ActWith act) g inputs r h = let id = wanted_some (number_text (wants act).0) (number_given (wants act).0 g) _ r h in let value = wanted_some (number_text (wants act).1) (number_given (wants act).1 g) _ r id.2 in done_named (names.ActWith act) _ r value.2 refl
+built_named (names.NodeCommandWithArg node_command) g inputs r h = let id = wanted_some (number_text (required node_command).0) (number_given (required node_command).0 g) _ r h in let value = wanted_some (number_text (required node_command).1) (number_given (required node_command).1 g) _ r id.2 in done_named (names.NodeCommandWithArg node_command) _ r value.2 refl
 built_named names.LogLevel g inputs r h = let level = wanted_some (codes "level") g.level _ r h in done_named names.LogLevel _ r level.2 refl
 built_named names.RaftLog g inputs r h = node_named requests.RaftLog names.RaftLog (λ id. refl) g r h
 built_named names.Status g inputs r h = node_named requests.Status names.Status (λ id. refl) g r h

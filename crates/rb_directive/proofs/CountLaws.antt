@@ -11,8 +11,8 @@ use Rattle.rb_directive.specs.declared.argument.Ids.{Ids}
 use Rattle.rb_directive.specs.declared.argument.Ids.TheVariants as lists
 use Rattle.rb_directive.specs.declared.argument.Number.{Number}
 use Rattle.rb_directive.specs.declared.argument.Number.TheVariants as numbers
-use Rattle.rb_directive.specs.declared.asking.AddNodes.{AddNodes}
-use Rattle.rb_directive.specs.declared.asking.Request.TheVariants as requests
+use Rattle.rb_directive.specs.declared.requests.AddNodes.{AddNodes}
+use Rattle.rb_directive.specs.declared.requests.Request.TheVariants as requests
 use Rattle.rb_directive.specs.declared.build.Asked.{Asked}
 use Rattle.rb_directive.specs.declared.arguments.Arguments.{Arguments}
 use Rattle.rb_directive.specs.declared.arguments.WordPlace.{WordPlace}
@@ -25,7 +25,7 @@ use Rattle.rb_directive.specs.declared.table.Row.{Row}
 use Rattle.rb_directive.specs.Forms.{is_within, within}
 use Rattle.rb_directive.specs.Arguments.{ids_set, nothing, number_set}
 use Rattle.rb_directive.specs.Names.{name_text}
-use Rattle.rb_directive.specs.Reading.{number_said, taken, with_argument, with_arguments, with_option, with_word, words_said}
+use Rattle.rb_directive.specs.Reading.{number_value, taken, with_argument, with_arguments, with_option, with_word, argument_words}
 use Rattle.rb_directive.specs.Requests.{built, request}
 use Rattle.rb_directive.specs.Table.{after, directives, option_of, options, row_in, word_of}
 use Rattle.rb_directive.specs.Whole.{first_word, name_of}
@@ -104,8 +104,8 @@ word_taken a g next last args alone h s more =
     let moved : Arguments = record g { next = after g.next } in
     let here : with_word (Some word) a g ≡ Ok next = subst (λ (p : WordPlace). with_word (word_of count_row p) a g ≡ Ok next) s.0 h in
     let said : taken word (a.key ∷ []) moved ≡ Some next =
-    subst (λ (b : Bool). taken word (if b then a.values else a.key ∷ []) moved ≡ Some next) alone (or_bad_some a.key (taken word (words_said a) moved) next here) in
-    let m = map_some (λ (n : ℕ). number_set numbers.Count n moved) (number_said 1 MAX_NODES (a.key ∷ [])) next said in
+    subst (λ (b : Bool). taken word (if b then a.values else a.key ∷ []) moved ≡ Some next) alone (or_bad_some a.key (taken word (argument_words a) moved) next here) in
+    let m = map_some (λ (n : ℕ). number_set numbers.Count n moved) (number_value 1 MAX_NODES (a.key ∷ [])) next said in
     let place : next.next ≡ places.Second = ap (λ (x : Arguments). x.next) (sym m.2) ∙ ap after s.0 in
     let count : next.count ≡ Some m.0 = ap (λ (x : Arguments). x.count) (sym m.2) in
     behind_word (Some m.0) args next last (place, count) more ∙ sym (within_is 1 MAX_NODES m.0 (number_of a.key) m.1)

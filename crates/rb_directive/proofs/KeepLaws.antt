@@ -26,7 +26,7 @@ use Rattle.rb_directive.specs.Names.{name_text, argument_text}
 use Rattle.rb_directive.specs.Table.{directives, options, row_in, option_in, option_of, after, word_at, word_of}
 use Rattle.rb_directive.specs.IdLists.{with_ids}
 use Rattle.rb_directive.specs.Arguments.{nothing, is_given, listed, excludes, number_set, bytes_set, ids_set}
-use Rattle.rb_directive.specs.Reading.{words_said, number_said, bytes_said, ids_kept, taken, or_bad, with_option, with_word, with_argument, with_arguments}
+use Rattle.rb_directive.specs.Reading.{argument_words, number_value, bytes_value, ids_kept, taken, or_bad, with_option, with_word, with_argument, with_arguments}
 use Rattle.rb_directive.proofs.TableLaws.{names_found, read_along}
 
 -- ---- the table
@@ -107,9 +107,9 @@ pub option_kept : (P : Arguments → Type 0) (o : Option Argument) → ((argumen
     → (a : PlainArgument) (g next : Arguments) → with_option o a g ≡ Ok next → P g → P next
 option_kept P None keeps a g next h p = absurd (cc)
 option_kept P (Some argument) keeps a g next h p =
-    elim (is_given argument g) as (λ b. (if b then None else taken argument (words_said a) g) ≡ Some next → P next) [
+    elim (is_given argument g) as (λ b. (if b then None else taken argument (argument_words a) g) ≡ Some next → P next) [
       | true ↦ λ e. absurd (cc)
-      | false ↦ λ e. keeps argument refl (words_said a) g next e p
+      | false ↦ λ e. keeps argument refl (argument_words a) g next e p
     ] (or_bad_some a.key _ next h)
 
 word_kept : (P : Arguments → Type 0) → ((g : Arguments) (place : WordPlace) → P g → P (record g { next = place })) → (o : Option Argument)
@@ -117,7 +117,7 @@ word_kept : (P : Arguments → Type 0) → ((g : Arguments) (place : WordPlace) 
     → (a : PlainArgument) (g next : Arguments) → with_word o a g ≡ Ok next → P g → P next
 word_kept P moves None keeps a g next h p = absurd (cc)
 word_kept P moves (Some argument) keeps a g next h p =
-    keeps argument refl (words_said a) (record g { next = after g.next }) next (or_bad_some a.key _ next h) (moves g (after g.next) p)
+    keeps argument refl (argument_words a) (record g { next = after g.next }) next (or_bad_some a.key _ next h) (moves g (after g.next) p)
 
 -- what the options and the words of a row keep, as does going on to the next place
 pub record AllKeep (P : Arguments → Type 0) (row : Row) : Type 0 where
@@ -163,8 +163,8 @@ limited_of g = record g { level = None; log_level = None; prevote = None; check_
 
 -- P is kept where a number, bytes or a list is set to what the words say
 abbrev pub SetKeeps : (Arguments → Type 0) → Argument → Type 0
-SetKeeps P (arguments.Number which low high) = (words : List Word) (n : ℕ) (g : Arguments) → number_said low high words ≡ Some n → P g → P (number_set which n g)
-SetKeeps P (arguments.Bytes which low high) = (words : List Word) (w : Word) (g : Arguments) → bytes_said low high words ≡ Some w → P g → P (bytes_set which w g)
+SetKeeps P (arguments.Number which low high) = (words : List Word) (n : ℕ) (g : Arguments) → number_value low high words ≡ Some n → P g → P (number_set which n g)
+SetKeeps P (arguments.Bytes which low high) = (words : List Word) (w : Word) (g : Arguments) → bytes_value low high words ≡ Some w → P g → P (bytes_set which w g)
 SetKeeps P (arguments.Ids which other) =
     (words : List Word) (ids : List ℕ) (g : Arguments) → with_ids words (Some (listed which g)) ≡ Some ids → excludes other ids g ≡ false → P g → P (ids_set which ids g)
 SetKeeps P other = ⊤

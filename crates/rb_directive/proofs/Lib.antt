@@ -1,4 +1,4 @@
-pub mod AloneLaws
+pub mod ShortFormLaws
 pub mod ApartLaws
 pub mod BoundLaws
 pub mod BuildLaws

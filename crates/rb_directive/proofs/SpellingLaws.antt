@@ -9,7 +9,7 @@ use Rattle.std.proofs.lemmas.Fmt.{decimal_nonempty, length-decimal-le, digits_de
 use Rattle.std.proofs.lemmas.Str.Parse.{IsNumeralModel, numerals_by_value}
 use Rattle.rb_text.specs.Numbers.{number_of}
 use Rattle.rb_directive.specs.Forms.{within}
-use Rattle.rb_directive.specs.Reading.{number_said}
+use Rattle.rb_directive.specs.Reading.{number_value}
 
 own : IsNumeralModel (λ ds. list_all is_ascii_digit ds ≡ true) (digits_value 10)
 own = numerals_by_value _ (search rules)
@@ -26,7 +26,7 @@ number_read n h =
     ∙ ap (λ (m : ℕ). Some m) (digits_value-decimal own n wide)
 
 -- so it is where it has to be from `low` to `high`
-pub number_in : (low high n : ℕ) → low ≤ n → n ≤ high → n < 10 ^ 10 → number_said low high (decimal n ∷ []) ≡ Some n
+pub number_in : (low high n : ℕ) → low ≤ n → n ≤ high → n < 10 ^ 10 → number_value low high (decimal n ∷ []) ≡ Some n
 number_in low high n least most h =
     ap (within low high) (number_read n h)
     ∙ ap (λ (b : Bool). if b then Some n else None) (and_from (nat_le low n) (nat_le n high) (le-leb low n least) (le-leb n high most))

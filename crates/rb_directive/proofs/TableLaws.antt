@@ -7,8 +7,8 @@ use Rattle.std.specs.Str.{bytes_eq}
 use Rattle.std.proofs.lemmas.Bool.{and_from}
 use Rattle.std.proofs.lemmas.Slice.Eq.{bytes_eq-Decides}
 use Rattle.rb_script.specs.Directive.{PlainArgument}
-use Rattle.rb_directive.specs.declared.act.Act.TheVariants as acts
-use Rattle.rb_directive.specs.declared.act_with.ActWith.TheVariants as withs
+use Rattle.rb_directive.specs.declared.node_command.NodeCommand.TheVariants as acts
+use Rattle.rb_directive.specs.declared.node_command_with_arg.NodeCommandWithArg.TheVariants as withs
 use Rattle.rb_directive.specs.declared.name.Name.{Name}
 use Rattle.rb_directive.specs.declared.name.Name.TheVariants as names
 use Rattle.rb_directive.specs.declared.table.Row.{Row}
@@ -21,8 +21,8 @@ use Rattle.rb_directive.specs.Reading.{with_option, with_word, with_argument, wi
 -- each row is the first with its name
 pub names_found : (name : Name) → option_map (λ (row : Row). row.name) (row_in directives (name_text name)) ≡ Some name
 unfolding directives
-names_found (names.Act acts.Campaign) = refl
-names_found (names.ActWith withs.Compact) = refl
+names_found (names.NodeCommand acts.Campaign) = refl
+names_found (names.NodeCommandWithArg withs.Compact) = refl
 names_found name = refl
 
 -- an option that the directive lacks is refused

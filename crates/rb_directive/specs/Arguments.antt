@@ -1,7 +1,7 @@
--- What the arguments say that were read so far, each under its own name. (This project's.)
+-- The arguments read so far, by name. (This project's.)
 use Rattle.std.specs.Prelude.{ℕ, Bool, false, List, [], Option, Some, None, is_some}
 use Rattle.std.specs.Option.{unwrap_or}
-use Rattle.rb_level.specs.declared.level.Level.{Level}
+use Rattle.rb_vocab.specs.declared.level.Level.{Level}
 use Rattle.rb_directive.specs.declared.arguments.Arguments.{Arguments}
 use Rattle.rb_directive.specs.declared.arguments.WordPlace.TheVariants as places
 use Rattle.rb_directive.specs.declared.argument.Argument.{Argument}
@@ -47,7 +47,7 @@ nothing = record {
   drop = None;
 }
 
--- ---- what is given under a name
+-- ---- reading a value by its name
 
 abbrev pub number_given : Number → Arguments → Option ℕ
 number_given numbers.Count g = g.count
@@ -89,7 +89,7 @@ is_given arguments.Transition g = is_some g.transition
 is_given arguments.Types g = is_some g.types
 is_given (arguments.Ids which other) g = is_some (ids_given which g)
 
--- the ids of a list, none where it isn't given
+-- the ids of a list, empty if it isn't given
 abbrev pub listed : Ids → Arguments → List ℕ
 listed which g = unwrap_or (ids_given which g) []
 
@@ -97,12 +97,12 @@ abbrev pub shares_one : List ℕ → Option (List ℕ) → Bool
 shares_one ids None = false
 shares_one ids (Some others) = share ids others
 
--- one of the ids stands in the other list
+-- the other list contains one of the ids
 abbrev pub excludes : Option Ids → List ℕ → Arguments → Bool
 excludes None ids g = false
 excludes (Some other) ids g = shares_one ids (ids_given other g)
 
--- ---- this, under a name
+-- ---- setting a value by its name
 
 abbrev pub number_set : Number → ℕ → Arguments → Arguments
 number_set numbers.Count n g = record g { count = Some n }

@@ -3,13 +3,13 @@ use Rattle.std.specs.Prelude.{ℕ, Bool, true, false, ◌==◌, ◌&&◌, ◌||�
 use Rattle.std.specs.List.{flat_map}
 use Rattle.rb_script.specs.Lines.{Line}
 use Rattle.rb_text.specs.Words.{words}
-use Rattle.rb_level.specs.declared.directive_error.DirectiveError.{DirectiveError}
-use Rattle.rb_level.specs.declared.directive_error.DirectiveError.TheVariants as errors
-use Rattle.rb_change.specs.declared.change.Word as change
-use Rattle.rb_change.specs.declared.change.WordKind.{WordKind}
-use Rattle.rb_change.specs.declared.change.WordKind.TheVariants as kinds
-use Rattle.rb_change.specs.declared.change.Transition.{Transition}
-use Rattle.rb_change.specs.declared.change.Transition.TheVariants as transitions
+use Rattle.rb_vocab.specs.declared.directive_error.DirectiveError.{DirectiveError}
+use Rattle.rb_vocab.specs.declared.directive_error.DirectiveError.TheVariants as errors
+use Rattle.rb_vocab.specs.declared.change.Word as change
+use Rattle.rb_vocab.specs.declared.change.WordKind.{WordKind}
+use Rattle.rb_vocab.specs.declared.change.WordKind.TheVariants as kinds
+use Rattle.rb_vocab.specs.declared.change.Transition.{Transition}
+use Rattle.rb_vocab.specs.declared.change.Transition.TheVariants as transitions
 use Rattle.rb_directive.specs.Forms.{Word}
 use Rattle.rb_directive.specs.IdLists.{id_of}
 
@@ -42,7 +42,7 @@ words_left inputs from rest = words rest ++ flat_map words (drop from inputs)
 abbrev pub input_words : List Line → List Word
 input_words inputs = flat_map words inputs
 
--- the first word that is no change
+-- the first word that isn't a change
 abbrev pub first_bad : List Word → Option Word
 first_bad [] = None
 first_bad (w ∷ some) = if is_none (change_of w) then Some w else first_bad some
@@ -57,7 +57,7 @@ is_auto transitions.Auto = true
 is_auto transitions.Explicit = false
 is_auto transitions.Implicit = false
 
--- a change of the first version takes one word, and no transition of its own
+-- a change of the first version has exactly one word, and no transition
 abbrev pub fits : Bool → Transition → List Word → Bool
 fits first_version transition some = not first_version || (is_auto transition && is_one some)
 
@@ -65,7 +65,7 @@ abbrev pub word_fault : Bool → Transition → List Word → Option Word → Op
 word_fault first_version transition some (Some bad) = Some (errors.BadChange bad)
 word_fault first_version transition some None = if fits first_version transition some then None else Some errors.FirstVersionTakesOne
 
--- what is wrong with the words: the first that is no change; or, for a change of the first version, that they are not
--- one, or that a transition is asked for
+-- the fault of the words: the first that isn't a change; or, for a change of the first version, several words or a
+-- transition
 unfoldable pub change_fault : Bool → Transition → List Line → Option DirectiveError
 change_fault first_version transition inputs = word_fault first_version transition (input_words inputs) (first_bad (input_words inputs))

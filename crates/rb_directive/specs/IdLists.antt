@@ -10,7 +10,7 @@ use Rattle.rb_directive.specs.Forms.{Word, within}
 abbrev pub holds : List ℕ → ℕ → Bool
 holds ids id = list_any (λ other. other == id) ids
 
--- an id stands in both lists
+-- the lists have an id in common
 abbrev pub share : List ℕ → List ℕ → Bool
 share ids others = list_any (holds others) ids
 
@@ -22,7 +22,7 @@ abbrev pub with_id : List ℕ → Option ℕ → Option (List ℕ)
 with_id ids None = None
 with_id ids (Some id) = if nat_lt (length ids) MAX_IDS then Some (ids ++ id ∷ []) else None
 
--- the ids, and those that the words are; none where a word is no id, or the list has no room
+-- the ids, and those of the words; `None` if a word isn't an id, or the list is full
 abbrev pub with_ids : List Word → Option (List ℕ) → Option (List ℕ)
 with_ids [] ids = ids
 with_ids (w ∷ words) ids = with_ids words (option_and_then (λ some. with_id some (id_of w)) ids)

@@ -1,4 +1,4 @@
--- Which words and options of a directive are ids of nodes, read off the table. (This project's.)
+-- The words and options of a directive that are ids of nodes, by the table. (This project's.)
 use Rattle.std.specs.Prelude.{ℕ, ◌+◌, Bool, true, false, if◌then◌else◌, List, Option, Some, None}
 use Rattle.rb_directive.specs.declared.argument.Argument.{Argument}
 use Rattle.rb_directive.specs.declared.argument.Argument.TheVariants as arguments
@@ -16,18 +16,18 @@ is_id numbers.From = true
 is_id numbers.To = true
 is_id number = false
 
--- an argument that is an id, or some
+-- an argument with one id or several
 abbrev pub has_ids : Argument → Bool
 has_ids (arguments.Number number least most) = is_id number
 has_ids (arguments.Ids list other) = true
 has_ids argument = false
 
--- a word that is an id, and those behind it
+-- the number of ids at the front: this word, and those after it
 abbrev pub with_word : Option Argument → ℕ → ℕ
 with_word None n = 0
 with_word (Some argument) n = if has_ids argument then 1 + n else 0
 
--- how many of a directive's first words are ids: as many as it may have arguments, where it takes any number
+-- the number of a directive's first words that are ids; `MAX_IDS` if it takes any number of them
 abbrev pub ids_of : Row → ℕ
 ids_of row = if row.takes_ids then MAX_IDS else with_word row.first (with_word row.second 0)
 

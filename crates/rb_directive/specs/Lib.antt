@@ -1,4 +1,4 @@
-pub mod Alone
+pub mod ShortForms
 pub mod Arguments
 pub mod Changes
 pub mod Forms
@@ -10,5 +10,5 @@ pub mod Requests
 pub mod Table
 pub mod TypeSets
 pub mod Whole
-pub use Rattle.rb_level.specs.Levels
-pub use Rattle.rb_level.specs.MessageTypes
+pub use Rattle.rb_vocab.specs.Levels
+pub use Rattle.rb_vocab.specs.MessageTypes

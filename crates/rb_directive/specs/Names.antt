@@ -1,10 +1,10 @@
 -- How directives and their arguments are called. (etcd raft's interaction tests have most of the directives; the others,
 -- and the names of what has no key there, are this project's.)
 use Rattle.std.specs.Prelude.{ℕ, codes, List}
-use Rattle.rb_directive.specs.declared.act.Act.{Act}
-use Rattle.rb_directive.specs.declared.act.Act.TheVariants as acts
-use Rattle.rb_directive.specs.declared.act_with.ActWith.{ActWith}
-use Rattle.rb_directive.specs.declared.act_with.ActWith.TheVariants as withs
+use Rattle.rb_directive.specs.declared.node_command.NodeCommand.{NodeCommand}
+use Rattle.rb_directive.specs.declared.node_command.NodeCommand.TheVariants as acts
+use Rattle.rb_directive.specs.declared.node_command_with_arg.NodeCommandWithArg.{NodeCommandWithArg}
+use Rattle.rb_directive.specs.declared.node_command_with_arg.NodeCommandWithArg.TheVariants as withs
 use Rattle.rb_directive.specs.declared.name.Name.{Name}
 use Rattle.rb_directive.specs.declared.name.Name.TheVariants as names
 use Rattle.rb_directive.specs.declared.argument.Argument.{Argument}
@@ -20,28 +20,28 @@ use Rattle.rb_directive.specs.declared.argument.Flag.TheVariants as flags
 use Rattle.rb_directive.specs.declared.argument.Ids.{Ids}
 use Rattle.rb_directive.specs.declared.argument.Ids.TheVariants as lists
 
-abbrev pub act_text : Act → List ℕ
-act_text acts.Campaign = codes "campaign"
-act_text acts.TickElection = codes "tick-election"
-act_text acts.TickHeartbeat = codes "tick-heartbeat"
-act_text acts.ForgetLeader = codes "forget-leader"
+abbrev pub node_command_text : NodeCommand → List ℕ
+node_command_text acts.Campaign = codes "campaign"
+node_command_text acts.TickElection = codes "tick-election"
+node_command_text acts.TickHeartbeat = codes "tick-heartbeat"
+node_command_text acts.ForgetLeader = codes "forget-leader"
 
-abbrev pub act_with_text : ActWith → List ℕ
-act_with_text withs.SetRandomizedElectionTimeout = codes "set-randomized-election-timeout"
-act_with_text withs.TransferLeadership = codes "transfer-leadership"
-act_with_text withs.ReportUnreachable = codes "report-unreachable"
-act_with_text withs.SendSnapshot = codes "send-snapshot"
-act_with_text withs.Compact = codes "compact"
+abbrev pub node_command_with_arg_text : NodeCommandWithArg → List ℕ
+node_command_with_arg_text withs.SetRandomizedElectionTimeout = codes "set-randomized-election-timeout"
+node_command_with_arg_text withs.TransferLeadership = codes "transfer-leadership"
+node_command_with_arg_text withs.ReportUnreachable = codes "report-unreachable"
+node_command_with_arg_text withs.SendSnapshot = codes "send-snapshot"
+node_command_with_arg_text withs.Compact = codes "compact"
 
 abbrev pub name_text : Name → List ℕ
 name_text names.AddNodes = codes "add-nodes"
-name_text (names.Act act) = act_text act
+name_text (names.NodeCommand node_command) = node_command_text node_command
 name_text names.Propose = codes "propose"
 name_text names.ProposeConfChange = codes "propose-conf-change"
 name_text names.ProcessReady = codes "process-ready"
 name_text names.DeliverMsgs = codes "deliver-msgs"
 name_text names.Stabilize = codes "stabilize"
-name_text (names.ActWith act) = act_with_text act
+name_text (names.NodeCommandWithArg node_command) = node_command_with_arg_text node_command
 name_text names.LogLevel = codes "log-level"
 name_text names.RaftLog = codes "raft-log"
 name_text names.Status = codes "status"

@@ -1,5 +1,5 @@
--- What each directive takes, read off the table: the directive by its name, an option by its key, a word by its place.
--- (This project's. A directive of etcd raft's interaction tests keeps its name.)
+-- Lookups in the table of directives: a directive by name, an option by key, a word by position. (This project's; directives of etcd
+-- raft's interaction tests have their names.)
 use Rattle.std.specs.Prelude.{ℕ, Bool, ◌&&◌, ◌||◌, not, is_some, if◌then◌else◌, codes, List, [], ◌∷◌, Option, Some, None}
 use Rattle.std.specs.List.{list_any}
 use Rattle.std.specs.Str.{bytes_eq}
@@ -51,7 +51,7 @@ word_at row places.First = row.first
 word_at row places.Second = row.second
 word_at row places.Later = None
 
--- the word that stands at a place
+-- the word at a position
 abbrev pub word_of : Row → WordPlace → Option Argument
 word_of row place = if row.takes_ids then Some (arguments.Ids lists.Nodes None) else word_at row place
 

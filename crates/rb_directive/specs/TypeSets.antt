@@ -1,13 +1,13 @@
--- Some of the types of messages. (This project's.)
+-- Sets of message types. (This project's.)
 use Rattle.std.specs.Prelude.{ℕ, Bool, true, false, List, [], ◌∷◌, Option, Some, None, replicate, slice_set, slice_index_or}
 use Rattle.std.specs.Option.{option_and_then}
-use Rattle.rb_level.specs.declared.message_type.MessageType.{MessageType}
-use Rattle.rb_level.specs.declared.message_type.MessageType.TheVariants as types
-use Rattle.rb_level.specs.MessageTypes.{type_of}
+use Rattle.rb_vocab.specs.declared.message_type.MessageType.{MessageType}
+use Rattle.rb_vocab.specs.declared.message_type.MessageType.TheVariants as types
+use Rattle.rb_vocab.specs.MessageTypes.{type_of}
 use Rattle.rb_directive.specs.declared.type_set.TypeSet.{TypeSet}
 use Rattle.rb_directive.specs.Forms.{Word}
 
--- the place of a type in a set
+-- the position of a type in a set
 abbrev pub type_place : MessageType → ℕ
 type_place types.Vote = 0
 type_place types.PreVote = 1
@@ -36,7 +36,7 @@ abbrev pub with_named : Option MessageType → TypeSet → Option TypeSet
 with_named None set = None
 with_named (Some t) set = Some (with_type t set)
 
--- the types, and those that the words name; none where a word names none
+-- adds the types that the words name; `None` if a word isn't a type
 abbrev pub with_types : List Word → Option TypeSet → Option TypeSet
 with_types [] set = set
 with_types (w ∷ words) set = with_types words (option_and_then (with_named (type_of w)) set)

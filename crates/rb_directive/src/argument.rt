@@ -1,58 +1,58 @@
-//! The arguments that directives take: what each is called, and what it has to be.
+//! The arguments of directives: their names and their allowed values.
 //!
-//! An argument without `=` is a word, known by its place; one with `=` is an option, known by its key.
+//! An argument without `=` is a word, identified by its position. One with `=` is an option, identified by its key.
 
 ghost use Rattle.std.specs.Prelude.{◌≡◌};
 ghost use Rattle.rb_directive.specs.Names.{number_text, bytes_text, level_text, flag_text, ids_text, argument_text};
 
-/// Which number it is.
+/// The numbers that arguments give.
 #[derive(Clone, Copy)]
 pub enum Number {
-    /// How many nodes.
+    /// The number of nodes.
     Count,
-    /// The node that is to do something.
+    /// The node that acts.
     Id,
-    /// The node that the report is about.
+    /// The node in a report.
     Peer,
     From,
     To,
     Index,
-    /// The most appends on their way to one node.
+    /// The most appends in flight to one node.
     Inflight,
     Rounds,
     Timeout,
 }
 
-/// Which bytes they are.
+/// The bytes that arguments give.
 #[derive(Clone, Copy)]
 pub enum Bytes {
     Payload,
     Content,
 }
 
-/// What a level is for.
+/// The scope of a level.
 #[derive(Clone, Copy)]
 pub enum LevelFor {
-    /// The cluster, from then on.
+    /// The cluster, from now on.
     Cluster,
     /// One directive.
     Directive,
 }
 
-/// Which choice it is.
+/// The flags that arguments set.
 #[derive(Clone, Copy)]
 pub enum Flag {
     Prevote,
     CheckQuorum,
     StepDown,
-    /// A change of a configuration as raft first had it: one word, and no transition of its own.
+    /// A change of the first version: exactly one word, and no transition.
     FirstVersion,
 }
 
-/// Which list of ids it is.
+/// The lists of ids that arguments give.
 #[derive(Clone, Copy)]
 pub enum Ids {
-    /// The nodes that are to do something.
+    /// The nodes that act.
     Nodes,
     Voters,
     Learners,
@@ -60,12 +60,12 @@ pub enum Ids {
     Drop,
 }
 
-/// An argument, with what it has to be.
+/// An argument, with its allowed values.
 #[derive(Clone, Copy)]
 pub enum Argument {
-    /// A number, from the least to the greatest.
+    /// A number, with its bounds.
     Number(Number, u64, u64),
-    /// Bytes, from the fewest to the most.
+    /// Bytes, with the bounds of their length.
     Bytes(Bytes, usize, usize),
     /// The name of a level, in any letter case.
     Level(LevelFor),
@@ -73,9 +73,9 @@ pub enum Argument {
     Flag(Flag),
     /// `auto`, `explicit` or `implicit`.
     Transition,
-    /// Types of messages, any number of them.
+    /// Any number of message types.
     Types,
-    /// Ids, any number of them, and none that stands in the other list.
+    /// Any number of ids, none of which may be in the other list.
     Ids(Ids, Option<Ids>),
 }
 
@@ -145,7 +145,7 @@ impl Ids {
 }
 
 impl Argument {
-    /// What the argument is called: the key of an option, and the name under which it is said to be missing.
+    /// The name of the argument: the key of an option, and the name in an error if it is missing.
     pub fn text(self) -> &'static [u8]
         ensures { result.now ≡ argument_text self }
     {

@@ -1,11 +1,10 @@
-//! An argument where it stands in a directive: its key, and the words that it says.
+//! An argument of a directive: its key and its words.
 
-use crate::form::{flag_of, id_of, number_within, transition_of};
+use crate::form::{flag_of, id_of, number_within};
 use crate::id_list::IdList;
 use crate::type_set::TypeSet;
-use rb_change::Transition;
-use rb_level::{Level, level_of, type_of};
 use rb_script::DirectiveRef;
+use rb_vocab::{Level, Transition, level_of, transition_of, type_of};
 use std::marker::Model;
 
 /// An argument of a directive. In contracts it is the plain argument.
@@ -33,9 +32,9 @@ impl<'d> ArgumentRef<'d> {
     ghost use Rattle.rb_script.specs.Tokens.{plain};
     ghost use Rattle.rb_directive.specs.IdLists.{with_ids};
     ghost use Rattle.rb_directive.specs.TypeSets.{with_types, no_types};
-    ghost use Rattle.rb_directive.specs.Reading.{words_said, only, number_said, bytes_said, level_said, flag_said, transition_said};
+    ghost use Rattle.rb_directive.specs.Reading.{argument_words, only, number_value, bytes_value, level_value, flag_value, transition_value};
 
-    /// The argument at a place of the directive, counted from 0.
+    /// The argument at a position of the directive, counted from 0.
     pub(crate) fn at(directive: &'d DirectiveRef<'d>, place: usize) -> ArgumentRef<'d>
         requires { place < length (plain directive.now).args }
         ensures { result ≡ plain_argument (plain directive.now) place }
@@ -57,9 +56,9 @@ impl<'d> ArgumentRef<'d> {
         self.directive.has_equals(self.place)
     }
 
-    /// How many words it says.
+    /// The number of its words.
     pub(crate) fn len(&self) -> usize
-        ensures { result ≡ length (words_said self.now) }
+        ensures { result ≡ length (argument_words self.now) }
     {
         if self.has_equals() {
             self.directive.values(self.place)
@@ -68,10 +67,10 @@ impl<'d> ArgumentRef<'d> {
         }
     }
 
-    /// The word that it says at a place, counted from 0.
+    /// Its word at a position, counted from 0.
     pub(crate) fn word(&self, at: usize) -> &'d [u8]
-        requires { at < length (words_said self.now) }
-        ensures { result.now ≡ slice_index_or (words_said self.now) at [] }
+        requires { at < length (argument_words self.now) }
+        ensures { result.now ≡ slice_index_or (argument_words self.now) at [] }
     {
         if self.has_equals() {
             self.directive.value(self.place, at)
@@ -80,9 +79,9 @@ impl<'d> ArgumentRef<'d> {
         }
     }
 
-    /// The word that it says, where it says one.
+    /// Its word, if it has exactly one.
     pub(crate) fn only(&self) -> Option<&'d [u8]>
-        ensures { MatchOption result (only (words_said self.now) ≡ None) (λ w. only (words_said self.now) ≡ Some w.now) }
+        ensures { MatchOption result (only (argument_words self.now) ≡ None) (λ w. only (argument_words self.now) ≡ Some w.now) }
     {
         if self.len() != 1 {
             return None;
@@ -90,16 +89,16 @@ impl<'d> ArgumentRef<'d> {
         Some(self.word(0))
     }
 
-    /// The number that it says, from `low` to `high`.
+    /// Reads a number from `low` to `high`.
     pub(crate) fn number(&self, low: u64, high: u64) -> Option<u64>
-        ensures { result ≡ number_said low high (words_said self.now) }
+        ensures { result ≡ number_value low high (argument_words self.now) }
     {
         number_within(self.only()?, low, high)
     }
 
-    /// The bytes that it says, from `low` to `high` of them.
+    /// Reads from `low` to `high` bytes.
     pub(crate) fn bytes(&self, low: usize, high: usize) -> Option<&'d [u8]>
-        ensures { MatchOption result (bytes_said low high (words_said self.now) ≡ None) (λ w. bytes_said low high (words_said self.now) ≡ Some w.now) }
+        ensures { MatchOption result (bytes_value low high (argument_words self.now) ≡ None) (λ w. bytes_value low high (argument_words self.now) ≡ Some w.now) }
     {
         let word = self.only()?;
         if low <= word.len() && word.len() <= high {
@@ -108,31 +107,31 @@ impl<'d> ArgumentRef<'d> {
         None
     }
 
-    /// The level that it names.
+    /// Reads a level.
     pub(crate) fn level(&self) -> Option<Level>
-        ensures { result ≡ level_said (words_said self.now) }
+        ensures { result ≡ level_value (argument_words self.now) }
     {
         level_of(self.only()?)
     }
 
-    /// The choice that it says.
+    /// Reads a flag.
     pub(crate) fn flag(&self) -> Option<bool>
-        ensures { result ≡ flag_said (words_said self.now) }
+        ensures { result ≡ flag_value (argument_words self.now) }
     {
         flag_of(self.only()?)
     }
 
-    /// The transition that it names.
+    /// Reads a transition.
     pub(crate) fn transition(&self) -> Option<Transition>
-        ensures { result ≡ transition_said (words_said self.now) }
+        ensures { result ≡ transition_value (argument_words self.now) }
     {
         transition_of(self.only()?)
     }
 
-    /// The types that it names.
+    /// Reads message types.
     #[tactic(auto, using(crate::proofs::ReadLaws::naming))]
     pub(crate) fn types(&self) -> Option<TypeSet>
-        ensures { result ≡ with_types (words_said self.now) (Some no_types) }
+        ensures { result ≡ with_types (argument_words self.now) (Some no_types) }
     {
         let mut types = TypeSet::new();
         for at in 0..self.len() {
@@ -141,10 +140,10 @@ impl<'d> ArgumentRef<'d> {
         Some(types)
     }
 
-    /// The ids, and those that it names.
+    /// Reads ids, and appends them to those before.
     #[tactic(auto, using(crate::proofs::ReadLaws::listing))]
     pub(crate) fn ids(&self, before: IdList) -> Option<IdList>
-        ensures { result ≡ with_ids (words_said self.now) (Some before) }
+        ensures { result ≡ with_ids (argument_words self.now) (Some before) }
     {
         let mut ids = before;
         for at in 0..self.len() {

@@ -1,4 +1,4 @@
-//! What the arguments say that were read so far, each under its own name.
+//! The arguments read so far, by name.
 
 ghost use Rattle.std.specs.Prelude.{◌≡◌};
 ghost use Rattle.rb_directive.specs.Table.{after};
@@ -7,10 +7,9 @@ ghost use Rattle.rb_directive.specs.Arguments.{nothing, number_given, flag_given
 use crate::argument::{Argument, Bytes, Flag, Ids, LevelFor, Number};
 use crate::id_list::IdList;
 use crate::type_set::TypeSet;
-use rb_change::Transition;
-use rb_level::{Level, ScriptWord};
+use rb_vocab::{Level, ScriptWord, Transition};
 
-/// Where a word stands among the words of a directive.
+/// The position of a word among the words of a directive.
 #[derive(Clone, Copy)]
 pub(crate) enum WordPlace {
     First,
@@ -19,7 +18,7 @@ pub(crate) enum WordPlace {
 }
 
 impl WordPlace {
-    /// Where the word after this one stands.
+    /// The position of the next word.
     pub(crate) fn after(self) -> WordPlace
         ensures { result ≡ after self }
     {
@@ -30,10 +29,10 @@ impl WordPlace {
     }
 }
 
-/// What the arguments say: under each name nothing, as long as it isn't given.
+/// The values of the arguments. A value is `None` until it is given.
 #[derive(Drop)]
 pub(crate) struct Arguments<'d> {
-    /// Where the next word stands.
+    /// The position of the next word.
     pub(crate) next: WordPlace,
     pub(crate) count: Option<u64>,
     pub(crate) id: Option<u64>,
@@ -61,7 +60,7 @@ pub(crate) struct Arguments<'d> {
 }
 
 impl<'d> Arguments<'d> {
-    /// Nothing.
+    /// No arguments.
     pub(crate) fn nothing() -> Arguments<'d>
         ensures { result ≡ nothing }
     {
@@ -93,7 +92,7 @@ impl<'d> Arguments<'d> {
         }
     }
 
-    /// The number that is given under a name.
+    /// The number with this name.
     pub(crate) fn number(&self, which: Number) -> Option<u64>
         ensures { result ≡ number_given which self.now }
     {
@@ -165,7 +164,7 @@ impl<'d> Arguments<'d> {
         }
     }
 
-    /// A copy of the list that is given, or an empty one.
+    /// Copies the list, or returns an empty one.
     pub(crate) fn listed(&self, which: Ids) -> IdList
         ensures { result ≡ listed which self.now }
     {
@@ -175,7 +174,7 @@ impl<'d> Arguments<'d> {
         }
     }
 
-    /// Whether the list that these ids must not stand in holds one of them.
+    /// Whether the other list contains one of these ids.
     pub(crate) fn excludes(&self, other: Option<Ids>, ids: &IdList) -> bool
         ensures { result ≡ excludes other ids.now self.now }
     {

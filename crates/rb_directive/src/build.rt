@@ -1,36 +1,35 @@
-//! From what the arguments say to the request: what is missing, and what holds where an argument isn't given.
+//! Building the request from the arguments, with defaults for those that aren't given.
 //!
-//! A directive takes what must be given in a fixed order, and the first that is missing is named.
+//! Each directive requires its arguments in a fixed order. The first missing one is reported.
 
 ghost use Rattle.std.specs.Prelude.{◌≡◌, [], codes, IfOk};
 ghost use Rattle.std.specs.Option.{unwrap_or};
 ghost use Rattle.rb_script.specs.Tokens.{plain};
-ghost use Rattle.rb_directive.specs.Requests.{wanted, add_nodes, propose, propose_conf_change, process_ready, deliver_msgs, stabilize, act_with, built, asked_of, request, IsWithin};
+ghost use Rattle.rb_directive.specs.Requests.{require, add_nodes, propose, propose_conf_change, process_ready, deliver_msgs, stabilize, node_command_with_arg, built, asked_of, request, IsWithin};
 
-use crate::act_with::ActWith;
-use crate::alone::asked_alone;
 use crate::arguments::Arguments;
-use crate::asking::{AddNodes, DeliverMsgs, ProposeConfChange, Request};
 use crate::change::{Inputs, change_fault};
 use crate::id_list::IdList;
 use crate::limits::{ROUNDS, WINDOW};
 use crate::name::Name;
+use crate::node_command_with_arg::NodeCommandWithArg;
 use crate::reading::read;
+use crate::requests::{AddNodes, DeliverMsgs, ProposeConfChange, Request};
+use crate::short_form::short_request;
 use crate::table::{Row, row_of};
-use rb_change::Transition;
-use rb_level::{DirectiveError, Level, ScriptWord};
 use rb_script::DirectiveRef;
+use rb_vocab::{DirectiveError, Level, ScriptWord, Transition};
 
-/// A request, and the level that its option `log-level` sets for it alone.
+/// A request, and the level that the option `log-level` sets for this directive.
 #[derive(Drop)]
 pub struct Asked<'d> {
     pub request: Request<'d>,
     pub log_level: Option<Level>,
 }
 
-// The value that is wanted under a name.
-fn wanted<'d, T: Drop>(value: Option<T>, name: &'static [u8]) -> Result<T, DirectiveError<'d>>
-    ensures { result ≡ wanted name.now value }
+// Returns the required value, or an error with its name.
+fn require<'d, T: Drop>(value: Option<T>, name: &'static [u8]) -> Result<T, DirectiveError<'d>>
+    ensures { result ≡ require name.now value }
 {
     match value {
         Some(value) => Ok(value),
@@ -38,7 +37,7 @@ fn wanted<'d, T: Drop>(value: Option<T>, name: &'static [u8]) -> Result<T, Direc
     }
 }
 
-// The ids, or none.
+// Returns the ids, or an empty list.
 fn ids_or_none(ids: Option<IdList>) -> IdList
     ensures { result ≡ unwrap_or ids [] }
 {
@@ -48,17 +47,17 @@ fn ids_or_none(ids: Option<IdList>) -> IdList
     }
 }
 
-// The node that is wanted.
-fn wanted_id<'d>(given: &Arguments<'d>) -> Result<u64, DirectiveError<'d>>
-    ensures { result ≡ wanted (codes "id") given.now.id }
+// Returns the required node.
+fn require_id<'d>(given: &Arguments<'d>) -> Result<u64, DirectiveError<'d>>
+    ensures { result ≡ require (codes "id") given.now.id }
 {
-    wanted(given.id, b"id")
+    require(given.id, b"id")
 }
 
 fn add_nodes(given: Arguments<'_>) -> Result<Request<'_>, DirectiveError<'_>>
     ensures { result ≡ add_nodes given.entry }
 {
-    let count = wanted(given.count, b"n")?;
+    let count = require(given.count, b"n")?;
     Ok(Request::AddNodes(AddNodes {
         count,
         voters: given.voters,
@@ -75,8 +74,8 @@ fn add_nodes(given: Arguments<'_>) -> Result<Request<'_>, DirectiveError<'_>>
 fn propose(given: Arguments<'_>) -> Result<Request<'_>, DirectiveError<'_>>
     ensures { result ≡ propose given.entry }
 {
-    let id = wanted(given.id, b"id")?;
-    let payload = wanted(given.payload, b"payload")?;
+    let id = require(given.id, b"id")?;
+    let payload = require(given.payload, b"payload")?;
     Ok(Request::Propose(id, payload))
 }
 
@@ -86,7 +85,7 @@ fn propose_conf_change<'d>(
 ) -> Result<Request<'d>, DirectiveError<'d>>
     ensures { result ≡ propose_conf_change given.entry inputs.entry }
 {
-    let id = wanted_id(&given)?;
+    let id = require_id(&given)?;
     let transition = given.transition.unwrap_or(Transition::Auto);
     let fault = change_fault(given.first_version.unwrap_or(false), transition, &inputs);
     Ok(Request::ProposeConfChange(ProposeConfChange {
@@ -100,7 +99,7 @@ fn propose_conf_change<'d>(
 fn process_ready(given: Arguments<'_>) -> Result<Request<'_>, DirectiveError<'_>>
     ensures { result ≡ process_ready given.entry }
 {
-    Ok(Request::ProcessReady(wanted(given.nodes, b"id")?))
+    Ok(Request::ProcessReady(require(given.nodes, b"id")?))
 }
 
 fn deliver_msgs(given: Arguments<'_>) -> Request<'_>
@@ -120,16 +119,19 @@ fn stabilize(given: Arguments<'_>) -> Request<'_>
     Request::Stabilize(ids_or_none(given.nodes), rounds)
 }
 
-fn act_with<'d>(what: ActWith, given: &Arguments<'d>) -> Result<Request<'d>, DirectiveError<'d>>
-    ensures { result ≡ act_with what given.now }
+fn node_command_with_arg<'d>(
+    what: NodeCommandWithArg,
+    given: &Arguments<'d>,
+) -> Result<Request<'d>, DirectiveError<'d>>
+    ensures { result ≡ node_command_with_arg what given.now }
 {
-    let (node, number) = what.wants();
-    let id = wanted(given.number(node), node.text())?;
-    let value = wanted(given.number(number), number.text())?;
-    Ok(Request::ActWith(what, id, value))
+    let (node, number) = what.required();
+    let id = require(given.number(node), node.text())?;
+    let value = require(given.number(number), number.text())?;
+    Ok(Request::NodeCommandWithArg(what, id, value))
 }
 
-// What the directive of this name asks for.
+// Builds the request of a directive.
 fn built<'d>(
     name: Name,
     given: Arguments<'d>,
@@ -139,24 +141,27 @@ fn built<'d>(
 {
     match name {
         Name::AddNodes => add_nodes(given),
-        Name::Act(act) => Ok(Request::Act(act, wanted_id(&given)?)),
+        Name::NodeCommand(node_command) => Ok(Request::NodeCommand(
+            node_command,
+            require_id(&given)?,
+        )),
         Name::Propose => propose(given),
         Name::ProposeConfChange => propose_conf_change(given, inputs),
         Name::ProcessReady => process_ready(given),
         Name::DeliverMsgs => Ok(deliver_msgs(given)),
         Name::Stabilize => Ok(stabilize(given)),
-        Name::ActWith(act) => act_with(act, &given),
-        Name::LogLevel => Ok(Request::LogLevel(wanted(given.level, b"level")?)),
-        Name::RaftLog => Ok(Request::RaftLog(wanted_id(&given)?)),
-        Name::Status => Ok(Request::Status(wanted_id(&given)?)),
+        Name::NodeCommandWithArg(node_command) => node_command_with_arg(node_command, &given),
+        Name::LogLevel => Ok(Request::LogLevel(require(given.level, b"level")?)),
+        Name::RaftLog => Ok(Request::RaftLog(require_id(&given)?)),
+        Name::Status => Ok(Request::Status(require_id(&given)?)),
         Name::RaftState => Ok(Request::RaftState),
     }
 }
 
-// What the directive of this row asks for, whatever it is given. It stands apart, since what a function needs is cleared as it begins: a
-// directive that is given one word clears nothing of all that may be given.
+// Reads a directive with any arguments. It is not inlined: a function clears its frame when it begins, and a directive with one word
+// shouldn't pay for all possible arguments.
 #[inline(never)]
-fn asked_at_length<'d>(
+fn long_request<'d>(
     row: &Row,
     directive: &'d DirectiveRef<'d>,
 ) -> Result<Asked<'d>, DirectiveError<'d>>
@@ -168,8 +173,8 @@ fn asked_at_length<'d>(
     Ok(Asked { request, log_level })
 }
 
-/// What a directive asks for, or why it is refused: its name is unknown; or of the arguments, from left to right, the
-/// first that is wrong; or what is missing. No cluster is looked at, and no memory is taken.
+/// Reads a directive into a request, or reports its first fault: an unknown name, the first wrong argument from left to right, or
+/// a missing argument. Needs no cluster, and allocates nothing.
 #[tactic(auto, unfolding(crate::specs::Requests::request))]
 pub fn request<'d>(directive: &'d DirectiveRef<'d>) -> Result<Asked<'d>, DirectiveError<'d>>
     ensures exact { result ≡ request (plain directive.now) }
@@ -179,9 +184,9 @@ pub fn request<'d>(directive: &'d DirectiveRef<'d>) -> Result<Asked<'d>, Directi
     let Some(row) = row_of(name) else {
         return Err(DirectiveError::UnknownDirective(ScriptWord::new(name)));
     };
-    if let Some(request) = asked_alone(row, directive) {
+    if let Some(request) = short_request(row, directive) {
         let log_level = None;
         return Ok(Asked { request, log_level });
     }
-    asked_at_length(row, directive)
+    long_request(row, directive)
 }

@@ -1,20 +1,19 @@
-//! The words of a change of the configuration, which stand in the input of `propose-conf-change`.
+//! The words of a configuration change, in the input of `propose-conf-change`.
 //!
 //! A word is a letter and an id, as in etcd raft's interaction tests: `v1` makes 1 a voter, `l1` a learner, `r1` removes
-//! it, `u1` changes nothing. No word leaves a joint configuration.
+//! it, `u1` changes nothing. A change without words leaves a joint configuration.
 
 ghost use Rattle.std.specs.Prelude.{◌≡◌, ◌≤◌, ◌<◌, ◌∷◌, [], length, MatchOption, Some, None, slice_index_or, IfSome};
 ghost use Rattle.rb_script.specs.Tokens.{plain};
 ghost use Rattle.rb_directive.specs.Changes.{kind_of, change_of, words_left, input_words, first_bad, is_one, is_auto, fits, change_fault};
 
 use crate::form::id_of;
-use rb_change::{Transition, WordKind};
-use rb_level::{DirectiveError, ScriptWord};
 use rb_script::DirectiveRef;
 use rb_text::first_word;
+use rb_vocab::{DirectiveError, ScriptWord, Transition, WordKind};
 use std::marker::Model;
 
-/// The input lines of a directive. In contracts it is the list of the lines.
+/// The input lines of a directive. In contracts it is the list of lines.
 #[derive(Drop)]
 pub struct Inputs<'d> {
     directive: &'d DirectiveRef<'d>,
@@ -38,14 +37,14 @@ impl<'d> Inputs<'d> {
         Inputs { directive }
     }
 
-    /// How many there are.
+    /// The number of lines.
     pub fn len(&self) -> usize
         ensures { result ≡ length self.now }
     {
         self.directive.inputs()
     }
 
-    /// The line at a place, counted from 0.
+    /// The line at a position, counted from 0.
     pub fn line(&self, place: usize) -> &'d [u8]
         requires { place < length self.now }
         ensures { result.now ≡ slice_index_or self.now place [] }
@@ -53,7 +52,7 @@ impl<'d> Inputs<'d> {
         self.directive.input(place)
     }
 
-    /// Of the words that are left in `rest` and in the lines from `from` on, the first, with what is left after it.
+    /// Splits off the first word of `rest` and the lines from `from` on.
     #[tactic(auto, using(crate::proofs::ChangeLaws::next_line))]
     pub fn next_word(&self, from: usize, rest: &'d [u8]) -> Option<(&'d [u8], usize, &'d [u8])>
         requires { from ≤ length self.now }
@@ -73,7 +72,7 @@ impl<'d> Inputs<'d> {
         }
     }
 
-    // The first word that is no change.
+    // Finds the first word that isn't a change.
     #[tactic(auto, using(crate::proofs::ChangeLaws::all_words))]
     fn first_bad(&self) -> Option<&'d [u8]>
         ensures { MatchOption result (first_bad (input_words self.now) ≡ None) (λ w. first_bad (input_words self.now) ≡ Some w.now) }
@@ -90,7 +89,7 @@ impl<'d> Inputs<'d> {
         None
     }
 
-    // Whether there is one word.
+    // Whether there is exactly one word.
     #[tactic(auto, using(crate::proofs::ChangeLaws::all_words))]
     fn is_one(&self) -> bool
         ensures { result ≡ is_one (input_words self.now) }
@@ -102,7 +101,7 @@ impl<'d> Inputs<'d> {
     }
 }
 
-// What the letter of a change stands for.
+// The meaning of a change's letter.
 fn kind_of(letter: u8) -> Option<WordKind>
     ensures { result ≡ kind_of letter }
 {
@@ -115,28 +114,28 @@ fn kind_of(letter: u8) -> Option<WordKind>
     }
 }
 
-/// The change that a word is: a letter and an id.
-pub fn change_of(word: &[u8]) -> Option<rb_change::Word>
+/// Reads a change: a letter and an id.
+pub fn change_of(word: &[u8]) -> Option<rb_vocab::Word>
     ensures { result ≡ change_of word.now }
 {
     let (letter, digits) = word.split_first()?;
     let kind = kind_of(*letter)?;
     let id = id_of(digits)?;
-    Some(rb_change::Word {
+    Some(rb_vocab::Word {
         kind,
         id: u64::from(id),
     })
 }
 
-// Whether the words are as many as a change takes, and the transition is one that it has.
+// Whether the number of words and the transition are allowed.
 fn fits(first_version: bool, transition: Transition, inputs: &Inputs<'_>) -> bool
     ensures { result ≡ fits first_version transition (input_words inputs.now) }
 {
     !first_version || (is_auto(transition) && inputs.is_one())
 }
 
-/// What is wrong with the words: the first that is no change; or they are not one, or have a transition of their own,
-/// where the change is one of the first version.
+/// Finds the fault of the words: the first that isn't a change; or, for a change of the first version, several words or a
+/// transition.
 #[tactic(auto, unfolding(crate::specs::Changes::change_fault))]
 pub(crate) fn change_fault<'d>(
     first_version: bool,

@@ -1,4 +1,4 @@
-//! Ids in the order in which a directive names them, in a value that takes no memory.
+//! Ids in the order in which a directive names them, without allocation.
 
 ghost use Rattle.std.specs.Prelude.{◌≡◌, ◌<◌, [], ◌∷◌, ◌++◌, length, nat_lt};
 ghost use Rattle.rb_directive.specs.declared.limits.TheConstants.{MAX_IDS};
@@ -7,7 +7,7 @@ ghost use Rattle.rb_directive.specs.IdLists.{holds, share};
 use crate::limits::MAX_IDS;
 use std::marker::Model;
 
-/// Ids, as they are named: in their order, and as often as they are. In contracts it is the list of the ids.
+/// Ids in the order in which they are named, with repetitions. In contracts it is the list of ids.
 #[derive(Drop)]
 pub struct IdList {
     ids: [u8; MAX_IDS],
@@ -26,7 +26,7 @@ impl Model for IdList {
 }
 
 impl IdList {
-    /// No ids.
+    /// Makes an empty list.
     pub(crate) fn new() -> IdList
         ensures { result ≡ [] }
     {
@@ -36,7 +36,7 @@ impl IdList {
         }
     }
 
-    /// This id.
+    /// Makes a list of one id.
     pub(crate) fn one(id: u8) -> IdList
         ensures { result ≡ id ∷ [] }
     {
@@ -52,14 +52,14 @@ impl IdList {
         &self.ids[..self.len]
     }
 
-    /// Whether another id has room.
+    /// Whether there is room for another id.
     pub(crate) fn has_room(&self) -> bool
         ensures { result ≡ nat_lt (length self.now) MAX_IDS }
     {
         self.len < MAX_IDS
     }
 
-    /// Adds an id at the end.
+    /// Appends an id.
     pub(crate) fn push(&mut self, id: u8)
         requires { length self.old < MAX_IDS }
         ensures { self.new ≡ self.old ++ id ∷ [] }
@@ -68,7 +68,7 @@ impl IdList {
         self.len += 1;
     }
 
-    /// The same ids once more.
+    /// Copies the list.
     pub(crate) fn copy(&self) -> IdList
         ensures { result ≡ self.now }
     {
@@ -78,14 +78,14 @@ impl IdList {
         }
     }
 
-    /// Whether the id is one of these.
+    /// Whether the list contains the id.
     pub fn holds(&self, id: u64) -> bool
         ensures { result ≡ holds self.now id }
     {
         self.as_slice().iter().any(|other| u64::from(*other) == id)
     }
 
-    /// Whether an id stands in both lists.
+    /// Whether the lists have an id in common.
     pub(crate) fn shares(&self, other: &IdList) -> bool
         ensures { result ≡ share self.now other.now }
     {

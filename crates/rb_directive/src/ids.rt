@@ -1,4 +1,4 @@
-//! Which words and options of a directive are ids of nodes: the table says.
+//! The words and options of a directive that are ids of nodes, by the table.
 
 ghost use Rattle.std.specs.Prelude.{◌≡◌, ◌+◌, ◌≤◌};
 ghost use Rattle.rb_directive.specs.Ids.{is_id, has_ids, with_word, ids_of, id_words, takes_id};
@@ -17,7 +17,7 @@ fn is_id(number: Number) -> bool
     }
 }
 
-// Whether the argument is an id, or some.
+// Whether the argument is one id or several.
 fn has_ids(argument: Argument) -> bool
     ensures { result ≡ has_ids argument }
 {
@@ -28,7 +28,7 @@ fn has_ids(argument: Argument) -> bool
     }
 }
 
-// A word that is an id, and those behind it.
+// Counts the ids at the front: this word, and those after it.
 fn with_word(word: Option<Argument>, behind: usize) -> usize
     requires { behind ≤ 1 }
     ensures exact { result ≡ with_word word behind }
@@ -40,7 +40,7 @@ fn with_word(word: Option<Argument>, behind: usize) -> usize
     }
 }
 
-// How many of the first words are ids.
+// Counts the first words that are ids.
 fn ids_of(row: &Row) -> usize
     ensures { result ≡ ids_of row.now }
 {
@@ -50,7 +50,7 @@ fn ids_of(row: &Row) -> usize
     with_word(row.first, with_word(row.second, 0))
 }
 
-/// How many of the first words of the directive with this name are ids: as many as it may have arguments, where it takes any number.
+/// Counts the first words of a directive that are ids. It is `MAX_IDS` if the directive takes any number of them.
 #[tactic(auto, unfolding(crate::specs::Ids::id_words))]
 pub fn id_words(name: &[u8]) -> usize
     ensures { result ≡ id_words name.now }
@@ -61,7 +61,7 @@ pub fn id_words(name: &[u8]) -> usize
     }
 }
 
-/// Whether the values of the option with this key are ids, where the directive of this name takes it.
+/// Whether the directive has this option, and its values are ids.
 #[tactic(auto, unfolding(crate::specs::Ids::takes_id))]
 pub fn takes_id(name: &[u8], key: &[u8]) -> bool
     ensures { result ≡ takes_id name.now key.now }

@@ -1,17 +1,12 @@
-//! What a directive asks for: a name and arguments, read once into a [`Request`].
+//! Reads a directive's name and arguments into a [`Request`].
 //!
-//! A directive is data of a script. Reading it needs no cluster: its name, which arguments it takes and what each of
-//! them may be stand in one table. [`request`] goes over the arguments once, from left to right, and gives what they say
-//! as numbers, lists of ids and borrowed words, or the first thing that is wrong. It takes no memory.
+//! One table has the names of directives, their arguments and the allowed values. [`request`] reads the arguments once, from left to
+//! right, into numbers, lists of ids and borrowed words, or reports the first fault. It needs no cluster, and allocates nothing.
 #![tactic(auto)]
 
-mod act;
-mod act_with;
-mod alone;
 mod argument;
 mod argument_ref;
 mod arguments;
-mod asking;
 mod build;
 mod change;
 mod form;
@@ -20,14 +15,15 @@ mod ids;
 mod laws;
 mod limits;
 mod name;
+mod node_command;
+mod node_command_with_arg;
 mod reading;
+mod requests;
+mod short_form;
 mod table;
 mod type_set;
 
-pub use act::Act;
-pub use act_with::ActWith;
 pub use argument::{Argument, Bytes, Flag, Ids, LevelFor, Number};
-pub use asking::{AddNodes, DeliverMsgs, Named, ProposeConfChange, Request};
 pub use build::{Asked, request};
 pub use change::{Inputs, change_of};
 pub use id_list::IdList;
@@ -38,5 +34,8 @@ pub use laws::{
 };
 pub use limits::{MAX_ID, MAX_NODES, limits_are};
 pub use name::Name;
+pub use node_command::NodeCommand;
+pub use node_command_with_arg::NodeCommandWithArg;
+pub use requests::{AddNodes, DeliverMsgs, Named, ProposeConfChange, Request};
 pub use table::{OptionRow, Row, is_name};
 pub use type_set::TypeSet;

@@ -3,22 +3,22 @@
 ghost use Rattle.std.specs.Prelude.{◌≡◌};
 ghost use Rattle.rb_directive.specs.Names.{name_text};
 
-use crate::act::Act;
-use crate::act_with::ActWith;
+use crate::node_command::NodeCommand;
+use crate::node_command_with_arg::NodeCommandWithArg;
 
-/// Which directive it is.
+/// A directive.
 #[derive(Clone, Copy, Debug, PartialEq, Eq)]
 pub enum Name {
     AddNodes,
-    /// One node does something.
-    Act(Act),
+    /// A command to one node.
+    NodeCommand(NodeCommand),
     Propose,
     ProposeConfChange,
     ProcessReady,
     DeliverMsgs,
     Stabilize,
-    /// One node does something with a number.
-    ActWith(ActWith),
+    /// A command to one node, with a number.
+    NodeCommandWithArg(NodeCommandWithArg),
     LogLevel,
     RaftLog,
     Status,
@@ -26,19 +26,19 @@ pub enum Name {
 }
 
 impl Name {
-    /// The name as a script has it.
+    /// The name, as in a script.
     pub fn text(self) -> &'static [u8]
         ensures { result.now ≡ name_text self }
     {
         match self {
             Name::AddNodes => b"add-nodes",
-            Name::Act(act) => act.text(),
+            Name::NodeCommand(node_command) => node_command.text(),
             Name::Propose => b"propose",
             Name::ProposeConfChange => b"propose-conf-change",
             Name::ProcessReady => b"process-ready",
             Name::DeliverMsgs => b"deliver-msgs",
             Name::Stabilize => b"stabilize",
-            Name::ActWith(act) => act.text(),
+            Name::NodeCommandWithArg(node_command) => node_command.text(),
             Name::LogLevel => b"log-level",
             Name::RaftLog => b"raft-log",
             Name::Status => b"status",

@@ -1,7 +1,6 @@
 //! Reading the arguments, once and from left to right.
 //!
-//! Each argument is looked up in the table, by its key or its place, and what it says is added to what is given. The
-//! first that is wrong ends it.
+//! Each argument is looked up in the table by its key or its position, and its value is added. Reading ends at the first fault.
 
 ghost use Rattle.std.specs.Prelude.{◌≡◌, MatchOption, MatchResult, Some, None, Ok, Err};
 ghost use Rattle.rb_script.specs.Tokens.{plain};
@@ -9,23 +8,23 @@ ghost use Rattle.rb_directive.specs.Arguments.{nothing, listed};
 ghost use Rattle.rb_directive.specs.IdLists.{with_ids};
 ghost use Rattle.rb_directive.specs.Names.{name_text};
 ghost use Rattle.rb_directive.specs.Table.{option_of, word_of};
-ghost use Rattle.rb_directive.specs.Reading.{words_said, ids_kept, taken, with_option, with_word, with_argument, with_arguments};
+ghost use Rattle.rb_directive.specs.Reading.{argument_words, ids_kept, taken, with_option, with_word, with_argument, with_arguments};
 
 use crate::argument::{Argument, Ids};
 use crate::argument_ref::ArgumentRef;
 use crate::arguments::Arguments;
 use crate::table::{Row, option_of};
-use rb_level::{DirectiveError, ScriptWord};
 use rb_script::DirectiveRef;
+use rb_vocab::{DirectiveError, ScriptWord};
 
-// Adds what the ids of the argument are, where none of them stands in the other list.
+// Adds the ids of the argument, if none of them is in the other list.
 fn take_ids<'d>(
     given: &mut Arguments<'d>,
     which: Ids,
     other: Option<Ids>,
     said: &ArgumentRef<'d>,
 ) -> Option<()>
-    ensures { MatchOption result (ids_kept which other given.old (with_ids (words_said said.now) (Some (listed which given.old))) ≡ None) (λ _. ids_kept which other given.old (with_ids (words_said said.now) (Some (listed which given.old))) ≡ Some given.new) }
+    ensures { MatchOption result (ids_kept which other given.old (with_ids (argument_words said.now) (Some (listed which given.old))) ≡ None) (λ _. ids_kept which other given.old (with_ids (argument_words said.now) (Some (listed which given.old))) ≡ Some given.new) }
 {
     let ids = said.ids(given.listed(which))?;
     if given.excludes(other, &ids) {
@@ -35,9 +34,9 @@ fn take_ids<'d>(
     Some(())
 }
 
-// Adds what the argument says, where it is what it has to be.
+// Adds the value of the argument, if it is allowed.
 fn take<'d>(given: &mut Arguments<'d>, argument: Argument, said: &ArgumentRef<'d>) -> Option<()>
-    ensures { MatchOption result (taken argument (words_said said.now) given.old ≡ None) (λ _. taken argument (words_said said.now) given.old ≡ Some given.new) }
+    ensures { MatchOption result (taken argument (argument_words said.now) given.old ≡ None) (λ _. taken argument (argument_words said.now) given.old ≡ Some given.new) }
 {
     match argument {
         Argument::Number(which, low, high) => {
@@ -68,7 +67,7 @@ fn take<'d>(given: &mut Arguments<'d>, argument: Argument, said: &ArgumentRef<'d
     }
 }
 
-// Adds an option, where the directive takes it.
+// Adds an option, if the directive has it.
 fn add_option<'d>(
     row: &Row,
     said: &ArgumentRef<'d>,
@@ -86,7 +85,7 @@ fn add_option<'d>(
     Ok(())
 }
 
-// Adds a word, where the directive takes one there.
+// Adds a word, if the directive has one at this position.
 fn add_word<'d>(
     row: &Row,
     said: &ArgumentRef<'d>,
@@ -119,7 +118,7 @@ fn add<'d>(
     }
 }
 
-/// What the arguments say, or what is wrong with the first that is wrong.
+/// Reads the arguments, or reports the first fault.
 #[tactic(auto, using(crate::proofs::ReadLaws::reading))]
 pub(crate) fn read<'d>(
     row: &Row,

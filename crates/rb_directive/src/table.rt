@@ -1,12 +1,10 @@
-//! The table of directives: which words and which options each of them takes.
+//! The table of directives, with their words and options.
 //!
-//! The rows are data that the code and the definitions share. Every directive also takes the option `log-level`.
+//! Code and definitions share its rows. Every directive also has the option `log-level`.
 
 ghost use Rattle.std.specs.Prelude.{◌≡◌, MatchOption, Some, None};
 ghost use Rattle.rb_directive.specs.Table.{directives, options, row_in, is_name, option_in, option_of, word_of};
 
-use crate::act::Act;
-use crate::act_with::ActWith;
 use crate::argument::{Argument, Bytes, Flag, Ids, LevelFor, Number};
 use crate::arguments::WordPlace;
 use crate::limits::{
@@ -14,16 +12,18 @@ use crate::limits::{
     MAX_WINDOW,
 };
 use crate::name::Name;
+use crate::node_command::NodeCommand;
+use crate::node_command_with_arg::NodeCommandWithArg;
 
-/// A directive, and the words that it takes.
+/// A directive and its words.
 #[derive(Clone, Copy)]
 pub struct Row {
     pub name: Name,
-    /// The first word, where it takes one.
+    /// The first word, if there is one.
     pub first: Option<Argument>,
-    /// The second word, where it takes one.
+    /// The second word, if there is one.
     pub second: Option<Argument>,
-    /// Whether it takes ids in place of them, any number.
+    /// Whether it takes any number of ids instead.
     pub takes_ids: bool,
 }
 
@@ -78,31 +78,31 @@ const VOTERS: Argument = Argument::Ids(Ids::Voters, Some(Ids::Learners));
 
 const LEARNERS: Argument = Argument::Ids(Ids::Learners, Some(Ids::Voters));
 
-/// The directives, with their words.
+/// The directives and their words.
 #[rattlefmt::skip]
 pub(crate) static DIRECTIVES: [Row; 19] = [
     Row { name: Name::AddNodes, first: Some(COUNT), second: None, takes_ids: false },
-    Row { name: Name::Act(Act::Campaign), first: Some(ID), second: None, takes_ids: false },
+    Row { name: Name::NodeCommand(NodeCommand::Campaign), first: Some(ID), second: None, takes_ids: false },
     Row { name: Name::Propose, first: Some(ID), second: Some(PAYLOAD), takes_ids: false },
     Row { name: Name::ProposeConfChange, first: Some(ID), second: None, takes_ids: false },
     Row { name: Name::ProcessReady, first: None, second: None, takes_ids: true },
     Row { name: Name::DeliverMsgs, first: None, second: None, takes_ids: true },
     Row { name: Name::Stabilize, first: None, second: None, takes_ids: true },
-    Row { name: Name::Act(Act::TickElection), first: Some(ID), second: None, takes_ids: false },
-    Row { name: Name::Act(Act::TickHeartbeat), first: Some(ID), second: None, takes_ids: false },
-    Row { name: Name::ActWith(ActWith::SetRandomizedElectionTimeout), first: Some(ID), second: None, takes_ids: false },
-    Row { name: Name::ActWith(ActWith::TransferLeadership), first: None, second: None, takes_ids: false },
-    Row { name: Name::Act(Act::ForgetLeader), first: Some(ID), second: None, takes_ids: false },
-    Row { name: Name::ActWith(ActWith::ReportUnreachable), first: Some(ID), second: Some(PEER), takes_ids: false },
-    Row { name: Name::ActWith(ActWith::SendSnapshot), first: Some(FROM), second: Some(TO), takes_ids: false },
-    Row { name: Name::ActWith(ActWith::Compact), first: Some(ID), second: Some(COMPACTED), takes_ids: false },
+    Row { name: Name::NodeCommand(NodeCommand::TickElection), first: Some(ID), second: None, takes_ids: false },
+    Row { name: Name::NodeCommand(NodeCommand::TickHeartbeat), first: Some(ID), second: None, takes_ids: false },
+    Row { name: Name::NodeCommandWithArg(NodeCommandWithArg::SetRandomizedElectionTimeout), first: Some(ID), second: None, takes_ids: false },
+    Row { name: Name::NodeCommandWithArg(NodeCommandWithArg::TransferLeadership), first: None, second: None, takes_ids: false },
+    Row { name: Name::NodeCommand(NodeCommand::ForgetLeader), first: Some(ID), second: None, takes_ids: false },
+    Row { name: Name::NodeCommandWithArg(NodeCommandWithArg::ReportUnreachable), first: Some(ID), second: Some(PEER), takes_ids: false },
+    Row { name: Name::NodeCommandWithArg(NodeCommandWithArg::SendSnapshot), first: Some(FROM), second: Some(TO), takes_ids: false },
+    Row { name: Name::NodeCommandWithArg(NodeCommandWithArg::Compact), first: Some(ID), second: Some(COMPACTED), takes_ids: false },
     Row { name: Name::LogLevel, first: Some(LEVEL), second: None, takes_ids: false },
     Row { name: Name::RaftLog, first: Some(ID), second: None, takes_ids: false },
     Row { name: Name::Status, first: Some(ID), second: None, takes_ids: false },
     Row { name: Name::RaftState, first: None, second: None, takes_ids: false },
 ];
 
-/// The options that they take.
+/// The options of the directives.
 #[rattlefmt::skip]
 pub(crate) static OPTIONS: [OptionRow; 16] = [
     OptionRow { name: Name::AddNodes, option: VOTERS },
@@ -118,12 +118,12 @@ pub(crate) static OPTIONS: [OptionRow; 16] = [
     OptionRow { name: Name::DeliverMsgs, option: TYPES },
     OptionRow { name: Name::DeliverMsgs, option: DROP },
     OptionRow { name: Name::Stabilize, option: ROUNDS },
-    OptionRow { name: Name::ActWith(ActWith::SetRandomizedElectionTimeout), option: TIMEOUT },
-    OptionRow { name: Name::ActWith(ActWith::TransferLeadership), option: FROM },
-    OptionRow { name: Name::ActWith(ActWith::TransferLeadership), option: TO },
+    OptionRow { name: Name::NodeCommandWithArg(NodeCommandWithArg::SetRandomizedElectionTimeout), option: TIMEOUT },
+    OptionRow { name: Name::NodeCommandWithArg(NodeCommandWithArg::TransferLeadership), option: FROM },
+    OptionRow { name: Name::NodeCommandWithArg(NodeCommandWithArg::TransferLeadership), option: TO },
 ];
 
-// The row of the directive with this name.
+// Finds the row of a directive.
 fn row_in(rows: &'static [Row], name: &[u8]) -> Option<&'static Row>
     ensures { MatchOption result (row_in rows.now name.now ≡ None) (λ row. row_in rows.now name.now ≡ Some row.now) }
 {
@@ -135,7 +135,7 @@ fn row_in(rows: &'static [Row], name: &[u8]) -> Option<&'static Row>
     None
 }
 
-/// The row of the directive with this name.
+/// Finds the row of a directive.
 #[tactic(auto, unfolding(crate::specs::Table::directives))]
 pub(crate) fn row_of(name: &[u8]) -> Option<&'static Row>
     ensures { MatchOption result (row_in directives name.now ≡ None) (λ row. row_in directives name.now ≡ Some row.now) }
@@ -143,7 +143,7 @@ pub(crate) fn row_of(name: &[u8]) -> Option<&'static Row>
     row_in(&DIRECTIVES, name)
 }
 
-/// Whether a directive has this name.
+/// Whether there is a directive with this name.
 #[tactic(auto, unfolding(crate::specs::Table::directives))]
 pub fn is_name(name: &[u8]) -> bool
     ensures { result ≡ is_name name.now }
@@ -151,7 +151,7 @@ pub fn is_name(name: &[u8]) -> bool
     DIRECTIVES.iter().any(|row| row.name.text() == name)
 }
 
-// The option with this key that the directive of this name has among these.
+// Finds the option of a directive in the list.
 fn option_in(options: &[OptionRow], name: &[u8], key: &[u8]) -> Option<Argument>
     ensures { result ≡ option_in options.now name.now key.now }
 {
@@ -163,7 +163,7 @@ fn option_in(options: &[OptionRow], name: &[u8], key: &[u8]) -> Option<Argument>
     None
 }
 
-/// The option with this key, where the directive of this name takes it.
+/// Finds the option of a directive.
 #[tactic(auto, unfolding(crate::specs::Table::option_of, crate::specs::Table::options))]
 pub(crate) fn option_of(name: &[u8], key: &[u8]) -> Option<Argument>
     ensures { result ≡ option_of name.now key.now }
@@ -175,7 +175,7 @@ pub(crate) fn option_of(name: &[u8], key: &[u8]) -> Option<Argument>
 }
 
 impl Row {
-    /// The word at a place, where the directive takes one there.
+    /// The word at a position, if there is one.
     pub(crate) fn word(&self, place: WordPlace) -> Option<Argument>
         ensures { result ≡ word_of self.now place }
     {

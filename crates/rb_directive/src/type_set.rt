@@ -1,14 +1,14 @@
-//! Some of the types of messages.
+//! Sets of message types.
 
 ghost use Rattle.std.specs.Prelude.{◌≡◌, ◌<◌};
 ghost use Rattle.rb_directive.specs.TypeSets.{type_place, no_types, with_type, has_type};
 
-use rb_level::MessageType;
+use rb_vocab::MessageType;
 
-/// How many types there are.
+/// The number of types.
 const TYPES: usize = 13;
 
-// The place of a type in a set.
+// The position of a type in a set.
 fn place(message_type: MessageType) -> usize
     ensures place { result ≡ type_place message_type }
     ensures within { result < 13 }
@@ -30,15 +30,15 @@ fn place(message_type: MessageType) -> usize
     }
 }
 
-/// Some of the types of messages.
+/// A set of message types.
 #[derive(Clone, Copy)]
 pub struct TypeSet {
-    // for each type, by its place, whether it is one of them
+    // for each type, by its position, whether the set contains it
     has: [bool; TYPES],
 }
 
 impl TypeSet {
-    /// No types.
+    /// Makes an empty set.
     #[tactic(auto, unfolding(crate::specs::TypeSets::no_types))]
     pub(crate) fn new() -> TypeSet
         ensures { result ≡ no_types }
@@ -48,7 +48,7 @@ impl TypeSet {
         }
     }
 
-    /// These types, and this one.
+    /// Adds a type.
     pub(crate) fn with(self, added: MessageType) -> TypeSet
         ensures { result ≡ with_type added self }
     {
@@ -57,7 +57,7 @@ impl TypeSet {
         TypeSet { has }
     }
 
-    /// Whether the type is one of these.
+    /// Whether the set contains the type.
     pub fn has(&self, wanted: MessageType) -> bool
         ensures { result ≡ has_type self.now wanted }
     {

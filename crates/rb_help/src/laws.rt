@@ -2,8 +2,8 @@
 
 ghost use Rattle.std.specs.Prelude.{◌<◌, ◌≡◌, ◌≤◌, true, is_some, length, map, List, Some};
 ghost use Rattle.std.specs.List.{list_all, Contains};
-ghost use Rattle.rb_level.specs.Levels.{level_of};
-ghost use Rattle.rb_level.specs.MessageTypes.{type_of};
+ghost use Rattle.rb_vocab.specs.Levels.{level_of};
+ghost use Rattle.rb_vocab.specs.MessageTypes.{type_of};
 ghost use Rattle.rb_directive.specs.declared.table.Row.{Row};
 ghost use Rattle.rb_directive.specs.declared.table.OptionRow.{OptionRow};
 ghost use Rattle.rb_directive.specs.Names.{argument_text, name_text};

@@ -7,8 +7,8 @@ ghost use Rattle.rb_help.specs.Suggestions.{of_fault, suggested};
 use crate::argument::of_arguments;
 use crate::nearest::{Known, nearest_name, nearest_option};
 use rb_directive::request;
-use rb_level::DirectiveError;
 use rb_script::DirectiveRef;
+use rb_vocab::DirectiveError;
 
 fn of_fault(directive: &DirectiveRef<'_>, fault: &DirectiveError<'_>) -> Option<Known>
     ensures { option_map (λ w. w.now) result ≡ of_fault (plain directive.now) fault.now }

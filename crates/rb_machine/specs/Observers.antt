@@ -1,12 +1,12 @@
--- Whoever is shown what happens. What it is of is its own: it takes an item, and is another then. (This project's.)
+-- Observers. The state of an observer is of any type; taking an item changes it. (This project's.)
 use Rattle.std.specs.Prelude.{List, fold}
-use Rattle.rb_level.specs.declared.level.Level.{Level}
+use Rattle.rb_vocab.specs.declared.level.Level.{Level}
 use Rattle.rb_texts.specs.Items.{PlainItem}
 use Rattle.rb_machine.specs.Cluster.{Cluster}
 use Rattle.rb_machine.specs.Effects.{Effect}
 use Rattle.rb_machine.specs.Outcome.{Execution}
 
--- a cluster, and who watches it
+-- a cluster and its observer
 pub record Watched (X : Type 0) : Type 0 where
   pub cluster : Cluster
   pub by : X
@@ -14,10 +14,10 @@ pub record Watched (X : Type 0) : Type 0 where
 abbrev pub watched : {X : Type 0} → Cluster → X → Watched X
 watched c by = record { cluster = c; by = by }
 
--- the cluster that an effect leaves, and who was shown all of it
+-- the cluster after an effect, and the observer after all items
 abbrev pub after : {X : Type 0} → (X → PlainItem → X) → X → Effect → Watched X
 after taking by e = watched e.cluster (fold taking by e.items)
 
--- the same of a directive: who watches is told the level first
+-- the same for a directive: the observer gets the level first
 abbrev pub after_directive : {X : Type 0} → (X → Level → X) → (X → PlainItem → X) → X → Execution → Watched X
 after_directive starting taking by h = watched h.cluster (fold taking (starting by h.level) h.items)

@@ -1,6 +1,6 @@
--- What is printed of what happens, as it happens: its lines, at the level of the directive. (This project's.)
+-- The printed lines of items, one item after another, at the directive's level. (This project's.)
 use Rattle.std.specs.Prelude.{List, ◌++◌}
-use Rattle.rb_level.specs.declared.level.Level.{Level}
+use Rattle.rb_vocab.specs.declared.level.Level.{Level}
 use Rattle.rb_texts.specs.Items.{PlainItem}
 use Rattle.rb_texts.specs.Texts.{line_of}
 use Rattle.rb_machine.specs.declared.printed.PrintedLines.{PrintedLines}

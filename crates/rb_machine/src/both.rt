@@ -1,11 +1,11 @@
 //! Two observers of one run.
 
 use crate::observer::Observer;
-use rb_level::Level;
 use rb_texts::Item;
+use rb_vocab::Level;
 use std::alloc::AllocError;
 
-/// Two observers, of which each is shown all: a page has the lines and the rows of one run.
+/// Two observers that each get every item: a page has the lines and the rows of one run.
 #[derive(Drop)]
 pub struct Both<A, B> {
     pub first: A,

@@ -1,8 +1,8 @@
-//! What a session knows of the cluster that it runs.
+//! The definitions of all directives, and the traits by which a session runs them.
 //!
-//! [`Machine`] is a machine that runs directives, and the definitions say what each directive does to a cluster of plain
-//! nodes and messages, and what happens meanwhile. An [`Observer`] takes each item of that; [`PrintedLines`] is the one by which `run`
-//! prints. How a cluster holds its nodes is rb_cluster's.
+//! [`Machine`] is a machine that runs directives. The definitions in `specs/` state what each directive does to a cluster of plain nodes
+//! and messages, and which items it shows. An [`Observer`] gets each item; [`PrintedLines`] is the observer that prints. rb_cluster has the
+//! machine.
 #![tactic(auto)]
 
 mod both;

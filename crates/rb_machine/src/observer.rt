@@ -1,17 +1,17 @@
-//! Whoever is shown what a directive does.
+//! Observers of a run.
 
 ghost use Rattle.std.specs.Prelude.{◌≡◌, map, fold, OnOk};
-ghost use Rattle.rb_level.specs.declared.level.Level.{Level};
+ghost use Rattle.rb_vocab.specs.declared.level.Level.{Level};
 ghost use Rattle.rb_texts.specs.Items.{PlainItem, plain_item, event};
 
-use rb_level::Level;
 use rb_message::Event;
 use rb_texts::Item;
+use rb_vocab::Level;
 use std::alloc::AllocError;
 
-/// Is shown what a directive does, while it does it, item by item.
+/// Gets the items of a directive while it runs.
 pub trait Observer {
-    // what it means, and what that is once it knows the level, or has taken an item. Who promises nothing means nothing: a `Unit`
+    // the observer's meaning, and the meaning after it gets the level or an item; an observer that promises nothing has the meaning `Unit`
     ghost Meaning: { Type 0 };
 
     ghost meaning: { Self → Meaning };
@@ -20,20 +20,20 @@ pub trait Observer {
 
     ghost taking: { Meaning → PlainItem → Meaning };
 
-    /// A directive begins, for which this level holds.
+    /// Begins a directive, whose items have this level.
     fn start(&mut self, level: Level)
         ensures { meaning self.new ≡ starting (meaning self.old) level };
 
-    /// Takes an item, whatever its level is.
+    /// Takes an item of any level.
     ///
     /// # Errors
     ///
-    /// Where memory was refused. Nothing is known of what it has taken then.
+    /// If memory was refused. It is then unknown what the observer has taken.
     fn observe(&mut self, item: &Item<'_>) -> Result<(), AllocError>
         ensures { OnOk result (meaning self.new ≡ taking (meaning self.old) (plain_item item.now)) };
 }
 
-/// Shows what a node told.
+/// Shows a node's events.
 pub fn show_events<O: Observer>(observer: &mut O, events: &[Event]) -> Result<(), AllocError>
     ensures { OnOk result (O.meaning observer.new ≡ fold O.taking (O.meaning observer.old) (map event events.now)) }
 {

@@ -4,12 +4,12 @@ ghost use Rattle.std.specs.Prelude.{◌≡◌, [], IfOk};
 ghost use Rattle.rb_machine.specs.Outcome.{or_ok};
 
 use crate::observer::Observer;
-use rb_level::Level;
 use rb_script::Lines;
 use rb_texts::{Item, put};
+use rb_vocab::Level;
 use std::alloc::{AllocError, Global};
 
-/// What a directive has printed so far: the lines of the items that its level shows, each put together where it stays.
+/// The printed lines of a directive so far: those of the items that its level shows.
 #[derive(Drop)]
 pub struct PrintedLines {
     pub level: Level,
@@ -27,7 +27,7 @@ impl PrintedLines {
         }
     }
 
-    /// The lines, or `ok` where there is none.
+    /// The lines, or `ok` if there is none.
     pub fn or_ok(self) -> Result<Lines, AllocError>
         ensures { IfOk result (λ lines. lines ≡ or_ok self.level self.lines) }
     {

@@ -6,7 +6,7 @@ pub record PlainAppend : Type 0 where
   -- the entry before the first: its term and its index
   pub prev_term : ℕ
   pub prev : ℕ
-  -- how far the sender's log is committed
+  -- the sender's commit
   pub commit : ℕ
-  -- the entries that follow, in order
+  -- the entries after it, in order
   pub entries : List Entry

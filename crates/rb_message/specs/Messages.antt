@@ -1,11 +1,11 @@
 -- Messages between nodes (Ongaro's thesis, sections 3.4 and 3.5; etcd raft documentation, "MessageType")
 use Rattle.std.specs.Prelude.{Bool, true, false}
-use Rattle.rb_level.specs.declared.message_type.MessageType.{MessageType}
-use Rattle.rb_level.specs.declared.message_type.MessageType.TheVariants as type
+use Rattle.rb_vocab.specs.declared.message_type.MessageType.{MessageType}
+use Rattle.rb_vocab.specs.declared.message_type.MessageType.TheVariants as type
 use Rattle.rb_message.specs.declared.kind.MessageKind.{MessageKind}
 use Rattle.rb_message.specs.declared.kind.MessageKind.TheVariants as kind
 
--- the type of what is said
+-- the type of a message
 abbrev pub type_of : MessageKind → MessageType
 type_of (kind.Vote last_term last_index transfer) = type.Vote
 type_of (kind.PreVote last_term last_index) = type.PreVote
@@ -21,7 +21,7 @@ type_of (kind.Proposal body) = type.Proposal
 type_of (kind.TransferLeader target) = type.TransferLeader
 type_of kind.TimeoutNow = type.TimeoutNow
 
--- a proposal and a request to hand the lead over are of no term: they reach a leader of whatever term
+-- a proposal and a request to transfer leadership have no term: a leader of any term handles them
 abbrev pub has_term : MessageKind → Bool
 has_term (kind.Proposal body) = false
 has_term (kind.TransferLeader target) = false

@@ -1,4 +1,4 @@
--- Messages in pages, and a tail behind them.
+-- Messages in pages, and a tail after them.
 use Rattle.std.specs.Prelude.{◌≡◌, ℕ, ◌<◌, ◌≤◌, List, [], length, slice_index_or}
 use Rattle.rb_message.specs.declared.limits.TheConstants.{PAGE, MAX_PAGES}
 

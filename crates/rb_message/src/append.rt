@@ -1,8 +1,7 @@
-//! What an append says.
+//! The body of append entries.
 //!
-//! A leader sends the entries that follow one which it takes its follower to hold, named by its index and its term, so that a
-//! follower that holds another one there refuses (the consistency check of Ongaro's thesis, section 3.5). Beside them it says how far
-//! the log is committed.
+//! A leader sends the entries after one that it expects its follower to hold. It names that entry's index and term, so a follower with
+//! another entry there refuses (the consistency check of Ongaro's thesis, section 3.5). The message also has the leader's commit.
 
 ghost use Rattle.std.specs.Prelude.{◌≡◌, ◌-◌, ◌≤◌, ◌↔◌, length, IsTrue};
 ghost use Rattle.rb_raftlog.specs.declared.limits.TheConstants.{MAX_INDEX};
@@ -11,7 +10,7 @@ ghost use Rattle.rb_message.specs.Appends.{PlainAppend};
 use rb_raftlog::Entries;
 use std::marker::Model;
 
-/// Entries that follow the one at `prev`. There are none past the limit of indexes. A copy costs pointers.
+/// The entries after `prev`. There are none past the limit of indexes. A copy costs pointers.
 #[derive(Clone, Drop)]
 pub struct Append {
     prev_term: u64,
@@ -33,7 +32,7 @@ impl Model for Append {
 }
 
 impl Append {
-    /// The entries that go to index `prev + 1` and on, after one of term `prev_term`, in a log that is committed to `commit`.
+    /// An append of the entries from index `prev + 1` on, after one of term `prev_term`, from a log with this commit.
     pub fn new(prev_term: u64, prev: u64, commit: u64, entries: Entries) -> Append
         requires { length entries ≤ MAX_INDEX - prev }
         ensures { result ≡ record { prev_term = prev_term; prev = prev; commit = commit; entries = entries } }
@@ -61,7 +60,7 @@ impl Append {
         self.prev
     }
 
-    /// How far the sender's log is committed.
+    /// The sender's commit.
     pub fn commit(&self) -> u64
         ensures { result ≡ self.now.commit }
     {
@@ -75,7 +74,7 @@ impl Append {
         &self.entries
     }
 
-    /// Whether both say the same. Numbers are looked at first.
+    /// Whether both are equal. Compares numbers first.
     pub fn same(&self, other: &Append) -> bool
         ensures { IsTrue result ↔ (self.now ≡ other.now) }
     {

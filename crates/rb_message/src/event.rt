@@ -1,13 +1,13 @@
-//! What a node shows of itself.
+//! A node's events.
 //!
-//! An event says what a node decided where its state alone doesn't show it: why it does nothing, what it counted, what it gave up. Each
-//! names the node that it is of. Where a node does nothing with a message or refuses a vote, the event says why.
+//! An event reports a decision that the node's state doesn't show: why it ignores a message or refuses a vote, what it counted, what it
+//! dropped. Each event names its node.
 
 use crate::role::Role;
-use rb_level::MessageType;
 use rb_tracker::{ChangeFault, Config, VoteResult};
+use rb_vocab::MessageType;
 
-/// Why a node can't campaign: the first that holds, in this order.
+/// Why a node can't campaign: the first reason that holds, in this order.
 #[derive(Clone, Copy, PartialEq, Eq, Debug)]
 pub enum WhyNoCampaign {
     /// It leads.
@@ -22,7 +22,7 @@ pub enum WhyNoCampaign {
     TermLimit,
 }
 
-/// Why an empty entry stands in place of a change: the first that holds, in this order.
+/// Why an empty entry replaces a change: the first reason that holds, in this order.
 #[derive(Clone, Copy, PartialEq, Eq, Debug)]
 pub enum WhyReplaced {
     /// An earlier change isn't applied.
@@ -33,7 +33,7 @@ pub enum WhyReplaced {
     NotJoint,
 }
 
-/// Why a node does nothing with a message.
+/// Why a node ignores a message.
 #[derive(Clone, Copy, PartialEq, Eq, Debug)]
 pub enum WhyIgnored {
     /// The message is of a term before the node's own.
@@ -41,69 +41,69 @@ pub enum WhyIgnored {
         term: u64,
         own: u64,
     },
-    /// A candidate asks, and the node has heard of its leader within an election timeout.
+    /// A vote request, and the node has heard from its leader within an election timeout.
     HearsLeader {
         lead: u64,
     },
-    /// A node in this role has no use for such a message.
+    /// A node in this role doesn't handle such a message.
     NoUse {
         role: Role,
     },
-    /// The lead is to be handed over, and the node knows of no leader to pass that on to.
+    /// A leadership transfer, and the node knows no leader to forward it to.
     NoLeader,
-    /// An answer to a leader, which has no view of the sender.
+    /// A response to a leader that has no view of the sender.
     NoView {
         from: u64,
     },
-    /// The sender refused what follows an index, and is known to hold more by now.
+    /// The sender refused the entries after an index, and is known to hold more by now.
     HoldsMore {
         from: u64,
         refused: u64,
         matched: u64,
     },
-    /// The sender refused what follows an index, and was asked for what follows another by now.
+    /// The sender refused the entries after an index, and the leader probes another index by now.
     ProbesElsewhere {
         from: u64,
         refused: u64,
         probed: u64,
     },
-    /// The sender refused what follows an index, and a snapshot is on its way to it.
+    /// The sender refused the entries after an index, and a snapshot to it is in flight.
     AwaitsSnapshot {
         from: u64,
     },
-    /// The lead is to go to a node that is no voter.
+    /// A leadership transfer to a node that is not a voter.
     NotAVoter {
         target: u64,
     },
-    /// The lead is to go to who has it.
+    /// A leadership transfer to the leader itself.
     LeadsAlready {
         target: u64,
     },
-    /// The lead is on its way to this node.
+    /// A leadership transfer to this node is in progress already.
     IsUnderWay {
         target: u64,
     },
 }
 
-/// Why a node refuses a vote, or says that it would.
+/// Why a node refuses a vote or a pre-vote.
 #[derive(Clone, Copy, PartialEq, Eq, Debug)]
 pub enum WhyRefused {
-    /// The question is of a term before the node's own.
+    /// The request is of a term before the node's own.
     EarlierTerm {
         term: u64,
         own: u64,
     },
-    /// The node gave its vote in this term to another.
+    /// The node voted for another in this term.
     Voted {
         term: u64,
         vote: u64,
     },
-    /// The node knows who leads this term.
+    /// The node knows the leader of this term.
     KnowsLeader {
         term: u64,
         lead: u64,
     },
-    /// The candidate's log ends before the node's own.
+    /// The candidate's log is older than the node's own.
     OlderLog {
         term: u64,
         index: u64,
@@ -112,7 +112,7 @@ pub enum WhyRefused {
     },
 }
 
-/// What a node shows.
+/// An event of a node.
 #[derive(Drop)]
 pub enum Event {
     /// It started at an entry, with a configuration.
@@ -128,12 +128,12 @@ pub enum Event {
         role: Role,
         term: u64,
     },
-    /// It was to campaign, and can't.
+    /// It can't campaign.
     CannotCampaign {
         id: u64,
         why: WhyNoCampaign,
     },
-    /// It had an answer to its campaign, and this is what the answers come to.
+    /// It counted a vote response, and this is the result so far.
     VoteCounted {
         id: u64,
         message_type: MessageType,
@@ -141,68 +141,68 @@ pub enum Event {
         from: u64,
         result: VoteResult,
     },
-    /// It did nothing with a message.
+    /// It ignored a message.
     Ignored {
         id: u64,
         message_type: MessageType,
         from: u64,
         why: WhyIgnored,
     },
-    /// It refused a vote, or said that it would. No line shows this by itself.
+    /// It refused a vote or a pre-vote. No line shows this by itself.
     RefusedVote {
         id: u64,
         message_type: MessageType,
         from: u64,
         why: WhyRefused,
     },
-    /// It could not bring a proposal to a leader.
+    /// It dropped a proposal.
     DroppedProposal {
         id: u64,
     },
-    /// A leader's append contradicts what is committed.
+    /// A leader's append conflicts with a committed entry.
     Conflict {
         id: u64,
         index: u64,
         commit: u64,
     },
-    /// Its log has no room for a further entry.
+    /// Its log is full.
     AppendsNothing {
         id: u64,
     },
-    /// An empty entry goes to an index in place of a change.
+    /// An empty entry replaced a change at an index.
     ReplacedChange {
         id: u64,
         index: u64,
         why: WhyReplaced,
     },
-    /// It goes on with another configuration.
+    /// It switched to another configuration.
     Switched {
         id: u64,
         config: Config,
     },
-    /// A committed change can't be made.
+    /// It refused a committed change.
     RefusedChange {
         id: u64,
         index: u64,
         fault: ChangeFault,
     },
-    /// It took a leader's snapshot in place of its log.
+    /// It restored a leader's snapshot.
     Restored {
         id: u64,
         term: u64,
         index: u64,
     },
-    /// It begins to hand the lead over.
+    /// It began a leadership transfer.
     TransferStarts {
         id: u64,
         to: u64,
     },
-    /// It hands the lead over no longer.
+    /// It ended a leadership transfer.
     TransferEnds {
         id: u64,
         to: u64,
     },
-    /// It leads, and has not heard of a quorum for a while.
+    /// It is a leader that hasn't heard from a quorum for an election timeout.
     LostQuorum {
         id: u64,
     },

@@ -1,9 +1,9 @@
-//! What a message says that brings a snapshot.
+//! The body of a snapshot message.
 //!
-//! Where a leader's log no longer has what a follower lacks, the leader sends its state in place of entries (`InstallSnapshot` in
+//! If a leader's log was compacted past what a follower lacks, the leader sends a snapshot instead of entries (`InstallSnapshot` in
 //! Ongaro's thesis, section 5.3).
 //!
-//! Few messages bring one, and all others would have its size: so a message holds a pointer to it, which copies share.
+//! Few messages have a snapshot. Each has only a pointer to it, which copies share, so other messages stay small.
 
 ghost use Rattle.std.specs.Prelude.{◌≡◌, ◌≤◌, ◌↔◌, IsTrue, IfOk};
 ghost use Rattle.rb_raftlog.specs.declared.limits.TheConstants.{MAX_INDEX};
@@ -13,7 +13,7 @@ use std::alloc::{AllocError, Global};
 use std::marker::Model;
 use std::rc::Rc;
 
-/// A snapshot that is to be installed. Its index is within the limits of an index. Contracts see the snapshot. A copy costs a pointer.
+/// A snapshot to install. Its index is within the limits. Contracts see the snapshot. A copy costs a pointer.
 #[derive(Drop)]
 pub struct Install {
     snapshot: Rc<Snapshot>,
@@ -32,7 +32,7 @@ impl Model for Install {
 }
 
 impl Install {
-    /// This snapshot, to be shared.
+    /// Shares a snapshot.
     pub fn new(alloc: Global, snapshot: Snapshot) -> Result<Install, AllocError>
         requires { snapshot.index ≤ MAX_INDEX }
         ensures { IfOk result (λ install. install ≡ snapshot) }
@@ -50,7 +50,7 @@ impl Install {
         &self.snapshot
     }
 
-    /// Whether both bring the same. Numbers are looked at first.
+    /// Whether both are equal. Compares numbers first.
     pub fn same(&self, other: &Install) -> bool
         ensures { IsTrue result ↔ (self.now ≡ other.now) }
     {
@@ -61,7 +61,7 @@ impl Install {
 impl Clone for Install {
     ghost is_clone = { λ install copy. copy ≡ install };
 
-    // The same snapshot once more: a pointer to it.
+    // Copies the pointer.
     fn clone(&self) -> Result<Install, AllocError> {
         Ok(Install {
             snapshot: self.snapshot.clone()?,

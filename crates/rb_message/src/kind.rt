@@ -1,66 +1,66 @@
-//! What a message says.
+//! The kinds of messages.
 
 ghost use Rattle.std.specs.Prelude.{◌≡◌, ◌↔◌, IsTrue};
 ghost use Rattle.rb_message.specs.Messages.{type_of, has_term};
 
 use crate::append::Append;
 use crate::install::Install;
-use rb_level::MessageType;
 use rb_raftlog::Body;
+use rb_vocab::MessageType;
 
-/// What a message says. A copy costs pointers.
+/// The kind of a message, with its body. A copy costs pointers.
 #[derive(Clone, Drop)]
 pub enum MessageKind {
-    /// A candidate asks for a vote, and names its last entry. `transfer` is set where the old leader handed the lead over.
+    /// A vote request, with the candidate's last entry. `transfer`: the leader told the candidate to campaign.
     Vote {
         last_term: u64,
         last_index: u64,
         transfer: bool,
     },
-    /// A precandidate asks whether it would get a vote.
+    /// A pre-vote request: a precandidate asks whether it would get a vote.
     PreVote {
         last_term: u64,
         last_index: u64,
     },
-    /// The answer to a candidate.
+    /// A vote response.
     VoteResponse {
         granted: bool,
     },
-    /// The answer to a precandidate.
+    /// A pre-vote response.
     PreVoteResponse {
         granted: bool,
     },
-    /// A leader's entries.
+    /// Append entries.
     Append(Append),
-    /// All up to `matched` is held as the leader has it.
+    /// An append response: the log matches the leader's up to `matched`.
     AppendResponse {
         matched: u64,
     },
-    /// What follows `refused` was not taken; up to `hint` the logs may agree.
+    /// An append response that refuses the entries after `refused`; the logs may agree up to `hint`.
     AppendRefusal {
         refused: u64,
         hint: u64,
     },
-    /// A leader is alive, and its log is committed to `commit`.
+    /// A leader's heartbeat, with a commit that the receiver may use.
     Heartbeat {
         commit: u64,
     },
-    /// The answer to a heartbeat.
+    /// A heartbeat response.
     HeartbeatResponse,
-    /// A leader's state at an index, in place of entries that it has no more.
+    /// A snapshot, instead of entries that the leader has compacted.
     Snapshot(Install),
-    /// An entry that is to be appended.
+    /// A proposal.
     Proposal(Body),
-    /// The lead is to go to `target`.
+    /// A request to transfer leadership to `target`.
     TransferLeader {
         target: u64,
     },
-    /// The receiver is to campaign at once.
+    /// A request to campaign at once.
     TimeoutNow,
 }
 
 impl MessageKind {
-    /// The type of what is said.
+    /// The type of the message.
     pub fn message_type(&self) -> MessageType
         ensures { result ≡ type_of self.now }
     {
@@ -81,7 +81,7 @@ impl MessageKind {
         }
     }
 
-    /// Whether the message's term says something. A proposal and a request to hand the lead over are of no term.
+    /// Whether the message has a term. A proposal and a request to transfer leadership have none.
     pub fn has_term(&self) -> bool
         ensures { result ≡ has_term self.now }
     {
@@ -91,7 +91,7 @@ impl MessageKind {
         )
     }
 
-    /// Whether both say the same. Numbers are looked at before lists.
+    /// Whether both are equal. Compares numbers before lists.
     pub fn same(&self, other: &MessageKind) -> bool
         ensures { IsTrue result ↔ (self.now ≡ other.now) }
     {

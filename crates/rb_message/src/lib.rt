@@ -1,8 +1,7 @@
-//! What Raft nodes say to one another, and what a node shows of itself.
+//! The messages between Raft nodes, and a node's events.
 //!
-//! Nodes know of each other by messages alone (Ongaro's thesis, section 3.1): requests for votes and entries, and their answers. A
-//! [`Message`] is a value: who sent it, to whom, in which term, and what it says ([`MessageKind`]). What a node does is shown in
-//! [`Event`]s, one for each thing that a person who watches the node wants to know.
+//! Nodes know each other only by messages (Ongaro's thesis, section 3.1): requests for votes, entries, and their responses. A [`Message`]
+//! has a sender, a receiver, a term and a kind ([`MessageKind`]). [`Event`]s report a node's decisions to a person who watches it.
 #![tactic(auto)]
 
 mod append;

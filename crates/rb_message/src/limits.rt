@@ -1,7 +1,7 @@
-//! How an outbox is cut into pages.
+//! The limits of an outbox.
 
-/// How many messages each page has. A copy of an outbox copies fewer, and shares all others.
+/// The number of messages in each page. A copy of an outbox copies fewer messages, and shares all others.
 pub(crate) const PAGE: usize = 16;
 
-/// How many pages there are at most, so that the messages are always counted in a `usize`.
+/// The most pages, so that the number of messages fits a `usize`.
 pub(crate) const MAX_PAGES: usize = 2_000_000_000;

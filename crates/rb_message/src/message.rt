@@ -11,23 +11,23 @@ use std::alloc::AllocError;
 pub struct Message {
     /// The node that sent it.
     pub from: u64,
-    /// The node that it is for.
+    /// The node that receives it.
     pub to: u64,
-    /// The sender's term, or the one that it asks or answers for; 0 where `kind` is of no term.
+    /// The sender's term, or the term that it requests or responds to; 0 if `kind` has no term.
     pub term: u64,
-    /// What it says.
+    /// Its kind, with its body.
     pub kind: MessageKind,
 }
 
 impl Message {
-    /// The same message once more. It costs pointers.
+    /// Copies the message, at a few pointers.
     pub fn try_copy(&self) -> Result<Message, AllocError>
         ensures { IfOk result (λ copy. copy ≡ self.now) }
     {
         self.clone()
     }
 
-    /// Whether both are the same message. Numbers are looked at first.
+    /// Whether both messages are equal. Compares numbers first.
     pub fn same(&self, other: &Message) -> bool
         ensures { IsTrue result ↔ (self.now ≡ other.now) }
     {

@@ -1,8 +1,8 @@
-//! Messages that a node keeps until its owner takes them.
+//! An outbox: messages that a node keeps until its owner takes them.
 //!
-//! They grow at their end while nobody takes them, and a session keeps hundreds of clusters whose nodes keep much the same messages. So
-//! they stand in pages, which never change and which copies share, and a tail behind them that is shorter than a page. A copy
-//! costs two pointers for the pages, and copies of the tail's messages. Equal outboxes are cut at the same places.
+//! An outbox grows at its end until its owner takes the messages, and a session keeps hundreds of clusters with similar outboxes. So an
+//! outbox has pages, which never change and which copies share, and a tail that is shorter than a page. A copy costs two pointers for the
+//! pages, and copies of the tail's messages. Equal outboxes are cut at the same places.
 
 ghost use Rattle.std.specs.Prelude.{◌≡◌, ◌+◌, ◌<◌, ◌≤◌, ◌++◌, ◌∷◌, [], ◌↔◌, length, slice_get, Some, IsTrue, IfOk, OnOk};
 ghost use Rattle.rb_raftlog.specs.Packed.{joined};
@@ -10,8 +10,8 @@ ghost use Rattle.rb_message.specs.Paged.{IsPaged};
 
 use crate::limits::{MAX_PAGES, PAGE};
 use crate::message::Message;
-use rb_change::Shared;
 use rb_raftlog::{Pages, copies_of, limits_are, push_copies};
+use rb_vocab::Shared;
 use std::alloc::{AllocError, Global};
 use std::marker::Model;
 use std::mem;
@@ -38,7 +38,7 @@ impl Model for Outbox {
     ghost invariant = { λ m. IsPaged m.pages m.tail.items };
 }
 
-// Whether both are the same messages in the same order. Lists of different lengths are told apart at once.
+// Whether both lists of messages are equal. Compares lengths first.
 fn same_messages(messages: &[Message], others: &[Message]) -> bool
     ensures { IsTrue result ↔ (messages.now ≡ others.now) }
 {
@@ -53,7 +53,7 @@ fn same_messages(messages: &[Message], others: &[Message]) -> bool
     true
 }
 
-// Whether the two are the same pages. Their numbers are looked at first.
+// Whether both lists of pages are equal. Compares lengths first.
 fn same_pages(pages: &Pages<Shared<Message>>, others: &Pages<Shared<Message>>) -> bool
     ensures { IsTrue result ↔ (pages.now ≡ others.now) }
 {
@@ -78,7 +78,7 @@ fn push_pages(messages: &mut Vec<Message>, pages: &Pages<Shared<Message>>) -> Re
     Ok(())
 }
 
-// The tail, with the message that makes it a page. It is taken out.
+// Takes the tail, with the message that makes it a page.
 fn full_page(tail: &mut Vec<Message>, last: Message) -> Result<Shared<Message>, AllocError>
     ensures page { IfOk result (λ page. page ≡ tail.old.items ++ last ∷ []) }
     ensures none_left { tail.new.items ≡ [] }
@@ -89,7 +89,7 @@ fn full_page(tail: &mut Vec<Message>, last: Message) -> Result<Shared<Message>, 
     Shared::new(page)
 }
 
-// Puts the message that makes the tail a page. An outbox of more than 2,000,000,000 pages is refused as if memory had been.
+// Appends the message that makes the tail a page. An outbox of more than 2,000,000,000 pages is refused like a lack of memory.
 fn push_page(
     pages: &mut Pages<Shared<Message>>,
     tail: &mut Vec<Message>,
@@ -123,7 +123,7 @@ impl Outbox {
         *self.tail.allocator()
     }
 
-    /// How many messages there are.
+    /// The number of messages.
     pub fn len(&self) -> usize
         ensures { result ≡ length self.now }
     {
@@ -141,7 +141,7 @@ impl Outbox {
         &self.tail[k - self.pages.len() * PAGE]
     }
 
-    /// Puts a message at the end. It is moved.
+    /// Appends a message.
     pub fn push(&mut self, message: Message) -> Result<(), AllocError>
         ensures { OnOk result (self.new ≡ self.old ++ message ∷ []) }
     {
@@ -152,7 +152,7 @@ impl Outbox {
         Ok(())
     }
 
-    /// Takes all messages out. Where there is no page they are moved, else those in pages are copied: it costs pointers.
+    /// Takes all messages. Messages in pages are copied, at a few pointers each; others are moved.
     pub fn take_all(&mut self) -> Result<Vec<Message>, AllocError>
         ensures taken { IfOk result (λ messages. messages.items ≡ self.old) }
         ensures none_left { OnOk result (self.new ≡ []) }
@@ -170,7 +170,7 @@ impl Outbox {
         Ok(messages)
     }
 
-    /// The same messages once more: two pointers for the pages, and copies of the tail's.
+    /// Copies the outbox: two pointers for the pages, and copies of the tail's messages.
     pub fn try_copy(&self) -> Result<Outbox, AllocError>
         ensures { IfOk result (λ copy. copy ≡ self.now) }
     {
@@ -181,7 +181,7 @@ impl Outbox {
         })
     }
 
-    /// Whether both are the same messages in the same order. Outboxes of different lengths are told apart at once. It takes no memory.
+    /// Whether both outboxes are equal. Compares lengths first. Takes no memory.
     pub fn same(&self, other: &Outbox) -> bool
         ensures { IsTrue result ↔ (self.now ≡ other.now) }
     {

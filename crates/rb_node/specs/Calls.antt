@@ -1,4 +1,4 @@
--- The calls of a node that are no ticks and no readies
+-- The calls of a node, except ticks and readies
 use Rattle.std.specs.Prelude.{ℕ, ◌≡◌, min, Result, Option, Some, None, List, [], ◌∷◌, ◌++◌, if◌then◌else◌}
 use Rattle.rb_raftlog.specs.declared.raft_log.CompactFault.{CompactFault}
 use Rattle.rb_raftlog.specs.declared.snapshot.Snapshot.{Snapshot}
@@ -11,18 +11,18 @@ use Rattle.rb_message.specs.declared.kind.MessageKind.{MessageKind}
 use Rattle.rb_message.specs.declared.role.Role.{Role}
 use Rattle.rb_message.specs.declared.role.Role.TheVariants as role
 use Rattle.rb_node.specs.declared.options.Options.{Options}
-use Rattle.rb_node.specs.Node.{PlainNode, Turn, turn, message, is_leader, started}
-use Rattle.rb_node.specs.Sends.{viewed, is_replicating}
+use Rattle.rb_node.specs.Node.{PlainNode, NodeStep, node_step, message, is_leader, started}
+use Rattle.rb_node.specs.Sends.{with_view_at, is_replicating}
 use Rattle.rb_node.specs.Step.{stepped}
 
--- a node starts, and shows where and with which configuration
-abbrev pub node_started : ℕ → Snapshot → Options → List Event → Turn
+-- a node starts, and reports where and with which configuration
+abbrev pub node_started : ℕ → Snapshot → Options → List Event → NodeStep
 node_started id start options events =
     let node = started id start options in
-    turn node (events ++ Started id start.term start.index node.tracker.config ∷ [])
+    node_step node (events ++ Started id start.term start.index node.tracker.config ∷ [])
 
--- a message of the node to itself, of no term: a proposal, or a request to hand the lead over
-abbrev pub called : Turn → MessageKind → Turn
+-- a message of the node to itself, without a term: a proposal, or a request to transfer leadership
+abbrev pub called : NodeStep → MessageKind → NodeStep
 called t what = stepped t (message t.node.id t.node.id 0 what)
 
 abbrev pub forgotten_by : Role → PlainNode → PlainNode
@@ -41,7 +41,7 @@ unreachable view = if is_replicating view.state then probed view else view
 
 abbrev pub reported_with : Option PlainProgress → PlainNode → ℕ → PlainNode
 reported_with None n at = n
-reported_with (Some view) n at = viewed n at (unreachable view)
+reported_with (Some view) n at = with_view_at n at (unreachable view)
 
 abbrev pub reported_at : Option ℕ → PlainNode → PlainNode
 reported_at None n = n
@@ -50,7 +50,7 @@ reported_at (Some at) n = reported_with (view_at n.tracker.views at) n at
 abbrev pub reported : PlainNode → ℕ → PlainNode
 reported n id = if is_leader n.role then reported_at (place n.tracker.views id) n else n
 
--- the log up to an index goes, as far as it is applied (and so durable)
+-- the log is compacted to an index that is applied and durable
 abbrev pub IsCompactedTo : PlainNode → ℕ → Result (Unit {0}) CompactFault → PlainNode → Type 0
 IsCompactedTo old index result new =
     IsCompacted old.log index (min old.applied old.log.durable) result new.log × (new ≡ record old { log = new.log })

@@ -1,4 +1,4 @@
--- Campaigns (Ongaro's thesis, section 3.4, and section 9.6 for the question before the vote)
+-- Campaigns (Ongaro's thesis, section 3.4, and section 9.6 for pre-votes)
 use Rattle.std.specs.Prelude.{ℕ, ◌+◌, Bool, true, false, ◌&&◌, not, List, [], ◌∷◌, Option, Some, None, if◌then◌else◌, nat_le, ◌==◌}
 use Rattle.rb_raftlog.specs.declared.limits.TheConstants.{MAX_TERM}
 use Rattle.rb_raftlog.specs.Log.{last, last_term, has_change}
@@ -11,10 +11,10 @@ use Rattle.rb_message.specs.declared.kind.MessageKind.{MessageKind}
 use Rattle.rb_message.specs.declared.kind.MessageKind.TheVariants as kind
 use Rattle.rb_message.specs.declared.role.Role.TheVariants as role
 use Rattle.rb_node.specs.declared.limits.TheConstants.{ELECTION_TICKS}
-use Rattle.rb_node.specs.Node.{PlainNode, Turn, told, with_node, posted_at, answered_with, is_leader, with_timeout}
+use Rattle.rb_node.specs.Node.{PlainNode, NodeStep, with_event, with_node, posted_at, answered_with, is_leader, with_timeout}
 use Rattle.rb_node.specs.Terms.{reset}
 
--- why the node can't campaign: the first that holds (this project's order)
+-- the first reason that keeps the node from campaigning (this project's order)
 abbrev pub why_no_campaign : PlainNode → Option WhyNoCampaign
 why_no_campaign n =
     if is_leader n.role then Some why.Leader
@@ -24,7 +24,7 @@ why_no_campaign n =
     else (if nat_le MAX_TERM n.term then Some why.TermLimit
     else None))))
 
--- a voter is asked; in place of a question to itself the node answers itself, once what is ready is durable
+-- a voter gets a request; the node answers itself instead, after its ready is durable
 abbrev pub asked_one : PlainNode → ℕ → ℕ → MessageKind → MessageKind → PlainNode
 asked_one n to term question answer =
     if to == n.id then answered_with n to term answer
@@ -46,30 +46,30 @@ asked_for_pre_votes n =
 abbrev pub candidate : PlainNode → PlainNode
 candidate n = record (reset n (n.term + 1)) { vote = n.id; role = role.Candidate }
 
-abbrev pub stood : Turn → Bool → Turn
-stood t transfer =
-    told (with_node t (asked_for_votes (candidate t.node) transfer)) (Became t.node.id role.Candidate (t.node.term + 1))
+abbrev pub became_candidate : NodeStep → Bool → NodeStep
+became_candidate t transfer =
+    with_event (with_node t (asked_for_votes (candidate t.node) transfer)) (Became t.node.id role.Candidate (t.node.term + 1))
 
--- a precandidate changes no term and no vote
+-- a precandidate changes neither its term nor its vote
 abbrev pub precandidate : PlainNode → PlainNode
 precandidate n = record (with_timeout n ELECTION_TICKS) { role = role.Precandidate; votes = no_votes; lead = 0 }
 
-abbrev pub pre_vote_started : Turn → Turn
-pre_vote_started t =
-    told (with_node t (asked_for_pre_votes (precandidate t.node))) (Became t.node.id role.Precandidate t.node.term)
+abbrev pub became_precandidate : NodeStep → NodeStep
+became_precandidate t =
+    with_event (with_node t (asked_for_pre_votes (precandidate t.node))) (Became t.node.id role.Precandidate t.node.term)
 
--- a campaign, of itself or because the leader hands the lead over, which leaves the question before the vote out
-abbrev pub campaigned_unless : Option WhyNoCampaign → Turn → Bool → Turn
-campaigned_unless (Some reason) t transfer = told t (CannotCampaign t.node.id reason)
-campaigned_unless None t transfer = if t.node.options.pre_vote && not transfer then pre_vote_started t else stood t transfer
+-- a campaign; one for a leadership transfer skips the pre-vote
+abbrev pub campaigned_unless : Option WhyNoCampaign → NodeStep → Bool → NodeStep
+campaigned_unless (Some reason) t transfer = with_event t (CannotCampaign t.node.id reason)
+campaigned_unless None t transfer = if t.node.options.pre_vote && not transfer then became_precandidate t else became_candidate t transfer
 
-unfoldable pub campaigned : Turn → Bool → Turn
+unfoldable pub campaigned : NodeStep → Bool → NodeStep
 campaigned t transfer = campaigned_unless (why_no_campaign t.node) t transfer
 
--- the campaign that a won question before the vote leads to
-abbrev pub stood_unless : Option WhyNoCampaign → Turn → Turn
-stood_unless (Some reason) t = told t (CannotCampaign t.node.id reason)
-stood_unless None t = stood t false
+-- the campaign after a won pre-vote
+abbrev pub became_candidate_unless : Option WhyNoCampaign → NodeStep → NodeStep
+became_candidate_unless (Some reason) t = with_event t (CannotCampaign t.node.id reason)
+became_candidate_unless None t = became_candidate t false
 
-unfoldable pub campaigned_after_pre_vote : Turn → Turn
-campaigned_after_pre_vote t = stood_unless (why_no_campaign t.node) t
+unfoldable pub campaigned_after_pre_vote : NodeStep → NodeStep
+campaigned_after_pre_vote t = became_candidate_unless (why_no_campaign t.node) t

@@ -1,4 +1,4 @@
--- What a node counts by ticks. (Ongaro's thesis, section 3.4; the number of ticks is this project's.)
+-- A node's clock. (Ongaro's thesis, section 3.4; the number of ticks is this project's.)
 use Rattle.rb_node.specs.declared.clock.Clock.{Clock}
 use Rattle.rb_node.specs.declared.limits.TheConstants.{ELECTION_TICKS}
 

@@ -1,4 +1,4 @@
--- Comparing two nodes: what is a number or a flag, and the rest
+-- Comparing two nodes: numbers and flags, and the rest
 use Rattle.std.specs.Prelude.{◌≡◌, length}
 use Rattle.rb_raftlog.specs.Content.{content_sum}
 use Rattle.rb_raftlog.specs.Log.{last}

@@ -1,4 +1,4 @@
--- What a follower does with what its leader says, and with what is for its leader (Ongaro's thesis, sections 3.5, 5.3 and 6.2)
+-- How a follower handles its leader's messages, and forwards messages to its leader (Ongaro's thesis, sections 3.5, 5.3 and 6.2)
 use Rattle.std.specs.Prelude.{ℕ, ◌≤◌, true, max, min, if◌then◌else◌, nat_le, ◌==◌}
 use Rattle.rb_raftlog.specs.Log.{last, term_at, is_term, appended, answer, restored}
 use Rattle.rb_raftlog.specs.declared.raft_log.Appended.{Appended}
@@ -13,19 +13,19 @@ use Rattle.rb_message.specs.declared.event.WhyIgnored.TheVariants as why
 use Rattle.rb_message.specs.declared.kind.MessageKind.{MessageKind}
 use Rattle.rb_message.specs.declared.kind.MessageKind.TheVariants as kind
 use Rattle.rb_message.specs.declared.message.Message.{Message}
-use Rattle.rb_node.specs.Node.{PlainNode, Turn, told, with_node, ignored, posted, posted_at, answered_with, with_elapsed}
+use Rattle.rb_node.specs.Node.{PlainNode, NodeStep, with_event, with_node, ignored, posted, posted_at, answered_with, with_elapsed}
 
--- the sender leads, and was heard of
-abbrev pub heard : PlainNode → ℕ → PlainNode
-heard n from = record (with_elapsed n 0) { lead = from }
+-- the sender is the leader, and the election timer starts again
+abbrev pub leader_contact_recorded : PlainNode → ℕ → PlainNode
+leader_contact_recorded n from = record (with_elapsed n 0) { lead = from }
 
 -- the commit never falls
 abbrev pub commits_to : PlainNode → ℕ → PlainNode
 commits_to n i = record n { commit = max n.commit i }
 
--- a heartbeat: what is committed and held is known to be committed; the answer goes out at once
-abbrev pub beaten : PlainNode → ℕ → ℕ → PlainNode
-beaten n from commit = posted (commits_to (heard n from) (min commit (last n.log))) from kind.HeartbeatResponse
+-- a heartbeat: the commit rises to the leader's, up to the last index; the response goes out with the next ready
+abbrev pub heartbeat_handled : PlainNode → ℕ → ℕ → PlainNode
+heartbeat_handled n from commit = posted (commits_to (leader_contact_recorded n from) (min commit (last n.log))) from kind.HeartbeatResponse
 
 -- a matched index is within the limits
 abbrev pub HasLimits : Appended → Type 0
@@ -33,22 +33,22 @@ HasLimits (Matched i) = i ≤ MAX_INDEX
 HasLimits (Refused i) = Unit {0}
 HasLimits (BelowCommit i) = Unit {0}
 
--- an append: what follows from what the log has answered
-abbrev pub after_log : Appended → Turn → ℕ → PlainAppend → Turn
+-- an append, by the log's answer
+abbrev pub after_log : Appended → NodeStep → ℕ → PlainAppend → NodeStep
 after_log (Matched i) t from append =
     with_node t (answered_with (commits_to t.node (min append.commit i)) from t.node.term (kind.AppendResponse i))
 after_log (Refused hint) t from append = with_node t (answered_with t.node from t.node.term (kind.AppendRefusal append.prev hint))
-after_log (BelowCommit i) t from append = told t (Conflict t.node.id i t.node.commit)
+after_log (BelowCommit i) t from append = with_event t (Conflict t.node.id i t.node.commit)
 
 abbrev pub with_appended : PlainNode → ℕ → PlainAppend → PlainNode
 with_appended n from append =
-    record (heard n from) { log = appended n.log append.prev append.prev_term append.entries n.commit }
+    record (leader_contact_recorded n from) { log = appended n.log append.prev append.prev_term append.entries n.commit }
 
-unfoldable pub append_taken : Turn → ℕ → PlainAppend → Turn
-append_taken t from append =
+unfoldable pub append_entries_handled : NodeStep → ℕ → PlainAppend → NodeStep
+append_entries_handled t from append =
     after_log (answer t.node.log append.prev append.prev_term append.entries t.node.commit) (with_node t (with_appended t.node from append)) from append
 
--- a snapshot: log, content and configuration are the snapshot's
+-- a snapshot replaces log, content and configuration
 abbrev pub restored_to : PlainNode → Snapshot → PlainNode
 restored_to n snapshot =
     record n {
@@ -60,28 +60,28 @@ restored_to n snapshot =
       restored = true;
     }
 
--- all up to the commit is held as the leader has it
+-- the response that the log matches the leader's up to the commit
 abbrev pub with_match : PlainNode → ℕ → PlainNode
 with_match n from = answered_with n from n.term (kind.AppendResponse n.commit)
 
-abbrev pub new_snapshot_taken : Turn → ℕ → Snapshot → Turn
-new_snapshot_taken t from snapshot =
-    told (with_node t (with_match (restored_to t.node snapshot) from)) (Restored t.node.id snapshot.term snapshot.index)
+abbrev pub new_snapshot_handled : NodeStep → ℕ → Snapshot → NodeStep
+new_snapshot_handled t from snapshot =
+    with_event (with_node t (with_match (restored_to t.node snapshot) from)) (Restored t.node.id snapshot.term snapshot.index)
 
--- one that is behind the commit is answered with the commit; one whose entry is held only shows that it is committed
-unfoldable pub snapshot_taken : Turn → ℕ → Snapshot → Turn
-snapshot_taken t from snapshot =
+-- a snapshot up to the commit is answered with the commit; one whose entry is in the log only raises the commit
+unfoldable pub snapshot_handled : NodeStep → ℕ → Snapshot → NodeStep
+snapshot_handled t from snapshot =
     if nat_le snapshot.index t.node.commit then with_node t (with_match t.node from)
     else (if is_term (term_at t.node.log snapshot.index) snapshot.term
     then with_node t (with_match (record t.node { commit = snapshot.index }) from)
-    else new_snapshot_taken t from snapshot)
+    else new_snapshot_handled t from snapshot)
 
--- what is for the leader is sent on, from the node itself and of no term
-abbrev pub passed_on : PlainNode → MessageKind → PlainNode
-passed_on n what = posted_at n n.lead 0 what
+-- a message is forwarded to the leader, with this node as sender and without a term
+abbrev pub forwarded_to_leader : PlainNode → MessageKind → PlainNode
+forwarded_to_leader n what = posted_at n n.lead 0 what
 
-abbrev pub proposal_passed : Turn → MessageKind → Turn
-proposal_passed t what = if t.node.lead == 0 then told t (DroppedProposal t.node.id) else with_node t (passed_on t.node what)
+abbrev pub proposal_forwarded : NodeStep → MessageKind → NodeStep
+proposal_forwarded t what = if t.node.lead == 0 then with_event t (DroppedProposal t.node.id) else with_node t (forwarded_to_leader t.node what)
 
-abbrev pub transfer_passed : Turn → MessageKind → Message → Turn
-transfer_passed t what m = if t.node.lead == 0 then ignored t m why.NoLeader else with_node t (passed_on t.node what)
+abbrev pub transfer_forwarded : NodeStep → MessageKind → Message → NodeStep
+transfer_forwarded t what m = if t.node.lead == 0 then ignored t m why.NoLeader else with_node t (forwarded_to_leader t.node what)

@@ -1,4 +1,4 @@
--- A node, as plain values (the state of Ongaro's thesis, figure 3.1, with what etcd's raft adds), and what every case of a step does with it
+-- A node as plain values (the state of Ongaro's thesis, figure 3.1, and what etcd's raft adds), and the parts of every step
 use Rattle.std.specs.Prelude.{ℕ, ◌≤◌, Bool, true, false, List, [], ◌∷◌, ◌++◌}
 use Rattle.rb_raftlog.specs.Log.{LogValue, fresh}
 use Rattle.rb_raftlog.specs.declared.snapshot.Snapshot.{Snapshot}
@@ -23,37 +23,37 @@ use Rattle.rb_node.specs.Clocks.{fresh_clock}
 pub record PlainNode : Type 0 where
   pub id : ℕ
   pub term : ℕ
-  -- the node that it voted for in its term, or 0
+  -- the node that got this node's vote in its term, or 0
   pub vote : ℕ
-  -- the leader that it knows of, or 0
+  -- the known leader, or 0
   pub lead : ℕ
   pub role : Role
   pub log : LogValue
-  -- the last index that it knows to be committed, and the last that is applied
+  -- the last index known to be committed, and the last applied index
   pub commit : ℕ
   pub applied : ℕ
-  -- the applied payloads, one after another
+  -- the applied payloads, joined
   pub content : List ℕ
-  -- the configuration, and a leader's views of the members
+  -- the configuration, and a leader's view of each member
   pub tracker : PlainTracker
-  -- who answered its campaign, and how
+  -- the votes in the node's campaign
   pub votes : Votes
-  -- ticks since it heard of its leader, or since it led or looked at its quorum; ticks since its last heartbeats; and its timeout
+  -- ticks since it heard from its leader (at a leader, since it checked its quorum), ticks since its last heartbeats, and its timeout
   pub clock : Clock
-  -- the node that it hands the lead to, or 0
+  -- the target of a leadership transfer, or 0
   pub transferee : ℕ
-  -- up to this index a change may be in its log
+  -- the last index at which the log may have an unapplied change
   pub pending_change : ℕ
-  -- what was saved last
+  -- the last saved hard state
   pub saved : HardState
-  -- a snapshot was restored, and isn't durable
+  -- a restored snapshot isn't durable yet
   pub restored : Bool
-  -- messages that go out with what is ready, and answers that wait until what they rest on is durable
+  -- messages that go out with the next ready, and answers that wait until what they depend on is durable
   pub sent : List Message
   pub waiting : List Message
   pub options : Options
 
--- a node that starts where a snapshot stands: a follower that has heard of nobody, in no term yet
+-- a node that starts at a snapshot, as a follower of nobody in term 0
 abbrev pub started : ℕ → Snapshot → Options → PlainNode
 started id start options = record {
   id = id;
@@ -77,46 +77,46 @@ started id start options = record {
   options = options;
 }
 
--- a node that heard of its leader so many ticks ago
+-- with a count of ticks since it heard from its leader
 abbrev pub with_elapsed : PlainNode → ℕ → PlainNode
 with_elapsed n ticks = record n { clock = record n.clock { elapsed = ticks } }
 
--- whose last heartbeats went out so many ticks ago
+-- with a count of ticks since its last heartbeats
 abbrev pub with_heartbeat_elapsed : PlainNode → ℕ → PlainNode
 with_heartbeat_elapsed n ticks = record n { clock = record n.clock { heartbeat_elapsed = ticks } }
 
--- that campaigns after so many ticks without a leader
+-- with an election timeout
 abbrev pub with_timeout : PlainNode → ℕ → PlainNode
 with_timeout n ticks = record n { clock = record n.clock { timeout = ticks } }
 
--- what is true of each node
+-- the invariant of a node
 pub record IsNode (commit applied : ℕ) : Type 0 where
   pub commit_fits : commit ≤ MAX_INDEX
   pub applied_fits : applied ≤ MAX_INDEX
 
--- a node, and its events so far
-pub record Turn : Type 0 where
+-- a step so far: the node, and its events
+pub record NodeStep : Type 0 where
   pub node : PlainNode
   pub events : List Event
 
-abbrev pub turn : PlainNode → List Event → Turn
-turn node events = record { node = node; events = events }
+abbrev pub node_step : PlainNode → List Event → NodeStep
+node_step node events = record { node = node; events = events }
 
-abbrev pub with_node : Turn → PlainNode → Turn
+abbrev pub with_node : NodeStep → PlainNode → NodeStep
 with_node t node = record t { node = node }
 
 -- one more event
-abbrev pub told : Turn → Event → Turn
-told t event = record t { events = t.events ++ event ∷ [] }
+abbrev pub with_event : NodeStep → Event → NodeStep
+with_event t event = record t { events = t.events ++ event ∷ [] }
 
--- a message that nothing is done with
-abbrev pub ignored : Turn → Message → WhyIgnored → Turn
-ignored t m why = told t (Ignored t.node.id (type_of m.kind) m.from why)
+-- a message is ignored
+abbrev pub ignored : NodeStep → Message → WhyIgnored → NodeStep
+ignored t m why = with_event t (Ignored t.node.id (type_of m.kind) m.from why)
 
 abbrev pub message : ℕ → ℕ → ℕ → MessageKind → Message
 message from to term what = record { from = from; to = to; term = term; kind = what }
 
--- one more message, which goes out with what is ready
+-- one more message, which goes out with the next ready
 abbrev pub posted_at : PlainNode → ℕ → ℕ → MessageKind → PlainNode
 posted_at n to term what = record n { sent = n.sent ++ message n.id to term what ∷ [] }
 
@@ -124,7 +124,7 @@ posted_at n to term what = record n { sent = n.sent ++ message n.id to term what
 abbrev pub posted : PlainNode → ℕ → MessageKind → PlainNode
 posted n to what = posted_at n to n.term what
 
--- one more answer, which waits until what is ready is durable
+-- one more answer, which waits until the next ready is durable
 abbrev pub answered_with : PlainNode → ℕ → ℕ → MessageKind → PlainNode
 answered_with n to term answer = record n { waiting = n.waiting ++ message n.id to term answer ∷ [] }
 

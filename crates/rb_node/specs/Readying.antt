@@ -1,10 +1,10 @@
--- What is ready, and what comes once it is done (etcd raft documentation, "Ready" and "Advance")
+-- The ready of a node, and the advance after it (etcd raft documentation, "Ready" and "Advance")
 use Rattle.std.specs.Prelude.{ℕ, Bool, false, ◌&&◌, ◌||◌, not, List, [], ◌∷◌, ◌++◌, Option, Some, None, if◌then◌else◌, filter, length, nat_lt, ◌==◌}
 use Rattle.rb_raftlog.specs.declared.entry.Entry.{Entry}
 use Rattle.rb_raftlog.specs.Log.{last, between, not_durable, made_durable}
 use Rattle.rb_message.specs.declared.hard_state.HardState.{HardState}
 use Rattle.rb_message.specs.declared.message.Message.{Message}
-use Rattle.rb_node.specs.Node.{PlainNode, Turn, with_node}
+use Rattle.rb_node.specs.Node.{PlainNode, NodeStep, with_node}
 use Rattle.rb_node.specs.Changing.{applied_all, joint_left}
 use Rattle.rb_node.specs.Step.{stepped}
 
@@ -24,16 +24,16 @@ has_ready n =
 abbrev pub others : ℕ → List Message → List Message
 others id ms = filter (λ (m : Message). not (m.to == id)) ms
 
--- what goes out: the sent messages, then the answers that waited
-abbrev pub handed : PlainNode → List Message
-handed n = n.sent ++ others n.id n.waiting
+-- the outgoing messages: the sent ones, then the answers that waited
+abbrev pub outgoing : PlainNode → List Message
+outgoing n = n.sent ++ others n.id n.waiting
 
 -- the committed entries that aren't applied
 abbrev pub applying : PlainNode → List Entry
 applying n = between n.log n.applied n.commit
 
 pub record Ready : Type 0 where
-  -- the hard state, where it isn't saved
+  -- the hard state, if it isn't saved
   pub hard : Option HardState
   -- the term and the index of a snapshot that was restored
   pub snapshot : Option (ℕ × ℕ)
@@ -48,20 +48,20 @@ ready n = record {
   snapshot = if n.restored then Some (n.log.base_term, n.log.base) else None;
   save = not_durable n.log;
   apply = applying n;
-  send = handed n;
+  send = outgoing n;
 }
 
--- all is durable, and both lists of messages are taken
+-- everything is durable, and both lists of messages are empty
 abbrev pub saved : PlainNode → PlainNode
 saved n = record n { saved = hard_state n; log = made_durable n.log; restored = false; sent = []; waiting = [] }
 
 -- the node's own answers, in order
-abbrev pub own_stepped : ℕ → Turn → List Message → Turn
-own_stepped id t [] = t
-own_stepped id t (m ∷ ms) = own_stepped id (if m.to == id then stepped t m else t) ms
+abbrev pub own_answers_stepped : ℕ → NodeStep → List Message → NodeStep
+own_answers_stepped id t [] = t
+own_answers_stepped id t (m ∷ ms) = own_answers_stepped id (if m.to == id then stepped t m else t) ms
 
--- What is ready is saved; the entries that were committed take effect, and no later ones; a leader may leave a joint configuration;
--- what was waiting goes out; and the node takes its own answers in, which now rest on what is durable.
-unfoldable pub advanced : Turn → Turn
+-- The ready is saved; the entries that were committed take effect, and no later ones; a leader may leave a joint configuration; the waiting
+-- answers go out; and the node steps its own answers, since what they depend on is durable.
+unfoldable pub advanced : NodeStep → NodeStep
 advanced t =
-    own_stepped t.node.id (joint_left (applied_all (with_node t (saved t.node)) t.node.applied (applying t.node))) t.node.waiting
+    own_answers_stepped t.node.id (joint_left (applied_all (with_node t (saved t.node)) t.node.applied (applying t.node))) t.node.waiting

@@ -33,7 +33,7 @@ is_replicating state.Probe = false
 is_replicating state.Replicate = true
 is_replicating state.Snapshot = false
 
--- a snapshot is on its way, or the answer to a probe is waited for
+-- a snapshot is in flight, or a probe has no response yet
 abbrev pub takes_nothing_in : ProgressState → PlainProgress → Bool
 takes_nothing_in state.Probe view = view.waiting
 takes_nothing_in state.Replicate view = false
@@ -45,7 +45,7 @@ takes_nothing view = takes_nothing_in view.state view
 abbrev pub is_window_full : PlainProgress → Bool
 is_window_full view = is_replicating view.state && is_full view.window
 
--- what is sent, by the view: the first case that holds
+-- what to send, by the view: the first case that holds
 abbrev pub sending_of : LogValue → PlainProgress → SendReason → Sending
 sending_of log view how =
     if takes_nothing view then sending.Nothing
@@ -62,7 +62,7 @@ abbrev pub append_of : PlainNode → ℕ → List Entry → MessageKind
 append_of n next entries =
     kind.Append (record { prev_term = term_or_0 n.log (next - 1); prev = next - 1; commit = n.commit; entries = entries })
 
--- the node's state as far as it is applied
+-- a snapshot of the applied state
 abbrev pub snapshot_of : PlainNode → Snapshot
 snapshot_of n = record {
   index = n.applied;
@@ -71,24 +71,24 @@ snapshot_of n = record {
   config = state_of n.tracker.config;
 }
 
-abbrev pub viewed : PlainNode → ℕ → PlainProgress → PlainNode
-viewed n i view = record n { tracker = with_view n.tracker i view }
+abbrev pub with_view_at : PlainNode → ℕ → PlainProgress → PlainNode
+with_view_at n i view = record n { tracker = with_view n.tracker i view }
 
--- to a node, whose view stands at place i: a snapshot
+-- a snapshot, to the node with the view at place i
 abbrev pub snapshot_to : Option PlainProgress → PlainNode → ℕ → ℕ → PlainNode
 snapshot_to None n i to = n
-snapshot_to (Some view) n i to = viewed (posted n to (kind.Snapshot (snapshot_of n))) i (snapshotting view n.applied)
+snapshot_to (Some view) n i to = with_view_at (posted n to (kind.Snapshot (snapshot_of n))) i (snapshotting view n.applied)
 
--- an append without entries, only to be answered
+-- an append without entries, to get a response
 abbrev pub empty_to : Option PlainProgress → PlainNode → ℕ → PlainNode
 empty_to None n to = n
 empty_to (Some view) n to = posted n to (append_of n view.next [])
 
--- an append with all entries that are not sent
+-- an append with all entries that are not sent yet
 abbrev pub entries_to : Option PlainProgress → PlainNode → ℕ → ℕ → PlainNode
 entries_to None n i to = n
 entries_to (Some view) n i to =
-    viewed (posted n to (append_of n view.next (entries_after n.log (view.next - 1)))) i (sent view (last n.log))
+    with_view_at (posted n to (append_of n view.next (entries_after n.log (view.next - 1)))) i (sent view (last n.log))
 
 abbrev pub sends_by : Sending → PlainNode → ℕ → ℕ → PlainNode
 sends_by sending.Nothing n i to = n
@@ -104,14 +104,14 @@ abbrev pub sends_at : Option ℕ → PlainNode → ℕ → SendReason → PlainN
 sends_at None n to how = n
 sends_at (Some i) n to how = sends_with (view_at n.tracker.views i) n i to how
 
--- what is sent to a node: nothing to itself, and nothing where there is no view of it
+-- sends a node what its view asks for; sends nothing to itself or to a node without a view
 unfoldable pub sends : PlainNode → ℕ → SendReason → PlainNode
 sends n to how = if to == n.id then n else sends_at (place n.tracker.views to) n to how
 
-abbrev pub tells : PlainNode → List ℕ → PlainNode
-tells n [] = n
-tells n (id ∷ ids) = tells (sends n id mode.Tell) ids
+abbrev pub sent_to_each : PlainNode → List ℕ → PlainNode
+sent_to_each n [] = n
+sent_to_each n (id ∷ ids) = sent_to_each (sends n id mode.Tell) ids
 
--- all others are sent to, each by its view, in ascending order
-unfoldable pub told_all : PlainNode → PlainNode
-told_all n = tells n (ids_of n.tracker.views)
+-- every other node gets an append, as its view asks for, by ascending id
+unfoldable pub append_broadcast : PlainNode → PlainNode
+append_broadcast n = sent_to_each n (ids_of n.tracker.views)

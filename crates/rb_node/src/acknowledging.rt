@@ -1,13 +1,13 @@
-//! Acknowledging.
+//! A leader handles its followers' responses.
 //!
-//! A leader learns from a follower's answers how far the follower holds its log, commits what a quorum holds, and sends on (Ongaro's
-//! thesis, sections 3.5 and 3.6; etcd raft documentation, "Progress").
+//! A follower's response says how much of the leader's log it holds. The leader commits an index once a quorum holds it, and sends the next
+//! entries (Ongaro's thesis, sections 3.5 and 3.6; etcd raft documentation, "Progress").
 
 ghost use Rattle.std.specs.Prelude.{◌≡◌, ◌<◌, ◌≤◌, length, OnOk};
 ghost use Rattle.rb_raftlog.specs.declared.limits.TheConstants.{MAX_INDEX};
 ghost use Rattle.rb_tracker.specs.Trackers.{view_at};
-ghost use Rattle.rb_node.specs.Node.{turn};
-ghost use Rattle.rb_node.specs.Acknowledging.{heard_of, handed_to, commit_or_sent, mode_after, accepted_news, accepted_with, accepted, why_old, refused_with, append_refused, lags, beat_answered_with, beat_answered};
+ghost use Rattle.rb_node.specs.Node.{node_step};
+ghost use Rattle.rb_node.specs.Acknowledging.{marked_active, transfer_finished_to, commit_or_sent, reason_after, match_advanced, append_response_handled_with, append_response_handled, why_old, append_refusal_handled_with, append_refusal_handled, lags, heartbeat_response_handled_with, heartbeat_response_handled};
 
 use crate::sends::SendReason;
 use crate::state::State;
@@ -16,8 +16,8 @@ use rb_raftlog::RaftLog;
 use rb_tracker::{Progress, ProgressState};
 use std::alloc::AllocError;
 
-fn mode_after(paused: bool) -> SendReason
-    ensures { result ≡ mode_after paused }
+fn reason_after(paused: bool) -> SendReason
+    ensures { result ≡ reason_after paused }
 {
     if paused {
         SendReason::Tell
@@ -26,7 +26,7 @@ fn mode_after(paused: bool) -> SendReason
     }
 }
 
-// Why the refusal of what follows an index is an old one.
+// Says why a refusal of the entries after an index is stale.
 fn why_old(view: &Progress, from: u64, index: u64) -> WhyIgnored
     ensures { result ≡ why_old view.now.state view.now from index }
 {
@@ -46,18 +46,18 @@ fn why_old(view: &Progress, from: u64, index: u64) -> WhyIgnored
 }
 
 impl<L: RaftLog> State<L> {
-    // Before all else: the follower whose view stands at a place was heard of.
-    fn hear_of(&mut self, place: usize)
+    // Marks the follower with the view at a place as active.
+    fn mark_active(&mut self, place: usize)
         requires { place < length self.old.tracker.views }
-        ensures node { self.new ≡ heard_of self.old place }
+        ensures node { self.new ≡ marked_active self.old place }
         ensures within { place < length self.new.tracker.views }
     {
         self.tracker.set_active(place, true);
     }
 
-    // The node that the lead goes to campaigns once it holds all.
-    fn hand_to(&mut self, to: u64, index: u64) -> Result<(), AllocError>
-        ensures { OnOk result (self.new ≡ handed_to self.old to index) }
+    // Sends TimeoutNow to the transfer's target once it holds the whole log.
+    fn finish_transfer_to(&mut self, to: u64, index: u64) -> Result<(), AllocError>
+        ensures { OnOk result (self.new ≡ transfer_finished_to self.old to index) }
     {
         if to == self.transferee && index == self.log.last_index() {
             return self.post(to, MessageKind::TimeoutNow);
@@ -65,7 +65,7 @@ impl<L: RaftLog> State<L> {
         Ok(())
     }
 
-    // Where the commit moves it goes to all, else the sender gets what it has not.
+    // Commits what a quorum holds and broadcasts it. If the commit doesn't move, sends the follower the entries that it lacks.
     #[tactic(auto, unfolding(crate::specs::Acknowledging::commit_or_sent))]
     fn commit_or_send(&mut self, to: u64, mode: SendReason) -> Result<(), AllocError>
         ensures { OnOk result (self.new ≡ commit_or_sent self.old to mode) }
@@ -73,56 +73,56 @@ impl<L: RaftLog> State<L> {
         let index = self.tracker.committed()?;
         if self.can_commit(index) {
             self.commit = index;
-            return self.tell_all();
+            return self.broadcast_append();
         }
         self.send(to, mode)
     }
 
-    fn accept_news(&mut self, place: usize, from: u64, index: u64) -> Result<(), AllocError>
+    fn advance_match(&mut self, place: usize, from: u64, index: u64) -> Result<(), AllocError>
         requires place { place < length self.old.tracker.views }
         requires fits { index ≤ MAX_INDEX }
-        ensures { OnOk result (self.new ≡ accepted_news (view_at self.old.tracker.views place) self.old place from index) }
+        ensures { OnOk result (self.new ≡ match_advanced (view_at self.old.tracker.views place) self.old place from index) }
     {
         let paused = self.tracker.progress(place).paused();
         self.tracker.view_mut(place).acked(index);
-        self.commit_or_send(from, mode_after(paused))?;
-        self.hand_to(from, index)
+        self.commit_or_send(from, reason_after(paused))?;
+        self.finish_transfer_to(from, index)
     }
 
-    fn accept_at(&mut self, place: usize, from: u64, index: u64) -> Result<(), AllocError>
+    fn handle_append_response_at(&mut self, place: usize, from: u64, index: u64) -> Result<(), AllocError>
         requires place { place < length self.old.tracker.views }
         requires fits { index ≤ MAX_INDEX }
-        ensures { OnOk result (self.new ≡ accepted_with (view_at self.old.tracker.views place) self.old place from index) }
+        ensures { OnOk result (self.new ≡ append_response_handled_with (view_at self.old.tracker.views place) self.old place from index) }
     {
         if self.tracker.progress(place).is_news(index) {
-            self.accept_news(place, from, index)
+            self.advance_match(place, from, index)
         } else {
             self.tracker.view_mut(place).free_through(index);
             Ok(())
         }
     }
 
-    // A follower holds all up to an index, of which no more counts than the leader has.
-    #[tactic(auto, unfolding(crate::specs::Acknowledging::accepted))]
-    pub(crate) fn accept(
+    // Handles an append response: the follower holds the log up to an index. An index past the leader's last one counts as the last one.
+    #[tactic(auto, unfolding(crate::specs::Acknowledging::append_response_handled))]
+    pub(crate) fn handle_append_response(
         &mut self,
         message: &Message,
         index: u64,
         events: &mut Vec<Event>,
     ) -> Result<(), AllocError>
-        ensures { OnOk result (turn self.new events.new.items ≡ accepted (turn self.old events.old.items) message.now index) }
+        ensures { OnOk result (node_step self.new events.new.items ≡ append_response_handled (node_step self.old events.old.items) message.now index) }
     {
         let index = index.min(self.log.last_index());
         match self.tracker.place(message.from) {
             Some(place) => {
-                self.hear_of(place);
-                self.accept_at(place, message.from, index)
+                self.mark_active(place);
+                self.handle_append_response_at(place, message.from, index)
             }
             None => self.ignore(message, WhyIgnored::NoView { from: message.from }, events),
         }
     }
 
-    fn refuse_at(
+    fn handle_append_refusal_at(
         &mut self,
         place: usize,
         message: &Message,
@@ -131,9 +131,9 @@ impl<L: RaftLog> State<L> {
         events: &mut Vec<Event>,
     ) -> Result<(), AllocError>
         requires { place < length self.old.tracker.views }
-        ensures { OnOk result (turn self.new events.new.items ≡ refused_with (view_at self.old.tracker.views place) (turn self.old events.old.items) place message.now index hint) }
+        ensures { OnOk result (node_step self.new events.new.items ≡ append_refusal_handled_with (view_at self.old.tracker.views place) (node_step self.old events.old.items) place message.now index hint) }
     {
-        if !self.tracker.progress(place).believes(index) {
+        if !self.tracker.progress(place).is_current_reject(index) {
             let why = why_old(self.tracker.progress(place), message.from, index);
             return self.ignore(message, why, events);
         }
@@ -141,21 +141,21 @@ impl<L: RaftLog> State<L> {
         self.send(message.from, SendReason::Tell)
     }
 
-    // A follower refused what follows an index.
-    #[tactic(auto, unfolding(crate::specs::Acknowledging::append_refused))]
-    pub(crate) fn refuse(
+    // Handles an append response that refuses the entries after an index.
+    #[tactic(auto, unfolding(crate::specs::Acknowledging::append_refusal_handled))]
+    pub(crate) fn handle_append_refusal(
         &mut self,
         message: &Message,
         index: u64,
         hint: u64,
         events: &mut Vec<Event>,
     ) -> Result<(), AllocError>
-        ensures { OnOk result (turn self.new events.new.items ≡ append_refused (turn self.old events.old.items) message.now index hint) }
+        ensures { OnOk result (node_step self.new events.new.items ≡ append_refusal_handled (node_step self.old events.old.items) message.now index hint) }
     {
         match self.tracker.place(message.from) {
             Some(place) => {
-                self.hear_of(place);
-                self.refuse_at(place, message, index, hint, events)
+                self.mark_active(place);
+                self.handle_append_refusal_at(place, message, index, hint, events)
             }
             None => self.ignore(message, WhyIgnored::NoView { from: message.from }, events),
         }
@@ -167,9 +167,9 @@ impl<L: RaftLog> State<L> {
         view.matched() < self.log.last_index() || view.state() == ProgressState::Probe
     }
 
-    fn take_beat_answer_at(&mut self, place: usize, from: u64) -> Result<(), AllocError>
+    fn handle_heartbeat_response_at(&mut self, place: usize, from: u64) -> Result<(), AllocError>
         requires { place < length self.old.tracker.views }
-        ensures { OnOk result (self.new ≡ beat_answered_with (view_at self.old.tracker.views place) self.old place from) }
+        ensures { OnOk result (self.new ≡ heartbeat_response_handled_with (view_at self.old.tracker.views place) self.old place from) }
     {
         let lags = self.lags(self.tracker.progress(place));
         self.tracker.view_mut(place).resume();
@@ -179,19 +179,19 @@ impl<L: RaftLog> State<L> {
         Ok(())
     }
 
-    // A follower answered a heartbeat.
-    #[tactic(auto, unfolding(crate::specs::Acknowledging::beat_answered))]
-    pub(crate) fn take_beat_answer(
+    // Handles a heartbeat response.
+    #[tactic(auto, unfolding(crate::specs::Acknowledging::heartbeat_response_handled))]
+    pub(crate) fn handle_heartbeat_response(
         &mut self,
         message: &Message,
         events: &mut Vec<Event>,
     ) -> Result<(), AllocError>
-        ensures { OnOk result (turn self.new events.new.items ≡ beat_answered (turn self.old events.old.items) message.now) }
+        ensures { OnOk result (node_step self.new events.new.items ≡ heartbeat_response_handled (node_step self.old events.old.items) message.now) }
     {
         match self.tracker.place(message.from) {
             Some(place) => {
-                self.hear_of(place);
-                self.take_beat_answer_at(place, message.from)
+                self.mark_active(place);
+                self.handle_heartbeat_response_at(place, message.from)
             }
             None => self.ignore(message, WhyIgnored::NoView { from: message.from }, events),
         }

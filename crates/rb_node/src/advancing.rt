@@ -1,13 +1,13 @@
-//! What comes once all that is ready is done.
+//! Advancing a node after its ready was processed.
 //!
-//! What was ready is durable from here on, so answers that rest on it may go out, and the node's own answers count: its vote for itself,
-//! and that it holds its own entries (etcd raft documentation, "Advance").
+//! What was ready is durable now. So the answers that depend on it go out, and the node handles its own: its vote for itself, and that it
+//! holds its own entries (etcd raft documentation, "Advance").
 
 ghost use Rattle.std.specs.Prelude.{◌≡◌, ◌+◌, ◌≤◌, ◌++◌, [], length, OnOk, IfOk};
 ghost use Rattle.rb_raftlog.specs.declared.limits.TheConstants.{MAX_INDEX};
-ghost use Rattle.rb_node.specs.Node.{turn};
+ghost use Rattle.rb_node.specs.Node.{node_step};
 ghost use Rattle.rb_node.specs.Changing.{applied_all};
-ghost use Rattle.rb_node.specs.Readying.{applying, others, handed, saved, own_stepped, advanced};
+ghost use Rattle.rb_node.specs.Readying.{applying, others, outgoing, saved, own_answers_stepped, advanced};
 
 use crate::node::Node;
 use crate::ready::{applying_entry, applying_len, hard_state};
@@ -16,14 +16,14 @@ use rb_message::{Event, Message};
 use rb_raftlog::{Entry, RaftLog};
 use std::alloc::AllocError;
 
-// What was sent, and what waited.
+// The messages of a ready: the sent ones, and the answers that waited.
 #[derive(Drop)]
 struct Outgoing {
     sent: Vec<Message>,
     waiting: Vec<Message>,
 }
 
-// Copies of the committed entries that aren't applied: a pointer each.
+// Copies the committed entries that aren't applied, at a pointer each.
 #[tactic(auto, using(crate::proofs::Between::between_sizes, rb_tracker::proofs::WindowLaws::take_more_some))]
 fn applying_copies<L: RaftLog>(state: &State<L>) -> Result<Vec<Entry>, AllocError>
     ensures entries { IfOk result (λ copies. copies.items ≡ applying state.now) }
@@ -38,7 +38,7 @@ fn applying_copies<L: RaftLog>(state: &State<L>) -> Result<Vec<Entry>, AllocErro
     Ok(copies)
 }
 
-// All is durable, and both lists of messages are taken.
+// Marks everything as durable, and takes both lists of messages.
 fn save<L: RaftLog>(state: &mut State<L>) -> Result<Outgoing, AllocError>
     ensures node { OnOk result (state.new ≡ saved state.old) }
     ensures sent { IfOk result (λ taken. taken.sent.items ≡ state.old.sent) }
@@ -61,7 +61,7 @@ fn apply_all<L: RaftLog>(
     events: &mut Vec<Event>,
 ) -> Result<(), AllocError>
     requires { after + length entries.now ≤ MAX_INDEX }
-    ensures { OnOk result (turn state.new events.new.items ≡ applied_all (turn state.old events.old.items) after entries.now) }
+    ensures { OnOk result (node_step state.new events.new.items ≡ applied_all (node_step state.old events.old.items) after entries.now) }
 {
     let mut index = after;
     for entry in entries {
@@ -71,8 +71,8 @@ fn apply_all<L: RaftLog>(
     Ok(())
 }
 
-// Hands over the sent messages, then the answers to other nodes.
-fn hand_over(
+// Appends the sent messages, then the answers to other nodes.
+fn collect_outgoing(
     id: u64,
     mut posted: Vec<Message>,
     waiting: &[Message],
@@ -89,14 +89,14 @@ fn hand_over(
     Ok(())
 }
 
-// Takes the node's own answers in, in order.
-fn step_own<L: RaftLog>(
+// Steps the node's own answers, in order.
+fn step_own_answers<L: RaftLog>(
     state: &mut State<L>,
     id: u64,
     waiting: &[Message],
     events: &mut Vec<Event>,
 ) -> Result<(), AllocError>
-    ensures { OnOk result (turn state.new events.new.items ≡ own_stepped id (turn state.old events.old.items) waiting.now) }
+    ensures { OnOk result (node_step state.new events.new.items ≡ own_answers_stepped id (node_step state.old events.old.items) waiting.now) }
 {
     for message in waiting {
         if message.to == id {
@@ -107,16 +107,16 @@ fn step_own<L: RaftLog>(
 }
 
 impl<L: RaftLog> Node<L> {
-    /// Goes on once all that is ready is done: what was saved is durable, what was committed takes effect. The messages that go out are
-    /// appended to `sent`, those that waited last.
+    /// Advances the node after its ready was processed. Saved entries are durable, committed ones take effect. The outgoing messages are
+    /// appended to `sent`, the answers that waited last.
     #[tactic(auto, unfolding(crate::specs::Readying::advanced))]
     pub fn advance(
         &mut self,
         sent: &mut Vec<Message>,
         events: &mut Vec<Event>,
     ) -> Result<(), AllocError>
-        ensures node { OnOk result (turn self.new events.new.items ≡ advanced (turn self.old events.old.items)) }
-        ensures sent { OnOk result (sent.new.items ≡ sent.old.items ++ handed self.old) }
+        ensures node { OnOk result (node_step self.new events.new.items ≡ advanced (node_step self.old events.old.items)) }
+        ensures sent { OnOk result (sent.new.items ≡ sent.old.items ++ outgoing self.old) }
     {
         let state = &mut self.state;
         let id = state.id;
@@ -125,7 +125,7 @@ impl<L: RaftLog> Node<L> {
         let taken = save(state)?;
         apply_all(state, applied, entries.as_slice(), events)?;
         state.leave_joint(events)?;
-        hand_over(id, taken.sent, taken.waiting.as_slice(), sent)?;
-        step_own(state, id, taken.waiting.as_slice(), events)
+        collect_outgoing(id, taken.sent, taken.waiting.as_slice(), sent)?;
+        step_own_answers(state, id, taken.waiting.as_slice(), events)
     }
 }

@@ -1,39 +1,39 @@
-//! Calls that are no ticks and no readies.
+//! The calls of a node, except ticks and readies.
 
 ghost use Rattle.std.specs.Prelude.{◌≡◌, ◌≤◌, IfOk, OnOk, false};
 ghost use Rattle.rb_raftlog.specs.declared.limits.TheConstants.{MAX_INDEX};
 ghost use Rattle.rb_message.specs.declared.kind.MessageKind.TheVariants.{Proposal, TransferLeader};
 ghost use Rattle.rb_raftlog.specs.declared.entry.Body.TheVariants.{Payload, Change};
-ghost use Rattle.rb_node.specs.Node.{turn, with_timeout};
+ghost use Rattle.rb_node.specs.Node.{node_step, with_timeout};
 ghost use Rattle.rb_node.specs.Campaigns.{campaigned};
 ghost use Rattle.rb_node.specs.Sends.{snapshot_of};
 ghost use Rattle.rb_node.specs.Step.{stepped};
 ghost use Rattle.rb_node.specs.Calls.{called, leader_forgotten, reported, IsCompactedTo};
 
 use crate::node::Node;
-use rb_change::{Shared, Transition, Word};
 use rb_message::{Event, Message, MessageKind, Role};
 use rb_raftlog::{Body, CompactFault, RaftLog, Snapshot};
 use rb_tracker::ProgressState;
+use rb_vocab::{Shared, Transition, Word};
 use std::alloc::AllocError;
 
 impl<L: RaftLog> Node<L> {
-    /// Takes a message in, which stays the caller's: what is kept of it is shared.
+    /// Steps a message. The message stays the caller's; the node shares what it keeps of it.
     pub fn step(&mut self, message: &Message, events: &mut Vec<Event>) -> Result<(), AllocError>
-        ensures { OnOk result (turn self.new events.new.items ≡ stepped (turn self.old events.old.items) message.now) }
+        ensures { OnOk result (node_step self.new events.new.items ≡ stepped (node_step self.old events.old.items) message.now) }
     {
         self.state.step(message, events)
     }
 
-    /// Campaigns for the lead.
+    /// Starts a campaign.
     pub fn campaign(&mut self, events: &mut Vec<Event>) -> Result<(), AllocError>
-        ensures { OnOk result (turn self.new events.new.items ≡ campaigned (turn self.old events.old.items) false) }
+        ensures { OnOk result (node_step self.new events.new.items ≡ campaigned (node_step self.old events.old.items) false) }
     {
         self.state.campaign(false, events)
     }
 
     fn call(&mut self, kind: MessageKind, events: &mut Vec<Event>) -> Result<(), AllocError>
-        ensures { OnOk result (turn self.new events.new.items ≡ called (turn self.old events.old.items) kind) }
+        ensures { OnOk result (node_step self.new events.new.items ≡ called (node_step self.old events.old.items) kind) }
     {
         let id = self.state.id;
         let message = Message {
@@ -51,7 +51,7 @@ impl<L: RaftLog> Node<L> {
         payload: Shared<u8>,
         events: &mut Vec<Event>,
     ) -> Result<(), AllocError>
-        ensures { OnOk result (turn self.new events.new.items ≡ called (turn self.old events.old.items) (Proposal (Payload payload))) }
+        ensures { OnOk result (node_step self.new events.new.items ≡ called (node_step self.old events.old.items) (Proposal (Payload payload))) }
     {
         self.call(MessageKind::Proposal(Body::Payload(payload)), events)
     }
@@ -63,7 +63,7 @@ impl<L: RaftLog> Node<L> {
         words: Shared<Word>,
         events: &mut Vec<Event>,
     ) -> Result<(), AllocError>
-        ensures { OnOk result (turn self.new events.new.items ≡ called (turn self.old events.old.items) (Proposal (Change transition words))) }
+        ensures { OnOk result (node_step self.new events.new.items ≡ called (node_step self.old events.old.items) (Proposal (Change transition words))) }
     {
         self.call(
             MessageKind::Proposal(Body::Change { transition, words }),
@@ -71,14 +71,14 @@ impl<L: RaftLog> Node<L> {
         )
     }
 
-    /// Asks to hand the lead over to a node.
+    /// Asks to transfer leadership to a node.
     pub fn transfer(&mut self, to: u64, events: &mut Vec<Event>) -> Result<(), AllocError>
-        ensures { OnOk result (turn self.new events.new.items ≡ called (turn self.old events.old.items) (TransferLeader to)) }
+        ensures { OnOk result (node_step self.new events.new.items ≡ called (node_step self.old events.old.items) (TransferLeader to)) }
     {
         self.call(MessageKind::TransferLeader { target: to }, events)
     }
 
-    /// A follower forgets its leader; any other does nothing. It takes no memory.
+    /// Makes a follower forget its leader; in other roles, does nothing. Takes no memory.
     pub fn forget_leader(&mut self)
         ensures { self.new ≡ leader_forgotten self.old }
     {
@@ -87,7 +87,7 @@ impl<L: RaftLog> Node<L> {
         }
     }
 
-    /// A node can't be reached: a leader that replicates to it probes it. It takes no memory.
+    /// Reports that a node can't be reached: a leader that replicates to it probes it. Takes no memory.
     pub fn report_unreachable(&mut self, id: u64)
         ensures { self.new ≡ reported self.old id }
     {
@@ -102,7 +102,7 @@ impl<L: RaftLog> Node<L> {
         }
     }
 
-    /// The node's state as far as it is applied. Its index is within the limits.
+    /// A snapshot of the node's applied state. Its index is within the limits.
     pub fn snapshot(&self) -> Result<Snapshot, AllocError>
         ensures value { IfOk result (λ snapshot. snapshot ≡ snapshot_of self.now) }
         ensures within { self.now.applied ≤ MAX_INDEX }
@@ -110,7 +110,7 @@ impl<L: RaftLog> Node<L> {
         self.state.snapshot()
     }
 
-    /// Drops the log's entries up to an index, which is applied.
+    /// Drops the log's entries up to an applied index.
     pub fn compact(&mut self, index: u64) -> Result<(), CompactFault>
         ensures { IsCompactedTo self.old index result self.new }
     {
@@ -118,7 +118,7 @@ impl<L: RaftLog> Node<L> {
         self.state.log.compact(index, applied)
     }
 
-    /// After so many ticks without a leader the node campaigns, until the next reset. It takes no memory.
+    /// Sets the election timeout in ticks, until the next reset. Takes no memory.
     pub fn set_timeout(&mut self, timeout: u64)
         ensures { self.new ≡ with_timeout self.old timeout }
     {

@@ -1,13 +1,13 @@
 //! Campaigns.
 //!
-//! A node that hears of no leader stands for the next term and asks each voter for its vote (Ongaro's thesis, section 3.4). With
-//! pre-vote it asks first whether it would get the votes, and changes neither term nor vote for that (section 9.6).
+//! A node that hears from no leader becomes a candidate of the next term and requests a vote from each voter (Ongaro's thesis, section
+//! 3.4). With pre-vote it first asks whether it would get the votes; this changes neither its term nor its vote (section 9.6).
 
 ghost use Rattle.std.specs.Prelude.{◌≡◌, ◌<◌, OnOk, true};
 ghost use Rattle.rb_message.specs.declared.kind.MessageKind.TheVariants.{Vote, PreVote, VoteResponse, PreVoteResponse};
 ghost use Rattle.rb_raftlog.specs.declared.limits.TheConstants.{MAX_TERM};
-ghost use Rattle.rb_node.specs.Node.{turn};
-ghost use Rattle.rb_node.specs.Campaigns.{why_no_campaign, asked_one, asked, asked_for_votes, asked_for_pre_votes, stood, pre_vote_started, campaigned, campaigned_after_pre_vote};
+ghost use Rattle.rb_node.specs.Node.{node_step};
+ghost use Rattle.rb_node.specs.Campaigns.{why_no_campaign, asked_one, asked, asked_for_votes, asked_for_pre_votes, became_candidate, became_precandidate, campaigned, campaigned_after_pre_vote};
 
 use crate::limits::ELECTION_TICKS;
 use crate::state::State;
@@ -16,7 +16,7 @@ use rb_raftlog::{MAX_TERM, RaftLog};
 use std::alloc::AllocError;
 
 impl<L: RaftLog> State<L> {
-    // Why it can't campaign, if it can't: the first that holds.
+    // The first reason that keeps the node from campaigning, if any.
     fn why_no_campaign(&self) -> Option<WhyNoCampaign>
         ensures { result ≡ why_no_campaign self.now }
     {
@@ -38,7 +38,7 @@ impl<L: RaftLog> State<L> {
         None
     }
 
-    // Asks one voter, or gives the node's own answer in place of a question to itself.
+    // Sends a request to one voter, or answers in the node's own name if that is itself.
     fn ask_one(
         &mut self,
         to: u64,
@@ -55,7 +55,7 @@ impl<L: RaftLog> State<L> {
         }
     }
 
-    // Asks each of these voters the same.
+    // Sends the same request to each of these voters.
     fn ask(
         &mut self,
         ids: &[u64],
@@ -97,10 +97,14 @@ impl<L: RaftLog> State<L> {
         self.ask(voters.as_slice(), self.term + 1, &question, &answer)
     }
 
-    // Stands for the next term.
-    fn stand(&mut self, transfer: bool, events: &mut Vec<Event>) -> Result<(), AllocError>
+    // Becomes a candidate of the next term, and requests votes.
+    fn become_candidate(
+        &mut self,
+        transfer: bool,
+        events: &mut Vec<Event>,
+    ) -> Result<(), AllocError>
         requires { self.old.term < MAX_TERM }
-        ensures { OnOk result (turn self.new events.new.items ≡ stood (turn self.old events.old.items) transfer) }
+        ensures { OnOk result (node_step self.new events.new.items ≡ became_candidate (node_step self.old events.old.items) transfer) }
     {
         self.reset(self.term + 1);
         self.vote = self.id;
@@ -113,10 +117,10 @@ impl<L: RaftLog> State<L> {
         self.ask_for_votes(transfer)
     }
 
-    // Asks whether it would get the votes.
-    fn start_pre_vote(&mut self, events: &mut Vec<Event>) -> Result<(), AllocError>
+    // Becomes a precandidate, and requests pre-votes.
+    fn become_precandidate(&mut self, events: &mut Vec<Event>) -> Result<(), AllocError>
         requires { self.old.term < MAX_TERM }
-        ensures { OnOk result (turn self.new events.new.items ≡ pre_vote_started (turn self.old events.old.items)) }
+        ensures { OnOk result (node_step self.new events.new.items ≡ became_precandidate (node_step self.old events.old.items)) }
     {
         self.role = Role::Precandidate;
         self.votes.clear();
@@ -130,38 +134,38 @@ impl<L: RaftLog> State<L> {
         self.ask_for_pre_votes()
     }
 
-    /// Campaigns, of itself or because the leader hands the lead over.
+    /// Campaigns, by itself or because the leader transfers leadership to it.
     #[tactic(auto, unfolding(crate::specs::Campaigns::campaigned))]
     pub(crate) fn campaign(
         &mut self,
         transfer: bool,
         events: &mut Vec<Event>,
     ) -> Result<(), AllocError>
-        ensures { OnOk result (turn self.new events.new.items ≡ campaigned (turn self.old events.old.items) transfer) }
+        ensures { OnOk result (node_step self.new events.new.items ≡ campaigned (node_step self.old events.old.items) transfer) }
     {
         if let Some(why) = self.why_no_campaign() {
             events.push(Event::CannotCampaign { id: self.id, why })?;
             return Ok(());
         }
         if self.options.pre_vote && !transfer {
-            self.start_pre_vote(events)
+            self.become_precandidate(events)
         } else {
-            self.stand(transfer, events)
+            self.become_candidate(transfer, events)
         }
     }
 
-    // The campaign that a won question before the vote leads to.
+    // Campaigns after a pre-vote was won.
     #[tactic(auto, unfolding(crate::specs::Campaigns::campaigned_after_pre_vote))]
     pub(crate) fn campaign_after_pre_vote(
         &mut self,
         events: &mut Vec<Event>,
     ) -> Result<(), AllocError>
-        ensures { OnOk result (turn self.new events.new.items ≡ campaigned_after_pre_vote (turn self.old events.old.items)) }
+        ensures { OnOk result (node_step self.new events.new.items ≡ campaigned_after_pre_vote (node_step self.old events.old.items)) }
     {
         if let Some(why) = self.why_no_campaign() {
             events.push(Event::CannotCampaign { id: self.id, why })?;
             return Ok(());
         }
-        self.stand(false, events)
+        self.become_candidate(false, events)
     }
 }

@@ -1,42 +1,42 @@
-//! Committed entries take effect.
+//! Applying committed entries.
 //!
-//! Payloads join the content. A change switches the configuration (Ongaro's thesis, sections 4.1 to 4.3); at a leader the views then
-//! follow the members, and the new quorum may commit more.
+//! A payload is appended to the content. A change switches the configuration (Ongaro's thesis, sections 4.1 to 4.3). A leader then adds and
+//! removes views by the members, and the new quorum may commit more.
 
 ghost use Rattle.std.specs.Prelude.{◌≡◌, ◌+◌, ◌≤◌, [], length, IfOk, OnOk, Ok, Err};
 ghost use Rattle.rb_raftlog.specs.declared.entry.Body.TheVariants.{Change};
-ghost use Rattle.rb_change.specs.declared.change.Transition.TheVariants.{Auto};
+ghost use Rattle.rb_vocab.specs.declared.change.Transition.TheVariants.{Auto};
 ghost use Rattle.rb_raftlog.specs.declared.limits.TheConstants.{MAX_INDEX};
 ghost use Rattle.rb_message.specs.declared.event.Event.TheVariants.{Switched};
-ghost use Rattle.rb_node.specs.Node.{turn, told};
-ghost use Rattle.rb_node.specs.Changing.{missing, without_stranger, without_strangers, stranger_given_up, joined_by, joined, revised, steps_down, led_on, switched, change_applied, applied_one, applied_all, leaves_joint, joint_left};
+ghost use Rattle.rb_node.specs.Node.{node_step, with_event};
+ghost use Rattle.rb_node.specs.Changing.{missing, without_view, without_views, transfer_to_non_member_cancelled, new_members_added, members_added, views_updated, steps_down, continued_after_switch, switched, change_applied, applied_one, applied_all, leaves_joint, joint_left};
 
 use crate::state::State;
-use rb_change::{Shared, Transition, Word};
 use rb_message::{Event, Role};
 use rb_raftlog::{Body, Entry, RaftLog};
 use rb_tracker::{ChangeFault, Config};
+use rb_vocab::{Shared, Transition, Word};
 use std::alloc::AllocError;
 
 impl<L: RaftLog> State<L> {
-    fn drop_stranger(&mut self, id: u64)
-        ensures { self.new ≡ without_stranger self.old id }
+    fn remove_view(&mut self, id: u64)
+        ensures { self.new ≡ without_view self.old id }
     {
         if !self.tracker.config().is_member(id) {
             self.tracker.remove(id);
         }
     }
 
-    // Drops the views of those of the ids that are no members.
-    fn drop_strangers(&mut self, ids: &[u64])
-        ensures { self.new ≡ without_strangers self.old ids.now }
+    // Removes the views of the ids that are not members.
+    fn remove_views(&mut self, ids: &[u64])
+        ensures { self.new ≡ without_views self.old ids.now }
     {
         for id in ids {
-            self.drop_stranger(*id);
+            self.remove_view(*id);
         }
     }
 
-    // The ids of these that have no view.
+    // The ids without a view.
     fn missing(&self, ids: &[u64]) -> Result<Vec<u64>, AllocError>
         ensures { IfOk result (λ found. found.items ≡ missing self.now.tracker.views ids.now) }
     {
@@ -49,9 +49,9 @@ impl<L: RaftLog> State<L> {
         Ok(found)
     }
 
-    // A transfer to a node that is no member any more ends.
-    fn give_stranger_up(&mut self, events: &mut Vec<Event>) -> Result<(), AllocError>
-        ensures { OnOk result (turn self.new events.new.items ≡ stranger_given_up (turn self.old events.old.items)) }
+    // Cancels a transfer to a node that is not a member.
+    fn cancel_transfer_to_non_member(&mut self, events: &mut Vec<Event>) -> Result<(), AllocError>
+        ensures { OnOk result (node_step self.new events.new.items ≡ transfer_to_non_member_cancelled (node_step self.old events.old.items)) }
     {
         if self.tracker.config().is_member(self.transferee) {
             return Ok(());
@@ -59,30 +59,30 @@ impl<L: RaftLog> State<L> {
         self.end_transfer(events)
     }
 
-    fn join_by(&mut self, added: &[u64], events: &mut Vec<Event>) -> Result<(), AllocError>
-        ensures { OnOk result (turn self.new events.new.items ≡ joined_by (turn self.old events.old.items) added.now) }
+    fn add_new_members(&mut self, added: &[u64], events: &mut Vec<Event>) -> Result<(), AllocError>
+        ensures { OnOk result (node_step self.new events.new.items ≡ new_members_added (node_step self.old events.old.items) added.now) }
     {
         self.add_views(added, true)?;
-        self.give_stranger_up(events)?;
+        self.cancel_transfer_to_non_member(events)?;
         self.check_commit(added)
     }
 
-    fn join(&mut self, events: &mut Vec<Event>) -> Result<(), AllocError>
-        ensures { OnOk result (turn self.new events.new.items ≡ joined (turn self.old events.old.items)) }
+    fn add_members(&mut self, events: &mut Vec<Event>) -> Result<(), AllocError>
+        ensures { OnOk result (node_step self.new events.new.items ≡ members_added (node_step self.old events.old.items)) }
     {
         let members = self.tracker.config().members()?;
         let added = self.missing(members.as_slice())?;
-        self.join_by(added.as_slice(), events)
+        self.add_new_members(added.as_slice(), events)
     }
 
-    // A leader's views follow the members.
-    #[tactic(auto, unfolding(crate::specs::Changing::revised))]
-    fn revise(&mut self, events: &mut Vec<Event>) -> Result<(), AllocError>
-        ensures { OnOk result (turn self.new events.new.items ≡ revised (turn self.old events.old.items)) }
+    // Removes the views of nodes that aren't members, and adds views of new members.
+    #[tactic(auto, unfolding(crate::specs::Changing::views_updated))]
+    fn update_views(&mut self, events: &mut Vec<Event>) -> Result<(), AllocError>
+        ensures { OnOk result (node_step self.new events.new.items ≡ views_updated (node_step self.old events.old.items)) }
     {
         let ids = self.tracker.ids()?;
-        self.drop_strangers(ids.as_slice());
-        self.join(events)
+        self.remove_views(ids.as_slice());
+        self.add_members(events)
     }
 
     fn steps_down(&self) -> bool
@@ -91,21 +91,21 @@ impl<L: RaftLog> State<L> {
         self.options.step_down_on_removal && !self.tracker.config().is_voter(self.id)
     }
 
-    fn lead_on(&mut self, events: &mut Vec<Event>) -> Result<(), AllocError>
-        ensures { OnOk result (turn self.new events.new.items ≡ led_on (turn self.old events.old.items)) }
+    fn continue_after_switch(&mut self, events: &mut Vec<Event>) -> Result<(), AllocError>
+        ensures { OnOk result (node_step self.new events.new.items ≡ continued_after_switch (node_step self.old events.old.items)) }
     {
         if self.role != Role::Leader {
             return Ok(());
         }
         if self.steps_down() {
             let term = self.term;
-            return self.follow(term, 0, events);
+            return self.become_follower(term, 0, events);
         }
-        self.revise(events)
+        self.update_views(events)
     }
 
-    fn tell_switch(&self, config: &Config, events: &mut Vec<Event>) -> Result<(), AllocError>
-        ensures { OnOk result (turn self.now events.new.items ≡ told (turn self.now events.old.items) (Switched self.now.id config.now)) }
+    fn report_switch(&self, config: &Config, events: &mut Vec<Event>) -> Result<(), AllocError>
+        ensures { OnOk result (node_step self.now events.new.items ≡ with_event (node_step self.now events.old.items) (Switched self.now.id config.now)) }
     {
         let config = config.try_copy()?;
         events.push(Event::Switched {
@@ -116,15 +116,15 @@ impl<L: RaftLog> State<L> {
     }
 
     fn switch_to(&mut self, config: Config, events: &mut Vec<Event>) -> Result<(), AllocError>
-        ensures { OnOk result (turn self.new events.new.items ≡ switched (Ok config) (turn self.old events.old.items)) }
+        ensures { OnOk result (node_step self.new events.new.items ≡ switched (Ok config) (node_step self.old events.old.items)) }
     {
-        self.tell_switch(&config, events)?;
+        self.report_switch(&config, events)?;
         self.tracker.set_config(config);
-        self.lead_on(events)
+        self.continue_after_switch(events)
     }
 
     fn refuse_change(&self, fault: ChangeFault, events: &mut Vec<Event>) -> Result<(), AllocError>
-        ensures { OnOk result (turn self.now events.new.items ≡ switched (Err fault) (turn self.now events.old.items)) }
+        ensures { OnOk result (node_step self.now events.new.items ≡ switched (Err fault) (node_step self.now events.old.items)) }
     {
         events.push(Event::RefusedChange {
             id: self.id,
@@ -141,7 +141,7 @@ impl<L: RaftLog> State<L> {
         words: &[Word],
         events: &mut Vec<Event>,
     ) -> Result<(), AllocError>
-        ensures { OnOk result (turn self.new events.new.items ≡ change_applied (turn self.old events.old.items) transition words.now) }
+        ensures { OnOk result (node_step self.new events.new.items ≡ change_applied (node_step self.old events.old.items) transition words.now) }
     {
         match self.tracker.config().changed(transition, words) {
             Ok(config) => self.switch_to(config, events),
@@ -158,7 +158,7 @@ impl<L: RaftLog> State<L> {
         events: &mut Vec<Event>,
     ) -> Result<(), AllocError>
         requires { index ≤ MAX_INDEX }
-        ensures { OnOk result (turn self.new events.new.items ≡ applied_one (turn self.old events.old.items) index entry.now) }
+        ensures { OnOk result (node_step self.new events.new.items ≡ applied_one (node_step self.old events.old.items) index entry.now) }
     {
         self.applied = index;
         match &entry.body {
@@ -188,16 +188,16 @@ impl<L: RaftLog> State<L> {
         })
     }
 
-    /// A leader leaves a joint configuration by itself, once the change is applied that led there.
+    /// Makes a leader leave a joint configuration by itself, after the change that entered it is applied.
     #[tactic(auto, unfolding(crate::specs::Changing::joint_left))]
     pub(crate) fn leave_joint(&mut self, events: &mut Vec<Event>) -> Result<(), AllocError>
-        ensures { OnOk result (turn self.new events.new.items ≡ joint_left (turn self.old events.old.items)) }
+        ensures { OnOk result (node_step self.new events.new.items ≡ joint_left (node_step self.old events.old.items)) }
     {
         if !self.leaves_joint() {
             return Ok(());
         }
         let body = self.leaving()?;
         self.append_change(body, events)?;
-        self.tell_all()
+        self.broadcast_append()
     }
 }

@@ -1,23 +1,23 @@
-//! What a node counts by ticks.
+//! A node's clock: counts of ticks.
 
 ghost use Rattle.std.specs.Prelude.{◌≡◌};
 ghost use Rattle.rb_node.specs.Clocks.{fresh_clock};
 
 use crate::limits::ELECTION_TICKS;
 
-/// Counts of ticks, and the timeout that they are compared with.
+/// Counts of ticks, and the election timeout.
 #[derive(Clone, Copy, Debug, PartialEq, Eq)]
 pub struct Clock {
-    /// Ticks since the node heard of its leader or, where it leads, since it looked at its quorum.
+    /// Ticks since the node heard from its leader. At a leader, ticks since it checked its quorum.
     pub elapsed: u64,
-    /// Ticks since the node's last heartbeats.
+    /// Ticks since the node last sent heartbeats.
     pub heartbeat_elapsed: u64,
-    /// After so many ticks without a leader the node campaigns.
+    /// The election timeout: the node campaigns after this many ticks without a leader.
     pub timeout: u64,
 }
 
 impl Clock {
-    /// That of a node at the beginning of a term.
+    /// The clock at the beginning of a term.
     pub(crate) fn new() -> Clock
         ensures { result ≡ fresh_clock }
     {

@@ -1,16 +1,16 @@
-//! Following.
+//! A follower handles its leader's messages.
 //!
-//! A follower takes its leader's entries where they follow one that it holds, and refuses them else with a hint where the logs may
-//! agree (Ongaro's thesis, section 3.5). A leader that has no more what it lacks sends its state (section 5.3). What is for the
-//! leader is sent on to it (section 6.2).
+//! A follower appends its leader's entries if it holds the entry before them. Otherwise it refuses them, with a hint where the logs may
+//! agree (Ongaro's thesis, section 3.5). A leader that has compacted the entries sends a snapshot (section 5.3). A follower forwards
+//! proposals and transfers to its leader (section 6.2).
 
 ghost use Rattle.std.specs.Prelude.{◌≡◌, ◌<◌, ◌≤◌, IfOk, OnOk};
 ghost use Rattle.rb_raftlog.specs.Log.{last, is_term, term_at, hint, answer};
 ghost use Rattle.rb_raftlog.specs.declared.raft_log.Appended.TheVariants.{Refused};
 ghost use Rattle.rb_raftlog.specs.declared.limits.TheConstants.{MAX_INDEX};
 ghost use Rattle.rb_message.specs.declared.kind.MessageKind.TheVariants.{Proposal, TransferLeader};
-ghost use Rattle.rb_node.specs.Node.{turn};
-ghost use Rattle.rb_node.specs.Following.{HasLimits, heard, beaten, after_log, with_appended, append_taken, restored_to, with_match, new_snapshot_taken, snapshot_taken, passed_on, proposal_passed, transfer_passed};
+ghost use Rattle.rb_node.specs.Node.{node_step};
+ghost use Rattle.rb_node.specs.Following.{HasLimits, leader_contact_recorded, heartbeat_handled, after_log, with_appended, append_entries_handled, restored_to, with_match, new_snapshot_handled, snapshot_handled, forwarded_to_leader, proposal_forwarded, transfer_forwarded};
 
 use crate::state::State;
 use rb_message::{Append, Event, Install, Message, MessageKind, WhyIgnored};
@@ -19,24 +19,24 @@ use rb_tracker::Config;
 use std::alloc::AllocError;
 
 impl<L: RaftLog> State<L> {
-    // The sender leads, and was heard of.
-    pub(crate) fn hear(&mut self, from: u64)
-        ensures { self.new ≡ heard self.old from }
+    // Records the sender as leader, and restarts the election timer.
+    pub(crate) fn record_leader_contact(&mut self, from: u64)
+        ensures { self.new ≡ leader_contact_recorded self.old from }
     {
         self.lead = from;
         self.clock.elapsed = 0;
     }
 
-    pub(crate) fn take_heartbeat(&mut self, from: u64, commit: u64) -> Result<(), AllocError>
-        ensures { OnOk result (self.new ≡ beaten self.old from commit) }
+    pub(crate) fn handle_heartbeat(&mut self, from: u64, commit: u64) -> Result<(), AllocError>
+        ensures { OnOk result (self.new ≡ heartbeat_handled self.old from commit) }
     {
-        self.hear(from);
+        self.record_leader_contact(from);
         let last = self.log.last_index();
         self.commit = self.commit.max(commit.min(last));
         self.post(from, MessageKind::HeartbeatResponse)
     }
 
-    // Past the limit of indexes the log holds nothing.
+    // Refuses entries past the limit of indexes, where the log is empty.
     fn refuse_past(&self, append: &Append) -> Appended
         requires { MAX_INDEX < append.now.prev }
         ensures refused { result ≡ Refused (hint self.now.log append.now.prev append.now.prev_term) }
@@ -48,14 +48,14 @@ impl<L: RaftLog> State<L> {
         Appended::Refused(self.log.hint(append.prev(), append.prev_term()))
     }
 
-    // What the log makes of an append.
+    // Appends a message's entries to the log.
     #[tactic(auto, using(crate::proofs::Past::appended_past, crate::proofs::Past::answer_past))]
     fn append_after(&mut self, from: u64, append: &Append) -> Result<Appended, AllocError>
         ensures node { OnOk result (self.new ≡ with_appended self.old from append.now) }
         ensures answer { IfOk result (λ told. told ≡ answer self.old.log append.now.prev append.now.prev_term append.now.entries self.old.commit) }
         ensures fits { IfOk result (λ told. HasLimits told) }
     {
-        self.hear(from);
+        self.record_leader_contact(from);
         let prev = append.prev();
         if prev > MAX_INDEX {
             return Ok(self.refuse_past(append));
@@ -72,7 +72,7 @@ impl<L: RaftLog> State<L> {
         events: &mut Vec<Event>,
     ) -> Result<(), AllocError>
         requires { HasLimits appended }
-        ensures { OnOk result (turn self.new events.new.items ≡ after_log appended (turn self.old events.old.items) from append.now) }
+        ensures { OnOk result (node_step self.new events.new.items ≡ after_log appended (node_step self.old events.old.items) from append.now) }
     {
         match appended {
             Appended::Matched(index) => {
@@ -102,21 +102,21 @@ impl<L: RaftLog> State<L> {
         }
     }
 
-    // An append of the leader.
-    #[tactic(auto, unfolding(crate::specs::Following::append_taken))]
-    pub(crate) fn take_append(
+    // Handles a leader's entries.
+    #[tactic(auto, unfolding(crate::specs::Following::append_entries_handled))]
+    pub(crate) fn handle_append_entries(
         &mut self,
         from: u64,
         append: &Append,
         events: &mut Vec<Event>,
     ) -> Result<(), AllocError>
-        ensures { OnOk result (turn self.new events.new.items ≡ append_taken (turn self.old events.old.items) from append.now) }
+        ensures { OnOk result (node_step self.new events.new.items ≡ append_entries_handled (node_step self.old events.old.items) from append.now) }
     {
         let appended = self.append_after(from, append)?;
         self.after_log(appended, from, append, events)
     }
 
-    // Log, content and configuration are the snapshot's.
+    // Replaces log, content and configuration by those of a snapshot.
     fn restore(&mut self, snapshot: &Snapshot) -> Result<(), AllocError>
         requires { snapshot.now.index ≤ MAX_INDEX }
         ensures { OnOk result (self.new ≡ restored_to self.old snapshot.now) }
@@ -132,7 +132,7 @@ impl<L: RaftLog> State<L> {
         Ok(())
     }
 
-    // All up to the commit is held as the leader has it.
+    // Answers that the log matches the leader's up to the commit.
     fn answer_match(&mut self, from: u64) -> Result<(), AllocError>
         ensures { OnOk result (self.new ≡ with_match self.old from) }
     {
@@ -140,14 +140,14 @@ impl<L: RaftLog> State<L> {
         self.answer(from, self.term, MessageKind::AppendResponse { matched })
     }
 
-    fn take_new_snapshot(
+    fn handle_new_snapshot(
         &mut self,
         from: u64,
         snapshot: &Snapshot,
         events: &mut Vec<Event>,
     ) -> Result<(), AllocError>
         requires { snapshot.now.index ≤ MAX_INDEX }
-        ensures { OnOk result (turn self.new events.new.items ≡ new_snapshot_taken (turn self.old events.old.items) from snapshot.now) }
+        ensures { OnOk result (node_step self.new events.new.items ≡ new_snapshot_handled (node_step self.old events.old.items) from snapshot.now) }
     {
         self.restore(snapshot)?;
         events.push(Event::Restored {
@@ -158,7 +158,7 @@ impl<L: RaftLog> State<L> {
         self.answer_match(from)
     }
 
-    // Whether the entry at an index is held, and of this term.
+    // Whether the log has an entry of this term at an index.
     fn has_entry(&self, index: u64, term: u64) -> bool
         ensures { result ≡ is_term (term_at self.now.log index) term }
     {
@@ -168,15 +168,15 @@ impl<L: RaftLog> State<L> {
         }
     }
 
-    // A snapshot of the leader, which was heard of.
-    #[tactic(auto, unfolding(crate::specs::Following::snapshot_taken))]
-    pub(crate) fn take_snapshot(
+    // Handles a leader's snapshot.
+    #[tactic(auto, unfolding(crate::specs::Following::snapshot_handled))]
+    pub(crate) fn handle_snapshot(
         &mut self,
         from: u64,
         install: &Install,
         events: &mut Vec<Event>,
     ) -> Result<(), AllocError>
-        ensures { OnOk result (turn self.new events.new.items ≡ snapshot_taken (turn self.old events.old.items) from install.now) }
+        ensures { OnOk result (node_step self.new events.new.items ≡ snapshot_handled (node_step self.old events.old.items) from install.now) }
     {
         let snapshot = install.snapshot();
         if snapshot.index <= self.commit {
@@ -186,40 +186,40 @@ impl<L: RaftLog> State<L> {
             self.commit = snapshot.index;
             return self.answer_match(from);
         }
-        self.take_new_snapshot(from, snapshot, events)
+        self.handle_new_snapshot(from, snapshot, events)
     }
 
-    // Sends it on to the leader, from the node itself and of no term.
-    fn pass_on(&mut self, kind: MessageKind) -> Result<(), AllocError>
-        ensures { OnOk result (self.new ≡ passed_on self.old kind) }
+    // Forwards a message to the leader, with this node as sender and without a term.
+    fn forward_to_leader(&mut self, kind: MessageKind) -> Result<(), AllocError>
+        ensures { OnOk result (self.new ≡ forwarded_to_leader self.old kind) }
     {
         self.post_at(self.lead, 0, kind)
     }
 
-    pub(crate) fn pass_proposal(
+    pub(crate) fn forward_proposal(
         &mut self,
         kind: MessageKind,
         events: &mut Vec<Event>,
     ) -> Result<(), AllocError>
-        ensures { OnOk result (turn self.new events.new.items ≡ proposal_passed (turn self.old events.old.items) kind) }
+        ensures { OnOk result (node_step self.new events.new.items ≡ proposal_forwarded (node_step self.old events.old.items) kind) }
     {
         if self.lead == 0 {
             return self.drop_proposal(events);
         }
-        self.pass_on(kind)
+        self.forward_to_leader(kind)
     }
 
-    pub(crate) fn pass_transfer(
+    pub(crate) fn forward_transfer(
         &mut self,
         kind: MessageKind,
         message: &Message,
         events: &mut Vec<Event>,
     ) -> Result<(), AllocError>
-        ensures { OnOk result (turn self.new events.new.items ≡ transfer_passed (turn self.old events.old.items) kind message.now) }
+        ensures { OnOk result (node_step self.new events.new.items ≡ transfer_forwarded (node_step self.old events.old.items) kind message.now) }
     {
         if self.lead == 0 {
             return self.ignore(message, WhyIgnored::NoLeader, events);
         }
-        self.pass_on(kind)
+        self.forward_to_leader(kind)
     }
 }

@@ -1,20 +1,20 @@
 //! Leading.
 //!
-//! A leader appends to its own log, never changes what is there, and commits an index once a quorum holds it and the entry there is
-//! of its own term (Ongaro's thesis, sections 3.5 and 3.6). Its own entries count as held only when they are durable: it answers itself.
+//! A leader only appends to its own log. It commits an index once a quorum holds it and its entry has the leader's term (Ongaro's thesis,
+//! sections 3.5 and 3.6). Its own entries count once they are durable, by a response to itself.
 
 ghost use Rattle.std.specs.Prelude.{◌≡◌, ◌≤◌, [], false, IsTrue, IfOk, OnOk};
 ghost use Rattle.rb_raftlog.specs.declared.entry.Body.TheVariants.{Payload};
 ghost use Rattle.rb_raftlog.specs.declared.limits.TheConstants.{MAX_INDEX};
 ghost use Rattle.rb_message.specs.declared.event.Event.TheVariants.{AppendsNothing};
-ghost use Rattle.rb_node.specs.Node.{turn, told};
-ghost use Rattle.rb_node.specs.Leading.{with_own, is_log_full, appended, appended_change, new_view, with_view_of, with_views, leading, led, can_commit, checked_commit};
+ghost use Rattle.rb_node.specs.Node.{node_step, with_event};
+ghost use Rattle.rb_node.specs.Leading.{with_own, is_log_full, appended, appended_change, new_view, with_view_of, with_views, leading, became_leader, can_commit, checked_commit};
 
 use crate::state::State;
-use rb_change::Shared;
 use rb_message::{Event, MessageKind, Role};
 use rb_raftlog::{Body, Entry, MAX_INDEX, RaftLog};
 use rb_tracker::Progress;
+use rb_vocab::Shared;
 use std::alloc::AllocError;
 
 impl<L: RaftLog> State<L> {
@@ -30,7 +30,7 @@ impl<L: RaftLog> State<L> {
         MAX_INDEX <= self.log.last_index()
     }
 
-    // Puts an entry at the end, and answers itself.
+    // Appends an entry of the node's term, and answers itself.
     fn push_own(&mut self, body: Body) -> Result<(), AllocError>
         requires { is_log_full self.old ≡ false }
         ensures { OnOk result (self.new ≡ with_own self.old body) }
@@ -42,16 +42,16 @@ impl<L: RaftLog> State<L> {
         self.answer(id, term, MessageKind::AppendResponse { matched: last + 1 })
     }
 
-    // The log has no room.
+    // Reports that the log is full.
     pub(crate) fn append_nothing(&self, events: &mut Vec<Event>) -> Result<(), AllocError>
-        ensures { OnOk result (turn self.now events.new.items ≡ told (turn self.now events.old.items) (AppendsNothing self.now.id)) }
+        ensures { OnOk result (node_step self.now events.new.items ≡ with_event (node_step self.now events.old.items) (AppendsNothing self.now.id)) }
     {
         events.push(Event::AppendsNothing { id: self.id })?;
         Ok(())
     }
 
     pub(crate) fn append(&mut self, body: Body, events: &mut Vec<Event>) -> Result<(), AllocError>
-        ensures { OnOk result (turn self.new events.new.items ≡ appended (turn self.old events.old.items) body) }
+        ensures { OnOk result (node_step self.new events.new.items ≡ appended (node_step self.old events.old.items) body) }
     {
         if self.is_log_full() {
             return self.append_nothing(events);
@@ -64,7 +64,7 @@ impl<L: RaftLog> State<L> {
         body: Body,
         events: &mut Vec<Event>,
     ) -> Result<(), AllocError>
-        ensures { OnOk result (turn self.new events.new.items ≡ appended_change (turn self.old events.old.items) body) }
+        ensures { OnOk result (node_step self.new events.new.items ≡ appended_change (node_step self.old events.old.items) body) }
     {
         if self.is_log_full() {
             return self.append_nothing(events);
@@ -121,10 +121,10 @@ impl<L: RaftLog> State<L> {
         Ok(())
     }
 
-    // The leader of its term.
-    #[tactic(auto, unfolding(crate::specs::Leading::led))]
+    // Becomes the leader of its term.
+    #[tactic(auto, unfolding(crate::specs::Leading::became_leader))]
     pub(crate) fn become_leader(&mut self, events: &mut Vec<Event>) -> Result<(), AllocError>
-        ensures { OnOk result (turn self.new events.new.items ≡ led (turn self.old events.old.items)) }
+        ensures { OnOk result (node_step self.new events.new.items ≡ became_leader (node_step self.old events.old.items)) }
     {
         let id = self.id;
         let term = self.term;
@@ -136,10 +136,10 @@ impl<L: RaftLog> State<L> {
         })?;
         let body = self.empty_payload()?;
         self.append(body, events)?;
-        self.tell_all()
+        self.broadcast_append()
     }
 
-    // Whether an index that a quorum holds is committed: it is news, and of the node's own term.
+    // Whether the node may commit an index that a quorum holds: it is past the commit, and its entry has the node's term.
     #[tactic(auto, using(crate::proofs::Past::is_term_past))]
     pub(crate) fn can_commit(&self, index: u64) -> bool
         ensures can { result ≡ can_commit self.now index }
@@ -157,7 +157,7 @@ impl<L: RaftLog> State<L> {
         }
     }
 
-    // Where the commit moves it goes to all, else to these.
+    // Commits what a quorum holds and broadcasts it. If the commit doesn't move, sends to these nodes only.
     #[tactic(auto, unfolding(crate::specs::Leading::checked_commit))]
     pub(crate) fn check_commit(&mut self, ids: &[u64]) -> Result<(), AllocError>
         ensures { OnOk result (self.new ≡ checked_commit self.old ids.now) }
@@ -165,8 +165,8 @@ impl<L: RaftLog> State<L> {
         let index = self.tracker.committed()?;
         if self.can_commit(index) {
             self.commit = index;
-            return self.tell_all();
+            return self.broadcast_append();
         }
-        self.tell(ids)
+        self.send_to_each(ids)
     }
 }

@@ -1,13 +1,12 @@
 //! One Raft node, with all its calls.
 //!
-//! A [`Node`] is a pure state machine, as in etcd's raft: it has no clock, no network and no disk. Its owner ticks it, steps messages
-//! into it, asks what is ready, makes that durable and sends it, and then advances the node. What becomes of the node by each
-//! call is one definition of `specs/` on plain values.
+//! A [`Node`] is a pure state machine, as in etcd's raft: it has no clock, no network and no disk. Its owner ticks it and steps messages.
+//! It then asks what is ready, saves and sends that, and advances the node. Each call is one definition in `specs/`, on plain values.
 //!
-//! [`State`] is all that a node knows. What becomes of it by a message is first the message's term (Ongaro's thesis, section 3.3), then a
-//! table by the node's role. Each row of the table is a definition of `specs/`, near enough to the words of the rule that both can be read
-//! side by side, and a function here with the same name's sense; a contract says that both are one. A step answers with its events and puts
-//! messages into two lists: what is *sent* goes out with the next ready, what is *waiting* goes out once all that it rests on is durable.
+//! [`State`] is everything that a node knows. A step first compares the message's term with the node's (Ongaro's thesis, section 3.3). A
+//! table by the node's role then decides. Each row of the table is a definition in `specs/`, worded like the rule, and a function here. A
+//! contract states that both are equal. A step returns its events and adds messages to two lists. The *sent* ones go out with the next
+//! ready; the *waiting* ones go out when what they depend on is durable.
 #![tactic(auto)]
 
 mod acknowledging;
@@ -39,5 +38,5 @@ pub use ready::ReadyView;
 pub use sends::{SendReason, Sending};
 pub use state::State;
 
-// What a node is given and what it tells, which stand in rb_message.
+// The messages and events of a node, from rb_message.
 pub use rb_message::{Event, Message};

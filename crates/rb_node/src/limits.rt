@@ -1,18 +1,18 @@
-//! How many ticks things take.
+//! Timeouts, in ticks.
 
 ghost use Rattle.std.specs.Prelude.{◌≡◌};
 ghost use Rattle.rb_node.specs.declared.limits.TheConstants.{ELECTION_TICKS, HEARTBEAT_TICKS, MAX_TICKS};
 
-/// After so many ticks a node campaigns, unless its timeout is set, and a leader looks whether a quorum hears it.
+/// The election timeout, unless it is set. A leader also checks its quorum after this many ticks.
 pub const ELECTION_TICKS: u64 = 3;
 
-/// After so many ticks a leader sends heartbeats.
+/// How often a leader sends heartbeats.
 pub const HEARTBEAT_TICKS: u64 = 1;
 
-/// The greatest timeout, at which counters stop.
+/// The longest timeout. Counters stop there.
 pub const MAX_TICKS: u64 = 1_000;
 
-/// The limits that definitions name are these numbers.
+/// States the limits as numbers, for definitions.
 pub fn limits_are()
     ensures election { ELECTION_TICKS ≡ 3 }
     ensures heartbeat { HEARTBEAT_TICKS ≡ 1 }

@@ -1,9 +1,9 @@
-//! The node.
+//! A Raft node.
 
 ghost use Rattle.std.specs.Prelude.{◌≡◌, ◌≤◌, ◌↔◌, [], ◌∷◌, ◌++◌, IsTrue, IfOk, OnOk};
 ghost use Rattle.rb_raftlog.specs.declared.limits.TheConstants.{MAX_INDEX};
 ghost use Rattle.rb_message.specs.declared.event.Event.TheVariants.{Started};
-ghost use Rattle.rb_node.specs.Node.{PlainNode, turn};
+ghost use Rattle.rb_node.specs.Node.{PlainNode, node_step};
 ghost use Rattle.rb_node.specs.Comparing.{HaveSameNumbers};
 ghost use Rattle.rb_node.specs.Calls.{node_started};
 
@@ -15,7 +15,7 @@ use rb_tracker::Config;
 use std::alloc::{AllocError, Global};
 use std::marker::Model;
 
-/// A Raft node. Contracts see all that it knows as one plain record.
+/// A Raft node. Contracts see its state as one plain record.
 #[derive(Drop)]
 pub struct Node<L: RaftLog> {
     pub(crate) state: State<L>,
@@ -30,7 +30,7 @@ impl<L: RaftLog> Model for Node<L> {
 }
 
 impl<L: RaftLog> Node<L> {
-    /// A node that starts where a snapshot stands: a follower that has heard of nobody, in no term yet. Its index is within the limits.
+    /// Starts a node at a snapshot, as a follower of nobody in term 0. The snapshot's index must be within the limits.
     pub fn new(
         alloc: Global,
         id: u64,
@@ -39,21 +39,21 @@ impl<L: RaftLog> Node<L> {
         events: &mut Vec<Event>,
     ) -> Result<Node<L>, AllocError>
         requires { start.now.index ≤ MAX_INDEX }
-        ensures { IfOk result (λ node. turn node events.new.items ≡ node_started id start.now options events.old.items) }
+        ensures { IfOk result (λ node. node_step node events.new.items ≡ node_started id start.now options events.old.items) }
     {
         let state = State::new(alloc, id, start, options)?;
-        tell_start(state.tracker.config(), id, start, events)?;
+        report_start(state.tracker.config(), id, start, events)?;
         Ok(Node { state })
     }
 
-    /// All that the node knows, on loan.
+    /// Lends the node's state.
     pub fn status(&self) -> &State<L>
         ensures { result.now ≡ self.now }
     {
         &self.state
     }
 
-    /// The same node once more. It costs pointers, and a view of each member where it leads.
+    /// Copies the node. The cost is a few pointers, and for a leader a view of each member.
     pub fn try_copy(&self) -> Result<Node<L>, AllocError>
         ensures { IfOk result (λ copy. copy ≡ self.now) }
     {
@@ -62,14 +62,14 @@ impl<L: RaftLog> Node<L> {
         })
     }
 
-    /// Whether both have the same numbers, and lists of the same lengths. It costs the same however long the lists are.
-    pub fn has_numbers_of(&self, other: &Node<L>) -> bool
+    /// Whether both nodes may be equal: their numbers and the lengths of their lists are. The cost doesn't depend on those lengths.
+    pub fn may_equal(&self, other: &Node<L>) -> bool
         ensures { IsTrue result ↔ HaveSameNumbers self.now other.now }
     {
-        self.state.has_numbers_of(&other.state)
+        self.state.may_equal(&other.state)
     }
 
-    /// Whether both are the same in all that a node knows. It takes no memory.
+    /// Whether both nodes have equal states. Takes no memory.
     pub fn same(&self, other: &Node<L>) -> bool
         ensures { IsTrue result ↔ (self.now ≡ other.now) }
     {
@@ -77,8 +77,8 @@ impl<L: RaftLog> Node<L> {
     }
 }
 
-// Tells where a node starts, and with which configuration.
-fn tell_start(
+// Reports where a node starts, and with which configuration.
+fn report_start(
     config: &Config,
     id: u64,
     start: &Snapshot,

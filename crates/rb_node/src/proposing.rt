@@ -1,12 +1,12 @@
 //! Proposing.
 //!
-//! What is proposed to a leader goes into its log, and from there to all (Ongaro's thesis, section 3.5). Of changes of the
-//! configuration one at a time is under way (section 4.1): another is replaced by an empty entry.
+//! A leader appends a proposal to its log and replicates it (Ongaro's thesis, section 3.5). Only one configuration change may be in
+//! progress (section 4.1): the leader replaces another by an empty entry.
 
 ghost use Rattle.std.specs.Prelude.{◌≡◌, OnOk, false};
-ghost use Rattle.rb_node.specs.Node.{turn};
+ghost use Rattle.rb_node.specs.Node.{node_step};
 ghost use Rattle.rb_node.specs.Leading.{is_log_full};
-ghost use Rattle.rb_node.specs.Proposing.{why_replaced, change_put, put_in, takes_none, proposed};
+ghost use Rattle.rb_node.specs.Proposing.{why_replaced, change_or_empty_appended, proposal_appended, drops_proposals, proposal_handled};
 
 use crate::state::State;
 use rb_message::{Event, WhyReplaced};
@@ -14,7 +14,7 @@ use rb_raftlog::{Body, RaftLog};
 use std::alloc::AllocError;
 
 impl<L: RaftLog> State<L> {
-    // Why an empty entry goes in place of a change: the first that holds.
+    // The first reason to replace a change by an empty entry, if any.
     fn why_replaced(&self, words: usize) -> Option<WhyReplaced>
         ensures { result ≡ why_replaced self.now words }
     {
@@ -30,14 +30,14 @@ impl<L: RaftLog> State<L> {
         None
     }
 
-    fn put_change(
+    fn append_change_or_empty(
         &mut self,
         why: Option<WhyReplaced>,
         body: Body,
         events: &mut Vec<Event>,
     ) -> Result<(), AllocError>
         requires { is_log_full self.old ≡ false }
-        ensures { OnOk result (turn self.new events.new.items ≡ change_put why (turn self.old events.old.items) body) }
+        ensures { OnOk result (node_step self.new events.new.items ≡ change_or_empty_appended why (node_step self.old events.old.items) body) }
     {
         match why {
             None => self.append_change(body, events),
@@ -53,8 +53,8 @@ impl<L: RaftLog> State<L> {
         }
     }
 
-    fn put_in(&mut self, body: &Body, events: &mut Vec<Event>) -> Result<(), AllocError>
-        ensures { OnOk result (turn self.new events.new.items ≡ put_in body.now (turn self.old events.old.items)) }
+    fn append_proposal(&mut self, body: &Body, events: &mut Vec<Event>) -> Result<(), AllocError>
+        ensures { OnOk result (node_step self.new events.new.items ≡ proposal_appended body.now (node_step self.old events.old.items)) }
     {
         let copy = body.try_copy()?;
         match body {
@@ -64,30 +64,30 @@ impl<L: RaftLog> State<L> {
                     return self.append_nothing(events);
                 }
                 let why = self.why_replaced(words.len());
-                self.put_change(why, copy, events)
+                self.append_change_or_empty(why, copy, events)
             }
         }
     }
 
-    fn takes_none(&self) -> bool
-        ensures { result ≡ takes_none self.now }
+    fn drops_proposals(&self) -> bool
+        ensures { result ≡ drops_proposals self.now }
     {
         !self.tracker.has_view(self.id) || self.transferee != 0
     }
 
-    // A leader takes a proposal.
-    #[tactic(auto, unfolding(crate::specs::Proposing::proposed))]
-    pub(crate) fn take_proposal(
+    // Handles a proposal at a leader.
+    #[tactic(auto, unfolding(crate::specs::Proposing::proposal_handled))]
+    pub(crate) fn handle_proposal(
         &mut self,
         body: &Body,
         events: &mut Vec<Event>,
     ) -> Result<(), AllocError>
-        ensures { OnOk result (turn self.new events.new.items ≡ proposed (turn self.old events.old.items) body.now) }
+        ensures { OnOk result (node_step self.new events.new.items ≡ proposal_handled (node_step self.old events.old.items) body.now) }
     {
-        if self.takes_none() {
+        if self.drops_proposals() {
             return self.drop_proposal(events);
         }
-        self.put_in(body, events)?;
-        self.tell_all()
+        self.append_proposal(body, events)?;
+        self.broadcast_append()
     }
 }

@@ -1,7 +1,7 @@
-//! What is ready.
+//! The ready of a node.
 //!
-//! Before a node goes on, its owner makes durable what the node must not forget, sends what goes out, and applies what is committed
-//! (etcd raft documentation, "Ready"). All of it is borrowed from the node; nothing is copied.
+//! Before a node advances, its owner saves the hard state and the new entries, sends messages, and applies committed entries (etcd raft
+//! documentation, "Ready"). The view borrows all of it from the node; nothing is copied.
 
 ghost use Rattle.std.specs.Prelude.{◌≡◌, ◌<◌, IsOk, length, slice_get};
 ghost use Rattle.rb_raftlog.specs.Log.{entry_at};
@@ -13,7 +13,7 @@ use rb_message::{HardState, Outbox};
 use rb_raftlog::{Entry, Pieces, RaftLog};
 use std::marker::Model;
 
-/// What is ready, on loan from the node. Contracts see the node that it is of.
+/// A borrowed view of what is ready. Contracts see its node.
 #[derive(Drop)]
 pub struct ReadyView<'a, L: RaftLog> {
     state: &'a State<L>,
@@ -45,7 +45,7 @@ pub(crate) fn is_saved<L: RaftLog>(state: &State<L>) -> bool
         && state.commit == state.saved.commit
 }
 
-// How many committed entries aren't applied.
+// The number of committed entries that aren't applied.
 #[tactic(auto, using(crate::proofs::Between::between_sizes))]
 pub(crate) fn applying_len<L: RaftLog>(state: &State<L>) -> usize
     ensures { result ≡ length (applying state.now) }
@@ -57,7 +57,7 @@ pub(crate) fn applying_len<L: RaftLog>(state: &State<L>) -> usize
         .saturating_sub(from) as usize
 }
 
-// The entry at an index where there is one.
+// The entry at an index, which must exist.
 fn entry_of<L: RaftLog>(log: &L, index: u64) -> &Entry
     requires { IsOk (entry_at (L.plain log.now) index) }
     ensures { entry_at (L.plain log.now) index ≡ Ok result.now }
@@ -80,7 +80,7 @@ pub(crate) fn applying_entry<L: RaftLog>(state: &State<L>, k: usize) -> &Entry
 }
 
 impl<'a, L: RaftLog> ReadyView<'a, L> {
-    /// The hard state, where it isn't saved.
+    /// The hard state, if it isn't saved.
     pub fn hard(&self) -> Option<HardState>
         ensures { result ≡ (ready self.now).hard }
     {
@@ -110,14 +110,14 @@ impl<'a, L: RaftLog> ReadyView<'a, L> {
         state.log.not_durable()
     }
 
-    /// How many committed entries are to be applied.
+    /// The number of committed entries to apply.
     pub fn apply_len(&self) -> usize
         ensures { result ≡ length (applying self.now) }
     {
         applying_len(self.state)
     }
 
-    /// One of the committed entries that are to be applied.
+    /// One of the committed entries to apply.
     pub fn apply(&self, k: usize) -> &'a Entry
         requires { k < length (applying self.now) }
         ensures { slice_get (applying self.now) k ≡ Some result.now }
@@ -125,7 +125,7 @@ impl<'a, L: RaftLog> ReadyView<'a, L> {
         applying_entry(self.state, k)
     }
 
-    /// The messages that go out first.
+    /// The sent messages, which go out first.
     pub fn sent(&self) -> &'a Outbox
         ensures { result.now ≡ self.now.sent }
     {
@@ -133,7 +133,7 @@ impl<'a, L: RaftLog> ReadyView<'a, L> {
         &state.sent
     }
 
-    /// The answers that waited. Those to other nodes go out after the sent messages; those to the node itself don't.
+    /// The answers that waited. Those to other nodes go out after the sent messages; those to the node itself stay.
     pub fn waiting(&self) -> &'a Outbox
         ensures { result.now ≡ self.now.waiting }
     {
@@ -143,7 +143,7 @@ impl<'a, L: RaftLog> ReadyView<'a, L> {
 }
 
 impl<L: RaftLog> Node<L> {
-    /// Whether something is to be saved, applied or sent. It looks at numbers alone.
+    /// Whether there is something to save, apply or send. Compares only numbers.
     pub fn has_ready(&self) -> bool
         ensures { result ≡ has_ready self.now }
     {
@@ -156,7 +156,7 @@ impl<L: RaftLog> Node<L> {
             || state.waiting.len() != 0
     }
 
-    /// What is ready. It takes no memory.
+    /// Lends what is ready. Takes no memory.
     pub fn ready(&self) -> ReadyView<'_, L>
         ensures { result ≡ self.now }
     {

@@ -1,13 +1,13 @@
-//! What a leader sends to a follower.
+//! A leader sends entries or a snapshot to a follower.
 //!
-//! A leader's view of a follower says what it is sent: nothing while it is waited for, a snapshot where the log has no more what it
-//! lacks, else an append of all that it was not sent (Ongaro's thesis, sections 3.5 and 5.1; etcd raft documentation, "Progress").
+//! The leader's view of a follower decides. A paused follower gets nothing. One that lacks compacted entries gets a snapshot. Any other
+//! gets the entries that were not sent (Ongaro's thesis, sections 3.5 and 5.1; etcd raft documentation, "Progress").
 
 ghost use Rattle.std.specs.Prelude.{◌≡◌, ◌+◌, ◌-◌, ◌<◌, ◌≤◌, length, IfOk, OnOk};
 ghost use Rattle.rb_raftlog.specs.Log.{entries_after};
 ghost use Rattle.rb_raftlog.specs.declared.limits.TheConstants.{MAX_INDEX};
 ghost use Rattle.rb_tracker.specs.Trackers.{view_at};
-ghost use Rattle.rb_node.specs.Sends.{is_news, is_ping, takes_nothing, is_window_full, sending_of, term_or_0, append_of, snapshot_of, snapshot_to, empty_to, entries_to, sends_with, sends, tells, told_all};
+ghost use Rattle.rb_node.specs.Sends.{is_news, is_ping, takes_nothing, is_window_full, sending_of, term_or_0, append_of, snapshot_of, snapshot_to, empty_to, entries_to, sends_with, sends, sent_to_each, append_broadcast};
 ghost use Rattle.rb_node.specs.Node.{posted};
 
 use crate::state::State;
@@ -16,18 +16,18 @@ use rb_raftlog::{Entries, RaftLog, Snapshot};
 use rb_tracker::{Progress, ProgressState};
 use std::alloc::AllocError;
 
-/// Why something is sent.
+/// The reason to send, which decides whether an empty append goes out.
 #[derive(Clone, Copy, PartialEq, Eq, Debug)]
 pub enum SendReason {
-    /// To show how far the log and its commit are, also where there is no entry to send.
+    /// Send the log's end and commit, even without entries.
     Tell,
-    /// To bring entries that were not sent, if there are any.
+    /// Send only if there are new entries.
     News,
-    /// To make a follower answer, also where its window is full.
+    /// Make the follower answer, even if its window is full.
     Ping,
 }
 
-/// What is sent.
+/// The message to send.
 #[derive(Clone, Copy, PartialEq, Eq, Debug)]
 pub enum Sending {
     Nothing,
@@ -35,7 +35,7 @@ pub enum Sending {
     Snapshot,
     /// An append without entries.
     Empty,
-    /// An append with all entries that were not sent.
+    /// An append with all entries that are not sent yet.
     Entries,
 }
 
@@ -76,7 +76,7 @@ fn is_window_full(view: &Progress) -> bool
 }
 
 impl<L: RaftLog> State<L> {
-    // What a follower is sent, by the view of it: the first case that holds.
+    // Decides what to send a follower: the first case that holds.
     fn sending(&self, view: &Progress, mode: SendReason) -> Sending
         ensures { result ≡ sending_of self.now.log view.now mode }
     {
@@ -115,7 +115,7 @@ impl<L: RaftLog> State<L> {
         self.post(to, MessageKind::Append(append))
     }
 
-    /// The node's state as far as it is applied.
+    /// A snapshot of the applied state.
     pub(crate) fn snapshot(&self) -> Result<Snapshot, AllocError>
         ensures value { IfOk result (λ snapshot. snapshot ≡ snapshot_of self.now) }
         ensures within { self.now.applied ≤ MAX_INDEX }
@@ -129,7 +129,7 @@ impl<L: RaftLog> State<L> {
         })
     }
 
-    // The entries from an index on. There are none past the limit.
+    // The entries from an index on. There are none past the limit of indexes.
     fn entries_from(&self, next: u64) -> Result<Entries, AllocError>
         ensures value { IfOk result (λ entries. entries ≡ entries_after self.now.log (next - 1)) }
         ensures within { IfOk result (λ entries. length entries ≤ MAX_INDEX - (next - 1)) }
@@ -181,7 +181,7 @@ impl<L: RaftLog> State<L> {
         }
     }
 
-    // Sends what the view of a node asks for: nothing to itself, and nothing where there is no view.
+    // Sends a node what its view asks for. Sends nothing to itself or to a node without a view.
     #[tactic(auto, unfolding(crate::specs::Sends::sends))]
     pub(crate) fn send(&mut self, to: u64, mode: SendReason) -> Result<(), AllocError>
         ensures { OnOk result (self.new ≡ sends self.old to mode) }
@@ -195,8 +195,8 @@ impl<L: RaftLog> State<L> {
         }
     }
 
-    pub(crate) fn tell(&mut self, ids: &[u64]) -> Result<(), AllocError>
-        ensures { OnOk result (self.new ≡ tells self.old ids.now) }
+    pub(crate) fn send_to_each(&mut self, ids: &[u64]) -> Result<(), AllocError>
+        ensures { OnOk result (self.new ≡ sent_to_each self.old ids.now) }
     {
         for id in ids {
             self.send(*id, SendReason::Tell)?;
@@ -204,12 +204,12 @@ impl<L: RaftLog> State<L> {
         Ok(())
     }
 
-    // Tells all others, each by its view.
-    #[tactic(auto, unfolding(crate::specs::Sends::told_all))]
-    pub(crate) fn tell_all(&mut self) -> Result<(), AllocError>
-        ensures { OnOk result (self.new ≡ told_all self.old) }
+    // Sends an append to every other node, as its view asks for.
+    #[tactic(auto, unfolding(crate::specs::Sends::append_broadcast))]
+    pub(crate) fn broadcast_append(&mut self) -> Result<(), AllocError>
+        ensures { OnOk result (self.new ≡ append_broadcast self.old) }
     {
         let ids = self.tracker.ids()?;
-        self.tell(ids.as_slice())
+        self.send_to_each(ids.as_slice())
     }
 }

@@ -2,7 +2,7 @@
 
 ghost use Rattle.std.specs.Prelude.{◌≡◌, ◌≤◌, IfOk, OnOk};
 ghost use Rattle.rb_raftlog.specs.declared.limits.TheConstants.{MAX_INDEX};
-ghost use Rattle.rb_node.specs.Node.{PlainNode, turn, started, posted, posted_at, answered_with, ignored};
+ghost use Rattle.rb_node.specs.Node.{PlainNode, node_step, started, posted, posted_at, answered_with, ignored};
 
 mod copies;
 
@@ -14,43 +14,43 @@ use rb_tracker::{Config, Tracker, Votes};
 use std::alloc::{AllocError, Global};
 use std::marker::Model;
 
-/// All that a node knows (Ongaro's thesis, figure 3.1, with what etcd's raft adds). The calls of a node change it; others read it.
+/// A node's state (Ongaro's thesis, figure 3.1, and what etcd's raft adds). Only the calls of a node change it.
 #[derive(Drop)]
 pub struct State<L: RaftLog> {
     /// The node's id.
     pub id: u64,
     pub term: u64,
-    /// The node that it voted for in its term, or 0.
+    /// The node that got this node's vote in its term, or 0.
     pub vote: u64,
-    /// The leader that it knows of, or 0.
+    /// The known leader, or 0.
     pub lead: u64,
     pub role: Role,
     pub log: L,
-    /// The last index that it knows to be committed.
+    /// The last index known to be committed.
     pub commit: u64,
-    /// The last index that is applied.
+    /// The last applied index.
     pub applied: u64,
-    /// The applied payloads.
+    /// The applied payloads, joined.
     pub content: Content,
-    /// The configuration, and a leader's views of the members.
+    /// The configuration, and a leader's view of each member.
     pub tracker: Tracker,
-    /// The answers to its campaign.
+    /// The votes in the node's campaign.
     pub votes: Votes,
     pub clock: Clock,
-    /// The node that it hands the lead to, or 0.
+    /// The target of a leadership transfer, or 0.
     pub transferee: u64,
-    /// Up to this index a change may be in its log.
+    /// The last index at which the log may have an unapplied change.
     pub pending_change: u64,
-    /// What was saved last.
+    /// The last saved hard state.
     pub saved: HardState,
-    /// Whether a snapshot was restored that isn't durable.
+    /// Whether a restored snapshot isn't durable yet.
     pub restored: bool,
-    /// Messages that go out with what is ready.
+    /// Messages that go out with the next ready.
     pub sent: Outbox,
-    /// Answers that wait until what they rest on is durable.
+    /// Answers that wait until what they depend on is durable.
     pub waiting: Outbox,
     pub options: Options,
-    /// Where its memory comes from.
+    /// The allocator.
     pub alloc: Global,
 }
 
@@ -85,7 +85,7 @@ impl<L: RaftLog> Model for State<L> {
 }
 
 impl<L: RaftLog> State<L> {
-    /// A node that starts where a snapshot stands: a follower that has heard of nobody, in no term yet.
+    /// Starts a node at a snapshot, as a follower of nobody in term 0.
     pub(crate) fn new(
         alloc: Global,
         id: u64,
@@ -127,14 +127,14 @@ impl<L: RaftLog> State<L> {
         })
     }
 
-    /// Puts a message of the node's term among the sent ones.
+    /// Sends a message of the node's term with the next ready.
     pub(crate) fn post(&mut self, to: u64, kind: MessageKind) -> Result<(), AllocError>
         ensures { OnOk result (self.new ≡ posted self.old to kind) }
     {
         self.post_at(to, self.term, kind)
     }
 
-    /// Puts a message of a term among the sent ones.
+    /// Sends a message of a given term with the next ready.
     pub(crate) fn post_at(
         &mut self,
         to: u64,
@@ -153,7 +153,7 @@ impl<L: RaftLog> State<L> {
         Ok(())
     }
 
-    /// Puts an answer among the waiting ones.
+    /// Sends an answer after the next ready is durable.
     pub(crate) fn answer(&mut self, to: u64, term: u64, kind: MessageKind) -> Result<(), AllocError>
         ensures { OnOk result (self.new ≡ answered_with self.old to term kind) }
     {
@@ -167,14 +167,14 @@ impl<L: RaftLog> State<L> {
         Ok(())
     }
 
-    /// Does nothing with a message, and shows that, and why.
+    /// Ignores a message, and reports why.
     pub(crate) fn ignore(
         &self,
         message: &Message,
         why: WhyIgnored,
         events: &mut Vec<Event>,
     ) -> Result<(), AllocError>
-        ensures { OnOk result (turn self.now events.new.items ≡ ignored (turn self.now events.old.items) message.now why) }
+        ensures { OnOk result (node_step self.now events.new.items ≡ ignored (node_step self.now events.old.items) message.now why) }
     {
         events.push(Event::Ignored {
             id: self.id,

@@ -1,13 +1,13 @@
-//! What a node does with a message.
+//! Stepping a message.
 //!
-//! Three cases of the message's term come first: a later one is taken up, of an earlier one the message is done with, and in the
-//! node's own a table by the node's role says what follows. Requests for votes are answered alike at every role. What the table lacks
-//! is ignored: messages of a broken cluster have their answer too.
+//! A step first compares terms. The node adopts a later term, and handles a message of an earlier term separately. In its own term, a table
+//! by the node's role decides. Vote requests are handled the same in every role. The node ignores every other message, so messages of a
+//! broken cluster are handled too.
 
 ghost use Rattle.std.specs.Prelude.{◌≡◌, OnOk};
 ghost use Rattle.rb_message.specs.declared.event.Event.TheVariants.{DroppedProposal};
 ghost use Rattle.rb_message.specs.declared.event.WhyIgnored.TheVariants.{NoUse};
-ghost use Rattle.rb_node.specs.Node.{turn, told, ignored};
+ghost use Rattle.rb_node.specs.Node.{node_step, with_event, ignored};
 ghost use Rattle.rb_node.specs.Step.{as_follower, leader_followed, as_precandidate, as_candidate, as_leader, by_role, at_term, stepped};
 
 use crate::state::State;
@@ -16,14 +16,14 @@ use rb_raftlog::RaftLog;
 use std::alloc::AllocError;
 
 impl<L: RaftLog> State<L> {
-    /// Takes a message in, which stays the caller's: what is kept of it is shared.
+    /// Steps a message. The message stays the caller's; the node shares what it keeps of it.
     #[tactic(auto, unfolding(crate::specs::Step::stepped))]
     pub(crate) fn step(
         &mut self,
         message: &Message,
         events: &mut Vec<Event>,
     ) -> Result<(), AllocError>
-        ensures { OnOk result (turn self.new events.new.items ≡ stepped (turn self.old events.old.items) message.now) }
+        ensures { OnOk result (node_step self.new events.new.items ≡ stepped (node_step self.old events.old.items) message.now) }
     {
         if !message.kind.has_term() || message.term == self.term {
             return self.step_at_term(message, events);
@@ -31,7 +31,7 @@ impl<L: RaftLog> State<L> {
         if message.term < self.term {
             return self.step_earlier(message, events);
         }
-        if self.is_disturbed_by(&message.kind) {
+        if self.ignores_campaign(&message.kind) {
             return self.ignore(message, WhyIgnored::HearsLeader { lead: self.lead }, events);
         }
         self.step_later(message, events)?;
@@ -39,24 +39,24 @@ impl<L: RaftLog> State<L> {
     }
 
     fn step_at_term(&mut self, message: &Message, events: &mut Vec<Event>) -> Result<(), AllocError>
-        ensures { OnOk result (turn self.new events.new.items ≡ at_term (turn self.old events.old.items) message.now) }
+        ensures { OnOk result (node_step self.new events.new.items ≡ at_term (node_step self.old events.old.items) message.now) }
     {
         match &message.kind {
             MessageKind::Vote {
                 last_term,
                 last_index,
                 ..
-            } => self.answer_vote(message, *last_term, *last_index, events),
+            } => self.handle_vote_request(message, *last_term, *last_index, events),
             MessageKind::PreVote {
                 last_term,
                 last_index,
-            } => self.answer_pre_vote(message, *last_term, *last_index, events),
+            } => self.handle_pre_vote_request(message, *last_term, *last_index, events),
             _ => self.step_by_role(message, events),
         }
     }
 
     fn step_by_role(&mut self, message: &Message, events: &mut Vec<Event>) -> Result<(), AllocError>
-        ensures { OnOk result (turn self.new events.new.items ≡ by_role (turn self.old events.old.items) message.now) }
+        ensures { OnOk result (node_step self.new events.new.items ≡ by_role (node_step self.old events.old.items) message.now) }
     {
         match self.role {
             Role::Follower => self.step_as_follower(message, events),
@@ -66,14 +66,14 @@ impl<L: RaftLog> State<L> {
         }
     }
 
-    // Does nothing with a message that a node in this role has no use for.
-    fn no_use(
+    // Ignores a message that a node in this role doesn't handle.
+    fn ignore_by_role(
         &self,
         role: Role,
         message: &Message,
         events: &mut Vec<Event>,
     ) -> Result<(), AllocError>
-        ensures { OnOk result (turn self.now events.new.items ≡ ignored (turn self.now events.old.items) message.now (NoUse role)) }
+        ensures { OnOk result (node_step self.now events.new.items ≡ ignored (node_step self.now events.old.items) message.now (NoUse role)) }
     {
         self.ignore(message, WhyIgnored::NoUse { role }, events)
     }
@@ -83,47 +83,47 @@ impl<L: RaftLog> State<L> {
         message: &Message,
         events: &mut Vec<Event>,
     ) -> Result<(), AllocError>
-        ensures { OnOk result (turn self.new events.new.items ≡ as_follower message.now.kind (turn self.old events.old.items) message.now) }
+        ensures { OnOk result (node_step self.new events.new.items ≡ as_follower message.now.kind (node_step self.old events.old.items) message.now) }
     {
         let from = message.from;
         match &message.kind {
-            MessageKind::Append(append) => self.take_append(from, append, events),
-            MessageKind::Heartbeat { commit } => self.take_heartbeat(from, *commit),
+            MessageKind::Append(append) => self.handle_append_entries(from, append, events),
+            MessageKind::Heartbeat { commit } => self.handle_heartbeat(from, *commit),
             MessageKind::Snapshot(install) => {
-                self.hear(from);
-                self.take_snapshot(from, install, events)
+                self.record_leader_contact(from);
+                self.handle_snapshot(from, install, events)
             }
             MessageKind::Proposal(body) => {
                 let kind = MessageKind::Proposal(body.try_copy()?);
-                self.pass_proposal(kind, events)
+                self.forward_proposal(kind, events)
             }
             MessageKind::TransferLeader { target } => {
-                self.pass_transfer(
+                self.forward_transfer(
                     MessageKind::TransferLeader { target: *target },
                     message,
                     events,
                 )
             }
             MessageKind::TimeoutNow => self.campaign(true, events),
-            _ => self.no_use(Role::Follower, message, events),
+            _ => self.ignore_by_role(Role::Follower, message, events),
         }
     }
 
-    // Who hears of the leader of its term follows it.
+    // Follows the leader of the node's term, and then handles its message.
     fn follow_leader(
         &mut self,
         message: &Message,
         events: &mut Vec<Event>,
     ) -> Result<(), AllocError>
-        ensures { OnOk result (turn self.new events.new.items ≡ leader_followed (turn self.old events.old.items) message.now) }
+        ensures { OnOk result (node_step self.new events.new.items ≡ leader_followed (node_step self.old events.old.items) message.now) }
     {
         let term = self.term;
-        self.follow(term, message.from, events)?;
+        self.become_follower(term, message.from, events)?;
         self.step_as_follower(message, events)
     }
 
     pub(crate) fn drop_proposal(&self, events: &mut Vec<Event>) -> Result<(), AllocError>
-        ensures { OnOk result (turn self.now events.new.items ≡ told (turn self.now events.old.items) (DroppedProposal self.now.id)) }
+        ensures { OnOk result (node_step self.now events.new.items ≡ with_event (node_step self.now events.old.items) (DroppedProposal self.now.id)) }
     {
         events.push(Event::DroppedProposal { id: self.id })?;
         Ok(())
@@ -134,17 +134,17 @@ impl<L: RaftLog> State<L> {
         message: &Message,
         events: &mut Vec<Event>,
     ) -> Result<(), AllocError>
-        ensures { OnOk result (turn self.new events.new.items ≡ as_precandidate message.now.kind (turn self.old events.old.items) message.now) }
+        ensures { OnOk result (node_step self.new events.new.items ≡ as_precandidate message.now.kind (node_step self.old events.old.items) message.now) }
     {
         match &message.kind {
-            MessageKind::PreVoteResponse { granted } => self.take_pre_vote(
+            MessageKind::PreVoteResponse { granted } => self.handle_pre_vote_response(
                 message, *granted, events,
             ),
             MessageKind::Append(_) | MessageKind::Heartbeat { .. } | MessageKind::Snapshot(_) => {
                 self.follow_leader(message, events)
             }
             MessageKind::Proposal(_) => self.drop_proposal(events),
-            _ => self.no_use(Role::Precandidate, message, events),
+            _ => self.ignore_by_role(Role::Precandidate, message, events),
         }
     }
 
@@ -153,15 +153,15 @@ impl<L: RaftLog> State<L> {
         message: &Message,
         events: &mut Vec<Event>,
     ) -> Result<(), AllocError>
-        ensures { OnOk result (turn self.new events.new.items ≡ as_candidate message.now.kind (turn self.old events.old.items) message.now) }
+        ensures { OnOk result (node_step self.new events.new.items ≡ as_candidate message.now.kind (node_step self.old events.old.items) message.now) }
     {
         match &message.kind {
-            MessageKind::VoteResponse { granted } => self.take_vote(message, *granted, events),
+            MessageKind::VoteResponse { granted } => self.handle_vote_response(message, *granted, events),
             MessageKind::Append(_) | MessageKind::Heartbeat { .. } | MessageKind::Snapshot(_) => {
                 self.follow_leader(message, events)
             }
             MessageKind::Proposal(_) => self.drop_proposal(events),
-            _ => self.no_use(Role::Candidate, message, events),
+            _ => self.ignore_by_role(Role::Candidate, message, events),
         }
     }
 
@@ -170,17 +170,17 @@ impl<L: RaftLog> State<L> {
         message: &Message,
         events: &mut Vec<Event>,
     ) -> Result<(), AllocError>
-        ensures { OnOk result (turn self.new events.new.items ≡ as_leader message.now.kind (turn self.old events.old.items) message.now) }
+        ensures { OnOk result (node_step self.new events.new.items ≡ as_leader message.now.kind (node_step self.old events.old.items) message.now) }
     {
         match &message.kind {
-            MessageKind::Proposal(body) => self.take_proposal(body, events),
-            MessageKind::AppendResponse { matched } => self.accept(message, *matched, events),
-            MessageKind::AppendRefusal { refused, hint } => self.refuse(
+            MessageKind::Proposal(body) => self.handle_proposal(body, events),
+            MessageKind::AppendResponse { matched } => self.handle_append_response(message, *matched, events),
+            MessageKind::AppendRefusal { refused, hint } => self.handle_append_refusal(
                 message, *refused, *hint, events,
             ),
-            MessageKind::HeartbeatResponse => self.take_beat_answer(message, events),
-            MessageKind::TransferLeader { target } => self.transfer_to(message, *target, events),
-            _ => self.no_use(Role::Leader, message, events),
+            MessageKind::HeartbeatResponse => self.handle_heartbeat_response(message, events),
+            MessageKind::TransferLeader { target } => self.handle_transfer_leader(message, *target, events),
+            _ => self.ignore_by_role(Role::Leader, message, events),
         }
     }
 }

@@ -1,11 +1,11 @@
 //! Terms.
 //!
-//! Terms number elections (Ongaro's thesis, section 3.3). A node that hears of a later term takes it up as a follower; what comes of
-//! an earlier one it ignores, but where the sender would never learn of the later term by itself.
+//! Terms number elections (Ongaro's thesis, section 3.3). A node adopts a later term as a follower. It ignores messages of an earlier term,
+//! unless the sender would otherwise never learn of the later one.
 
 ghost use Rattle.std.specs.Prelude.{◌≡◌, OnOk};
-ghost use Rattle.rb_node.specs.Node.{turn};
-ghost use Rattle.rb_node.specs.Terms.{reset, followed, raised, passed_over, refused_vote, shown_term, lowered, hears_leader, is_disturbed_by};
+ghost use Rattle.rb_node.specs.Node.{node_step};
+ghost use Rattle.rb_node.specs.Terms.{reset, became_follower, stepped_later, earlier_term_ignored, refused_vote, term_revealed, stepped_earlier, hears_leader, ignores_campaign};
 
 use crate::clock::Clock;
 use crate::limits::ELECTION_TICKS;
@@ -15,7 +15,7 @@ use rb_raftlog::RaftLog;
 use std::alloc::AllocError;
 
 impl<L: RaftLog> State<L> {
-    // The beginning of a term.
+    // Resets the state for the beginning of a term.
     pub(crate) fn reset(&mut self, term: u64)
         ensures { self.new ≡ reset self.old term }
     {
@@ -31,14 +31,14 @@ impl<L: RaftLog> State<L> {
         self.pending_change = 0;
     }
 
-    /// A follower in a term, of a leader or of none.
-    pub(crate) fn follow(
+    /// Becomes a follower in a term, with or without a known leader.
+    pub(crate) fn become_follower(
         &mut self,
         term: u64,
         lead: u64,
         events: &mut Vec<Event>,
     ) -> Result<(), AllocError>
-        ensures { OnOk result (turn self.new events.new.items ≡ followed (turn self.old events.old.items) term lead) }
+        ensures { OnOk result (node_step self.new events.new.items ≡ became_follower (node_step self.old events.old.items) term lead) }
     {
         self.reset(term);
         self.lead = lead;
@@ -51,27 +51,31 @@ impl<L: RaftLog> State<L> {
         Ok(())
     }
 
-    // Takes a later term up.
+    // Adopts a message's later term.
     pub(crate) fn step_later(
         &mut self,
         message: &Message,
         events: &mut Vec<Event>,
     ) -> Result<(), AllocError>
-        ensures { OnOk result (turn self.new events.new.items ≡ raised (turn self.old events.old.items) message.now) }
+        ensures { OnOk result (node_step self.new events.new.items ≡ stepped_later (node_step self.old events.old.items) message.now) }
     {
         match &message.kind {
             MessageKind::PreVote { .. } => Ok(()),
             MessageKind::PreVoteResponse { granted: true } => Ok(()),
             MessageKind::Append(_) | MessageKind::Heartbeat { .. } | MessageKind::Snapshot(_) => {
-                self.follow(message.term, message.from, events)
+                self.become_follower(message.term, message.from, events)
             }
-            _ => self.follow(message.term, 0, events),
+            _ => self.become_follower(message.term, 0, events),
         }
     }
 
-    // Does nothing with a message of an earlier term.
-    fn pass_over(&self, message: &Message, events: &mut Vec<Event>) -> Result<(), AllocError>
-        ensures { OnOk result (turn self.now events.new.items ≡ passed_over (turn self.now events.old.items) message.now) }
+    // Ignores a message of an earlier term.
+    fn ignore_earlier_term(
+        &self,
+        message: &Message,
+        events: &mut Vec<Event>,
+    ) -> Result<(), AllocError>
+        ensures { OnOk result (node_step self.now events.new.items ≡ earlier_term_ignored (node_step self.now events.old.items) message.now) }
     {
         let why = WhyIgnored::EarlierTerm {
             term: message.term,
@@ -80,14 +84,14 @@ impl<L: RaftLog> State<L> {
         self.ignore(message, why, events)
     }
 
-    /// Shows that a vote is refused, and why.
+    /// Reports why a vote is refused.
     pub(crate) fn refuse_vote(
         &self,
         message: &Message,
         why: WhyRefused,
         events: &mut Vec<Event>,
     ) -> Result<(), AllocError>
-        ensures { OnOk result (turn self.now events.new.items ≡ refused_vote (turn self.now events.old.items) message.now why) }
+        ensures { OnOk result (node_step self.now events.new.items ≡ refused_vote (node_step self.now events.old.items) message.now why) }
     {
         events.push(Event::RefusedVote {
             id: self.id,
@@ -98,9 +102,9 @@ impl<L: RaftLog> State<L> {
         Ok(())
     }
 
-    // Shows a leader of an earlier term that there is a later one, where it may not learn it otherwise.
-    fn show_term(&mut self, message: &Message, events: &mut Vec<Event>) -> Result<(), AllocError>
-        ensures { OnOk result (turn self.new events.new.items ≡ shown_term (turn self.old events.old.items) message.now) }
+    // Answers a leader of an earlier term, so that it learns the later one, if it might not learn it otherwise.
+    fn reveal_term(&mut self, message: &Message, events: &mut Vec<Event>) -> Result<(), AllocError>
+        ensures { OnOk result (node_step self.new events.new.items ≡ term_revealed (node_step self.old events.old.items) message.now) }
     {
         if self.options.pre_vote || self.options.check_quorum {
             return self.answer(
@@ -109,16 +113,16 @@ impl<L: RaftLog> State<L> {
                 MessageKind::AppendResponse { matched: 0 },
             );
         }
-        self.pass_over(message, events)
+        self.ignore_earlier_term(message, events)
     }
 
-    // A message of an earlier term, and nothing more.
+    // Steps a message of an earlier term.
     pub(crate) fn step_earlier(
         &mut self,
         message: &Message,
         events: &mut Vec<Event>,
     ) -> Result<(), AllocError>
-        ensures { OnOk result (turn self.new events.new.items ≡ lowered (turn self.old events.old.items) message.now) }
+        ensures { OnOk result (node_step self.new events.new.items ≡ stepped_earlier (node_step self.old events.old.items) message.now) }
     {
         match &message.kind {
             MessageKind::PreVote { .. } => {
@@ -132,9 +136,9 @@ impl<L: RaftLog> State<L> {
                 self.refuse_vote(message, WhyRefused::EarlierTerm { term, own }, events)
             }
             MessageKind::Append(_) | MessageKind::Heartbeat { .. } => {
-                self.show_term(message, events)
+                self.reveal_term(message, events)
             }
-            _ => self.pass_over(message, events),
+            _ => self.ignore_earlier_term(message, events),
         }
     }
 
@@ -144,9 +148,9 @@ impl<L: RaftLog> State<L> {
         self.options.check_quorum && self.lead != 0 && self.clock.elapsed < ELECTION_TICKS
     }
 
-    // Whether a candidate asks while the leader is heard.
-    pub(crate) fn is_disturbed_by(&self, kind: &MessageKind) -> bool
-        ensures { result ≡ is_disturbed_by kind.now self.now }
+    // Whether the node ignores a vote request because it hears from a leader.
+    pub(crate) fn ignores_campaign(&self, kind: &MessageKind) -> bool
+        ensures { result ≡ ignores_campaign kind.now self.now }
     {
         match kind {
             MessageKind::Vote { transfer, .. } => self.hears_leader() && !*transfer,

@@ -1,13 +1,13 @@
 //! Ticks.
 //!
-//! A node's clock is a count of ticks. A leader sends heartbeats, and with checks of the quorum looks from time to time whether a quorum
-//! hears it; a transfer that takes longer than that is given up. Any other campaigns once it has heard of no leader for its timeout
-//! (Ongaro's thesis, sections 3.4, 3.10 and 6.2).
+//! A node counts ticks. A leader sends heartbeats; with `CheckQuorum` it regularly checks that a quorum answers. It cancels a transfer that
+//! takes longer than that. Any other node campaigns if it hears from no leader for its election timeout (Ongaro's thesis, sections 3.4,
+//! 3.10 and 6.2).
 
 ghost use Rattle.std.specs.Prelude.{◌≡◌, OnOk};
-ghost use Rattle.rb_node.specs.Node.{turn};
+ghost use Rattle.rb_node.specs.Node.{node_step};
 ghost use Rattle.rb_node.specs.declared.limits.TheConstants.{MAX_TICKS, HEARTBEAT_TICKS};
-ghost use Rattle.rb_node.specs.Ticking.{counted, heartbeats_due, quorum_looked_at, other_ticked, ticked};
+ghost use Rattle.rb_node.specs.Ticking.{next_count, due_heartbeats_sent, active_quorum_checked, non_leader_ticked, ticked};
 
 use crate::limits::{ELECTION_TICKS, HEARTBEAT_TICKS, MAX_TICKS};
 use crate::node::Node;
@@ -16,17 +16,17 @@ use rb_message::{Event, MessageKind, Role};
 use rb_raftlog::RaftLog;
 use std::alloc::AllocError;
 
-// A counter, one tick later.
-fn counted(count: u64) -> u64
-    ensures { result ≡ counted count }
+// The counter after one more tick.
+fn next_count(count: u64) -> u64
+    ensures { result ≡ next_count count }
 {
     count.saturating_add(1).min(MAX_TICKS)
 }
 
-// Heartbeats to all others with a view, where they are due. None has more of the commit than the other is known to hold.
-#[tactic(auto, unfolding(crate::specs::Ticking::heartbeats_due))]
-fn beat_if_due<L: RaftLog>(state: &mut State<L>) -> Result<(), AllocError>
-    ensures { OnOk result (state.new ≡ heartbeats_due state.old) }
+// Sends due heartbeats to all other members. A heartbeat's commit is at most the index that the receiver is known to hold.
+#[tactic(auto, unfolding(crate::specs::Ticking::due_heartbeats_sent))]
+fn send_due_heartbeats<L: RaftLog>(state: &mut State<L>) -> Result<(), AllocError>
+    ensures { OnOk result (state.new ≡ due_heartbeats_sent state.old) }
 {
     if state.clock.heartbeat_elapsed < HEARTBEAT_TICKS {
         return Ok(());
@@ -42,33 +42,33 @@ fn beat_if_due<L: RaftLog>(state: &mut State<L>) -> Result<(), AllocError>
     Ok(())
 }
 
-// A leader looks whether a quorum heard it. Whom it hears from now on counts at its next look.
-#[tactic(auto, unfolding(crate::specs::Ticking::quorum_looked_at))]
-fn look_at_quorum<L: RaftLog>(
+// Checks that a quorum was active since the last check, and starts the next count. If none was, the leader steps down.
+#[tactic(auto, unfolding(crate::specs::Ticking::active_quorum_checked))]
+fn check_active_quorum<L: RaftLog>(
     state: &mut State<L>,
     events: &mut Vec<Event>,
 ) -> Result<(), AllocError>
-    ensures { OnOk result (turn state.new events.new.items ≡ quorum_looked_at (turn state.old events.old.items)) }
+    ensures { OnOk result (node_step state.new events.new.items ≡ active_quorum_checked (node_step state.old events.old.items)) }
 {
     if state.options.check_quorum && !state.tracker.quorum_active() {
         events.push(Event::LostQuorum { id: state.id })?;
         let term = state.term;
-        return state.follow(term, 0, events);
+        return state.become_follower(term, 0, events);
     }
     if state.options.check_quorum {
         let id = state.id;
-        state.tracker.unmark(id);
+        state.tracker.mark_others_inactive(id);
     }
     state.end_transfer(events)?;
-    beat_if_due(state)
+    send_due_heartbeats(state)
 }
 
-// A voter that heard of no leader for its timeout campaigns.
-#[tactic(auto, unfolding(crate::specs::Ticking::other_ticked))]
-fn tick_other<L: RaftLog>(state: &mut State<L>, events: &mut Vec<Event>) -> Result<(), AllocError>
-    ensures { OnOk result (turn state.new events.new.items ≡ other_ticked (turn state.old events.old.items)) }
+// Ticks a node that doesn't lead. A voter campaigns once its election timeout has passed.
+#[tactic(auto, unfolding(crate::specs::Ticking::non_leader_ticked))]
+fn tick_non_leader<L: RaftLog>(state: &mut State<L>, events: &mut Vec<Event>) -> Result<(), AllocError>
+    ensures { OnOk result (node_step state.new events.new.items ≡ non_leader_ticked (node_step state.old events.old.items)) }
 {
-    state.clock.elapsed = counted(state.clock.elapsed);
+    state.clock.elapsed = next_count(state.clock.elapsed);
     if state.tracker.config().is_voter(state.id) && state.clock.timeout <= state.clock.elapsed {
         state.clock.elapsed = 0;
         return state.campaign(false, events);
@@ -77,25 +77,25 @@ fn tick_other<L: RaftLog>(state: &mut State<L>, events: &mut Vec<Event>) -> Resu
 }
 
 impl<L: RaftLog> Node<L> {
-    /// One tick of the node's clock.
+    /// Ticks the node once.
     #[tactic(auto, unfolding(crate::specs::Ticking::leader_ticked))]
     pub fn tick(&mut self, events: &mut Vec<Event>) -> Result<(), AllocError>
-        ensures { OnOk result (turn self.new events.new.items ≡ ticked (turn self.old events.old.items)) }
+        ensures { OnOk result (node_step self.new events.new.items ≡ ticked (node_step self.old events.old.items)) }
     {
         let state = &mut self.state;
         match state.role {
             Role::Leader => {}
             Role::Follower | Role::Precandidate | Role::Candidate => {
-                return tick_other(state, events);
+                return tick_non_leader(state, events);
             }
         }
-        // A leader sends heartbeats, or looks at its quorum first where it is time for that.
-        state.clock.elapsed = counted(state.clock.elapsed);
-        state.clock.heartbeat_elapsed = counted(state.clock.heartbeat_elapsed);
+        // A leader sends due heartbeats, after a due check of its quorum.
+        state.clock.elapsed = next_count(state.clock.elapsed);
+        state.clock.heartbeat_elapsed = next_count(state.clock.heartbeat_elapsed);
         if state.clock.elapsed < ELECTION_TICKS {
-            return beat_if_due(state);
+            return send_due_heartbeats(state);
         }
         state.clock.elapsed = 0;
-        look_at_quorum(state, events)
+        check_active_quorum(state, events)
     }
 }

@@ -1,11 +1,11 @@
-//! Handing the lead over.
+//! Leadership transfers.
 //!
-//! A leader brings another voter up to its own log and then asks it to campaign at once (Ongaro's thesis, section 3.10). Meanwhile it
-//! takes no proposals.
+//! A leader brings another voter's log up to date and then asks it to campaign at once (Ongaro's thesis, section 3.10). Meanwhile the
+//! leader drops proposals.
 
 ghost use Rattle.std.specs.Prelude.{◌≡◌, OnOk};
-ghost use Rattle.rb_node.specs.Node.{turn};
-ghost use Rattle.rb_node.specs.Transferring.{cannot_take_lead, why_no_transfer, older_ended, urged, transfer_started, transferred, transfer_ended};
+ghost use Rattle.rb_node.specs.Node.{node_step};
+ghost use Rattle.rb_node.specs.Transferring.{cannot_take_lead, why_no_transfer, previous_transfer_ended, timeout_now_sent, transfer_started, transfer_leader_handled, transfer_ended};
 
 use crate::sends::SendReason;
 use crate::state::State;
@@ -20,7 +20,7 @@ impl<L: RaftLog> State<L> {
         !self.tracker.config().is_voter(target) || target == self.id || target == self.transferee
     }
 
-    // Why not, where it can't.
+    // The first reason to refuse a transfer to a node.
     fn why_no_transfer(&self, target: u64) -> WhyIgnored
         ensures { result ≡ why_no_transfer self.now target }
     {
@@ -33,8 +33,8 @@ impl<L: RaftLog> State<L> {
         WhyIgnored::IsUnderWay { target }
     }
 
-    fn end_older(&self, events: &mut Vec<Event>) -> Result<(), AllocError>
-        ensures { OnOk result (turn self.now events.new.items ≡ older_ended (turn self.now events.old.items)) }
+    fn end_previous_transfer(&self, events: &mut Vec<Event>) -> Result<(), AllocError>
+        ensures { OnOk result (node_step self.now events.new.items ≡ previous_transfer_ended (node_step self.now events.old.items)) }
     {
         if self.transferee != 0 {
             events.push(Event::TransferEnds {
@@ -45,9 +45,9 @@ impl<L: RaftLog> State<L> {
         Ok(())
     }
 
-    // One that holds all campaigns at once, one that lags gets what it lacks.
-    fn urge(&mut self, target: u64) -> Result<(), AllocError>
-        ensures { OnOk result (self.new ≡ urged self.old target) }
+    // Sends TimeoutNow to a target that holds the whole log. Sends entries to one that lags.
+    fn send_timeout_now(&mut self, target: u64) -> Result<(), AllocError>
+        ensures { OnOk result (self.new ≡ timeout_now_sent self.old target) }
     {
         if self.tracker.match_of(target) == self.log.last_index() {
             return self.post(target, MessageKind::TimeoutNow);
@@ -56,7 +56,7 @@ impl<L: RaftLog> State<L> {
     }
 
     fn start_transfer(&mut self, target: u64, events: &mut Vec<Event>) -> Result<(), AllocError>
-        ensures { OnOk result (turn self.new events.new.items ≡ transfer_started (turn self.old events.old.items) target) }
+        ensures { OnOk result (node_step self.new events.new.items ≡ transfer_started (node_step self.old events.old.items) target) }
     {
         events.push(Event::TransferStarts {
             id: self.id,
@@ -64,30 +64,30 @@ impl<L: RaftLog> State<L> {
         })?;
         self.clock.elapsed = 0;
         self.transferee = target;
-        self.urge(target)
+        self.send_timeout_now(target)
     }
 
-    // A leader is asked to hand the lead over.
-    #[tactic(auto, unfolding(crate::specs::Transferring::transferred))]
-    pub(crate) fn transfer_to(
+    // Handles a request to transfer leadership.
+    #[tactic(auto, unfolding(crate::specs::Transferring::transfer_leader_handled))]
+    pub(crate) fn handle_transfer_leader(
         &mut self,
         message: &Message,
         target: u64,
         events: &mut Vec<Event>,
     ) -> Result<(), AllocError>
-        ensures { OnOk result (turn self.new events.new.items ≡ transferred (turn self.old events.old.items) message.now target) }
+        ensures { OnOk result (node_step self.new events.new.items ≡ transfer_leader_handled (node_step self.old events.old.items) message.now target) }
     {
         if self.cannot_take_lead(target) {
             return self.ignore(message, self.why_no_transfer(target), events);
         }
-        self.end_older(events)?;
+        self.end_previous_transfer(events)?;
         self.start_transfer(target, events)
     }
 
-    /// Gives a transfer up, if there is one.
+    /// Cancels the transfer, if there is one.
     #[tactic(auto, unfolding(crate::specs::Transferring::transfer_ended))]
     pub(crate) fn end_transfer(&mut self, events: &mut Vec<Event>) -> Result<(), AllocError>
-        ensures { OnOk result (turn self.new events.new.items ≡ transfer_ended (turn self.old events.old.items)) }
+        ensures { OnOk result (node_step self.new events.new.items ≡ transfer_ended (node_step self.old events.old.items)) }
     {
         if self.transferee != 0 {
             events.push(Event::TransferEnds {

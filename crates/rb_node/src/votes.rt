@@ -1,11 +1,11 @@
 //! Votes.
 //!
-//! A node gives one vote a term, to the first that asks with a log as up to date as its own (Ongaro's thesis, sections 3.4 and 3.6.1),
-//! and the answer waits until the vote is durable. A candidate counts the first answer of each voter.
+//! A node grants one vote a term, to the first candidate whose log is as up to date as its own (Ongaro's thesis, sections 3.4 and 3.6.1).
+//! The response waits until the vote is durable. A candidate counts the first response of each voter.
 
 ghost use Rattle.std.specs.Prelude.{◌≡◌, OnOk, IfOk, true, false};
-ghost use Rattle.rb_node.specs.Node.{turn};
-ghost use Rattle.rb_node.specs.Votes.{can_vote_for, grants, why_refused, vote_answered, pre_vote_answered, count_of, counted, vote_taken, pre_vote_taken};
+ghost use Rattle.rb_node.specs.Node.{node_step};
+ghost use Rattle.rb_node.specs.Votes.{can_vote_for, grants, why_refused, vote_request_handled, pre_vote_request_handled, count_of, vote_counted, vote_response_handled, pre_vote_response_handled};
 
 use crate::state::State;
 use rb_message::{Event, Message, MessageKind, WhyRefused};
@@ -28,7 +28,7 @@ impl<L: RaftLog> State<L> {
         self.can_vote_for(message, pre_vote) && self.log.is_up_to_date(last_index, last_term)
     }
 
-    // Why a vote that isn't granted is refused.
+    // The reason why a vote is refused.
     fn why_refused(
         &self,
         message: &Message,
@@ -58,15 +58,15 @@ impl<L: RaftLog> State<L> {
         }
     }
 
-    // Answers a candidate.
-    pub(crate) fn answer_vote(
+    // Handles a vote request.
+    pub(crate) fn handle_vote_request(
         &mut self,
         message: &Message,
         last_term: u64,
         last_index: u64,
         events: &mut Vec<Event>,
     ) -> Result<(), AllocError>
-        ensures { OnOk result (turn self.new events.new.items ≡ vote_answered (turn self.old events.old.items) message.now last_term last_index) }
+        ensures { OnOk result (node_step self.new events.new.items ≡ vote_request_handled (node_step self.old events.old.items) message.now last_term last_index) }
     {
         if self.grants(message, last_term, last_index, false) {
             self.vote = message.from;
@@ -86,15 +86,15 @@ impl<L: RaftLog> State<L> {
         self.refuse_vote(message, why, events)
     }
 
-    // Answers a precandidate.
-    pub(crate) fn answer_pre_vote(
+    // Handles a pre-vote request.
+    pub(crate) fn handle_pre_vote_request(
         &mut self,
         message: &Message,
         last_term: u64,
         last_index: u64,
         events: &mut Vec<Event>,
     ) -> Result<(), AllocError>
-        ensures { OnOk result (turn self.new events.new.items ≡ pre_vote_answered (turn self.old events.old.items) message.now last_term last_index) }
+        ensures { OnOk result (node_step self.new events.new.items ≡ pre_vote_request_handled (node_step self.old events.old.items) message.now last_term last_index) }
     {
         if self.grants(message, last_term, last_index, true) {
             return self.answer(
@@ -112,14 +112,14 @@ impl<L: RaftLog> State<L> {
         self.refuse_vote(message, why, events)
     }
 
-    // Counts an answer, the first of each sender.
+    // Counts a vote response, the first of each sender.
     fn count_vote(
         &mut self,
         message: &Message,
         granted: bool,
         events: &mut Vec<Event>,
     ) -> Result<VoteResult, AllocError>
-        ensures turn { OnOk result (turn self.new events.new.items ≡ counted (turn self.old events.old.items) message.now granted) }
+        ensures node_step { OnOk result (node_step self.new events.new.items ≡ vote_counted (node_step self.old events.old.items) message.now granted) }
         ensures result { IfOk result (λ count. count ≡ count_of self.old message.now.from granted) }
     {
         self.votes.answer(message.from, granted)?;
@@ -134,40 +134,40 @@ impl<L: RaftLog> State<L> {
         Ok(result)
     }
 
-    // An answer to a candidate.
-    pub(crate) fn take_vote(
+    // Handles a vote response.
+    pub(crate) fn handle_vote_response(
         &mut self,
         message: &Message,
         granted: bool,
         events: &mut Vec<Event>,
     ) -> Result<(), AllocError>
-        ensures { OnOk result (turn self.new events.new.items ≡ vote_taken (turn self.old events.old.items) message.now granted) }
+        ensures { OnOk result (node_step self.new events.new.items ≡ vote_response_handled (node_step self.old events.old.items) message.now granted) }
     {
         match self.count_vote(message, granted, events)? {
             VoteResult::Won => self.become_leader(events),
             VoteResult::Pending => Ok(()),
             VoteResult::Lost => {
                 let term = self.term;
-                self.follow(term, 0, events)
+                self.become_follower(term, 0, events)
             }
         }
     }
 
-    // An answer to a precandidate.
-    pub(crate) fn take_pre_vote(
+    // Handles a pre-vote response.
+    pub(crate) fn handle_pre_vote_response(
         &mut self,
         message: &Message,
         granted: bool,
         events: &mut Vec<Event>,
     ) -> Result<(), AllocError>
-        ensures { OnOk result (turn self.new events.new.items ≡ pre_vote_taken (turn self.old events.old.items) message.now granted) }
+        ensures { OnOk result (node_step self.new events.new.items ≡ pre_vote_response_handled (node_step self.old events.old.items) message.now granted) }
     {
         match self.count_vote(message, granted, events)? {
             VoteResult::Won => self.campaign_after_pre_vote(events),
             VoteResult::Pending => Ok(()),
             VoteResult::Lost => {
                 let term = self.term;
-                self.follow(term, 0, events)
+                self.become_follower(term, 0, events)
             }
         }
     }

@@ -21,9 +21,9 @@ use Rattle.rb_message.specs.declared.message.Message.{Message}
 use Rattle.rb_message.specs.declared.role.Role.{Role}
 use Rattle.rb_message.specs.declared.role.Role.TheVariants as role
 use Rattle.rb_message.specs.declared.event.WhyIgnored.TheVariants.{HearsLeader}
-use Rattle.rb_node.specs.Node.{PlainNode, Turn, with_node, ignored}
-use Rattle.rb_node.specs.Terms.{followed, raised, raised_by, lowered, lowered_by, shown_term, answers_earlier, is_disturbed_by}
-use Rattle.rb_node.specs.Following.{after_log, with_appended, append_taken}
+use Rattle.rb_node.specs.Node.{PlainNode, NodeStep, with_node, ignored}
+use Rattle.rb_node.specs.Terms.{became_follower, stepped_later, stepped_later_by, stepped_earlier, stepped_earlier_by, term_revealed, answers_earlier, ignores_campaign}
+use Rattle.rb_node.specs.Following.{after_log, with_appended, append_entries_handled}
 use Rattle.rb_node.specs.Step.{as_follower, leader_followed, as_precandidate, as_candidate, as_leader, by_role_of, at_term_by, at_term, stepped}
 use Rattle.rb_node_laws.specs.Sound.{IsSound}
 use Rattle.rb_node_laws.specs.Words.{HasEntries, IsAnswered}
@@ -87,23 +87,23 @@ LogOf old commit append new = (new ≡ old) ⊎ (new ≡ appended old append.pre
 abbrev Taken : LogValue → ℕ → List Message → ℕ → PlainAppend → PlainNode → Type 0
 Taken old commit before from append new = LogOf old commit append new.log × ((new.waiting ≡ before) ⊎ IsAnswered before from append new)
 
-after_taken : (a : Appended) (t : Turn) (from : ℕ) (append : PlainAppend) → answer t.node.log append.prev append.prev_term append.entries t.node.commit ≡ a → t.node.commit ≤ last t.node.log → Taken t.node.log t.node.commit t.node.waiting from append (after_log a (with_node t (with_appended t.node from append)) from append).node
+after_taken : (a : Appended) (t : NodeStep) (from : ℕ) (append : PlainAppend) → answer t.node.log append.prev append.prev_term append.entries t.node.commit ≡ a → t.node.commit ≤ last t.node.log → Taken t.node.log t.node.commit t.node.waiting from append (after_log a (with_node t (with_appended t.node from append)) from append).node
 after_taken (Matched i) t from append says within =
     (let low = answer_within t.node.log append t.node.commit i says in
     (inr refl, inr (record { answer = kind.AppendResponse i; waits = refl; tells = (omega (arith, low), answer_has t.node.log append t.node.commit i within says) })))
 after_taken (Refused hint) t from append says within = (inr refl, inr (record { answer = kind.AppendRefusal append.prev hint; waits = refl; tells = tt }))
 after_taken (BelowCommit i) t from append says within = (inr refl, inl refl)
 
-taken : (t : Turn) (from : ℕ) (append : PlainAppend) → t.node.commit ≤ last t.node.log → Taken t.node.log t.node.commit t.node.waiting from append (append_taken t from append).node
-unfolding append_taken
+taken : (t : NodeStep) (from : ℕ) (append : PlainAppend) → t.node.commit ≤ last t.node.log → Taken t.node.log t.node.commit t.node.waiting from append (append_entries_handled t from append).node
+unfolding append_entries_handled
 taken t from append within = after_taken (answer t.node.log append.prev append.prev_term append.entries t.node.commit) t from append refl within
 
-given_taken : (t : Turn) (m : Message) (append : PlainAppend) → m.kind ≡ kind.Append append → t.node.commit ≤ last t.node.log → Taken t.node.log t.node.commit t.node.waiting m.from append (leader_followed t m).node
+given_taken : (t : NodeStep) (m : Message) (append : PlainAppend) → m.kind ≡ kind.Append append → t.node.commit ≤ last t.node.log → Taken t.node.log t.node.commit t.node.waiting m.from append (leader_followed t m).node
 given_taken t m append asks within =
-    let u = followed t t.node.term m.from in
+    let u = became_follower t t.node.term m.from in
     subst (λ (k : MessageKind). Taken t.node.log t.node.commit t.node.waiting m.from append (as_follower k u m).node) (sym asks) (taken u m.from append within)
 
-role_taken : (r : Role) (t : Turn) (m : Message) (append : PlainAppend) → m.kind ≡ kind.Append append → t.node.commit ≤ last t.node.log → Taken t.node.log t.node.commit t.node.waiting m.from append (by_role_of r t m).node
+role_taken : (r : Role) (t : NodeStep) (m : Message) (append : PlainAppend) → m.kind ≡ kind.Append append → t.node.commit ≤ last t.node.log → Taken t.node.log t.node.commit t.node.waiting m.from append (by_role_of r t m).node
 role_taken role.Follower t m append asks within =
     subst (λ (k : MessageKind). Taken t.node.log t.node.commit t.node.waiting m.from append (as_follower k t m).node) (sym asks) (taken t m.from append within)
 role_taken role.Precandidate t m append asks within =
@@ -113,36 +113,36 @@ role_taken role.Candidate t m append asks within =
 role_taken role.Leader t m append asks within =
     subst (λ (k : MessageKind). Taken t.node.log t.node.commit t.node.waiting m.from append (as_leader k t m).node) (sym asks) (inl refl, inl refl)
 
-term_taken : (t : Turn) (m : Message) (append : PlainAppend) → m.kind ≡ kind.Append append → t.node.commit ≤ last t.node.log → Taken t.node.log t.node.commit t.node.waiting m.from append (at_term t m).node
+term_taken : (t : NodeStep) (m : Message) (append : PlainAppend) → m.kind ≡ kind.Append append → t.node.commit ≤ last t.node.log → Taken t.node.log t.node.commit t.node.waiting m.from append (at_term t m).node
 term_taken t m append asks within =
     subst (λ (k : MessageKind). Taken t.node.log t.node.commit t.node.waiting m.from append (at_term_by k t m).node) (sym asks) (role_taken t.node.role t m append asks within)
 
 -- one of an earlier term may be answered with 0, below which there are no entries
-shown_taken : (t : Turn) (m : Message) (append : PlainAppend) → Taken t.node.log t.node.commit t.node.waiting m.from append (shown_term t m).node
+shown_taken : (t : NodeStep) (m : Message) (append : PlainAppend) → Taken t.node.log t.node.commit t.node.waiting m.from append (term_revealed t m).node
 shown_taken t m append =
-    if_both (λ (u : Turn). Taken t.node.log t.node.commit t.node.waiting m.from append u.node) (answers_earlier t.node) _ _
+    if_both (λ (u : NodeStep). Taken t.node.log t.node.commit t.node.waiting m.from append u.node) (answers_earlier t.node) _ _
     (λ _. (inl refl, inr (record { answer = kind.AppendResponse 0; waits = refl; tells = (omega arith, λ k e is low above. absurd (omega (arith, low))) })))
     (λ _. (inl refl, inl refl))
 
-raised_taken : (t : Turn) (m : Message) (append : PlainAppend) → m.kind ≡ kind.Append append → t.node.commit ≤ last t.node.log → Taken t.node.log t.node.commit t.node.waiting m.from append (at_term (raised t m) m).node
+raised_taken : (t : NodeStep) (m : Message) (append : PlainAppend) → m.kind ≡ kind.Append append → t.node.commit ≤ last t.node.log → Taken t.node.log t.node.commit t.node.waiting m.from append (at_term (stepped_later t m) m).node
 raised_taken t m append asks within =
-    subst (λ (k : MessageKind). Taken t.node.log t.node.commit t.node.waiting m.from append (at_term (raised_by k t m) m).node) (sym asks)
-    (term_taken (followed t m.term m.from) m append asks within)
+    subst (λ (k : MessageKind). Taken t.node.log t.node.commit t.node.waiting m.from append (at_term (stepped_later_by k t m) m).node) (sym asks)
+    (term_taken (became_follower t m.term m.from) m append asks within)
 
-stepped_taken : (t : Turn) (m : Message) (append : PlainAppend) → m.kind ≡ kind.Append append → t.node.commit ≤ last t.node.log → Taken t.node.log t.node.commit t.node.waiting m.from append (stepped t m).node
+stepped_taken : (t : NodeStep) (m : Message) (append : PlainAppend) → m.kind ≡ kind.Append append → t.node.commit ≤ last t.node.log → Taken t.node.log t.node.commit t.node.waiting m.from append (stepped t m).node
 unfolding stepped
 stepped_taken t m append asks within =
-    let P : Turn → Type 0 = λ u. Taken t.node.log t.node.commit t.node.waiting m.from append u.node in
+    let P : NodeStep → Type 0 = λ u. Taken t.node.log t.node.commit t.node.waiting m.from append u.node in
     if_both P (not (has_term m.kind) || m.term == t.node.term) (at_term t m)
-    (if nat_lt m.term t.node.term then lowered t m else (if is_disturbed_by m.kind t.node then ignored t m (HearsLeader t.node.lead) else at_term (raised t m) m))
+    (if nat_lt m.term t.node.term then stepped_earlier t m else (if ignores_campaign m.kind t.node then ignored t m (HearsLeader t.node.lead) else at_term (stepped_later t m) m))
     (λ _. term_taken t m append asks within)
-    (λ _. if_both P (nat_lt m.term t.node.term) (lowered t m) (if is_disturbed_by m.kind t.node then ignored t m (HearsLeader t.node.lead) else at_term (raised t m) m)
-    (λ _. subst (λ (k : MessageKind). Taken t.node.log t.node.commit t.node.waiting m.from append (lowered_by k t m).node) (sym asks) (shown_taken t m append))
-    (λ _. if_both P (is_disturbed_by m.kind t.node) (ignored t m (HearsLeader t.node.lead)) (at_term (raised t m) m)
+    (λ _. if_both P (nat_lt m.term t.node.term) (stepped_earlier t m) (if ignores_campaign m.kind t.node then ignored t m (HearsLeader t.node.lead) else at_term (stepped_later t m) m)
+    (λ _. subst (λ (k : MessageKind). Taken t.node.log t.node.commit t.node.waiting m.from append (stepped_earlier_by k t m).node) (sym asks) (shown_taken t m append))
+    (λ _. if_both P (ignores_campaign m.kind t.node) (ignored t m (HearsLeader t.node.lead)) (at_term (stepped_later t m) m)
     (λ _. (inl refl, inl refl))
     (λ _. raised_taken t m append asks within)))
 
-pub appends_answered : (t : Turn) (m : Message) (append : PlainAppend) → IsSound t.node → m.kind ≡ kind.Append append → ((stepped t m).node.waiting ≡ t.node.waiting) ⊎ IsAnswered t.node.waiting m.from append (stepped t m).node
+pub appends_answered : (t : NodeStep) (m : Message) (append : PlainAppend) → IsSound t.node → m.kind ≡ kind.Append append → ((stepped t m).node.waiting ≡ t.node.waiting) ⊎ IsAnswered t.node.waiting m.from append (stepped t m).node
 appends_answered t m append s asks = (stepped_taken t m append asks s.is_held).1
 
 -- ---- logs that match
@@ -157,6 +157,6 @@ still_matches leader old new commit append matching at of is =
       | inr more ↦ subst (AreMatching leader) (sym more) (appended-matches leader old leader append.prev append.prev_term commit append.entries matching (self_matches leader) (either_way leader old matching) at of)
     ]
 
-pub appends_match : (t : Turn) (m : Message) (append : PlainAppend) (leader : LogValue) → IsSound t.node → m.kind ≡ kind.Append append → AreMatching leader t.node.log → term_at leader append.prev ≡ Ok append.prev_term → AreOfLog leader append.prev append.entries → AreMatching leader (stepped t m).node.log
+pub appends_match : (t : NodeStep) (m : Message) (append : PlainAppend) (leader : LogValue) → IsSound t.node → m.kind ≡ kind.Append append → AreMatching leader t.node.log → term_at leader append.prev ≡ Ok append.prev_term → AreOfLog leader append.prev append.entries → AreMatching leader (stepped t m).node.log
 appends_match t m append leader s asks matching at of =
     still_matches leader t.node.log (stepped t m).node.log t.node.commit append matching at of (stepped_taken t m append asks s.is_held).0

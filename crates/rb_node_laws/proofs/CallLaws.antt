@@ -4,7 +4,7 @@ use Rattle.rb_raftlog.specs.Log.{compacted, term_at, LogValue, compact_fault}
 use Rattle.rb_raftlog.specs.declared.raft_log.CompactFault.{CompactFault}
 use Rattle.rb_raftlog.specs.declared.raft_log.CompactFault.TheVariants.{AlreadyCompacted, PastApplied, OutOfMemory}
 use Rattle.rb_node.specs.Calls.{IsCompactedTo}
-use Rattle.rb_node.specs.Node.{Turn, PlainNode}
+use Rattle.rb_node.specs.Node.{NodeStep, PlainNode}
 use Rattle.rb_node_laws.specs.Calling.{Call, after, run, compacted_unless, compacted_to}
 use Rattle.rb_node_laws.specs.Sound.{IsSound}
 use Rattle.rb_node_laws.proofs.CallWays.{ways, called_way}
@@ -12,10 +12,10 @@ use Rattle.rb_node_laws.proofs.Goes.{Keeps, core, anyone, self, and_then, anyhow
 use Rattle.rb_node_laws.proofs.MoveLaws.{calls_keep}
 use Rattle.rb_node_laws.proofs.Moves.{over, Allows, CallMove}
 
-pub calls : (c : Call) (t : Turn) → Keeps (ways c t) (core t.node) (core (after c t).node)
+pub calls : (c : Call) (t : NodeStep) → Keeps (ways c t) (core t.node) (core (after c t).node)
 calls c t = record { goes = λ o. (over (calls_keep o) (called_way c t (λ s. s))).goes o }
 
-pub runs : (cs : List Call) (t : Turn) → Keeps anyone (core t.node) (core (run cs t).node)
+pub runs : (cs : List Call) (t : NodeStep) → Keeps anyone (core t.node) (core (run cs t).node)
 runs [] t = self (core t.node)
 runs (c ∷ cs) t = and_then (anyhow (calls c t)) (runs cs (after c t))
 
@@ -25,10 +25,10 @@ pub record Carried (R : PlainNode → PlainNode → Type 0) : Type 1 where
   pub under : (a b : PlainNode) → (IsSound a → R a b) → R a b
   pub moves : {sound : Type 0} {w : Ways} → sound → Allows (CallMove sound w) R
 
-pub over_call : {R : PlainNode → PlainNode → Type 0} → Carried R → (c : Call) (t : Turn) → R t.node (after c t).node
+pub over_call : {R : PlainNode → PlainNode → Type 0} → Carried R → (c : Call) (t : NodeStep) → R t.node (after c t).node
 over_call p c t = p.under t.node (after c t).node (λ s. over (p.moves s) (called_way c t (λ o. o)))
 
-pub over_calls : {R : PlainNode → PlainNode → Type 0} → Carried R → (cs : List Call) (t : Turn) → R t.node (run cs t).node
+pub over_calls : {R : PlainNode → PlainNode → Type 0} → Carried R → (cs : List Call) (t : NodeStep) → R t.node (run cs t).node
 over_calls p [] t = p.under t.node t.node (λ s. (p.moves {w = anyone} s).nothing t.node)
 over_calls p (c ∷ cs) t =
     p.under t.node (run (c ∷ cs) t).node (λ s.

@@ -10,9 +10,9 @@ use Rattle.rb_raftlog.specs.declared.entry.Body.{Body}
 use Rattle.rb_raftlog.specs.declared.entry.Body.TheVariants.{Payload, Change}
 use Rattle.rb_raftlog.specs.declared.entry.Entry.{Entry}
 use Rattle.rb_raftlog.specs.declared.raft_log.CompactFault.{CompactFault}
-use Rattle.rb_change.specs.declared.change.Transition.{Transition}
-use Rattle.rb_change.specs.declared.change.Transition.TheVariants.{Auto}
-use Rattle.rb_change.specs.declared.change.Word.{Word}
+use Rattle.rb_vocab.specs.declared.change.Transition.{Transition}
+use Rattle.rb_vocab.specs.declared.change.Transition.TheVariants.{Auto}
+use Rattle.rb_vocab.specs.declared.change.Word.{Word}
 use Rattle.rb_tracker.proofs.SetLaws.{if_both}
 use Rattle.rb_tracker.specs.Changes.{changed}
 use Rattle.rb_tracker.specs.Commits.{commit_of, match_of}
@@ -30,13 +30,13 @@ use Rattle.rb_message.specs.declared.role.Role.TheVariants as role
 use Rattle.rb_node.proofs.Between.{between_sizes}
 use Rattle.rb_node.specs.Calls.{forgotten_by, reported_with, unreachable, reported_at, reported}
 use Rattle.rb_node.specs.Campaigns.{campaigned}
-use Rattle.rb_node.specs.Changing.{stranger_given_up, revised, without_strangers, missing, switched, steps_down, change_applied, body_applied, applied_one, applied_all, joint_left, leaves_joint}
+use Rattle.rb_node.specs.Changing.{transfer_to_non_member_cancelled, views_updated, without_views, missing, switched, steps_down, change_applied, body_applied, applied_one, applied_all, joint_left, leaves_joint}
 use Rattle.rb_node.specs.Leading.{appended_change}
-use Rattle.rb_node.specs.Node.{Turn, with_node, is_leader, PlainNode, told, message, with_heartbeat_elapsed, with_elapsed, with_timeout}
-use Rattle.rb_node.specs.Readying.{own_stepped, applying, saved, advanced}
+use Rattle.rb_node.specs.Node.{NodeStep, with_node, is_leader, PlainNode, with_event, message, with_heartbeat_elapsed, with_elapsed, with_timeout}
+use Rattle.rb_node.specs.Readying.{own_answers_stepped, applying, saved, advanced}
 use Rattle.rb_node.specs.Step.{stepped}
-use Rattle.rb_node.specs.Terms.{followed}
-use Rattle.rb_node.specs.Ticking.{beat_to, beat_each, heartbeats_due, looked_anew, quorum_looked_at, has_lost_quorum, leader_ticked, counted_up, other_ticked, counted as counted_tick, is_due, ticked_by}
+use Rattle.rb_node.specs.Terms.{became_follower}
+use Rattle.rb_node.specs.Ticking.{heartbeat_sent_to, heartbeat_sent_to_each, due_heartbeats_sent, activity_reset, active_quorum_checked, has_lost_quorum, leader_ticked, counters_advanced, non_leader_ticked, next_count as counted_tick, is_due, ticked_by}
 use Rattle.rb_node.specs.Transferring.{transfer_ended}
 use Rattle.rb_node.specs.declared.limits.TheConstants.{HEARTBEAT_TICKS, ELECTION_TICKS}
 use Rattle.rb_node_laws.specs.Calling.{Call, Step, Advance, compacted_unless, after, Campaign, Propose, Transfer, Tick, ForgetLeader, ReportUnreachable, SetTimeout, Compact}
@@ -54,15 +54,15 @@ use Rattle.rb_node_laws.proofs.TellWays.{checked_way}
 
 -- ---- a change that takes effect
 
-given_up_way : (t : Turn) → Path TellMove t (stranger_given_up t)
+given_up_way : (t : NodeStep) → Path TellMove t (transfer_to_non_member_cancelled t)
 given_up_way t = if_both (Path TellMove t) (is_member t.node.tracker.config t.node.transferee) _ _ (λ _. nothing_done t) (λ _. transfer_ended_way t)
 
-pub revised_way : (t : Turn) → Path TellMove (with_node t (with_members t.node)) (revised t)
-unfolding revised
+pub revised_way : (t : NodeStep) → Path TellMove (with_node t (with_members t.node)) (views_updated t)
+unfolding views_updated
 revised_way t =
-    let u : Turn = with_node t (with_members t.node) in
-    let left = without_strangers t.node (ids_of t.node.tracker.views) in
-    Onward (given_up_way u) (Goes_on (stranger_given_up u) (checked_way (stranger_given_up u).node (missing left.tracker.views (members left.tracker.config))))
+    let u : NodeStep = with_node t (with_members t.node) in
+    let left = without_views t.node (ids_of t.node.tracker.views) in
+    Onward (given_up_way u) (Goes_on (transfer_to_non_member_cancelled u) (checked_way (transfer_to_non_member_cancelled u).node (missing left.tracker.views (members left.tracker.config))))
 
 pub leader_of : (r : Role) → is_leader r ≡ true → r ≡ role.Leader
 leader_of role.Follower e = cc
@@ -74,27 +74,27 @@ pub follower_of : (r : Role) → is_leader r ≡ false → r ≡ role.Leader →
 follower_of r follows leads = let is : is_leader r ≡ true = ap is_leader leads in cc
 
 -- first the configuration becomes another, and then its leader tells
-pub record Changes (t u : Turn) : Type 0 where
+pub record Changes (t u : NodeStep) : Type 0 where
   pub to : PlainNode
   pub first : ChangeMove t.node to
   pub next : Path TellMove (with_node t to) u
 
-switched_way : (r : Result Config ChangeFault) (t : Turn) → Changes t (switched r t)
+switched_way : (r : Result Config ChangeFault) (t : NodeStep) → Changes t (switched r t)
 switched_way (Ok c) t =
     let n = t.node in
     let shown : Event = Switched n.id c in
     let x : PlainNode = in_config n c in
-    let u : Turn = told (with_node t x) shown in
+    let u : NodeStep = with_event (with_node t x) shown in
     let down : PlainNode = following x n.term 0 in
     let on : PlainNode = with_members x in
-    if_both (Changes t) (is_leader n.role) (if steps_down u.node then followed u u.node.term 0 else revised u) u
-    (λ leads. if_both (Changes t) (steps_down u.node) (followed u u.node.term 0) (revised u)
-    (λ _. record { to = down; first = Resigns n c; next = Onward (Shows (with_node t down) shown) (Shows (told (with_node t down) shown) _) })
+    if_both (Changes t) (is_leader n.role) (if steps_down u.node then became_follower u u.node.term 0 else views_updated u) u
+    (λ leads. if_both (Changes t) (steps_down u.node) (became_follower u u.node.term 0) (views_updated u)
+    (λ _. record { to = down; first = Resigns n c; next = Onward (Shows (with_node t down) shown) (Shows (with_event (with_node t down) shown) _) })
     (λ _. record { to = on; first = Revises n c (leader_of n.role leads); next = Onward (Shows (with_node t on) shown) (revised_way u) }))
     (λ follows. record { to = x; first = Configures n c (follower_of n.role follows); next = Shows (with_node t x) shown })
 switched_way (Err fault) t = record { to = t.node; first = Unchanged t.node; next = Shows t _ }
 
-pub change_way : (t : Turn) (transition : Transition) (words : List Word) → Changes t (change_applied t transition words)
+pub change_way : (t : NodeStep) (transition : Transition) (words : List Word) → Changes t (change_applied t transition words)
 unfolding change_applied
 change_way t transition words = switched_way (changed t.node.tracker.config transition words) t
 
@@ -115,7 +115,7 @@ pub record Leaves (a b : PlainNode) : Type 0 where
 
 pub with_members_only : (n : PlainNode) → with_members n ≡ viewing n (with_members n).tracker.views
 with_members_only n =
-    let left = without_strangers n (ids_of n.tracker.views) in
+    let left = without_views n (ids_of n.tracker.views) in
     with_views_only left (missing left.tracker.views (members left.tracker.config)) true
     ∙ ap (λ (y : PlainNode). viewing y (with_members n).tracker.views) (strangers_only n (ids_of n.tracker.views))
 
@@ -140,31 +140,31 @@ leaves_then a b c p q = record { same = q.same ∙ p.same; commit = omega (arith
 leaves : Allows TellMove Leaves
 leaves = record { nothing = λ n. leaves_same refl; chain = leaves_then; each = λ a b m. telling_leaves m }
 
-pub changed_leaves : {t u : Turn} → Changes t u → Leaves t.node u.node
+pub changed_leaves : {t u : NodeStep} → Changes t u → Leaves t.node u.node
 changed_leaves {t} {u} c = leaves_then t.node c.to u.node (change_leaves c.first) (over leaves c.next)
 
 -- ---- entries
 
-stepping : {sound : Type 0} {w : Ways} {t u : Turn} → Path (StepMove w) t u → Path (CallMove sound w) t u
+stepping : {sound : Type 0} {w : Ways} {t u : NodeStep} → Path (StepMove w) t u → Path (CallMove sound w) t u
 stepping x = wider_path (λ a b m. CallSteps m) x
 
-body_way : {sound : Type 0} {w : Ways} (body : Body) (t : Turn) (i : ℕ) (e : Entry) → e.body ≡ body → (sound → IsNext t.node i e) → (All ChangesNothing t.node.log.entries → is_change body ≡ false)
+body_way : {sound : Type 0} {w : Ways} (body : Body) (t : NodeStep) (i : ℕ) (e : Entry) → e.body ≡ body → (sound → IsNext t.node i e) → (All ChangesNothing t.node.log.entries → is_change body ≡ false)
     → Path (CallMove sound w) t (body_applied body (with_node t (record t.node { applied = i })))
 body_way (Payload bytes) t i e is next plain = Goes_on t (One (Fills t.node i e bytes is next))
 body_way (Change transition words) t i e is next plain =
-    (let u : Turn = with_node t (record t.node { applied = i }) in
+    (let u : NodeStep = with_node t (record t.node { applied = i }) in
     let c = change_way u transition words in
     Onward (Goes_on t (One (Applies t.node i e transition words is next)))
     (Onward (Goes_on u (One (CallChanges c.first (λ all. false≢true (sym (plain all)))))) (stepping (telling_path c.next))))
 
 -- an entry brings applied to its index, and leaves the log
-pub record Brought (t u : Turn) (i : ℕ) : Type 0 where
+pub record Brought (t u : NodeStep) (i : ℕ) : Type 0 where
   pub id : u.node.id ≡ t.node.id
   pub log : u.node.log ≡ t.node.log
   pub applied : u.node.applied ≡ i
   pub commit : t.node.commit ≤ u.node.commit
 
-body_brought : (body : Body) (t : Turn) → Brought t (body_applied body t) t.node.applied
+body_brought : (body : Body) (t : NodeStep) → Brought t (body_applied body t) t.node.applied
 body_brought (Payload bytes) t = record { id = refl; log = refl; applied = refl; commit = omega arith }
 body_brought (Change transition words) t =
     (let l = changed_leaves (change_way t transition words) in
@@ -175,7 +175,7 @@ body_brought (Change transition words) t =
       commit = l.commit;
     })
 
-pub one_brought : (t : Turn) (i : ℕ) (e : Entry) → Brought t (applied_one t i e) i
+pub one_brought : (t : NodeStep) (i : ℕ) (e : Entry) → Brought t (applied_one t i e) i
 one_brought t i e =
     (let b = body_brought e.body (with_node t (record t.node { applied = i })) in record { id = b.id; log = b.log; applied = b.applied; commit = b.commit })
 
@@ -184,12 +184,12 @@ abbrev Follow : LogValue → ℕ → List Entry → Type 0
 Follow v i es = (k : ℕ) (e : Entry) → slice_get es k ≡ Some e → entry_at v (i + 1 + k) ≡ Ok e
 
 -- the entries that were committed and durable take effect
-all_way : {sound : Type 0} {w : Ways} (t : Turn) (i : ℕ) (es : List Entry)
+all_way : {sound : Type 0} {w : Ways} (t : NodeStep) (i : ℕ) (es : List Entry)
     → (sound → (t.node.applied ≡ i) × (i + length es ≤ t.node.commit) × (i + length es ≤ t.node.log.durable) × Follow t.node.log i es)
     → (All ChangesNothing t.node.log.entries → All ChangesNothing es) → Path (CallMove sound w) t (applied_all t i es)
 all_way t i [] known plain = Goes_on t (One (CallSteps (StepTells (Idle t.node t.node refl))))
 all_way {sound} {w} t i (e ∷ es) known plain =
-    let u : Turn = applied_one t (i + 1) e in
+    let u : NodeStep = applied_one t (i + 1) e in
     let b = one_brought t (i + 1) e in
     let at = b.applied in
     let up = b.commit in
@@ -213,7 +213,7 @@ first_two true true c d e h = (refl, refl)
 first_two true false c d e h = absurd (false≢true h)
 first_two false b c d e h = absurd (false≢true h)
 
-pub left_way : {w : Ways} (t : Turn) → Path (StepMove w) t (joint_left t)
+pub left_way : {w : Ways} (t : NodeStep) → Path (StepMove w) t (joint_left t)
 unfolding joint_left
 left_way {w} t =
     let n = t.node in
@@ -225,61 +225,61 @@ left_way {w} t =
 
 -- ---- ticks
 
-beat_way : (n : PlainNode) (id : ℕ) → Way TellMove n (beat_to n id)
+beat_way : (n : PlainNode) (id : ℕ) → Way TellMove n (heartbeat_sent_to n id)
 beat_way n id =
     if_both (Way TellMove n) (id == n.id) _ _ (λ _. One (Idle n n refl))
     (λ no. One (Sent n (message n.id id n.term (kind.Heartbeat (min (match_of n.tracker.views id) n.commit)))
     tt (λ _. (refl, (refl, different id n.id no, omega arith, omega arith)))))
 
-beat_each_way : (n : PlainNode) (ids : List ℕ) → Way TellMove n (beat_each n ids)
-beat_each_way n [] = One (Idle n n refl)
-beat_each_way n (id ∷ ids) = Then (beat_way n id) (beat_each_way (beat_to n id) ids)
+heartbeat_sent_to_each_way : (n : PlainNode) (ids : List ℕ) → Way TellMove n (heartbeat_sent_to_each n ids)
+heartbeat_sent_to_each_way n [] = One (Idle n n refl)
+heartbeat_sent_to_each_way n (id ∷ ids) = Then (beat_way n id) (heartbeat_sent_to_each_way (heartbeat_sent_to n id) ids)
 
-beats_due_way : (t : Turn) → Path TellMove t (with_node t (heartbeats_due t.node))
-unfolding heartbeats_due
+beats_due_way : (t : NodeStep) → Path TellMove t (with_node t (due_heartbeats_sent t.node))
+unfolding due_heartbeats_sent
 beats_due_way t =
     let n : PlainNode = with_heartbeat_elapsed t.node 0 in
     if_both (λ (x : PlainNode). Path TellMove t (with_node t x)) (nat_le HEARTBEAT_TICKS t.node.clock.heartbeat_elapsed) _ _
-    (λ _. Goes_on t (Then {b = n} (One (Idle t.node n refl)) (beat_each_way n (ids_of t.node.tracker.views)))) (λ _. nothing_done t)
+    (λ _. Goes_on t (Then {b = n} (One (Idle t.node n refl)) (heartbeat_sent_to_each_way n (ids_of t.node.tracker.views)))) (λ _. nothing_done t)
 
-looked_way : {sound : Type 0} {w : Ways} (t : Turn) → Path (CallMove sound w) t (with_node t (looked_anew t.node))
+looked_way : {sound : Type 0} {w : Ways} (t : NodeStep) → Path (CallMove sound w) t (with_node t (activity_reset t.node))
 looked_way {sound} {w} t =
     if_both (λ (x : PlainNode). Path (CallMove sound w) t (with_node t x)) t.node.options.check_quorum _ _
     (λ _. Goes_on t (One (Unmarks t.node))) (λ _. stepping (telling_path (nothing_done t)))
 
-quorum_way : {sound : Type 0} {w : Ways} (t : Turn) → Path (CallMove sound w) t (quorum_looked_at t)
-unfolding quorum_looked_at
+quorum_way : {sound : Type 0} {w : Ways} (t : NodeStep) → Path (CallMove sound w) t (active_quorum_checked t)
+unfolding active_quorum_checked
 quorum_way {sound} {w} t =
     let n = t.node in
-    let lost : Turn = told t (LostQuorum n.id) in
-    let u : Turn = with_node t (looked_anew n) in
+    let lost : NodeStep = with_event t (LostQuorum n.id) in
+    let u : NodeStep = with_node t (activity_reset n) in
     if_both (Path (CallMove sound w) t) (has_lost_quorum n) _ _
     (λ _. Onward (Shows t _) (Onward (Goes_on lost (One (Gives_up n))) (Shows (with_node lost (following n n.term 0)) _)))
     (λ _. Onward (looked_way t) (stepping (telling_path (Onward (transfer_ended_way u) (beats_due_way (transfer_ended u))))))
 
 -- the clocks go on
-clocked : {sound : Type 0} {w : Ways} (t : Turn) (n : PlainNode) → whole n ≡ whole t.node → Path (CallMove sound w) t (with_node t n)
+clocked : {sound : Type 0} {w : Ways} (t : NodeStep) (n : PlainNode) → whole n ≡ whole t.node → Path (CallMove sound w) t (with_node t n)
 clocked t n same = Goes_on t (One (CallSteps (StepTells (Idle t.node n same))))
 
-leader_ticked_way : {sound : Type 0} {w : Ways} (t : Turn) → Path (CallMove sound w) t (leader_ticked t)
+leader_ticked_way : {sound : Type 0} {w : Ways} (t : NodeStep) → Path (CallMove sound w) t (leader_ticked t)
 unfolding leader_ticked
 leader_ticked_way {sound} {w} t =
-    let u : Turn = with_node t (counted_up t.node) in
+    let u : NodeStep = with_node t (counters_advanced t.node) in
     let n : PlainNode = with_elapsed u.node 0 in
     Onward (clocked t u.node refl)
     (if_both (Path (CallMove sound w) u) (nat_le ELECTION_TICKS u.node.clock.elapsed) _ _
     (λ _. Onward (clocked u n refl) (quorum_way (with_node u n))) (λ _. stepping (telling_path (beats_due_way u))))
 
-other_ticked_way : {sound : Type 0} {w : Ways} (t : Turn) → Path (CallMove sound w) t (other_ticked t)
-unfolding other_ticked
+other_ticked_way : {sound : Type 0} {w : Ways} (t : NodeStep) → Path (CallMove sound w) t (non_leader_ticked t)
+unfolding non_leader_ticked
 other_ticked_way {sound} {w} t =
-    let u : Turn = with_node t (with_elapsed t.node (counted_tick t.node.clock.elapsed)) in
-    let v : Turn = with_node u (with_elapsed u.node 0) in
+    let u : NodeStep = with_node t (with_elapsed t.node (counted_tick t.node.clock.elapsed)) in
+    let v : NodeStep = with_node u (with_elapsed u.node 0) in
     Onward (clocked t u.node refl)
     (if_both (Path (CallMove sound w) u) (is_due u.node) (campaigned v false) u
     (λ _. Onward (clocked u v.node refl) (stepping (campaigned_way v false))) (λ _. stepping (telling_path (nothing_done u))))
 
-ticked_way : {sound : Type 0} {w : Ways} (r : Role) (t : Turn) → Path (CallMove sound w) t (ticked_by r t)
+ticked_way : {sound : Type 0} {w : Ways} (r : Role) (t : NodeStep) → Path (CallMove sound w) t (ticked_by r t)
 ticked_way role.Follower t = other_ticked_way t
 ticked_way role.Precandidate t = other_ticked_way t
 ticked_way role.Candidate t = other_ticked_way t
@@ -288,18 +288,18 @@ ticked_way role.Leader t = leader_ticked_way t
 -- ---- what is ready is done
 
 -- one of a node's own answers says to it, while it leads in a term, what a member holds
-abbrev pub OwnTells : ℕ → Turn → List Message → ℕ → ℕ → ℕ → Type 0
+abbrev pub OwnTells : ℕ → NodeStep → List Message → ℕ → ℕ → ℕ → Type 0
 OwnTells id t [] term from i = ⊥
 OwnTells id t (m ∷ ms) term from i =
     ((m.to ≡ id) × (term ≡ t.node.term) × (from ≡ m.from) × IsAccepted t.node m i) ⊎ OwnTells id (if m.to == id then stepped t m else t) ms term from i
 
-pub own_way : {w : Ways} (id : ℕ) (t : Turn) (ms : List Message) → All (λ (m : Message). m.to ≡ id → w.came m) ms
+pub own_way : {w : Ways} (id : ℕ) (t : NodeStep) (ms : List Message) → All (λ (m : Message). m.to ≡ id → w.came m) ms
     → ((v n : ℕ) → OwnGrants id t ms v n → w.given v n) → ((n : ℕ) → OwnElects id t ms n → w.elected n)
-    → ((term from i : ℕ) → OwnTells id t ms term from i → w.matched term from i) → Path (StepMove w) t (own_stepped id t ms)
+    → ((term from i : ℕ) → OwnTells id t ms term from i → w.matched term from i) → Path (StepMove w) t (own_answers_stepped id t ms)
 own_way id t [] came grant elect accept = telling_path (nothing_done t)
 own_way {w} id t (m ∷ ms) came grant elect accept =
     let P : Message → Type 0 = λ x. x.to ≡ id → w.came x in
-    let next : Turn = if m.to == id then stepped t m else t in
+    let next : NodeStep = if m.to == id then stepped t m else t in
     Onward
     (if_both (Path (StepMove w) t) (m.to == id) (stepped t m) t
     (λ own. (let to = eqb-true m.to id own in
@@ -318,36 +318,36 @@ ready_within n o =
     (omega (arith, sizes, base, known, held), omega (arith, sizes, base, known, held))
 
 -- the votes, elections, answers and messages of the call alone
-abbrev pub Accepted : Call → Turn → ℕ → ℕ → ℕ → Type 0
+abbrev pub Accepted : Call → NodeStep → ℕ → ℕ → ℕ → Type 0
 Accepted (Step m) t term from i = (term ≡ t.node.term) × (from ≡ m.from) × IsAccepted t.node m i
 Accepted Advance t term from i = OwnTells t.node.id (own_turn t) t.node.waiting term from i
 Accepted _ t term from i = ⊥
 
-abbrev pub Comes : Call → Turn → Message → Type 0
+abbrev pub Comes : Call → NodeStep → Message → Type 0
 Comes (Step m) t x = x ≡ m
 Comes (Propose body) t x = x ≡ message t.node.id t.node.id 0 (kind.Proposal body)
 Comes (Transfer to) t x = x ≡ message t.node.id t.node.id 0 (kind.TransferLeader to)
 Comes Advance t x = Contains t.node.waiting x × (x.to ≡ t.node.id)
 Comes _ t x = ⊥
 
-abbrev pub ways : Call → Turn → Ways
+abbrev pub ways : Call → NodeStep → Ways
 ways c t = record { given = Granted c t; elected = Elected c t; matched = Accepted c t; came = Comes c t }
 
 -- from what is saved to the turn in which the node takes its own answers in
-pub ready_way : {sound : Type 0} {w : Ways} (t : Turn) → (sound → IsSound t.node) → Path (CallMove sound w) (with_node t (saved t.node)) (own_turn t)
+pub ready_way : {sound : Type 0} {w : Ways} (t : NodeStep) → (sound → IsSound t.node) → Path (CallMove sound w) (with_node t (saved t.node)) (own_turn t)
 ready_way t known =
     let n = t.node in
-    let u : Turn = with_node t (saved n) in
+    let u : NodeStep = with_node t (saved n) in
     Onward (all_way u n.applied (applying n) (λ s. (let o = known s in let within = ready_within n o in (refl, within.0, within.1, λ k e is. (between-entries n.log n.applied n.commit k e o.past_base is).0)))
     (λ all. All-drop ChangesNothing (n.applied - n.log.base) _ (All-take ChangesNothing (n.commit - n.log.base) n.log.entries all)))
     (stepping (left_way (applied_all u n.applied (applying n))))
 
-own_come : (t : Turn) → All (λ (m : Message). m.to ≡ t.node.id → Comes Advance t m) t.node.waiting
+own_come : (t : NodeStep) → All (λ (m : Message). m.to ≡ t.node.id → Comes Advance t m) t.node.waiting
 own_come t =
     let ms = t.node.waiting in
     All-weaker (Contains ms) (λ (m : Message). m.to ≡ t.node.id → Comes Advance t m) (λ m among to. (among, to)) ms (All-contains_itself ms)
 
-advanced_way : {sound : Type 0} (t : Turn) → (sound → IsSound t.node) → Path (CallMove sound (ways Advance t)) t (advanced t)
+advanced_way : {sound : Type 0} (t : NodeStep) → (sound → IsSound t.node) → Path (CallMove sound (ways Advance t)) t (advanced t)
 unfolding advanced
 advanced_way t known =
     Onward (Goes_on t (One (Saves t.node known)))
@@ -377,7 +377,7 @@ compacted_way : {sound : Type 0} {w : Ways} (o : Option CompactFault) (n : Plain
 compacted_way (Some fault) n i is = One (CallSteps (StepTells (Idle n n refl)))
 compacted_way None n i is = One (Compacts n i is)
 
-pub called_way : {sound : Type 0} (c : Call) (t : Turn) → (sound → IsSound t.node) → Path (CallMove sound (ways c t)) t (after c t)
+pub called_way : {sound : Type 0} (c : Call) (t : NodeStep) → (sound → IsSound t.node) → Path (CallMove sound (ways c t)) t (after c t)
 called_way (Step m) t known = stepping (stepped_way t m refl (λ g. (refl, refl, g)) (λ e. (refl, e)) (λ i a. (refl, refl, a)))
 called_way Campaign t known = stepping (campaigned_way t false)
 called_way (Propose body) t known =

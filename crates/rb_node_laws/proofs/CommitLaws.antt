@@ -2,8 +2,8 @@
 use Rattle.std.proofs.Common.{ℕ, ◌≡◌, ◌⊎◌, true, inl, inr, ◌∙◌, subst, sym, ◌≤◌, nat_le, arith, Some, refl, ap, List}
 use Rattle.std.proofs.lemmas.Bool.{leb-true, le-leb}
 use Rattle.indexmap.specs.Layout.{set_value_at}
-use Rattle.rb_change.specs.declared.change.Transition.{Transition}
-use Rattle.rb_change.specs.declared.change.Word.{Word}
+use Rattle.rb_vocab.specs.declared.change.Transition.{Transition}
+use Rattle.rb_vocab.specs.declared.change.Word.{Word}
 use Rattle.rb_tracker.proofs.CommitLaws.{commit_is_held}
 use Rattle.rb_tracker.proofs.VoteLaws.{both_more}
 use Rattle.rb_tracker.specs.Commits.{is_held, match_of, holds}
@@ -13,8 +13,8 @@ use Rattle.rb_message.specs.declared.message.Message.{Message}
 use Rattle.rb_message.specs.declared.role.Role.{Role}
 use Rattle.rb_message.specs.declared.role.Role.TheVariants as role
 use Rattle.rb_node.specs.Changing.{change_applied}
-use Rattle.rb_node.specs.Node.{PlainNode, Turn}
-use Rattle.rb_node.specs.Sends.{viewed}
+use Rattle.rb_node.specs.Node.{PlainNode, NodeStep}
+use Rattle.rb_node.specs.Sends.{with_view_at}
 use Rattle.rb_node.specs.Step.{stepped}
 use Rattle.rb_node_laws.specs.Calling.{Call, run}
 use Rattle.rb_node_laws.specs.Matches.{IsHeldBetween}
@@ -84,7 +84,7 @@ acked_more n at from i view here is up id =
 telling_lasts : {a b : PlainNode} → TellMove a b → Lasts a b
 telling_lasts (Idle a b e) = lasts_still a b (ap (λ (x : Whole). x.core.commit) e) (λ i held. subst (λ (x : Whole). is_held x.tracker i ≡ true) (sym e) held)
 telling_lasts (Viewed n at view new is same sound) =
-    lasts_still n (viewed n at new) refl
+    lasts_still n (with_view_at n at new) refl
     (view_holds n.tracker at new (λ id. (let e = same_match n.tracker.views at view new id is same in omega (arith, e))))
 telling_lasts (Commits n can) = record { moves = inr (commit_is_held n.tracker); holds_on = λ i held. held }
 telling_lasts (Sent n m own says) = lasts_still n (with_sent n m) refl (λ i held. held)
@@ -111,7 +111,7 @@ step_leads (Takes n from append is came) leads same = absurd (no_leader n.role i
 step_leads (Learns n i is up held why) leads same = absurd (no_leader n.role is leads)
 step_leads (Restores n s is past came other) leads same = absurd (no_leader n.role is leads)
 step_leads (Acks n at from i view role_is here is up said) leads same =
-    (leads, lasts_still n (viewed n at (acked view i)) refl (view_holds n.tracker at (acked view i) (acked_more n at from i view here is up)))
+    (leads, lasts_still n (with_view_at n at (acked view i)) refl (view_holds n.tracker at (acked view i) (acked_more n at from i view here is up)))
 step_leads _ leads same = (leads, record { moves = inl refl; holds_on = λ i held. held })
 
 leading_on : Allows (StepMove anyone) Leading
@@ -128,7 +128,7 @@ leading_on = record {
   each = λ a b m. record { keeps = step_keeps m; holds = λ s leads same. step_leads m leads same };
 }
 
-pub stepped_commits : (t : Turn) (m : Message) → IsSound t.node → t.node.role ≡ role.Leader → (stepped t m).node.term ≡ t.node.term
+pub stepped_commits : (t : NodeStep) (m : Message) → IsSound t.node → t.node.role ≡ role.Leader → (stepped t m).node.term ≡ t.node.term
     → CommitHolds t.node.commit (stepped t m).node
 stepped_commits t m sound leads same = ((over leading_on (stepped_way t m tt (λ _. tt) (λ _. tt) (λ _ _. tt))).holds sound leads same).1.moves
 
@@ -138,7 +138,7 @@ change_commit : {a b : PlainNode} → ChangeMove a b → b.commit ≡ a.commit
 change_commit (Revises n c leads) = ap (λ (x : PlainNode). x.commit) (with_members_only (in_config n c))
 change_commit _ = refl
 
-pub change_commits : (t : Turn) (transition : Transition) (words : List Word) → CommitHolds t.node.commit (change_applied t transition words).node
+pub change_commits : (t : NodeStep) (transition : Transition) (words : List Word) → CommitHolds t.node.commit (change_applied t transition words).node
 change_commits t transition words =
     let c = change_way t transition words in
     subst (λ (i : ℕ). CommitHolds i (change_applied t transition words).node) (change_commit c.first) (over lasting c.next).moves
@@ -215,7 +215,7 @@ moving = record {
 later : (a b : PlainNode) → Goes anyone (core a) (core b) → IsLater a b
 later a b g = record { id = g.id; term = g.term; commit = g.commit; leads_on = g.own }
 
-pub run_commits : (cs : List Call) (t : Turn) → IsSound t.node → t.node.role ≡ role.Leader → (run cs t).node.role ≡ role.Leader → (run cs t).node.term ≡ t.node.term → ((run cs t).node.commit ≡ t.node.commit) ⊎ IsHeldBetween t.node (run cs t).node
+pub run_commits : (cs : List Call) (t : NodeStep) → IsSound t.node → t.node.role ≡ role.Leader → (run cs t).node.role ≡ role.Leader → (run cs t).node.term ≡ t.node.term → ((run cs t).node.commit ≡ t.node.commit) ⊎ IsHeldBetween t.node (run cs t).node
 run_commits cs t s first end e =
     let b = (run cs t).node in
     elim ((over_calls moving cs t).held s first end e) as (λ _. (b.commit ≡ t.node.commit) ⊎ IsHeldBetween t.node b) [

@@ -10,8 +10,8 @@ use Rattle.rb_message.specs.declared.kind.MessageKind.TheVariants as kind
 use Rattle.rb_message.specs.declared.message.Message.{Message}
 use Rattle.rb_message.specs.declared.role.Role.{Role}
 use Rattle.rb_message.specs.declared.role.Role.TheVariants as role
-use Rattle.rb_node.specs.Node.{PlainNode, Turn}
-use Rattle.rb_node.specs.Readying.{saved, own_stepped, advanced}
+use Rattle.rb_node.specs.Node.{PlainNode, NodeStep}
+use Rattle.rb_node.specs.Readying.{saved, own_answers_stepped, advanced}
 use Rattle.rb_node.specs.Step.{stepped}
 use Rattle.rb_node_laws.specs.Calling.{Call, run, after, Step, Advance}
 use Rattle.rb_node_laws.specs.Elections.{own_turn}
@@ -97,7 +97,7 @@ under_owns a b f = record { goes_on = record { goes = λ s. (f s).goes_on.goes s
 pub owns : Says Owns
 owns = record { chain = chain_owns; under = under_owns; silent = silent_owns; send = send_owns; wait = wait_owns; save = save_owns }
 
-pub run_owns : (cs : List Call) (t : Turn) → IsSound t.node → HasOwnAnswers t.node → HasOwnAnswers (run cs t).node
+pub run_owns : (cs : List Call) (t : NodeStep) → IsSound t.node → HasOwnAnswers t.node → HasOwnAnswers (run cs t).node
 run_owns cs t = (run_says owns cs t).keeps
 
 -- ---- what holds before and after each call
@@ -108,7 +108,7 @@ pub record Counts (n : PlainNode) : Type 0 where
   pub members : HasViewsOfMembers n
   pub answers : HasOwnAnswers n
 
-counts_after : (c : Call) (t : Turn) → Counts t.node → Counts (after c t).node
+counts_after : (c : Call) (t : NodeStep) → Counts t.node → Counts (after c t).node
 counts_after c t is = record {
   sound = ((calls c t).goes is.sound).ordered;
   views = (called_views c t).views is.sound is.views;
@@ -136,15 +136,15 @@ durable_after : (a b : PlainNode) (ms : List Message) → Goes anyone (core a) (
 durable_after a b ms g are =
     All-weaker (IsDurableAnswer a) (IsDurableAnswer b) (λ m is. kept_answer a b a.log.durable b.log.durable m g (λ grown. grown.written) is) ms are
 
-own_goes : (id : ℕ) (t : Turn) (ms : List Message) → IsSound t.node → Goes anyone (core t.node) (core (own_stepped id t ms).node)
+own_goes : (id : ℕ) (t : NodeStep) (ms : List Message) → IsSound t.node → Goes anyone (core t.node) (core (own_answers_stepped id t ms).node)
 own_goes id t ms s = (over (steps_keep {w = anyone}) (own_way id t ms (λ _ _ _ _. tt) (λ _ _ _. tt) (λ _ _. tt) (λ _ _ _ _. tt))).goes s
 
 -- what one of them says is durable as long as the node leads on
-own_durable : (id : ℕ) (t : Turn) (ms : List Message) (term from i : ℕ) → IsSound t.node → All (IsDurableAnswer t.node) ms → OwnTells id t ms term from i
-    → (own_stepped id t ms).node.role ≡ role.Leader → (own_stepped id t ms).node.term ≡ term → i ≤ (own_stepped id t ms).node.log.durable
+own_durable : (id : ℕ) (t : NodeStep) (ms : List Message) (term from i : ℕ) → IsSound t.node → All (IsDurableAnswer t.node) ms → OwnTells id t ms term from i
+    → (own_answers_stepped id t ms).node.role ≡ role.Leader → (own_answers_stepped id t ms).node.term ≡ term → i ≤ (own_answers_stepped id t ms).node.log.durable
 own_durable id t [] term from i s are told leads at = absurd told
 own_durable id t (m ∷ ms) term from i s are told leads at =
-    let end = (own_stepped id t (m ∷ ms)).node in
+    let end = (own_answers_stepped id t (m ∷ ms)).node in
     elim told as (λ _. i ≤ end.log.durable) [
       | inl here ↦
           let a = here.3 in
@@ -154,12 +154,12 @@ own_durable id t (m ∷ ms) term from i s are told leads at =
           let more = grown.written in
           omega (arith, low, at_most, more)
       | inr later ↦
-          let next : Turn = if m.to == id then stepped t m else t in
+          let next : NodeStep = if m.to == id then stepped t m else t in
           let g : Goes anyone (core t.node) (core next.node) = own_goes id t (m ∷ []) s in
           own_durable id next ms term from i g.ordered (durable_after t.node next.node ms g (All-tail (IsDurableAnswer t.node) m ms are)) later leads at
     ]
 
-advanced_durable : (t : Turn) (term from i : ℕ) → Counts t.node → OwnTells t.node.id (own_turn t) t.node.waiting term from i
+advanced_durable : (t : NodeStep) (term from i : ℕ) → Counts t.node → OwnTells t.node.id (own_turn t) t.node.waiting term from i
     → (advanced t).node.role ≡ role.Leader → (advanced t).node.term ≡ term → i ≤ (advanced t).node.log.durable
 unfolding advanced
 advanced_durable t term from i is told leads at =
@@ -172,13 +172,13 @@ advanced_durable t term from i is told leads at =
     own_durable n.id (own_turn t) n.waiting term from i then_.ordered (durable_after (saved n) (own_turn t).node n.waiting then_ are) told leads at
 
 -- what is told by anybody under its name, where nobody does so from without
-told_durable : (c : Call) (t : Turn) (term i : ℕ) → Counts t.node → IsOfOthers t.node.id c → Accepted c t term t.node.id i → (after c t).node.role ≡ role.Leader
+told_durable : (c : Call) (t : NodeStep) (term i : ℕ) → Counts t.node → IsOfOthers t.node.id c → Accepted c t term t.node.id i → (after c t).node.role ≡ role.Leader
     → (after c t).node.term ≡ term → i ≤ (after c t).node.log.durable
 told_durable (Step m) t term i is others told leads at = absurd (others told.2.index told.2.says (sym told.1))
 told_durable Advance t term i is others told leads at = advanced_durable t term t.node.id i is told leads at
 told_durable _ t term i is others told leads at = absurd told
 
-call_counts : (c : Call) (t : Turn) → Counts t.node → IsOfOthers t.node.id c → CountsDurable t.node → CountsDurable (after c t).node
+call_counts : (c : Call) (t : NodeStep) → Counts t.node → IsOfOthers t.node.id c → CountsDurable t.node → CountsDurable (after c t).node
 call_counts c t is others counts =
     let n = t.node in
     let x = (after c t).node in
@@ -202,7 +202,7 @@ call_counts c t is others counts =
       ]
     ])
 
-pub run_counts : (cs : List Call) (t : Turn) → Counts t.node → All (IsOfOthers t.node.id) cs → CountsDurable t.node → CountsDurable (run cs t).node
+pub run_counts : (cs : List Call) (t : NodeStep) → Counts t.node → All (IsOfOthers t.node.id) cs → CountsDurable t.node → CountsDurable (run cs t).node
 run_counts [] t is others counts = counts
 run_counts (c ∷ cs) t is others counts =
     let e : (after c t).node.id ≡ t.node.id = ((calls c t).goes is.sound).id in
@@ -212,7 +212,7 @@ run_counts (c ∷ cs) t is others counts =
 
 -- ---- what it counts of another
 
-own_from : (id own : ℕ) (t : Turn) (ms : List Message) (term from i : ℕ) → All (λ (m : Message). m.from ≡ own) ms → OwnTells id t ms term from i → from ≡ own
+own_from : (id own : ℕ) (t : NodeStep) (ms : List Message) (term from i : ℕ) → All (λ (m : Message). m.from ≡ own) ms → OwnTells id t ms term from i → from ≡ own
 own_from id own t [] term from i are told = absurd told
 own_from id own t (m ∷ ms) term from i are told =
     elim told as (λ _. from ≡ own) [
@@ -221,14 +221,14 @@ own_from id own t (m ∷ ms) term from i are told =
     ]
 
 -- what is told of another is told by its answer
-told_tells : (c : Call) (t : Turn) (id term i j : ℕ) → Counts t.node → (id ≡ t.node.id → ⊥) → i ≤ j → Accepted c t term id j → Tells c t id i
+told_tells : (c : Call) (t : NodeStep) (id term i j : ℕ) → Counts t.node → (id ≡ t.node.id → ⊥) → i ≤ j → Accepted c t term id j → Tells c t id i
 told_tells (Step m) t id term i j is other less told = (told.1, accepted_less t.node m j i less told.2)
 told_tells Advance t id term i j is other less told =
     absurd (other (own_from t.node.id t.node.id (own_turn t) t.node.waiting term id j
     (All-weaker (IsOwnAnswer t.node (last t.node.log)) (λ (m : Message). m.from ≡ t.node.id) (λ m a. a.own) t.node.waiting is.answers) told))
 told_tells _ t id term i j is other less told = absurd told
 
-call_rises : (c : Call) (t : Turn) (id : ℕ) → Counts t.node → (id ≡ t.node.id → ⊥) → (of (after c t).node id ≤ of t.node id) ⊎ Tells c t id (of (after c t).node id)
+call_rises : (c : Call) (t : NodeStep) (id : ℕ) → Counts t.node → (id ≡ t.node.id → ⊥) → (of (after c t).node id ≤ of t.node id) ⊎ Tells c t id (of (after c t).node id)
 call_rises c t id is other =
     let x = (after c t).node in
     let R : Type 0 = (of x id ≤ of t.node id) ⊎ Tells c t id (of x id) in
@@ -244,11 +244,11 @@ call_rises c t id is other =
     ]
 
 -- what is said of an index is said of one below
-tells_less : (c : Call) (t : Turn) (id low high : ℕ) → low ≤ high → Tells c t id high → Tells c t id low
+tells_less : (c : Call) (t : NodeStep) (id low high : ℕ) → low ≤ high → Tells c t id high → Tells c t id low
 tells_less (Step m) t id low high less tells = (tells.0, accepted_less t.node m high low less tells.1)
 tells_less _ t id low high less tells = absurd tells
 
-pub run_rises : (cs : List Call) (t : Turn) (id : ℕ) → Counts t.node → (id ≡ t.node.id → ⊥) → (of (run cs t).node id ≤ of t.node id) ⊎ Told cs t id (of (run cs t).node id)
+pub run_rises : (cs : List Call) (t : NodeStep) (id : ℕ) → Counts t.node → (id ≡ t.node.id → ⊥) → (of (run cs t).node id ≤ of t.node id) ⊎ Told cs t id (of (run cs t).node id)
 run_rises [] t id is other = inl (omega arith)
 run_rises (c ∷ cs) t id is other =
     let u = after c t in

@@ -5,7 +5,7 @@ use Rattle.rb_tracker.specs.Configs.{members, is_member}
 use Rattle.rb_tracker.specs.Progresses.{PlainProgress}
 use Rattle.rb_tracker.specs.Trackers.{has_view}
 use Rattle.rb_message.specs.declared.role.Role.TheVariants as role
-use Rattle.rb_node.specs.Changing.{without_stranger, without_strangers}
+use Rattle.rb_node.specs.Changing.{without_view, without_views}
 use Rattle.rb_node.specs.Leading.{with_view_of, with_views, leading, in_lead}
 use Rattle.rb_node.specs.Node.{PlainNode}
 use Rattle.rb_node_laws.proofs.Goes.{core, Core}
@@ -29,11 +29,11 @@ leading_same n = ap core (with_views_only (in_lead n) (members n.tracker.config)
 pub leading_leads : (n : PlainNode) → (leading n).role ≡ role.Leader
 leading_leads n = ap (λ (c : Core). c.role) (leading_same n)
 
-pub stranger_only : (n : PlainNode) (id : ℕ) → without_stranger n id ≡ viewing n (without_stranger n id).tracker.views
+pub stranger_only : (n : PlainNode) (id : ℕ) → without_view n id ≡ viewing n (without_view n id).tracker.views
 stranger_only n id = if_both (λ (x : PlainNode). x ≡ viewing n x.tracker.views) (is_member n.tracker.config id) _ _ (λ _. refl) (λ _. refl)
 
-pub strangers_only : (n : PlainNode) (ids : List ℕ) → without_strangers n ids ≡ viewing n (without_strangers n ids).tracker.views
+pub strangers_only : (n : PlainNode) (ids : List ℕ) → without_views n ids ≡ viewing n (without_views n ids).tracker.views
 strangers_only n [] = refl
 strangers_only n (id ∷ ids) =
-    let x : PlainNode = without_stranger n id in
-    strangers_only x ids ∙ ap (λ (y : PlainNode). viewing y (without_strangers x ids).tracker.views) (stranger_only n id)
+    let x : PlainNode = without_view n id in
+    strangers_only x ids ∙ ap (λ (y : PlainNode). viewing y (without_views x ids).tracker.views) (stranger_only n id)

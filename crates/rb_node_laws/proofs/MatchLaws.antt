@@ -2,18 +2,18 @@
 use Rattle.std.proofs.Common.{ℕ, ◌≤◌, ◌⊎◌, ◌≡◌, inl, inr, subst, sym, arith, not, ap, ◌∙◌, refl, true, Result, Ok, Err}
 use Rattle.rb_raftlog.specs.Log.{LogValue, compacted, made_durable, term_at}
 use Rattle.rb_raftlog.specs.declared.raft_log.LogFault.{LogFault}
-use Rattle.rb_tracker.specs.Active.{unmarked}
+use Rattle.rb_tracker.specs.Active.{others_marked_inactive}
 use Rattle.rb_tracker.specs.Configs.{members}
 use Rattle.rb_tracker.specs.Progresses.{acked}
 use Rattle.rb_tracker.specs.Trackers.{ids_of}
 use Rattle.rb_message.specs.declared.message.Message.{Message}
 use Rattle.rb_message.specs.declared.role.Role.TheVariants as role
 use Rattle.rb_node.specs.Campaigns.{precandidate}
-use Rattle.rb_node.specs.Changing.{without_strangers, missing}
+use Rattle.rb_node.specs.Changing.{without_views, missing}
 use Rattle.rb_node.specs.Following.{with_appended, restored_to}
 use Rattle.rb_node.specs.Leading.{in_lead, leading}
-use Rattle.rb_node.specs.Node.{PlainNode, Turn}
-use Rattle.rb_node.specs.Sends.{viewed}
+use Rattle.rb_node.specs.Node.{PlainNode, NodeStep}
+use Rattle.rb_node.specs.Sends.{with_view_at}
 use Rattle.rb_node.specs.Step.{stepped}
 use Rattle.rb_node_laws.specs.Calling.{Call, after}
 use Rattle.rb_node_laws.specs.Matches.{IsAccepted, RestsOn}
@@ -69,7 +69,7 @@ step_bounded {w} id low term bound (Takes n from append is came) p =
 step_bounded {w} id low term bound (Restores n s is past came other) p =
     not_leading w id low term bound (rest (core n)) (rest (core (restored_to n s))) (of n id) (no_leader n.role is) p
 step_bounded {w} id low term bound (Acks n at from i view leads here is up said) p =
-    elim (place_set n.tracker.views at from id (acked view i) here) as (λ _. IsBounded w id low term bound (viewed n at (acked view i))) [
+    elim (place_set n.tracker.views at from id (acked view i) here) as (λ _. IsBounded w id low term bound (with_view_at n at (acked view i))) [
       | inl same ↦ subst (Bounded w id low term bound (rest (core n))) (sym same) p
       | inr new ↦ (let now = new.1 ∙ acked_matched view.state view i in
           inr (leads, inr (inr (i, omega (arith, now), subst (λ (x : ℕ). w.matched n.term x i) (sym new.0) said))))
@@ -79,7 +79,7 @@ step_bounded id low term bound _ p = p
 -- ---- a message
 
 -- by the answer that it is
-abbrev AnswerOf : Turn → Message → Ways
+abbrev AnswerOf : NodeStep → Message → Ways
 AnswerOf t m = record anyone { matched = λ _ from i. (from ≡ m.from) × IsAccepted t.node m i }
 
 pub accepted_less : (n : PlainNode) (m : Message) (i j : ℕ) → j ≤ i → IsAccepted n m i → IsAccepted n m j
@@ -87,7 +87,7 @@ accepted_less n m i j less is =
     (let at_most = is.at_most in let held = is.held in
     record { leads = is.leads; of_term = is.of_term; index = is.index; says = is.says; at_most = omega (arith, less, at_most); held = omega (arith, less, held) })
 
-pub stepped_rests : (t : Turn) (m : Message) (id : ℕ) → RestsOn t.node m (stepped t m).node id
+pub stepped_rests : (t : NodeStep) (m : Message) (id : ℕ) → RestsOn t.node m (stepped t m).node id
 stepped_rests t m id =
     let n = t.node in
     let x = (stepped t m).node in
@@ -142,7 +142,7 @@ change_bounded w id low term bound (Revises n c leads) h p =
     (let x = in_config n c in
     let y = with_members x in
     let ids = ids_of x.tracker.views in
-    let left = without_strangers x ids in
+    let left = without_views x ids in
     let fewer : of left id ≤ of n id = strangers_less x ids id h.in_order in
     let e : core left ≡ core n = ap core (strangers_only x ids) in
     let m : rest (core y) ≡ rest (core n) = ap (λ (z : PlainNode). rest (core z)) (with_members_only x) in
@@ -157,8 +157,8 @@ compacted_durable : (v : LogValue) (i : ℕ) (r : Result ℕ LogFault) → (comp
 compacted_durable v i (Ok term) = refl
 compacted_durable v i (Err fault) = refl
 
-looked_match : (n : PlainNode) (id : ℕ) → of (record n { tracker = unmarked n.tracker n.id }) id ≡ of n id
-unfolding unmarked
+looked_match : (n : PlainNode) (id : ℕ) → of (record n { tracker = others_marked_inactive n.tracker n.id }) id ≡ of n id
+unfolding others_marked_inactive
 looked_match n id = unmarked_match n.id n.tracker.views id
 
 call_bounded : {sound : Type 0} {w : Ways} (id low term bound : ℕ) → sound → {a b : PlainNode} → CallMove sound w a b → HasViewsOfMembers a
@@ -174,7 +174,7 @@ call_bounded {w = w} id low term bound s (Compacts n i is) h p =
     durable_bounded w id low term bound (rest (core n)) (compacted n.log i (term_at n.log i)) (of n id) (omega (arith, same)) p)
 call_bounded id low term bound s _ h p = p
 
-pub called_bounded : (c : Call) (t : Turn) (id low term bound : ℕ) → IsSound t.node → HasViewsOfMembers t.node → IsBounded (ways c t) id low term bound t.node
+pub called_bounded : (c : Call) (t : NodeStep) (id low term bound : ℕ) → IsSound t.node → HasViewsOfMembers t.node → IsBounded (ways c t) id low term bound t.node
     → IsBounded (ways c t) id low term bound (after c t).node
 called_bounded c t id low term bound s h p =
     let P : PlainNode → Type 0 = IsBounded (ways c t) id low term bound in

@@ -7,14 +7,14 @@ use Rattle.std.specs.Map.{keys_of, lookup, remove_entry}
 use Rattle.std.specs.Prelude.{position}
 use Rattle.indexmap.specs.Layout.{set_value_at}
 use Rattle.rb_tracker.proofs.SetLaws.{self_id, if_both}
-use Rattle.rb_tracker.specs.Active.{with_mark, marked_at, unmarked_but}
+use Rattle.rb_tracker.specs.Active.{with_active_by, with_active_at, inactive_unless_own}
 use Rattle.rb_tracker.specs.Commits.{match_of, match_in}
 use Rattle.rb_tracker.specs.Configs.{is_member}
-use Rattle.rb_tracker.specs.Progresses.{PlainProgress, marked}
+use Rattle.rb_tracker.specs.Progresses.{PlainProgress, with_active}
 use Rattle.rb_tracker.specs.Sets.{rank, AreAbove}
 use Rattle.rb_tracker.specs.Trackers.{place, has_view, with_new, view_at, AreInOrder}
-use Rattle.rb_node.specs.Acknowledging.{heard_of}
-use Rattle.rb_node.specs.Changing.{without_stranger, without_strangers}
+use Rattle.rb_node.specs.Acknowledging.{marked_active}
+use Rattle.rb_node.specs.Changing.{without_view, without_views}
 use Rattle.rb_node.specs.Leading.{new_view, with_view_of, with_views}
 use Rattle.rb_node.specs.Node.{PlainNode}
 use Rattle.rb_node_laws.proofs.Goes.{core, Core}
@@ -125,15 +125,15 @@ with_views_at_most n (x ∷ xs) active id =
 
 -- ---- who was heard of has its view where it had it
 
-heard_keys_with : (o : Option PlainProgress) (n : PlainNode) (at : ℕ) → keys_of (with_mark o n.tracker at true).views ≡ keys_of n.tracker.views
+heard_keys_with : (o : Option PlainProgress) (n : PlainNode) (at : ℕ) → keys_of (with_active_by o n.tracker at true).views ≡ keys_of n.tracker.views
 heard_keys_with None n at = refl
-heard_keys_with (Some view) n at = ids_set n.tracker.views at (marked view true)
+heard_keys_with (Some view) n at = ids_set n.tracker.views at (with_active view true)
 
-heard_keys : (n : PlainNode) (at : ℕ) → keys_of (heard_of n at).tracker.views ≡ keys_of n.tracker.views
-unfolding marked_at
+heard_keys : (n : PlainNode) (at : ℕ) → keys_of (marked_active n at).tracker.views ≡ keys_of n.tracker.views
+unfolding with_active_at
 heard_keys n at = heard_keys_with (view_at n.tracker.views at) n at
 
-pub heard_place : (n : PlainNode) (at from : ℕ) → place n.tracker.views from ≡ Some at → place (heard_of n at).tracker.views from ≡ Some at
+pub heard_place : (n : PlainNode) (at from : ℕ) → place n.tracker.views from ≡ Some at → place (marked_active n at).tracker.views from ≡ Some at
 heard_place n at from is = ap (λ (ks : List ℕ). position (λ (k : ℕ). from == k) ks) (heard_keys n at) ∙ is
 
 -- ---- views that are taken out
@@ -161,15 +161,15 @@ removed_less gone (x ∷ xs) id up =
     (λ _. first_less (nat_eq id x.0) x xs id refl up.0)
     (λ _. later_less (nat_eq id x.0) x.1 (lookup (nat_eq id) (remove_entry (nat_eq gone) xs)) (lookup (nat_eq id) xs) (removed_less gone xs id up.1))
 
-without_less : (n : PlainNode) (gone id : ℕ) → AreInOrder n.tracker.views → of (without_stranger n gone) id ≤ of n id
+without_less : (n : PlainNode) (gone id : ℕ) → AreInOrder n.tracker.views → of (without_view n gone) id ≤ of n id
 without_less n gone id up =
     if_both (λ (x : PlainNode). of x id ≤ of n id) (is_member n.tracker.config gone) _ _ (λ _. omega arith) (λ _. removed_less gone n.tracker.views id up)
 
-pub strangers_less : (n : PlainNode) (ids : List ℕ) (id : ℕ) → AreInOrder n.tracker.views → of (without_strangers n ids) id ≤ of n id
+pub strangers_less : (n : PlainNode) (ids : List ℕ) (id : ℕ) → AreInOrder n.tracker.views → of (without_views n ids) id ≤ of n id
 strangers_less n [] id up = omega arith
 strangers_less n (x ∷ xs) id up =
     let first = without_less n x id up in
-    let rest = strangers_less (without_stranger n x) xs id (strangers_in_order n (x ∷ []) up) in
+    let rest = strangers_less (without_view n x) xs id (strangers_in_order n (x ∷ []) up) in
     omega (arith, first, rest)
 
 -- ---- marks that are taken off
@@ -178,10 +178,10 @@ both_in : (b : Bool) (x y : PlainProgress) (r s : Option PlainProgress) → y.ma
 both_in true x y r s e f = e
 both_in false x y r s e f = f
 
-pub unmarked_match : (own : ℕ) (views : List (ℕ × PlainProgress)) (id : ℕ) → match_of (map (unmarked_but own) views) id ≡ match_of views id
+pub unmarked_match : (own : ℕ) (views : List (ℕ × PlainProgress)) (id : ℕ) → match_of (map (inactive_unless_own own) views) id ≡ match_of views id
 unmarked_match own [] id = refl
 unmarked_match own (x ∷ xs) id =
-    let rest : match_of (map (unmarked_but own) xs) id ≡ match_of xs id = unmarked_match own xs id in
-    if_both (λ (f : ℕ × PlainProgress). match_of (f ∷ map (unmarked_but own) xs) id ≡ match_of (x ∷ xs) id) (x.0 == own) x (x.0, marked x.1 false)
-    (λ _. both_in (nat_eq id x.0) x.1 x.1 (lookup (nat_eq id) (map (unmarked_but own) xs)) (lookup (nat_eq id) xs) refl rest)
-    (λ _. both_in (nat_eq id x.0) x.1 (marked x.1 false) (lookup (nat_eq id) (map (unmarked_but own) xs)) (lookup (nat_eq id) xs) refl rest)
+    let rest : match_of (map (inactive_unless_own own) xs) id ≡ match_of xs id = unmarked_match own xs id in
+    if_both (λ (f : ℕ × PlainProgress). match_of (f ∷ map (inactive_unless_own own) xs) id ≡ match_of (x ∷ xs) id) (x.0 == own) x (x.0, with_active x.1 false)
+    (λ _. both_in (nat_eq id x.0) x.1 x.1 (lookup (nat_eq id) (map (inactive_unless_own own) xs)) (lookup (nat_eq id) xs) refl rest)
+    (λ _. both_in (nat_eq id x.0) x.1 (with_active x.1 false) (lookup (nat_eq id) (map (inactive_unless_own own) xs)) (lookup (nat_eq id) xs) refl rest)

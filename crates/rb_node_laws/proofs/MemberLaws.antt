@@ -6,13 +6,13 @@ use Rattle.indexmap.specs.Layout.{set_value_at}
 use Rattle.rb_tracker.proofs.ChangeLaws.{has_union, same_has}
 use Rattle.rb_tracker.proofs.SetLaws.{if_both, same_id, self_id, has_below}
 use Rattle.rb_tracker.proofs.ViewLaws.{put_in_order, removed_in_order}
-use Rattle.rb_tracker.specs.Active.{unmarked_but}
+use Rattle.rb_tracker.specs.Active.{inactive_unless_own}
 use Rattle.rb_tracker.specs.Configs.{voters, members, is_member}
-use Rattle.rb_tracker.specs.Progresses.{PlainProgress, marked}
+use Rattle.rb_tracker.specs.Progresses.{PlainProgress, with_active}
 use Rattle.rb_tracker.specs.Sets.{has, union, rank, AreAbove}
 use Rattle.rb_tracker.specs.Trackers.{has_view, ids_of, AreInOrder}
 use Rattle.rb_tracker.specs.declared.config.Config.{Config}
-use Rattle.rb_node.specs.Changing.{without_stranger, without_strangers, missing}
+use Rattle.rb_node.specs.Changing.{without_view, without_views, missing}
 use Rattle.rb_node.specs.Leading.{new_view, with_view_of, with_views}
 use Rattle.rb_node.specs.Node.{PlainNode}
 use Rattle.rb_node_laws.proofs.LeaderLaws.{stranger_only, strangers_only}
@@ -27,10 +27,10 @@ ids_set [] i view = refl
 ids_set (e ∷ es) zero view = refl
 ids_set (e ∷ es) (suc i) view = ap (λ (l : List ℕ). e.0 ∷ l) (ids_set es i view)
 
-unmarked_id : (own : ℕ) (e : ℕ × PlainProgress) → (unmarked_but own e).0 ≡ e.0
-unmarked_id own e = if_both (λ (f : ℕ × PlainProgress). f.0 ≡ e.0) (e.0 == own) e (e.0, marked e.1 false) (λ _. refl) (λ _. refl)
+unmarked_id : (own : ℕ) (e : ℕ × PlainProgress) → (inactive_unless_own own e).0 ≡ e.0
+unmarked_id own e = if_both (λ (f : ℕ × PlainProgress). f.0 ≡ e.0) (e.0 == own) e (e.0, with_active e.1 false) (λ _. refl) (λ _. refl)
 
-pub ids_unmarked : (own : ℕ) (es : List (ℕ × PlainProgress)) → keys_of (map (unmarked_but own) es) ≡ keys_of es
+pub ids_unmarked : (own : ℕ) (es : List (ℕ × PlainProgress)) → keys_of (map (inactive_unless_own own) es) ≡ keys_of es
 ids_unmarked own [] = refl
 ids_unmarked own (e ∷ es) = rw (ids_unmarked own es, unmarked_id own e) refl
 
@@ -143,14 +143,14 @@ goes_step false m false is = refl
 member_at : (c : Config) (x y : ℕ) (b : Bool) → is_member c x ≡ b → (x == y) ≡ true → is_member c y ≡ b
 member_at c x y b is e = subst (λ (z : ℕ). is_member c z ≡ b) (same_id x y e) is
 
-stranger_seen : (n : PlainNode) (id y : ℕ) → AreInOrder n.tracker.views → seen (without_stranger n id) y ≡ (seen n y && (is_member n.tracker.config y || not (id == y)))
+stranger_seen : (n : PlainNode) (id y : ℕ) → AreInOrder n.tracker.views → seen (without_view n id) y ≡ (seen n y && (is_member n.tracker.config y || not (id == y)))
 stranger_seen n id y up =
     let m : Bool = is_member n.tracker.config y in
     if_both (λ (x : PlainNode). seen x y ≡ (seen n y && (m || not (id == y)))) (is_member n.tracker.config id) _ _
     (λ is. stays_step (id == y) m (seen n y) (member_at n.tracker.config id y true is))
     (λ no. has_removed n.tracker.views id y up ∙ goes_step (id == y) m (seen n y) (member_at n.tracker.config id y false no))
 
-stranger_in_order : (n : PlainNode) (id : ℕ) → AreInOrder n.tracker.views → AreInOrder (without_stranger n id).tracker.views
+stranger_in_order : (n : PlainNode) (id : ℕ) → AreInOrder n.tracker.views → AreInOrder (without_view n id).tracker.views
 stranger_in_order n id up =
     if_both (λ (x : PlainNode). AreInOrder x.tracker.views) (is_member n.tracker.config id) _ _ (λ _. up) (λ _. removed_in_order id n.tracker.views up)
 
@@ -160,14 +160,14 @@ strangers_step true false true b = refl
 strangers_step true false false b = refl
 strangers_step false m a b = refl
 
-pub strangers_in_order : (n : PlainNode) (ids : List ℕ) → AreInOrder n.tracker.views → AreInOrder (without_strangers n ids).tracker.views
+pub strangers_in_order : (n : PlainNode) (ids : List ℕ) → AreInOrder n.tracker.views → AreInOrder (without_views n ids).tracker.views
 strangers_in_order n [] up = up
-strangers_in_order n (id ∷ ids) up = strangers_in_order (without_stranger n id) ids (stranger_in_order n id up)
+strangers_in_order n (id ∷ ids) up = strangers_in_order (without_view n id) ids (stranger_in_order n id up)
 
-pub strangers_seen : (n : PlainNode) (ids : List ℕ) (y : ℕ) → AreInOrder n.tracker.views → seen (without_strangers n ids) y ≡ (seen n y && (is_member n.tracker.config y || not (has ids y)))
+pub strangers_seen : (n : PlainNode) (ids : List ℕ) (y : ℕ) → AreInOrder n.tracker.views → seen (without_views n ids) y ≡ (seen n y && (is_member n.tracker.config y || not (has ids y)))
 strangers_seen n [] y up = stays_step false (is_member n.tracker.config y) (seen n y) (λ no. cc)
 strangers_seen n (id ∷ ids) y up =
-    let next : PlainNode = without_stranger n id in
+    let next : PlainNode = without_view n id in
     let more : Bool = not (has ids y) in
     strangers_seen next ids y (stranger_in_order n id up)
     ∙ ap (λ (b : Bool). b && (is_member next.tracker.config y || more)) (stranger_seen n id y up)
@@ -223,9 +223,9 @@ revised_by left c h y config first =
     ∙ ap (λ (b : Bool). b && not (seen left y)) (member_is left.tracker.config y ∙ ap (λ (d : Config). is_member d y) config) in
     members_only h (is_member c y) (seen left y) (has ids y) _ first lacks (with_views_seen left ids y true)
 
-pub revised_seen : (n : PlainNode) (y : ℕ) → AreInOrder n.tracker.views → seen (with_views (without_strangers n (ids_of n.tracker.views)) (missing (without_strangers n (ids_of n.tracker.views)).tracker.views (members (without_strangers n (ids_of n.tracker.views)).tracker.config)) true) y ≡ is_member n.tracker.config y
+pub revised_seen : (n : PlainNode) (y : ℕ) → AreInOrder n.tracker.views → seen (with_views (without_views n (ids_of n.tracker.views)) (missing (without_views n (ids_of n.tracker.views)).tracker.views (members (without_views n (ids_of n.tracker.views)).tracker.config)) true) y ≡ is_member n.tracker.config y
 revised_seen n y up =
     let all : has (ids_of n.tracker.views) y ≡ seen n y = has_union [] (keys_of n.tracker.views) y in
-    revised_by (without_strangers n (ids_of n.tracker.views)) n.tracker.config (seen n y) y
+    revised_by (without_views n (ids_of n.tracker.views)) n.tracker.config (seen n y) y
     (ap (λ (x : PlainNode). x.tracker.config) (strangers_only n (ids_of n.tracker.views)))
     (strangers_seen n (ids_of n.tracker.views) y up ∙ ap (λ (b : Bool). seen n y && (is_member n.tracker.config y || not b)) all)

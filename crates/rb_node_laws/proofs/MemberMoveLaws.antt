@@ -1,7 +1,7 @@
 -- A leader has a view of each member and of nobody else, whatever is called
 use Rattle.std.proofs.Common.{[], ◌≡◌, refl, ℕ, subst, sym, List, Bool, not, ◌∙◌, ap, true, ◌∷◌}
 use Rattle.std.specs.Map.{keys_of}
-use Rattle.rb_tracker.specs.Active.{unmarked}
+use Rattle.rb_tracker.specs.Active.{others_marked_inactive}
 use Rattle.rb_tracker.specs.Configs.{members, is_member, config_of}
 use Rattle.rb_tracker.specs.Progresses.{PlainProgress, acked}
 use Rattle.rb_tracker.specs.Sets.{IsAscending}
@@ -9,10 +9,10 @@ use Rattle.rb_tracker.specs.Trackers.{ids_of}
 use Rattle.rb_tracker.specs.declared.config.Config.{Config}
 use Rattle.rb_message.specs.declared.role.Role.{Role}
 use Rattle.rb_message.specs.declared.role.Role.TheVariants as role
-use Rattle.rb_node.specs.Changing.{without_strangers, missing}
+use Rattle.rb_node.specs.Changing.{without_views, missing}
 use Rattle.rb_node.specs.Leading.{leading, in_lead}
-use Rattle.rb_node.specs.Node.{PlainNode, Turn}
-use Rattle.rb_node.specs.Sends.{viewed}
+use Rattle.rb_node.specs.Node.{PlainNode, NodeStep}
+use Rattle.rb_node.specs.Sends.{with_view_at}
 use Rattle.rb_node_laws.specs.Calling.{Call, after, run}
 use Rattle.rb_node_laws.specs.Sound.{AreOfMembers, HasViewsOfMembers}
 use Rattle.rb_node_laws.proofs.CallWays.{with_members_only, called_way}
@@ -36,7 +36,7 @@ no_precandidate e = cc
 pub nobody : (r : Role) (c : Config) → (r ≡ role.Leader → ⊥) → AreOfMembers r c []
 nobody r c never = record { only_leading = λ _. refl; in_order = tt; of_members = λ leads. absurd (never leads) }
 
-written : (n : PlainNode) (at : ℕ) (view : PlainProgress) → HasViewsOfMembers n → HasViewsOfMembers (viewed n at view)
+written : (n : PlainNode) (at : ℕ) (view : PlainProgress) → HasViewsOfMembers n → HasViewsOfMembers (with_view_at n at view)
 written n at view is = subst (AreOfMembers n.role n.tracker.config) (sym (ids_set n.tracker.views at view)) is
 
 -- who doesn't lead has views of nobody in whatever configuration
@@ -78,7 +78,7 @@ step_members _ is = is
 -- who leads has the views that the configuration asks for, whatever views it had
 revised_members : (n : PlainNode) → n.role ≡ role.Leader → IsAscending (keys_of n.tracker.views) → HasViewsOfMembers (with_members n)
 revised_members n leads up =
-    let left : PlainNode = without_strangers n (ids_of n.tracker.views) in
+    let left : PlainNode = without_views n (ids_of n.tracker.views) in
     let ids : List ℕ = missing left.tracker.views (members left.tracker.config) in
     record {
       only_leading = λ no. absurd (no (ap (λ (x : PlainNode). x.role) (with_members_only n) ∙ leads));
@@ -92,8 +92,8 @@ change_members (Configures n c never) is = in_any_config n.role n.role n.tracker
 change_members (Resigns n c) is = nobody role.Follower c no_follower
 change_members (Revises n c leads) is = revised_members (in_config n c) leads is.in_order
 
-unmarked_members : (n : PlainNode) → HasViewsOfMembers n → HasViewsOfMembers (record n { tracker = unmarked n.tracker n.id })
-unfolding unmarked
+unmarked_members : (n : PlainNode) → HasViewsOfMembers n → HasViewsOfMembers (record n { tracker = others_marked_inactive n.tracker n.id })
+unfolding others_marked_inactive
 unmarked_members n is = subst (AreOfMembers n.role n.tracker.config) (sym (ids_unmarked n.id n.tracker.views)) is
 
 pub call_members : {sound : Type 0} {w : Ways} {a b : PlainNode} → CallMove sound w a b → HasViewsOfMembers a → HasViewsOfMembers b
@@ -108,9 +108,9 @@ call_members _ is = is
 stays : {sound : Type 0} {w : Ways} → Allows (CallMove sound w) (λ a b. HasViewsOfMembers a → HasViewsOfMembers b)
 stays = record { nothing = λ n is. is; chain = λ a b c p q is. q (p is); each = λ a b m is. call_members m is }
 
-pub called_members : (c : Call) (t : Turn) → HasViewsOfMembers t.node → HasViewsOfMembers (after c t).node
+pub called_members : (c : Call) (t : NodeStep) → HasViewsOfMembers t.node → HasViewsOfMembers (after c t).node
 called_members c t = over stays (called_way {sound = ⊥} c t (λ no. absurd no))
 
-pub run_members : (cs : List Call) (t : Turn) → HasViewsOfMembers t.node → HasViewsOfMembers (run cs t).node
+pub run_members : (cs : List Call) (t : NodeStep) → HasViewsOfMembers t.node → HasViewsOfMembers (run cs t).node
 run_members [] t is = is
 run_members (c ∷ cs) t is = run_members cs (after c t) (called_members c t is)

@@ -10,9 +10,9 @@ use Rattle.rb_raftlog.specs.declared.entry.Body.{Body}
 use Rattle.rb_raftlog.specs.declared.entry.Body.TheVariants.{Payload, Change}
 use Rattle.rb_raftlog.specs.declared.entry.Entry.{Entry}
 use Rattle.rb_raftlog.specs.declared.snapshot.Snapshot.{Snapshot}
-use Rattle.rb_change.specs.declared.change.Transition.{Transition}
-use Rattle.rb_change.specs.declared.change.Word.{Word}
-use Rattle.rb_tracker.specs.Active.{unmarked}
+use Rattle.rb_vocab.specs.declared.change.Transition.{Transition}
+use Rattle.rb_vocab.specs.declared.change.Word.{Word}
+use Rattle.rb_tracker.specs.Active.{others_marked_inactive}
 use Rattle.rb_tracker.specs.Ballots.{answered, vote_result}
 use Rattle.rb_tracker.specs.Commits.{commit_of}
 use Rattle.rb_tracker.specs.Configs.{members, is_joint}
@@ -28,12 +28,12 @@ use Rattle.rb_message.specs.declared.kind.MessageKind.TheVariants as kind
 use Rattle.rb_message.specs.declared.message.Message.{Message}
 use Rattle.rb_message.specs.declared.role.Role.TheVariants as role
 use Rattle.rb_node.specs.Campaigns.{why_no_campaign, precandidate, candidate}
-use Rattle.rb_node.specs.Changing.{without_strangers, missing}
+use Rattle.rb_node.specs.Changing.{without_views, missing}
 use Rattle.rb_node.specs.Following.{with_appended, restored_to}
 use Rattle.rb_node.specs.Leading.{can_commit, with_views, leading}
-use Rattle.rb_node.specs.Node.{PlainNode, Turn, with_node, told}
+use Rattle.rb_node.specs.Node.{PlainNode, NodeStep, with_node, with_event}
 use Rattle.rb_node.specs.Readying.{saved}
-use Rattle.rb_node.specs.Sends.{viewed}
+use Rattle.rb_node.specs.Sends.{with_view_at}
 use Rattle.rb_node.specs.Terms.{reset}
 use Rattle.rb_node.specs.Votes.{grants, voted_for}
 use Rattle.rb_node_laws.specs.Events.{OnlyAdded}
@@ -66,7 +66,7 @@ pub data TellMove : PlainNode → PlainNode → Type 0 where
   Sent : (n : PlainNode) (m : Message) → IsNoProposal m.kind → (IsSound n → Sends n m) → TellMove n (with_sent n m)
   -- a view is written, which matches what it did
   Viewed : (n : PlainNode) (at : ℕ) (view new : PlainProgress) → view_at n.tracker.views at ≡ Some view → new.matched ≡ view.matched
-      → (IsSound n → IsSoundView view → IsSoundView new) → TellMove n (viewed n at new)
+      → (IsSound n → IsSoundView view → IsSoundView new) → TellMove n (with_view_at n at new)
   Commits : (n : PlainNode) → can_commit n (commit_of n.tracker) ≡ true → TellMove n (record n { commit = commit_of n.tracker })
 
 -- ---- a change of the configuration
@@ -80,7 +80,7 @@ in_config n c = record n { tracker = configured n.tracker c }
 -- with views of the members alone, and of each
 abbrev pub with_members : PlainNode → PlainNode
 with_members n =
-    let left = without_strangers n (ids_of n.tracker.views) in
+    let left = without_views n (ids_of n.tracker.views) in
     with_views left (missing left.tracker.views (members left.tracker.config)) true
 
 pub data ChangeMove : PlainNode → PlainNode → Type 0 where
@@ -149,7 +149,7 @@ pub data StepMove (w : Ways) : PlainNode → PlainNode → Type 0 where
       → (term_at n.log s.index ≡ Ok s.term → ⊥) → StepMove w n (restored_to n s)
   -- a member's answer
   Acks : (n : PlainNode) (at from i : ℕ) (view : PlainProgress) → n.role ≡ role.Leader → place n.tracker.views from ≡ Some at → view_at n.tracker.views at ≡ Some view
-      → view.matched ≤ i → w.matched n.term from i → StepMove w n (viewed n at (acked view i))
+      → view.matched ≤ i → w.matched n.term from i → StepMove w n (with_view_at n at (acked view i))
 
 -- ---- whatever is called; some is known only where the node was sound at first
 
@@ -175,7 +175,7 @@ pub data CallMove (sound : Type 0) (w : Ways) : PlainNode → PlainNode → Type
   Fills : (n : PlainNode) (i : ℕ) (e : Entry) (bytes : List ℕ) → e.body ≡ Payload bytes → (sound → IsNext n i e)
       → CallMove sound w n (record n { applied = i; content = n.content ++ bytes })
   -- a leader looks at its quorum, and leads no more where it has heard of none
-  Unmarks : (n : PlainNode) → CallMove sound w n (record n { tracker = unmarked n.tracker n.id })
+  Unmarks : (n : PlainNode) → CallMove sound w n (record n { tracker = others_marked_inactive n.tracker n.id })
   Gives_up : (n : PlainNode) → CallMove sound w n (following n n.term 0)
   Saves : (n : PlainNode) → (sound → IsSound n) → CallMove sound w n (saved n)
   Compacts : (n : PlainNode) (i : ℕ) → compact_fault n.log i (min n.applied n.log.durable) ≡ None
@@ -187,10 +187,10 @@ pub data Way (M : PlainNode → PlainNode → Type 0) : PlainNode → PlainNode 
   One : {a b : PlainNode} → M a b → Way M a b
   Then : {a b c : PlainNode} → Way M a b → Way M b c → Way M a c
 
-pub data Path (M : PlainNode → PlainNode → Type 0) : Turn → Turn → Type 0 where
-  Goes_on : (t : Turn) {b : PlainNode} → Way M t.node b → Path M t (with_node t b)
-  Shows : (t : Turn) (e : Event) → Path M t (told t e)
-  Onward : {t u v : Turn} → Path M t u → Path M u v → Path M t v
+pub data Path (M : PlainNode → PlainNode → Type 0) : NodeStep → NodeStep → Type 0 where
+  Goes_on : (t : NodeStep) {b : PlainNode} → Way M t.node b → Path M t (with_node t b)
+  Shows : (t : NodeStep) (e : Event) → Path M t (with_event t e)
+  Onward : {t u v : NodeStep} → Path M t u → Path M u v → Path M t v
 
 -- ---- what a relation must allow, to hold over ways of moves
 
@@ -203,7 +203,7 @@ pub over_way : {M R : PlainNode → PlainNode → Type 0} → Allows M R → {a 
 over_way p (One m) = p.each _ _ m
 over_way p (Then x y) = p.chain _ _ _ (over_way p x) (over_way p y)
 
-pub over : {M R : PlainNode → PlainNode → Type 0} → Allows M R → {t u : Turn} → Path M t u → R t.node u.node
+pub over : {M R : PlainNode → PlainNode → Type 0} → Allows M R → {t u : NodeStep} → Path M t u → R t.node u.node
 over p (Goes_on t x) = over_way p x
 over p (Shows t e) = p.nothing t.node
 over p (Onward x y) = p.chain _ _ _ (over p x) (over p y)
@@ -213,7 +213,7 @@ pub wider : {M N : PlainNode → PlainNode → Type 0} → ((a b : PlainNode) �
 wider f (One m) = One (f _ _ m)
 wider f (Then x y) = Then (wider f x) (wider f y)
 
-pub wider_path : {M N : PlainNode → PlainNode → Type 0} → ((a b : PlainNode) → M a b → N a b) → {t u : Turn} → Path M t u → Path N t u
+pub wider_path : {M N : PlainNode → PlainNode → Type 0} → ((a b : PlainNode) → M a b → N a b) → {t u : NodeStep} → Path M t u → Path N t u
 wider_path f (Goes_on t x) = Goes_on t (wider f x)
 wider_path f (Shows t e) = Shows t e
 wider_path f (Onward x y) = Onward (wider_path f x) (wider_path f y)
@@ -222,7 +222,7 @@ wider_path f (Onward x y) = Onward (wider_path f x) (wider_path f y)
 pub added_then : {a b c : List Event} → OnlyAdded a b → OnlyAdded b c → OnlyAdded a c
 added_then {a} p q = record { more = p.more ++ q.more; is = q.is ∙ ap (λ (es : List Event). es ++ q.more) p.is ∙ append_assoc a p.more q.more }
 
-pub added : {M : PlainNode → PlainNode → Type 0} {t u : Turn} → Path M t u → OnlyAdded t.events u.events
+pub added : {M : PlainNode → PlainNode → Type 0} {t u : NodeStep} → Path M t u → OnlyAdded t.events u.events
 added (Goes_on t x) = record { more = []; is = sym (append-nil t.events) }
 added (Shows t e) = record { more = e ∷ []; is = refl }
 added (Onward x y) = added_then (added x) (added y)

@@ -15,9 +15,9 @@ use Rattle.rb_raftlog.specs.Log.{LogValue, last, last_term, term_at, entry_at, i
 use Rattle.rb_raftlog.proofs.PlaceLaws.{own-last, own-held, ok_is}
 use Rattle.rb_raftlog.proofs.TermLaws.{by_index, entry_below, entry_past}
 use Rattle.rb_raftlog.proofs.VoteLaws.{compacted-entry}
-use Rattle.rb_change.specs.declared.change.Transition.{Transition}
-use Rattle.rb_change.specs.declared.change.Transition.TheVariants.{Auto}
-use Rattle.rb_change.specs.declared.change.Word.{Word}
+use Rattle.rb_vocab.specs.declared.change.Transition.{Transition}
+use Rattle.rb_vocab.specs.declared.change.Transition.TheVariants.{Auto}
+use Rattle.rb_vocab.specs.declared.change.Word.{Word}
 use Rattle.rb_tracker.proofs.SetLaws.{if_both}
 use Rattle.rb_tracker.specs.Changes.{changed}
 use Rattle.rb_tracker.specs.Commits.{commit_of}
@@ -38,29 +38,29 @@ use Rattle.rb_message.specs.declared.message.Message.{Message}
 use Rattle.rb_message.specs.declared.role.Role.{Role}
 use Rattle.rb_message.specs.declared.role.Role.TheVariants as role
 use Rattle.rb_node.specs.Calls.{forgotten_by, reported_with, reported_at, reported}
-use Rattle.rb_node.specs.Campaigns.{why_no_campaign, candidate, stood, pre_vote_started, campaigned_unless, campaigned, stood_unless, campaigned_after_pre_vote}
-use Rattle.rb_node.specs.Changing.{stranger_given_up, revised, without_strangers, missing, led_on, steps_down, switched, change_applied, body_applied, applied_one, applied_all, leaves_joint, joint_left}
-use Rattle.rb_node.specs.Following.{after_log, with_appended, append_taken, snapshot_taken, new_snapshot_taken, heard}
-use Rattle.rb_node.specs.Leading.{can_commit, appended, appended_change, is_log_full, all_told, leading, in_lead, led, with_views, checked_commit}
-use Rattle.rb_node.specs.Acknowledging.{accepted, append_refused, beat_answered}
-use Rattle.rb_node.specs.Transferring.{transferred}
+use Rattle.rb_node.specs.Campaigns.{why_no_campaign, candidate, became_candidate, became_precandidate, campaigned_unless, campaigned, became_candidate_unless, campaigned_after_pre_vote}
+use Rattle.rb_node.specs.Changing.{transfer_to_non_member_cancelled, views_updated, without_views, missing, continued_after_switch, steps_down, switched, change_applied, body_applied, applied_one, applied_all, leaves_joint, joint_left}
+use Rattle.rb_node.specs.Following.{after_log, with_appended, append_entries_handled, snapshot_handled, new_snapshot_handled, leader_contact_recorded}
+use Rattle.rb_node.specs.Leading.{can_commit, appended, appended_change, is_log_full, all_sent_append, leading, in_lead, became_leader, with_views, checked_commit}
+use Rattle.rb_node.specs.Acknowledging.{append_response_handled, append_refusal_handled, heartbeat_response_handled}
+use Rattle.rb_node.specs.Transferring.{transfer_leader_handled}
 use Rattle.rb_node.specs.declared.options.Options.{Options}
-use Rattle.rb_node.specs.Node.{PlainNode, Turn, started, told, with_node, with_elapsed, with_heartbeat_elapsed, is_leader, message}
-use Rattle.rb_node.specs.Proposing.{why_replaced, change_put, put_in, takes_none, proposed}
-use Rattle.rb_node.specs.Readying.{own_stepped, applying, saved, advanced}
+use Rattle.rb_node.specs.Node.{PlainNode, NodeStep, started, with_event, with_node, with_elapsed, with_heartbeat_elapsed, is_leader, message}
+use Rattle.rb_node.specs.Proposing.{why_replaced, change_or_empty_appended, proposal_appended, drops_proposals, proposal_handled}
+use Rattle.rb_node.specs.Readying.{own_answers_stepped, applying, saved, advanced}
 use Rattle.rb_node.specs.Step.{as_follower, leader_followed, as_precandidate, as_candidate, as_leader, by_role_of, at_term_by, stepped}
-use Rattle.rb_node.specs.Terms.{followed, raised, raised_by, lowered_by, answers_earlier}
-use Rattle.rb_node.specs.Ticking.{counted as counted_tick, counted_up, beat_to, beat_each, heartbeats_due, looked_anew, has_lost_quorum, quorum_looked_at, leader_ticked, is_due, other_ticked, ticked_by}
+use Rattle.rb_node.specs.Terms.{became_follower, stepped_later, stepped_later_by, stepped_earlier_by, answers_earlier}
+use Rattle.rb_node.specs.Ticking.{next_count as counted_tick, counters_advanced, heartbeat_sent_to, heartbeat_sent_to_each, due_heartbeats_sent, activity_reset, has_lost_quorum, active_quorum_checked, leader_ticked, is_due, non_leader_ticked, ticked_by}
 use Rattle.rb_node.specs.Transferring.{transfer_ended}
-use Rattle.rb_node.specs.Votes.{grants, decided, pre_decided, counted, count_of}
+use Rattle.rb_node.specs.Votes.{grants, decided, pre_decided, next_count, count_of}
 use Rattle.rb_node.specs.declared.limits.TheConstants.{ELECTION_TICKS, HEARTBEAT_TICKS}
 use Rattle.rb_node_laws.specs.Calling.{Call, Step, Campaign, Propose, Transfer, Tick, Advance, ForgetLeader, ReportUnreachable, SetTimeout, Compact, compacted_unless, after, run}
 use Rattle.rb_node_laws.specs.Rules.{NoChangePast, LeadsKnowing}
 use Rattle.rb_node_laws.proofs.Goes.{Core, core}
 use Rattle.rb_node_laws.proofs.LeaderLaws.{with_views_only, strangers_only}
-use Rattle.rb_node_laws.proofs.PreVoteLaws.{asked_same, pre_vote_started_core}
+use Rattle.rb_node_laws.proofs.PreVoteLaws.{asked_same, became_precandidate_core}
 use Rattle.rb_node_laws.proofs.SendLaws.{tells_only}
-use Rattle.rb_node_laws.proofs.StandingLaws.{Standing, standing, StandsStill, told_all_standing, accepted_standing, refused_standing, beat_standing, transferred_standing}
+use Rattle.rb_node_laws.proofs.StandingLaws.{Standing, standing, StandsStill, append_broadcast_standing, accepted_standing, refused_standing, beat_standing, transferred_standing}
 use Rattle.rb_node_laws.proofs.StepCases.{by_term}
 use Rattle.rb_node_laws.proofs.MoveLaws.{compact_within}
 use Rattle.rb_node_laws.proofs.Turns.{own_size}
@@ -74,10 +74,10 @@ Knowing s = s.role ≡ role.Leader → (s.lead ≡ s.id) × NoChangePast s.log s
 still : (a b : PlainNode) → StandsStill a b → LeadsKnowing a → LeadsKnowing b
 still a b e h = subst Knowing (sym e) h
 
-abbrev Never : Turn → Type 0
+abbrev Never : NodeStep → Type 0
 Never t = t.node.role ≡ role.Leader → ⊥
 
-never : (t : Turn) → Never t → LeadsKnowing t.node
+never : (t : NodeStep) → Never t → LeadsKnowing t.node
 never t none leads = absurd (none leads)
 
 by_role_core : (a b : PlainNode) → core b ≡ core a → (a.role ≡ role.Leader → ⊥) → b.role ≡ role.Leader → ⊥
@@ -128,40 +128,40 @@ nothing_past v i e past at = let within = within_log v i e at in absurd (omega (
 
 -- ---- what a leader appends
 
-appended_knows : (t : Turn) (body : Body) → is_change body ≡ false → LeadsKnowing t.node → LeadsKnowing (appended t body).node
+appended_knows : (t : NodeStep) (body : Body) → is_change body ≡ false → LeadsKnowing t.node → LeadsKnowing (appended t body).node
 appended_knows t body plain h =
-    if_both (λ (u : Turn). LeadsKnowing u.node) (is_log_full t.node) _ _ (λ _. h)
+    if_both (λ (u : NodeStep). LeadsKnowing u.node) (is_log_full t.node) _ _ (λ _. h)
     (λ _ leads. (let k = h leads in (k.0, own_none t.node.log (record { term = t.node.term; body = body }) t.node.pending_change (inl plain) k.1)))
 
 -- up to a later index
 further : (v : LogValue) (low high : ℕ) → low ≤ high → NoChangePast v low → NoChangePast v high
 further v low high up none i e past at = none i e (omega (arith, up, past)) at
 
-change_knows : (t : Turn) (body : Body) → LeadsKnowing t.node → LeadsKnowing (appended_change t body).node
+change_knows : (t : NodeStep) (body : Body) → LeadsKnowing t.node → LeadsKnowing (appended_change t body).node
 change_knows t body h =
-    if_both (λ (u : Turn). LeadsKnowing u.node) (is_log_full t.node) _ _ (λ _. h)
+    if_both (λ (u : NodeStep). LeadsKnowing u.node) (is_log_full t.node) _ _ (λ _. h)
     (λ _ leads. (let k = h leads in (
       k.0,
       own_none t.node.log (record { term = t.node.term; body = body }) (last t.node.log + 1) (inr (omega arith))
           (further t.node.log (last t.node.log) (last t.node.log + 1) (omega arith) (nothing_past t.node.log)),
     )))
 
-put_knows : (o : Option WhyReplaced) (t : Turn) (body : Body) → LeadsKnowing t.node → LeadsKnowing (change_put o t body).node
+put_knows : (o : Option WhyReplaced) (t : NodeStep) (body : Body) → LeadsKnowing t.node → LeadsKnowing (change_or_empty_appended o t body).node
 put_knows None t body h = change_knows t body h
-put_knows (Some reason) t body h = appended_knows (told t (ReplacedChange t.node.id (last t.node.log + 1) reason)) (Payload []) refl h
+put_knows (Some reason) t body h = appended_knows (with_event t (ReplacedChange t.node.id (last t.node.log + 1) reason)) (Payload []) refl h
 
-put_in_knows : (body : Body) (t : Turn) → LeadsKnowing t.node → LeadsKnowing (put_in body t).node
+put_in_knows : (body : Body) (t : NodeStep) → LeadsKnowing t.node → LeadsKnowing (proposal_appended body t).node
 put_in_knows (Payload bytes) t h = appended_knows t (Payload bytes) refl h
 put_in_knows (Change transition words) t h =
-    if_both (λ (u : Turn). LeadsKnowing u.node) (is_log_full t.node) _ _ (λ _. h) (λ _. put_knows (why_replaced t.node (length words)) t (Change transition words) h)
+    if_both (λ (u : NodeStep). LeadsKnowing u.node) (is_log_full t.node) _ _ (λ _. h) (λ _. put_knows (why_replaced t.node (length words)) t (Change transition words) h)
 
-all_told_knows : (t : Turn) → LeadsKnowing t.node → LeadsKnowing (all_told t).node
-all_told_knows t h = still t.node (all_told t).node (told_all_standing t.node) h
+all_told_knows : (t : NodeStep) → LeadsKnowing t.node → LeadsKnowing (all_sent_append t).node
+all_told_knows t h = still t.node (all_sent_append t).node (append_broadcast_standing t.node) h
 
-proposed_knows : (t : Turn) (body : Body) → LeadsKnowing t.node → LeadsKnowing (proposed t body).node
-unfolding proposed
+proposed_knows : (t : NodeStep) (body : Body) → LeadsKnowing t.node → LeadsKnowing (proposal_handled t body).node
+unfolding proposal_handled
 proposed_knows t body h =
-    if_both (λ (u : Turn). LeadsKnowing u.node) (takes_none t.node) _ _ (λ _. h) (λ _. all_told_knows (put_in body t) (put_in_knows body t h))
+    if_both (λ (u : NodeStep). LeadsKnowing u.node) (drops_proposals t.node) _ _ (λ _. h) (λ _. all_told_knows (proposal_appended body t) (put_in_knows body t h))
 
 -- ---- a new leader
 
@@ -171,185 +171,185 @@ leading_standing n = ap (λ (x : PlainNode). standing (record x { pending_change
 leading_knows : (n : PlainNode) → LeadsKnowing (leading n)
 leading_knows n = still (record (in_lead n) { pending_change = last n.log }) (leading n) (leading_standing n) (λ _. (refl, nothing_past n.log))
 
-led_knows : (t : Turn) → LeadsKnowing (led t).node
-unfolding led
+led_knows : (t : NodeStep) → LeadsKnowing (became_leader t).node
+unfolding became_leader
 led_knows t =
-    let u : Turn = told (with_node t (leading t.node)) (Became t.node.id role.Leader t.node.term) in
+    let u : NodeStep = with_event (with_node t (leading t.node)) (Became t.node.id role.Leader t.node.term) in
     all_told_knows (appended u (Payload [])) (appended_knows u (Payload []) refl (leading_knows t.node))
 
 -- ---- campaigns
 
-stood_never : (t : Turn) (transfer : Bool) → Never (stood t transfer)
+stood_never : (t : NodeStep) (transfer : Bool) → Never (became_candidate t transfer)
 stood_never t transfer =
     let n = candidate t.node in
-    by_role_core n (stood t transfer).node (asked_same n (voters n.tracker.config) n.term (kind.Vote (last_term n.log) (last n.log) transfer) (kind.VoteResponse true)) candidate_never
+    by_role_core n (became_candidate t transfer).node (asked_same n (voters n.tracker.config) n.term (kind.Vote (last_term n.log) (last n.log) transfer) (kind.VoteResponse true)) candidate_never
 
-pre_vote_never : (t : Turn) → Never (pre_vote_started t)
-pre_vote_never t leads = precandidate_never (sym (ap (λ (c : Core). c.role) (pre_vote_started_core t)) ∙ leads)
+pre_vote_never : (t : NodeStep) → Never (became_precandidate t)
+pre_vote_never t leads = precandidate_never (sym (ap (λ (c : Core). c.role) (became_precandidate_core t)) ∙ leads)
 
-unless_knows : (o : Option WhyNoCampaign) (t : Turn) (transfer : Bool) → LeadsKnowing t.node → LeadsKnowing (campaigned_unless o t transfer).node
+unless_knows : (o : Option WhyNoCampaign) (t : NodeStep) (transfer : Bool) → LeadsKnowing t.node → LeadsKnowing (campaigned_unless o t transfer).node
 unless_knows (Some reason) t transfer h = h
 unless_knows None t transfer h =
-    if_both (λ (u : Turn). LeadsKnowing u.node) (t.node.options.pre_vote && not transfer) (pre_vote_started t) (stood t transfer)
-    (λ _. never (pre_vote_started t) (pre_vote_never t)) (λ _. never (stood t transfer) (stood_never t transfer))
+    if_both (λ (u : NodeStep). LeadsKnowing u.node) (t.node.options.pre_vote && not transfer) (became_precandidate t) (became_candidate t transfer)
+    (λ _. never (became_precandidate t) (pre_vote_never t)) (λ _. never (became_candidate t transfer) (stood_never t transfer))
 
-campaigned_knows : (t : Turn) (transfer : Bool) → LeadsKnowing t.node → LeadsKnowing (campaigned t transfer).node
+campaigned_knows : (t : NodeStep) (transfer : Bool) → LeadsKnowing t.node → LeadsKnowing (campaigned t transfer).node
 unfolding campaigned
 campaigned_knows t transfer h = unless_knows (why_no_campaign t.node) t transfer h
 
-stood_unless_knows : (o : Option WhyNoCampaign) (t : Turn) → LeadsKnowing t.node → LeadsKnowing (stood_unless o t).node
+stood_unless_knows : (o : Option WhyNoCampaign) (t : NodeStep) → LeadsKnowing t.node → LeadsKnowing (became_candidate_unless o t).node
 stood_unless_knows (Some reason) t h = h
-stood_unless_knows None t h = never (stood t false) (stood_never t false)
+stood_unless_knows None t h = never (became_candidate t false) (stood_never t false)
 
-after_pre_vote_knows : (t : Turn) → LeadsKnowing t.node → LeadsKnowing (campaigned_after_pre_vote t).node
+after_pre_vote_knows : (t : NodeStep) → LeadsKnowing t.node → LeadsKnowing (campaigned_after_pre_vote t).node
 unfolding campaigned_after_pre_vote
 after_pre_vote_knows t h = stood_unless_knows (why_no_campaign t.node) t h
 
-decided_knows : (v : VoteResult) (t : Turn) → LeadsKnowing t.node → LeadsKnowing (decided v t).node
+decided_knows : (v : VoteResult) (t : NodeStep) → LeadsKnowing t.node → LeadsKnowing (decided v t).node
 decided_knows vote.Won t h = led_knows t
 decided_knows vote.Pending t h = h
-decided_knows vote.Lost t h = never (followed t t.node.term 0) follower_never
+decided_knows vote.Lost t h = never (became_follower t t.node.term 0) follower_never
 
-pre_decided_knows : (v : VoteResult) (t : Turn) → LeadsKnowing t.node → LeadsKnowing (pre_decided v t).node
+pre_decided_knows : (v : VoteResult) (t : NodeStep) → LeadsKnowing t.node → LeadsKnowing (pre_decided v t).node
 pre_decided_knows vote.Won t h = after_pre_vote_knows t h
 pre_decided_knows vote.Pending t h = h
-pre_decided_knows vote.Lost t h = never (followed t t.node.term 0) follower_never
+pre_decided_knows vote.Lost t h = never (became_follower t t.node.term 0) follower_never
 
 -- ---- a follower
 
-after_log_never : (a : Appended) (t : Turn) (from : ℕ) (append : PlainAppend) → Never t → Never (after_log a (with_node t (with_appended t.node from append)) from append)
+after_log_never : (a : Appended) (t : NodeStep) (from : ℕ) (append : PlainAppend) → Never t → Never (after_log a (with_node t (with_appended t.node from append)) from append)
 after_log_never (Matched i) t from append none = none
 after_log_never (Refused hint) t from append none = none
 after_log_never (BelowCommit i) t from append none = none
 
-append_never : (t : Turn) (from : ℕ) (append : PlainAppend) → Never t → Never (append_taken t from append)
-unfolding append_taken
+append_never : (t : NodeStep) (from : ℕ) (append : PlainAppend) → Never t → Never (append_entries_handled t from append)
+unfolding append_entries_handled
 append_never t from append none = after_log_never (answer t.node.log append.prev append.prev_term append.entries t.node.commit) t from append none
 
-snapshot_never : (t : Turn) (from : ℕ) (x : Snapshot) → Never t → Never (snapshot_taken t from x)
-unfolding snapshot_taken
+snapshot_never : (t : NodeStep) (from : ℕ) (x : Snapshot) → Never t → Never (snapshot_handled t from x)
+unfolding snapshot_handled
 snapshot_never t from x none =
     if_both Never (nat_le x.index t.node.commit) _ _ (λ _. none)
-    (λ _. if_both Never (is_term (term_at t.node.log x.index) x.term) _ (new_snapshot_taken t from x) (λ _. none) (λ _. none))
+    (λ _. if_both Never (is_term (term_at t.node.log x.index) x.term) _ (new_snapshot_handled t from x) (λ _. none) (λ _. none))
 
-follower_knows : (k : MessageKind) (t : Turn) (m : Message) → Never t → LeadsKnowing (as_follower k t m).node
-follower_knows (kind.Append append) t m none = never (append_taken t m.from append) (append_never t m.from append none)
+follower_knows : (k : MessageKind) (t : NodeStep) (m : Message) → Never t → LeadsKnowing (as_follower k t m).node
+follower_knows (kind.Append append) t m none = never (append_entries_handled t m.from append) (append_never t m.from append none)
 follower_knows (kind.Heartbeat commit) t m none = λ leads. absurd (none leads)
 follower_knows (kind.Snapshot snapshot) t m none =
-    (let u : Turn = with_node t (heard t.node m.from) in never (snapshot_taken u m.from snapshot) (snapshot_never u m.from snapshot none))
+    (let u : NodeStep = with_node t (leader_contact_recorded t.node m.from) in never (snapshot_handled u m.from snapshot) (snapshot_never u m.from snapshot none))
 follower_knows (kind.Proposal body) t m none =
-    if_both (λ (u : Turn). LeadsKnowing u.node) (t.node.lead == 0) _ _ (λ _ leads. absurd (none leads)) (λ _ leads. absurd (none leads))
+    if_both (λ (u : NodeStep). LeadsKnowing u.node) (t.node.lead == 0) _ _ (λ _ leads. absurd (none leads)) (λ _ leads. absurd (none leads))
 follower_knows (kind.TransferLeader target) t m none =
-    if_both (λ (u : Turn). LeadsKnowing u.node) (t.node.lead == 0) _ _ (λ _ leads. absurd (none leads)) (λ _ leads. absurd (none leads))
+    if_both (λ (u : NodeStep). LeadsKnowing u.node) (t.node.lead == 0) _ _ (λ _ leads. absurd (none leads)) (λ _ leads. absurd (none leads))
 follower_knows kind.TimeoutNow t m none = campaigned_knows t true (never t none)
 follower_knows _ t m none = λ leads. absurd (none leads)
 
 -- ---- at each role
 
-given_knows : (t : Turn) (m : Message) → LeadsKnowing (leader_followed t m).node
-given_knows t m = follower_knows m.kind (followed t t.node.term m.from) m follower_never
+given_knows : (t : NodeStep) (m : Message) → LeadsKnowing (leader_followed t m).node
+given_knows t m = follower_knows m.kind (became_follower t t.node.term m.from) m follower_never
 
-precandidate_knows : (k : MessageKind) (t : Turn) (m : Message) → LeadsKnowing t.node → LeadsKnowing (as_precandidate k t m).node
-precandidate_knows (kind.PreVoteResponse granted) t m h = pre_decided_knows (count_of t.node m.from granted) (counted t m granted) h
+precandidate_knows : (k : MessageKind) (t : NodeStep) (m : Message) → LeadsKnowing t.node → LeadsKnowing (as_precandidate k t m).node
+precandidate_knows (kind.PreVoteResponse granted) t m h = pre_decided_knows (count_of t.node m.from granted) (next_count t m granted) h
 precandidate_knows (kind.Append append) t m h = given_knows t m
 precandidate_knows (kind.Heartbeat commit) t m h = given_knows t m
 precandidate_knows (kind.Snapshot snapshot) t m h = given_knows t m
 precandidate_knows _ t m h = h
 
-candidate_knows : (k : MessageKind) (t : Turn) (m : Message) → LeadsKnowing t.node → LeadsKnowing (as_candidate k t m).node
-candidate_knows (kind.VoteResponse granted) t m h = decided_knows (count_of t.node m.from granted) (counted t m granted) h
+candidate_knows : (k : MessageKind) (t : NodeStep) (m : Message) → LeadsKnowing t.node → LeadsKnowing (as_candidate k t m).node
+candidate_knows (kind.VoteResponse granted) t m h = decided_knows (count_of t.node m.from granted) (next_count t m granted) h
 candidate_knows (kind.Append append) t m h = given_knows t m
 candidate_knows (kind.Heartbeat commit) t m h = given_knows t m
 candidate_knows (kind.Snapshot snapshot) t m h = given_knows t m
 candidate_knows _ t m h = h
 
-leader_knows : (k : MessageKind) (t : Turn) (m : Message) → LeadsKnowing t.node → LeadsKnowing (as_leader k t m).node
+leader_knows : (k : MessageKind) (t : NodeStep) (m : Message) → LeadsKnowing t.node → LeadsKnowing (as_leader k t m).node
 leader_knows (kind.Proposal body) t m h = proposed_knows t body h
-leader_knows (kind.AppendResponse matched) t m h = still t.node (accepted t m matched).node (accepted_standing t m matched) h
-leader_knows (kind.AppendRefusal refused hint) t m h = still t.node (append_refused t m refused hint).node (refused_standing t m refused hint) h
-leader_knows kind.HeartbeatResponse t m h = still t.node (beat_answered t m).node (beat_standing t m) h
-leader_knows (kind.TransferLeader target) t m h = still t.node (transferred t m target).node (transferred_standing t m target) h
+leader_knows (kind.AppendResponse matched) t m h = still t.node (append_response_handled t m matched).node (accepted_standing t m matched) h
+leader_knows (kind.AppendRefusal refused hint) t m h = still t.node (append_refusal_handled t m refused hint).node (refused_standing t m refused hint) h
+leader_knows kind.HeartbeatResponse t m h = still t.node (heartbeat_response_handled t m).node (beat_standing t m) h
+leader_knows (kind.TransferLeader target) t m h = still t.node (transfer_leader_handled t m target).node (transferred_standing t m target) h
 leader_knows _ t m h = h
 
-role_knows : (r : Role) (t : Turn) (m : Message) → t.node.role ≡ r → LeadsKnowing t.node → LeadsKnowing (by_role_of r t m).node
+role_knows : (r : Role) (t : NodeStep) (m : Message) → t.node.role ≡ r → LeadsKnowing t.node → LeadsKnowing (by_role_of r t m).node
 role_knows role.Follower t m is h = follower_knows m.kind t m (λ leads. follower_never (sym is ∙ leads))
 role_knows role.Precandidate t m is h = precandidate_knows m.kind t m h
 role_knows role.Candidate t m is h = candidate_knows m.kind t m h
 role_knows role.Leader t m is h = leader_knows m.kind t m h
 
-term_knows : (k : MessageKind) (t : Turn) (m : Message) → LeadsKnowing t.node → LeadsKnowing (at_term_by k t m).node
-term_knows (kind.Vote last_term last_index transfer) t m h = if_both (λ (u : Turn). LeadsKnowing u.node) (grants t.node m last_term last_index false) _ _ (λ _. h) (λ _. h)
-term_knows (kind.PreVote last_term last_index) t m h = if_both (λ (u : Turn). LeadsKnowing u.node) (grants t.node m last_term last_index true) _ _ (λ _. h) (λ _. h)
+term_knows : (k : MessageKind) (t : NodeStep) (m : Message) → LeadsKnowing t.node → LeadsKnowing (at_term_by k t m).node
+term_knows (kind.Vote last_term last_index transfer) t m h = if_both (λ (u : NodeStep). LeadsKnowing u.node) (grants t.node m last_term last_index false) _ _ (λ _. h) (λ _. h)
+term_knows (kind.PreVote last_term last_index) t m h = if_both (λ (u : NodeStep). LeadsKnowing u.node) (grants t.node m last_term last_index true) _ _ (λ _. h) (λ _. h)
 term_knows _ t m h = role_knows t.node.role t m refl h
 
 -- ---- of each term
 
-raised_knows : (k : MessageKind) (t : Turn) (m : Message) → LeadsKnowing t.node → LeadsKnowing (raised_by k t m).node
+raised_knows : (k : MessageKind) (t : NodeStep) (m : Message) → LeadsKnowing t.node → LeadsKnowing (stepped_later_by k t m).node
 raised_knows (kind.PreVote last_term last_index) t m h = h
 raised_knows (kind.PreVoteResponse granted) t m h =
-    if_both (λ (u : Turn). LeadsKnowing u.node) granted t (followed t m.term 0) (λ _. h) (λ _. never (followed t m.term 0) follower_never)
-raised_knows (kind.Append append) t m h = never (followed t m.term m.from) follower_never
-raised_knows (kind.Heartbeat commit) t m h = never (followed t m.term m.from) follower_never
-raised_knows (kind.Snapshot snapshot) t m h = never (followed t m.term m.from) follower_never
-raised_knows _ t m h = never (followed t m.term 0) follower_never
+    if_both (λ (u : NodeStep). LeadsKnowing u.node) granted t (became_follower t m.term 0) (λ _. h) (λ _. never (became_follower t m.term 0) follower_never)
+raised_knows (kind.Append append) t m h = never (became_follower t m.term m.from) follower_never
+raised_knows (kind.Heartbeat commit) t m h = never (became_follower t m.term m.from) follower_never
+raised_knows (kind.Snapshot snapshot) t m h = never (became_follower t m.term m.from) follower_never
+raised_knows _ t m h = never (became_follower t m.term 0) follower_never
 
-lowered_knows : (k : MessageKind) (t : Turn) (m : Message) → LeadsKnowing t.node → LeadsKnowing (lowered_by k t m).node
+lowered_knows : (k : MessageKind) (t : NodeStep) (m : Message) → LeadsKnowing t.node → LeadsKnowing (stepped_earlier_by k t m).node
 lowered_knows (kind.PreVote last_term last_index) t m h = h
-lowered_knows (kind.Append append) t m h = if_both (λ (u : Turn). LeadsKnowing u.node) (answers_earlier t.node) _ _ (λ _. h) (λ _. h)
-lowered_knows (kind.Heartbeat commit) t m h = if_both (λ (u : Turn). LeadsKnowing u.node) (answers_earlier t.node) _ _ (λ _. h) (λ _. h)
+lowered_knows (kind.Append append) t m h = if_both (λ (u : NodeStep). LeadsKnowing u.node) (answers_earlier t.node) _ _ (λ _. h) (λ _. h)
+lowered_knows (kind.Heartbeat commit) t m h = if_both (λ (u : NodeStep). LeadsKnowing u.node) (answers_earlier t.node) _ _ (λ _. h) (λ _. h)
 lowered_knows _ t m h = h
 
-stepped_knows : (t : Turn) (m : Message) → LeadsKnowing t.node → LeadsKnowing (stepped t m).node
+stepped_knows : (t : NodeStep) (m : Message) → LeadsKnowing t.node → LeadsKnowing (stepped t m).node
 stepped_knows t m h =
-    by_term (λ (u : Turn). LeadsKnowing u.node) t m
+    by_term (λ (u : NodeStep). LeadsKnowing u.node) t m
     (λ _. term_knows m.kind t m h)
     (λ _. lowered_knows m.kind t m h)
     (λ _ _. h)
-    (λ _ _. term_knows m.kind (raised t m) m (raised_knows m.kind t m h))
+    (λ _ _. term_knows m.kind (stepped_later t m) m (raised_knows m.kind t m h))
 
 -- ---- ticks
 
-beat_standing_still : (n : PlainNode) (id : ℕ) → StandsStill n (beat_to n id)
+beat_standing_still : (n : PlainNode) (id : ℕ) → StandsStill n (heartbeat_sent_to n id)
 beat_standing_still n id = if_both (StandsStill n) (id == n.id) _ _ (λ _. refl) (λ _. refl)
 
-beats_standing : (n : PlainNode) (ids : List ℕ) → StandsStill n (beat_each n ids)
+beats_standing : (n : PlainNode) (ids : List ℕ) → StandsStill n (heartbeat_sent_to_each n ids)
 beats_standing n [] = refl
-beats_standing n (id ∷ ids) = beats_standing (beat_to n id) ids ∙ beat_standing_still n id
+beats_standing n (id ∷ ids) = beats_standing (heartbeat_sent_to n id) ids ∙ beat_standing_still n id
 
-due_standing : (n : PlainNode) → StandsStill n (heartbeats_due n)
-unfolding heartbeats_due
+due_standing : (n : PlainNode) → StandsStill n (due_heartbeats_sent n)
+unfolding due_heartbeats_sent
 due_standing n =
     if_both (StandsStill n) (nat_le HEARTBEAT_TICKS n.clock.heartbeat_elapsed) _ _ (λ _. beats_standing (with_heartbeat_elapsed n 0) (ids_of n.tracker.views)) (λ _. refl)
 
-ended_standing : (t : Turn) → StandsStill t.node (transfer_ended t).node
+ended_standing : (t : NodeStep) → StandsStill t.node (transfer_ended t).node
 unfolding transfer_ended
-ended_standing t = if_both (λ (u : Turn). StandsStill t.node u.node) (t.node.transferee == 0) _ _ (λ _. refl) (λ _. refl)
+ended_standing t = if_both (λ (u : NodeStep). StandsStill t.node u.node) (t.node.transferee == 0) _ _ (λ _. refl) (λ _. refl)
 
-looked_standing : (n : PlainNode) → StandsStill n (looked_anew n)
+looked_standing : (n : PlainNode) → StandsStill n (activity_reset n)
 looked_standing n = if_both (StandsStill n) n.options.check_quorum _ _ (λ _. refl) (λ _. refl)
 
-quorum_knows : (t : Turn) → LeadsKnowing t.node → LeadsKnowing (quorum_looked_at t).node
-unfolding quorum_looked_at
+quorum_knows : (t : NodeStep) → LeadsKnowing t.node → LeadsKnowing (active_quorum_checked t).node
+unfolding active_quorum_checked
 quorum_knows t h =
-    let v : Turn = with_node t (looked_anew t.node) in
-    let u : Turn = transfer_ended v in
-    if_both (λ (x : Turn). LeadsKnowing x.node) (has_lost_quorum t.node) _ _ (λ _ leads. absurd (follower_never leads))
-    (λ _. still t.node (heartbeats_due u.node) (due_standing u.node ∙ ended_standing v ∙ looked_standing t.node) h)
+    let v : NodeStep = with_node t (activity_reset t.node) in
+    let u : NodeStep = transfer_ended v in
+    if_both (λ (x : NodeStep). LeadsKnowing x.node) (has_lost_quorum t.node) _ _ (λ _ leads. absurd (follower_never leads))
+    (λ _. still t.node (due_heartbeats_sent u.node) (due_standing u.node ∙ ended_standing v ∙ looked_standing t.node) h)
 
-leader_ticked_knows : (t : Turn) → LeadsKnowing t.node → LeadsKnowing (leader_ticked t).node
+leader_ticked_knows : (t : NodeStep) → LeadsKnowing t.node → LeadsKnowing (leader_ticked t).node
 unfolding leader_ticked
 leader_ticked_knows t h =
-    let n : PlainNode = counted_up t.node in
-    if_both (λ (x : Turn). LeadsKnowing x.node) (nat_le ELECTION_TICKS n.clock.elapsed) _ _
-    (λ _. quorum_knows (with_node t (with_elapsed n 0)) h) (λ _. still t.node (heartbeats_due n) (due_standing n) h)
+    let n : PlainNode = counters_advanced t.node in
+    if_both (λ (x : NodeStep). LeadsKnowing x.node) (nat_le ELECTION_TICKS n.clock.elapsed) _ _
+    (λ _. quorum_knows (with_node t (with_elapsed n 0)) h) (λ _. still t.node (due_heartbeats_sent n) (due_standing n) h)
 
-other_ticked_knows : (t : Turn) → LeadsKnowing t.node → LeadsKnowing (other_ticked t).node
-unfolding other_ticked
+other_ticked_knows : (t : NodeStep) → LeadsKnowing t.node → LeadsKnowing (non_leader_ticked t).node
+unfolding non_leader_ticked
 other_ticked_knows t h =
     let n : PlainNode = with_elapsed t.node (counted_tick t.node.clock.elapsed) in
-    if_both (λ (x : Turn). LeadsKnowing x.node) (is_due n) _ _ (λ _. campaigned_knows (with_node t (with_elapsed n 0)) false h) (λ _. h)
+    if_both (λ (x : NodeStep). LeadsKnowing x.node) (is_due n) _ _ (λ _. campaigned_knows (with_node t (with_elapsed n 0)) false h) (λ _. h)
 
-ticked_knows : (r : Role) (t : Turn) → LeadsKnowing t.node → LeadsKnowing (ticked_by r t).node
+ticked_knows : (r : Role) (t : NodeStep) → LeadsKnowing t.node → LeadsKnowing (ticked_by r t).node
 ticked_knows role.Follower t h = other_ticked_knows t h
 ticked_knows role.Precandidate t h = other_ticked_knows t h
 ticked_knows role.Candidate t h = other_ticked_knows t h
@@ -357,59 +357,59 @@ ticked_knows role.Leader t h = leader_ticked_knows t h
 
 -- ---- entries that take effect
 
-given_up_standing : (t : Turn) → StandsStill t.node (stranger_given_up t).node
-given_up_standing t = if_both (λ (u : Turn). StandsStill t.node u.node) (is_member t.node.tracker.config t.node.transferee) _ _ (λ _. refl) (λ _. ended_standing t)
+given_up_standing : (t : NodeStep) → StandsStill t.node (transfer_to_non_member_cancelled t).node
+given_up_standing t = if_both (λ (u : NodeStep). StandsStill t.node u.node) (is_member t.node.tracker.config t.node.transferee) _ _ (λ _. refl) (λ _. ended_standing t)
 
 checked_standing : (n : PlainNode) (ids : List ℕ) → StandsStill n (checked_commit n ids)
 unfolding checked_commit
 checked_standing n ids =
-    if_both (StandsStill n) (can_commit n (commit_of n.tracker)) _ _ (λ _. told_all_standing (record n { commit = commit_of n.tracker })) (λ _. ap standing (tells_only n ids))
+    if_both (StandsStill n) (can_commit n (commit_of n.tracker)) _ _ (λ _. append_broadcast_standing (record n { commit = commit_of n.tracker })) (λ _. ap standing (tells_only n ids))
 
-revised_standing : (t : Turn) → StandsStill t.node (revised t).node
-unfolding revised
+revised_standing : (t : NodeStep) → StandsStill t.node (views_updated t).node
+unfolding views_updated
 revised_standing t =
-    let x : PlainNode = without_strangers t.node (ids_of t.node.tracker.views) in
+    let x : PlainNode = without_views t.node (ids_of t.node.tracker.views) in
     let ids = missing x.tracker.views (members x.tracker.config) in
-    let u : Turn = with_node t (with_views x ids true) in
-    checked_standing (stranger_given_up u).node ids ∙ given_up_standing u ∙ ap standing (with_views_only x ids true) ∙ ap standing (strangers_only t.node (ids_of t.node.tracker.views))
+    let u : NodeStep = with_node t (with_views x ids true) in
+    checked_standing (transfer_to_non_member_cancelled u).node ids ∙ given_up_standing u ∙ ap standing (with_views_only x ids true) ∙ ap standing (strangers_only t.node (ids_of t.node.tracker.views))
 
-led_on_knows : (t : Turn) → LeadsKnowing t.node → LeadsKnowing (led_on t).node
+led_on_knows : (t : NodeStep) → LeadsKnowing t.node → LeadsKnowing (continued_after_switch t).node
 led_on_knows t h =
-    let P : Turn → Type 0 = λ u. LeadsKnowing u.node in
+    let P : NodeStep → Type 0 = λ u. LeadsKnowing u.node in
     if_both P (is_leader t.node.role) _ t
-    (λ _. if_both P (steps_down t.node) _ _ (λ _ leads. absurd (follower_never leads)) (λ _. still t.node (revised t).node (revised_standing t) h)) (λ _. h)
+    (λ _. if_both P (steps_down t.node) _ _ (λ _ leads. absurd (follower_never leads)) (λ _. still t.node (views_updated t).node (revised_standing t) h)) (λ _. h)
 
-switched_knows : (r : Result Config ChangeFault) (t : Turn) → LeadsKnowing t.node → LeadsKnowing (switched r t).node
-switched_knows (Ok c) t h = led_on_knows (told (with_node t (record t.node { tracker = configured t.node.tracker c })) (Switched t.node.id c)) h
+switched_knows : (r : Result Config ChangeFault) (t : NodeStep) → LeadsKnowing t.node → LeadsKnowing (switched r t).node
+switched_knows (Ok c) t h = led_on_knows (with_event (with_node t (record t.node { tracker = configured t.node.tracker c })) (Switched t.node.id c)) h
 switched_knows (Err fault) t h = h
 
-change_applied_knows : (t : Turn) (transition : Transition) (words : List Word) → LeadsKnowing t.node → LeadsKnowing (change_applied t transition words).node
+change_applied_knows : (t : NodeStep) (transition : Transition) (words : List Word) → LeadsKnowing t.node → LeadsKnowing (change_applied t transition words).node
 unfolding change_applied
 change_applied_knows t transition words h = switched_knows (changed t.node.tracker.config transition words) t h
 
-body_knows : (body : Body) (t : Turn) → LeadsKnowing t.node → LeadsKnowing (body_applied body t).node
+body_knows : (body : Body) (t : NodeStep) → LeadsKnowing t.node → LeadsKnowing (body_applied body t).node
 body_knows (Payload bytes) t h = h
 body_knows (Change transition words) t h = change_applied_knows t transition words h
 
-all_know : (t : Turn) (i : ℕ) (es : List Entry) → LeadsKnowing t.node → LeadsKnowing (applied_all t i es).node
+all_know : (t : NodeStep) (i : ℕ) (es : List Entry) → LeadsKnowing t.node → LeadsKnowing (applied_all t i es).node
 all_know t i [] h = h
 all_know t i (e ∷ es) h = all_know (applied_one t (i + 1) e) (i + 1) es (body_knows e.body (with_node t (record t.node { applied = i + 1 })) h)
 
-left_knows : (t : Turn) → LeadsKnowing t.node → LeadsKnowing (joint_left t).node
+left_knows : (t : NodeStep) → LeadsKnowing t.node → LeadsKnowing (joint_left t).node
 unfolding joint_left
 left_knows t h =
-    if_both (λ (u : Turn). LeadsKnowing u.node) (leaves_joint t.node) _ _ (λ _. all_told_knows (appended_change t (Change Auto [])) (change_knows t (Change Auto []) h)) (λ _. h)
+    if_both (λ (u : NodeStep). LeadsKnowing u.node) (leaves_joint t.node) _ _ (λ _. all_told_knows (appended_change t (Change Auto [])) (change_knows t (Change Auto []) h)) (λ _. h)
 
-own_knows : (id : ℕ) (t : Turn) (ms : List Message) → LeadsKnowing t.node → LeadsKnowing (own_stepped id t ms).node
+own_knows : (id : ℕ) (t : NodeStep) (ms : List Message) → LeadsKnowing t.node → LeadsKnowing (own_answers_stepped id t ms).node
 own_knows id t [] h = h
 own_knows id t (m ∷ ms) h =
     own_knows id (if m.to == id then stepped t m else t) ms
-    (if_both (λ (u : Turn). LeadsKnowing u.node) (m.to == id) (stepped t m) t (λ _. stepped_knows t m h) (λ _. h))
+    (if_both (λ (u : NodeStep). LeadsKnowing u.node) (m.to == id) (stepped t m) t (λ _. stepped_knows t m h) (λ _. h))
 
-advanced_knows : (t : Turn) → LeadsKnowing t.node → LeadsKnowing (advanced t).node
+advanced_knows : (t : NodeStep) → LeadsKnowing t.node → LeadsKnowing (advanced t).node
 unfolding advanced
 advanced_knows t h =
-    let u : Turn = with_node t (saved t.node) in
+    let u : NodeStep = with_node t (saved t.node) in
     own_knows t.node.id (joint_left (applied_all u t.node.applied (applying t.node))) t.node.waiting
     (left_knows (applied_all u t.node.applied (applying t.node)) (all_know u t.node.applied (applying t.node) h))
 
@@ -445,7 +445,7 @@ compacted_knows (Some fault) n i is h = h
 compacted_knows None n i is h = λ leads.
     (let k = h leads in (k.0, compacted_none n.log i n.pending_change (term_at n.log i) (compact_within n.log i (min n.applied n.log.durable) is).0 k.1))
 
-pub called_knows : (c : Call) (t : Turn) → LeadsKnowing t.node → LeadsKnowing (after c t).node
+pub called_knows : (c : Call) (t : NodeStep) → LeadsKnowing t.node → LeadsKnowing (after c t).node
 called_knows (Step m) t h = stepped_knows t m h
 called_knows Campaign t h = campaigned_knows t false h
 called_knows (Propose body) t h = stepped_knows t (message t.node.id t.node.id 0 (kind.Proposal body)) h
@@ -457,7 +457,7 @@ called_knows (ReportUnreachable id) t h = reported_knows t.node id h
 called_knows (SetTimeout ticks) t h = h
 called_knows (Compact index) t h = compacted_knows (compact_fault t.node.log index (min t.node.applied t.node.log.durable)) t.node index refl h
 
-pub run_knows : (cs : List Call) (t : Turn) → LeadsKnowing t.node → LeadsKnowing (run cs t).node
+pub run_knows : (cs : List Call) (t : NodeStep) → LeadsKnowing t.node → LeadsKnowing (run cs t).node
 run_knows [] t h = h
 run_knows (c ∷ cs) t h = run_knows cs (after c t) (called_knows c t h)
 

@@ -5,9 +5,9 @@ use Rattle.std.specs.List.{insert}
 use Rattle.std.specs.Map.{remove_entry, lookup}
 use Rattle.indexmap.specs.Layout.{set_value_at}
 use Rattle.rb_tracker.proofs.SetLaws.{if_both}
-use Rattle.rb_tracker.specs.Active.{unmarked_but}
+use Rattle.rb_tracker.specs.Active.{inactive_unless_own}
 use Rattle.rb_tracker.specs.Commits.{match_in, match_of}
-use Rattle.rb_tracker.specs.Progresses.{probing, own_view, PlainProgress, marked, resumed, probed, snapshotting, replicating, sent_up_to, sent_in, sent, matching, acked_in, acked, freed_in, freed_through, refused_in, refused}
+use Rattle.rb_tracker.specs.Progresses.{probing, own_view, PlainProgress, with_active, resumed, probed, snapshotting, replicating, sent_up_to, sent_in, sent, matching, acked_in, acked, freed_in, freed_through, refused_in, refused}
 use Rattle.rb_tracker.specs.Trackers.{view_at}
 use Rattle.rb_tracker.specs.Windows.{is_full, PlainWindow, freed}
 use Rattle.rb_tracker.specs.declared.progress.ProgressState.{ProgressState}
@@ -24,7 +24,7 @@ new_probe capacity next active some = record { ahead = some; within = omega arit
 pub new_own : (capacity matched next : ℕ) → matched < next → IsSoundView (own_view capacity matched next)
 new_own capacity matched next ahead = record { ahead = ahead; within = omega arith }
 
-pub sound_marked : (p : PlainProgress) (active : Bool) → IsSoundView p → IsSoundView (marked p active)
+pub sound_marked : (p : PlainProgress) (active : Bool) → IsSoundView p → IsSoundView (with_active p active)
 sound_marked p active is = record { ahead = is.ahead; within = is.within }
 
 pub sound_resumed : (p : PlainProgress) → IsSoundView p → IsSoundView (resumed p)
@@ -158,10 +158,10 @@ sound_removed id [] are = tt
 sound_removed id (e ∷ es) are =
     if_both AreSoundViews (nat_eq id e.0) es (e ∷ remove_entry (nat_eq id) es) (λ _. are.1) (λ _. (are.0, sound_removed id es are.1))
 
-sound_unmarked_one : (own : ℕ) (e : ℕ × PlainProgress) → IsSoundView e.1 → IsSoundView (unmarked_but own e).1
-sound_unmarked_one own e is = if_both (λ (f : ℕ × PlainProgress). IsSoundView f.1) (e.0 == own) e (e.0, marked e.1 false) (λ _. is) (λ _. sound_marked e.1 false is)
+sound_unmarked_one : (own : ℕ) (e : ℕ × PlainProgress) → IsSoundView e.1 → IsSoundView (inactive_unless_own own e).1
+sound_unmarked_one own e is = if_both (λ (f : ℕ × PlainProgress). IsSoundView f.1) (e.0 == own) e (e.0, with_active e.1 false) (λ _. is) (λ _. sound_marked e.1 false is)
 
-pub sound_unmarked : (own : ℕ) (es : List (ℕ × PlainProgress)) → AreSoundViews es → AreSoundViews (map (unmarked_but own) es)
+pub sound_unmarked : (own : ℕ) (es : List (ℕ × PlainProgress)) → AreSoundViews es → AreSoundViews (map (inactive_unless_own own) es)
 sound_unmarked own [] are = tt
 sound_unmarked own (e ∷ es) are = (sound_unmarked_one own e are.0, sound_unmarked own es are.1)
 

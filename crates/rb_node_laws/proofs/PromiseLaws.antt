@@ -4,8 +4,8 @@ use Rattle.std.proofs.lemmas.List.Elements.{All-weaker, All-push, All-nil, All-a
 use Rattle.std.specs.Prelude.{All, Contains}
 use Rattle.rb_message.specs.declared.kind.MessageKind.{MessageKind}
 use Rattle.rb_message.specs.declared.message.Message.{Message}
-use Rattle.rb_node.specs.Node.{PlainNode, Turn}
-use Rattle.rb_node.specs.Readying.{saved, handed, others}
+use Rattle.rb_node.specs.Node.{PlainNode, NodeStep}
+use Rattle.rb_node.specs.Readying.{saved, outgoing, others}
 use Rattle.rb_node_laws.specs.Calling.{Call, run}
 use Rattle.rb_node_laws.specs.Sound.{IsSound}
 use Rattle.rb_node_laws.specs.Words.{IsYes, IsPromised, HasPromises, Sends, SendsBy, Answers, AnswersBy}
@@ -143,30 +143,30 @@ under_promises a b f = record {
 promises : Says Promises
 promises = record { chain = chain_promises; under = under_promises; silent = silent_promises; send = send_promises; wait = wait_promises; save = save_promises }
 
-pub run_promises : (cs : List Call) (t : Turn) → Promises t.node (run cs t).node
+pub run_promises : (cs : List Call) (t : NodeStep) → Promises t.node (run cs t).node
 run_promises cs t = run_says promises cs t
 
 -- ---- what is handed over
 
-handed_only : (n : PlainNode) (term to : ℕ) → HasPromises n → IsPromised n term to → All (Only term to) (handed n)
+handed_only : (n : PlainNode) (term to : ℕ) → HasPromises n → IsPromised n term to → All (Only term to) (outgoing n)
 handed_only n term to h p =
     All-append (Only term to) n.sent (others n.id n.waiting)
     (All-weaker NoYes (Only term to) (λ x no gives. absurd (no gives)) n.sent h.none_sent)
     (All-filter (λ (m : Message). not (m.to == n.id)) (Only term to) n.waiting p.alone)
 
-handed_kept : (n : PlainNode) → HasPromises n → All (Kept n) (handed n)
+handed_kept : (n : PlainNode) → HasPromises n → All (Kept n) (outgoing n)
 handed_kept n h =
     All-append (Kept n) n.sent (others n.id n.waiting)
     (All-weaker NoYes (Kept n) (λ x no gives. absurd (no gives)) n.sent h.none_sent)
     (All-filter (λ (m : Message). not (m.to == n.id)) (Kept n) n.waiting h.kept)
 
-pub handed_promise : (n : PlainNode) (m : Message) → HasPromises n → Contains (handed n) m → IsYes m → IsPromised n m.term m.to
-handed_promise n m h in_it gives = All-contains (Kept n) (handed n) m (handed_kept n h) in_it gives
+pub handed_promise : (n : PlainNode) (m : Message) → HasPromises n → Contains (outgoing n) m → IsYes m → IsPromised n m.term m.to
+handed_promise n m h in_it gives = All-contains (Kept n) (outgoing n) m (handed_kept n h) in_it gives
 
 -- two votes of one term that are handed over, the second at once or later, are for one node
-pub one_vote : (cs : List Call) (t : Turn) (first second : Message) → IsSound t.node → HasPromises t.node → Contains (handed t.node) first → IsYes first → Contains (handed (run cs t).node) second → IsYes second → second.term ≡ first.term → second.to ≡ first.to
+pub one_vote : (cs : List Call) (t : NodeStep) (first second : Message) → IsSound t.node → HasPromises t.node → Contains (outgoing t.node) first → IsYes first → Contains (outgoing (run cs t).node) second → IsYes second → second.term ≡ first.term → second.to ≡ first.to
 one_vote cs t first second s h at gives later again same =
     let p = run_promises cs t in
     let n = (run cs t).node in
     let given : IsPromised n first.term first.to = p.stays first.term first.to s gives.1 (handed_promise t.node first h at gives) in
-    All-contains (Only first.term first.to) (handed n) second (handed_only n first.term first.to (p.keeps s h) given) later again same
+    All-contains (Only first.term first.to) (outgoing n) second (handed_only n first.term first.to (p.keeps s h) given) later again same

@@ -5,7 +5,7 @@ use Rattle.rb_raftlog.specs.declared.entry.Entry.{Entry}
 use Rattle.rb_raftlog.specs.Log.{last}
 use Rattle.rb_message.specs.declared.hard_state.HardState.{HardState}
 use Rattle.rb_message.specs.declared.message.Message.{Message}
-use Rattle.rb_node.specs.Node.{PlainNode, Turn, with_node}
+use Rattle.rb_node.specs.Node.{PlainNode, NodeStep, with_node}
 use Rattle.rb_node.specs.Changing.{applied_all}
 use Rattle.rb_node.specs.Readying.{hard_state, is_saved, has_ready, applying, saved}
 use Rattle.rb_node.proofs.Between.{between_sizes}
@@ -90,12 +90,12 @@ has_none n s h =
 
 -- ---- what takes effect
 
-pub own_turn_fills : (t : Turn) → (own_turn t).node.content ≡ t.node.content ++ payloads (applying t.node)
+pub own_turn_fills : (t : NodeStep) → (own_turn t).node.content ≡ t.node.content ++ payloads (applying t.node)
 own_turn_fills t =
     let n = t.node in
     (left_core (applied_all (with_node t (saved n)) n.applied (applying n))).1 ∙ all_fill (with_node t (saved n)) n.applied (applying n)
 
-pub own_turn_applied : (t : Turn) → IsSound t.node → (own_turn t).node.applied ≡ t.node.commit
+pub own_turn_applied : (t : NodeStep) → IsSound t.node → (own_turn t).node.applied ≡ t.node.commit
 own_turn_applied t s =
     let n = t.node in
     let sizes : length (applying n) ≡ min n.commit (last n.log) - max n.applied n.log.base = between_sizes n.log n.applied n.commit in

@@ -4,7 +4,7 @@ use Rattle.std.proofs.Common.{◌≡◌, List, refl, ap, not}
 use Rattle.rb_tracker.specs.Configs.{members}
 use Rattle.rb_message.specs.declared.message.Message.{Message}
 use Rattle.rb_node.specs.Leading.{leading, in_lead}
-use Rattle.rb_node.specs.Node.{PlainNode, Turn}
+use Rattle.rb_node.specs.Node.{PlainNode, NodeStep}
 use Rattle.rb_node.specs.Readying.{saved}
 use Rattle.rb_node_laws.specs.Calling.{Call, after, run}
 use Rattle.rb_node_laws.specs.Sound.{IsSound}
@@ -53,8 +53,8 @@ carried p = record {
   moves = λ s. record { nothing = λ n. p.silent n n (self (core n)) refl; chain = p.chain; each = λ a b m. call_says p s m };
 }
 
-pub called_says : {R : PlainNode → PlainNode → Type 0} → Says R → (c : Call) (t : Turn) → R t.node (after c t).node
+pub called_says : {R : PlainNode → PlainNode → Type 0} → Says R → (c : Call) (t : NodeStep) → R t.node (after c t).node
 called_says p c t = over_call (carried p) c t
 
-pub run_says : {R : PlainNode → PlainNode → Type 0} → Says R → (cs : List Call) (t : Turn) → R t.node (run cs t).node
+pub run_says : {R : PlainNode → PlainNode → Type 0} → Says R → (cs : List Call) (t : NodeStep) → R t.node (run cs t).node
 run_says p cs t = over_calls (carried p) cs t

@@ -4,7 +4,7 @@ use Rattle.rb_tracker.proofs.SetLaws.{if_both}
 use Rattle.rb_tracker.specs.Progresses.{PlainProgress}
 use Rattle.rb_tracker.specs.Trackers.{place, view_at, ids_of}
 use Rattle.rb_node.specs.Node.{PlainNode}
-use Rattle.rb_node.specs.Sends.{snapshot_to, empty_to, entries_to, sends_by, sends_with, sends_at, sends, tells, told_all, sending_of}
+use Rattle.rb_node.specs.Sends.{snapshot_to, empty_to, entries_to, sends_by, sends_with, sends_at, sends, sent_to_each, append_broadcast, sending_of}
 use Rattle.rb_node.specs.declared.sends.SendReason.{SendReason}
 use Rattle.rb_node.specs.declared.sends.SendReason.TheVariants as mode
 use Rattle.rb_node.specs.declared.sends.Sending.{Sending}
@@ -44,12 +44,12 @@ pub sends_only : (n : PlainNode) (to : ℕ) (how : SendReason) → sends n to ho
 unfolding sends
 sends_only n to how = if_both (λ (x : PlainNode). x ≡ telling_as n x) (to == n.id) _ _ (λ _. refl) (λ _. at_only (place n.tracker.views to) n to how)
 
-pub tells_only : (n : PlainNode) (ids : List ℕ) → tells n ids ≡ telling_as n (tells n ids)
+pub tells_only : (n : PlainNode) (ids : List ℕ) → sent_to_each n ids ≡ telling_as n (sent_to_each n ids)
 tells_only n [] = refl
 tells_only n (id ∷ ids) =
     let x : PlainNode = sends n id mode.Tell in
-    tells_only x ids ∙ ap (λ (y : PlainNode). telling_as y (tells x ids)) (sends_only n id mode.Tell)
+    tells_only x ids ∙ ap (λ (y : PlainNode). telling_as y (sent_to_each x ids)) (sends_only n id mode.Tell)
 
-pub told_all_only : (n : PlainNode) → told_all n ≡ telling_as n (told_all n)
-unfolding told_all
-told_all_only n = tells_only n (ids_of n.tracker.views)
+pub append_broadcast_only : (n : PlainNode) → append_broadcast n ≡ telling_as n (append_broadcast n)
+unfolding append_broadcast
+append_broadcast_only n = tells_only n (ids_of n.tracker.views)

@@ -5,24 +5,24 @@ use Rattle.rb_tracker.proofs.SetLaws.{if_both}
 use Rattle.rb_message.specs.Messages.{has_term}
 use Rattle.rb_message.specs.declared.event.WhyIgnored.TheVariants.{HearsLeader}
 use Rattle.rb_message.specs.declared.message.Message.{Message}
-use Rattle.rb_node.specs.Node.{Turn, ignored}
+use Rattle.rb_node.specs.Node.{NodeStep, ignored}
 use Rattle.rb_node.specs.Step.{stepped, at_term}
-use Rattle.rb_node.specs.Terms.{lowered, raised, is_disturbed_by}
+use Rattle.rb_node.specs.Terms.{stepped_earlier, stepped_later, ignores_campaign}
 use Rattle.rb_node_laws.proofs.StepWays.{of_term, above}
 
-pub by_term : (P : Turn → Type 0) (t : Turn) (m : Message)
+pub by_term : (P : NodeStep → Type 0) (t : NodeStep) (m : Message)
     → ((has_term m.kind ≡ true → m.term ≡ t.node.term) → P (at_term t m))
-    → (m.term < t.node.term → P (lowered t m))
-    → (t.node.term < m.term → is_disturbed_by m.kind t.node ≡ true → P (ignored t m (HearsLeader t.node.lead)))
-    → (t.node.term < m.term → is_disturbed_by m.kind t.node ≡ false → P (at_term (raised t m) m))
+    → (m.term < t.node.term → P (stepped_earlier t m))
+    → (t.node.term < m.term → ignores_campaign m.kind t.node ≡ true → P (ignored t m (HearsLeader t.node.lead)))
+    → (t.node.term < m.term → ignores_campaign m.kind t.node ≡ false → P (at_term (stepped_later t m) m))
     → P (stepped t m)
 unfolding stepped
 by_term P t m now earlier disturbed later =
     if_both P (not (has_term m.kind) || m.term == t.node.term) (at_term t m)
-    (if nat_lt m.term t.node.term then lowered t m else (if is_disturbed_by m.kind t.node then ignored t m (HearsLeader t.node.lead) else at_term (raised t m) m))
+    (if nat_lt m.term t.node.term then stepped_earlier t m else (if ignores_campaign m.kind t.node then ignored t m (HearsLeader t.node.lead) else at_term (stepped_later t m) m))
     (λ same. now (λ has. of_term t m has same))
     (λ other. (let apart = (or_parts (not (has_term m.kind)) (m.term == t.node.term) other).1 in
-    if_both P (nat_lt m.term t.node.term) (lowered t m) (if is_disturbed_by m.kind t.node then ignored t m (HearsLeader t.node.lead) else at_term (raised t m) m)
+    if_both P (nat_lt m.term t.node.term) (stepped_earlier t m) (if ignores_campaign m.kind t.node then ignored t m (HearsLeader t.node.lead) else at_term (stepped_later t m) m)
     (λ low. earlier (ltb-true m.term t.node.term low))
     (λ high. (let past = above t.node.term m.term high apart in
-    if_both P (is_disturbed_by m.kind t.node) (ignored t m (HearsLeader t.node.lead)) (at_term (raised t m) m) (λ yes. disturbed past yes) (λ no. later past no)))))
+    if_both P (ignores_campaign m.kind t.node) (ignored t m (HearsLeader t.node.lead)) (at_term (stepped_later t m) m) (λ yes. disturbed past yes) (λ no. later past no)))))

@@ -17,7 +17,7 @@ use Rattle.rb_message.specs.declared.role.Role.TheVariants as role
 use Rattle.rb_node.specs.Acknowledging.{commit_or_sent}
 use Rattle.rb_node.specs.Leading.{can_commit, checked_commit}
 use Rattle.rb_node.specs.Node.{PlainNode, posted, message}
-use Rattle.rb_node.specs.Sends.{append_of, snapshot_of, sending_of, takes_nothing, is_window_full, is_ping, is_news as tells_news, sends_by, snapshot_to, empty_to, entries_to, sends_with, sends_at, sends, tells, told_all}
+use Rattle.rb_node.specs.Sends.{append_of, snapshot_of, sending_of, takes_nothing, is_window_full, is_ping, is_news as tells_news, sends_by, snapshot_to, empty_to, entries_to, sends_with, sends_at, sends, sent_to_each, append_broadcast}
 use Rattle.rb_node.specs.declared.sends.SendReason.{SendReason}
 use Rattle.rb_node.specs.declared.sends.SendReason.TheVariants as mode
 use Rattle.rb_node.specs.declared.sends.Sending.{Sending}
@@ -180,18 +180,18 @@ unfolding sends
 sends_way n to how =
     if_both (Way TellMove n) (to == n.id) _ _ (λ _. One (Idle n n refl)) (λ no. by_place (place n.tracker.views to) n to how (different to n.id no))
 
-pub tells_way : (n : PlainNode) (ids : List ℕ) → Way TellMove n (tells n ids)
+pub tells_way : (n : PlainNode) (ids : List ℕ) → Way TellMove n (sent_to_each n ids)
 tells_way n [] = One (Idle n n refl)
 tells_way n (id ∷ ids) = Then (sends_way n id mode.Tell) (tells_way (sends n id mode.Tell) ids)
 
-pub told_all_way : (n : PlainNode) → Way TellMove n (told_all n)
-unfolding told_all
-told_all_way n = tells_way n (ids_of n.tracker.views)
+pub append_broadcast_way : (n : PlainNode) → Way TellMove n (append_broadcast n)
+unfolding append_broadcast
+append_broadcast_way n = tells_way n (ids_of n.tracker.views)
 
 -- ---- its commit
 
-commit_way : (n : PlainNode) → can_commit n (commit_of n.tracker) ≡ true → Way TellMove n (told_all (record n { commit = commit_of n.tracker }))
-commit_way n can = Then (One (Commits n can)) (told_all_way (record n { commit = commit_of n.tracker }))
+commit_way : (n : PlainNode) → can_commit n (commit_of n.tracker) ≡ true → Way TellMove n (append_broadcast (record n { commit = commit_of n.tracker }))
+commit_way n can = Then (One (Commits n can)) (append_broadcast_way (record n { commit = commit_of n.tracker }))
 
 pub checked_way : (n : PlainNode) (ids : List ℕ) → Way TellMove n (checked_commit n ids)
 unfolding checked_commit

@@ -3,7 +3,7 @@ use Rattle.std.proofs.Common.{◌⊎◌, List, inr, inl, ◌≡◌, subst, sym, 
 use Rattle.std.proofs.lemmas.List.Elements.{All-contains, All-weaker, All-contains_itself, All-push, All-nil}
 use Rattle.std.specs.Prelude.{Contains, All}
 use Rattle.rb_message.specs.declared.message.Message.{Message}
-use Rattle.rb_node.specs.Node.{PlainNode, Turn}
+use Rattle.rb_node.specs.Node.{PlainNode, NodeStep}
 use Rattle.rb_node.specs.Readying.{saved}
 use Rattle.rb_node_laws.specs.Calling.{Call, run}
 use Rattle.rb_node_laws.specs.Sound.{IsSound}
@@ -115,13 +115,13 @@ old_is a b before m is =
       | inr between ↦ inr (true_between a b m between)
     ]
 
-pub sent_true : (cs : List Call) (t : Turn) → IsSound t.node → AreTrueBetween t.node (run cs t).node t.node.sent (run cs t).node.sent
+pub sent_true : (cs : List Call) (t : NodeStep) → IsSound t.node → AreTrueBetween t.node (run cs t).node t.node.sent (run cs t).node.sent
 sent_true cs t s =
     let a = t.node in
     let b = (run cs t).node in
     All-weaker (Old a b a.sent) (λ (m : Message). Contains a.sent m ⊎ IsTrueBetween a b m) (λ m is. old_is a b a.sent m is) b.sent ((run_says truths cs t).sent s)
 
-pub waiting_true : (cs : List Call) (t : Turn) → IsSound t.node → AreTrueBetween t.node (run cs t).node t.node.waiting (run cs t).node.waiting
+pub waiting_true : (cs : List Call) (t : NodeStep) → IsSound t.node → AreTrueBetween t.node (run cs t).node t.node.waiting (run cs t).node.waiting
 waiting_true cs t s =
     let a = t.node in
     let b = (run cs t).node in

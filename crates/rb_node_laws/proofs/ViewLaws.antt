@@ -4,17 +4,17 @@ use Rattle.std.specs.Map.{keys_of}
 use Rattle.indexmap.specs.Layout.{set_value_at}
 use Rattle.rb_raftlog.specs.Log.{last}
 use Rattle.rb_tracker.proofs.SetLaws.{if_both}
-use Rattle.rb_tracker.specs.Active.{unmarked, unmarked_but}
+use Rattle.rb_tracker.specs.Active.{others_marked_inactive, inactive_unless_own}
 use Rattle.rb_tracker.specs.Configs.{is_member, members}
 use Rattle.rb_tracker.specs.Progresses.{PlainProgress, acked}
 use Rattle.rb_tracker.specs.Sets.{rank}
 use Rattle.rb_tracker.specs.Trackers.{has_view, view_at, ids_of}
 use Rattle.rb_message.specs.declared.role.Role.{Role}
 use Rattle.rb_message.specs.declared.role.Role.TheVariants as role
-use Rattle.rb_node.specs.Changing.{without_strangers, without_stranger, missing}
+use Rattle.rb_node.specs.Changing.{without_views, without_view, missing}
 use Rattle.rb_node.specs.Leading.{new_view, with_views, with_view_of, in_lead}
-use Rattle.rb_node.specs.Node.{PlainNode, Turn}
-use Rattle.rb_node.specs.Sends.{viewed}
+use Rattle.rb_node.specs.Node.{PlainNode, NodeStep}
+use Rattle.rb_node.specs.Sends.{with_view_at}
 use Rattle.rb_node_laws.specs.Calling.{Call, after, run}
 use Rattle.rb_node_laws.specs.Sound.{IsSound, HasSoundViews, IsSoundView, IsOrdered, AreSoundViews, AreViewsOf}
 use Rattle.rb_node_laws.proofs.CallLaws.{Carried, over_call, over_calls}
@@ -49,10 +49,10 @@ with_views_sound n (id ∷ ids) active s are =
     (if_both (λ (x : PlainNode). AreSoundViews x.tracker.views) (has_view n.tracker.views id) _ _ (λ _. are)
     (λ _. sound_put n.tracker.views (rank (keys_of n.tracker.views) id) id (new_view n id active) are (new_view_sound n id active s)))
 
-strangers_sound : (n : PlainNode) (ids : List ℕ) → AreSoundViews n.tracker.views → AreSoundViews (without_strangers n ids).tracker.views
+strangers_sound : (n : PlainNode) (ids : List ℕ) → AreSoundViews n.tracker.views → AreSoundViews (without_views n ids).tracker.views
 strangers_sound n [] are = are
 strangers_sound n (id ∷ ids) are =
-    strangers_sound (without_stranger n id) ids
+    strangers_sound (without_view n id) ids
     (if_both (λ (x : PlainNode). AreSoundViews x.tracker.views) (is_member n.tracker.config id) _ _ (λ _. are) (λ _. sound_removed id n.tracker.views are))
 
 -- ---- each move
@@ -61,7 +61,7 @@ pub no_views : (r : Role) → AreViewsOf r []
 no_views r = record { only_leading = λ _. refl; each = tt }
 
 written : (n : PlainNode) (at : ℕ) (view new : PlainProgress) → view_at n.tracker.views at ≡ Some view → (IsSoundView view → IsSoundView new) → HasSoundViews n
-    → HasSoundViews (viewed n at new)
+    → HasSoundViews (with_view_at n at new)
 written n at view new is sound v = record {
   only_leading = λ no. ap (λ (l : List (ℕ × PlainProgress)). set_value_at l at new) (v.only_leading no);
   each = sound_set n.tracker.views at new v.each (sound (sound_at n.tracker.views at view v.each is));
@@ -87,7 +87,7 @@ step_views _ s v = v
 revised_views : (n : PlainNode) → n.role ≡ role.Leader → IsSound n → HasSoundViews n → HasSoundViews (with_members n)
 revised_views n leads s v =
     let ids = ids_of n.tracker.views in
-    let left = without_strangers n ids in
+    let left = without_views n ids in
     record {
       only_leading = λ no. absurd (no (ap (λ (x : PlainNode). x.role) (with_members_only n) ∙ leads));
       each = with_views_sound left (missing left.tracker.views (members left.tracker.config)) true
@@ -99,10 +99,10 @@ change_views (Resigns n c) s v = no_views role.Follower
 change_views (Revises n c leads) s v = revised_views (in_config n c) leads s v
 change_views _ s v = v
 
-unmarked_views : (n : PlainNode) → HasSoundViews n → HasSoundViews (record n { tracker = unmarked n.tracker n.id })
-unfolding unmarked
+unmarked_views : (n : PlainNode) → HasSoundViews n → HasSoundViews (record n { tracker = others_marked_inactive n.tracker n.id })
+unfolding others_marked_inactive
 unmarked_views n v = record {
-  only_leading = λ no. ap (λ (l : List (ℕ × PlainProgress)). map (unmarked_but n.id) l) (v.only_leading no);
+  only_leading = λ no. ap (λ (l : List (ℕ × PlainProgress)). map (inactive_unless_own n.id) l) (v.only_leading no);
   each = sound_unmarked n.id n.tracker.views v.each;
 }
 
@@ -125,8 +125,8 @@ views = record {
   };
 }
 
-pub called_views : (c : Call) (t : Turn) → Views t.node (after c t).node
+pub called_views : (c : Call) (t : NodeStep) → Views t.node (after c t).node
 called_views c t = over_call views c t
 
-pub run_views : (cs : List Call) (t : Turn) → Views t.node (run cs t).node
+pub run_views : (cs : List Call) (t : NodeStep) → Views t.node (run cs t).node
 run_views cs t = over_calls views cs t

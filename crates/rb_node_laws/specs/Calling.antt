@@ -5,7 +5,7 @@ use Rattle.rb_raftlog.specs.declared.raft_log.CompactFault.{CompactFault}
 use Rattle.rb_raftlog.specs.declared.entry.Body.{Body}
 use Rattle.rb_message.specs.declared.kind.MessageKind.TheVariants.{Proposal, TransferLeader}
 use Rattle.rb_message.specs.declared.message.Message.{Message}
-use Rattle.rb_node.specs.Node.{PlainNode, Turn, with_node, with_timeout}
+use Rattle.rb_node.specs.Node.{PlainNode, NodeStep, with_node, with_timeout}
 use Rattle.rb_node.specs.Campaigns.{campaigned}
 use Rattle.rb_node.specs.Step.{stepped}
 use Rattle.rb_node.specs.Calls.{called, leader_forgotten, reported}
@@ -34,7 +34,7 @@ abbrev pub compacted_to : PlainNode → ℕ → PlainNode
 compacted_to n index = compacted_unless (compact_fault n.log index (min n.applied n.log.durable)) n index
 
 -- the node after a call
-abbrev pub after : Call → Turn → Turn
+abbrev pub after : Call → NodeStep → NodeStep
 after (Step m) t = stepped t m
 after Campaign t = campaigned t false
 after (Propose body) t = called t (Proposal body)
@@ -47,6 +47,6 @@ after (SetTimeout ticks) t = with_node t (with_timeout t.node ticks)
 after (Compact index) t = with_node t (compacted_to t.node index)
 
 -- and after one call upon another
-abbrev pub run : List Call → Turn → Turn
+abbrev pub run : List Call → NodeStep → NodeStep
 run [] t = t
 run (c ∷ cs) t = run cs (after c t)

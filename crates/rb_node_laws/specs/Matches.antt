@@ -5,7 +5,7 @@ use Rattle.rb_tracker.specs.Commits.{match_of, is_held}
 use Rattle.rb_message.specs.declared.kind.MessageKind.TheVariants.{AppendResponse}
 use Rattle.rb_message.specs.declared.message.Message.{Message}
 use Rattle.rb_message.specs.declared.role.Role.TheVariants.{Candidate, Leader}
-use Rattle.rb_node.specs.Node.{PlainNode, Turn}
+use Rattle.rb_node.specs.Node.{PlainNode, NodeStep}
 use Rattle.rb_node_laws.specs.Calling.{Call, Step, after}
 use Rattle.rb_node_laws.specs.Words.{IsLater}
 
@@ -28,12 +28,12 @@ RestsOn old m new id =
 -- ---- over calls
 
 -- a call brings a leader a member's answer, which says what it holds
-abbrev pub Tells : Call → Turn → ℕ → ℕ → Type 0
+abbrev pub Tells : Call → NodeStep → ℕ → ℕ → Type 0
 Tells (Step m) t id matched = (id ≡ m.from) × IsAccepted t.node m matched
 Tells _ t id matched = ⊥
 
 -- one of some calls does
-abbrev pub Told : List Call → Turn → ℕ → ℕ → Type 0
+abbrev pub Told : List Call → NodeStep → ℕ → ℕ → Type 0
 Told [] t id matched = ⊥
 Told (c ∷ cs) t id matched = Tells c t id matched ⊎ Told cs (after c t) id matched
 

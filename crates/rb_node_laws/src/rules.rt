@@ -5,7 +5,7 @@ ghost use Rattle.rb_raftlog.specs.declared.entry.Entry.{Entry};
 ghost use Rattle.rb_raftlog.specs.declared.limits.TheConstants.{MAX_INDEX};
 ghost use Rattle.rb_raftlog.specs.declared.snapshot.Snapshot.{Snapshot};
 ghost use Rattle.rb_raftlog.specs.Log.{LogValue, last, term_at, entry_at, is_term, is_up_to_date, own, has_change};
-ghost use Rattle.rb_change.specs.declared.change.Transition.TheVariants.{Auto};
+ghost use Rattle.rb_vocab.specs.declared.change.Transition.TheVariants.{Auto};
 ghost use Rattle.rb_tracker.specs.Active.{quorum_active, is_active};
 ghost use Rattle.rb_tracker.specs.Configs.{is_joint, is_voter, voters};
 ghost use Rattle.rb_tracker.specs.Progresses.{PlainProgress, sent, acked, freed_through};
@@ -25,11 +25,11 @@ ghost use Rattle.rb_node.specs.declared.limits.TheConstants.{ELECTION_TICKS};
 ghost use Rattle.rb_node.specs.declared.options.Options.{Options};
 ghost use Rattle.rb_node.specs.declared.sends.SendReason.{SendReason};
 ghost use Rattle.rb_node.specs.Changing.{applied_all, joint_left};
-ghost use Rattle.rb_node.specs.Node.{PlainNode, Turn, message, started};
+ghost use Rattle.rb_node.specs.Node.{PlainNode, NodeStep, message, started};
 ghost use Rattle.rb_node.specs.Readying.{applying, ready};
 ghost use Rattle.rb_node.specs.Sends.{sends};
 ghost use Rattle.rb_node.specs.Step.{stepped};
-ghost use Rattle.rb_node.specs.Ticking.{counted};
+ghost use Rattle.rb_node.specs.Ticking.{next_count};
 ghost use Rattle.rb_node_laws.specs.Calling.{Call, Tick, after, run};
 ghost use Rattle.rb_node_laws.specs.Elections.{own_turn};
 ghost use Rattle.rb_node_laws.specs.Learning.{IsLeaders, LearnsBy, IsRestored, KeepsState};
@@ -40,44 +40,44 @@ ghost use Rattle.rb_node_laws.specs.Sound.{IsSound};
 /// log, to at most the append's last entry and the leader's commit; by a heartbeat, to at most its commit and the node's last index; by a
 /// snapshot, to its index, where the log then has its term.
 pub fn followers_commit_what_leaders_tell()
-    ensures { (t : Turn) (m : Message) → (t.node.role ≡ Leader → (has_term m.kind ≡ true) × (t.node.term < m.term)) → ((stepped t m).node.commit ≡ t.node.commit) ⊎ LearnsBy m.kind t.node (stepped t m).node }
+    ensures { (t : NodeStep) (m : Message) → (t.node.role ≡ Leader → (has_term m.kind ≡ true) × (t.node.term < m.term)) → ((stepped t m).node.commit ≡ t.node.commit) ⊎ LearnsBy m.kind t.node (stepped t m).node }
 {}
 
 /// A message of an earlier term changes nothing but what waits to be answered.
 pub fn earlier_terms_change_nothing()
-    ensures { (t : Turn) (m : Message) → has_term m.kind ≡ true → m.term < t.node.term → (stepped t m).node ≡ record t.node { waiting = (stepped t m).node.waiting } }
+    ensures { (t : NodeStep) (m : Message) → has_term m.kind ≡ true → m.term < t.node.term → (stepped t m).node ≡ record t.node { waiting = (stepped t m).node.waiting } }
 {}
 
 /// A later term is taken up from each message that shows one; from a vote request only by a node without a lease, or if the leader hands
 /// the lead over.
 pub fn later_terms_are_taken_up()
-    ensures shown { (t : Turn) (m : Message) → ShowsTerm m.kind → t.node.term < m.term → m.term ≤ (stepped t m).node.term }
-    ensures lease { (t : Turn) (m : Message) (last_term last_index : ℕ) (transfer : Bool) → m.kind ≡ Vote last_term last_index transfer → HasNoLease t.node → t.node.term < m.term → m.term ≤ (stepped t m).node.term }
+    ensures shown { (t : NodeStep) (m : Message) → ShowsTerm m.kind → t.node.term < m.term → m.term ≤ (stepped t m).node.term }
+    ensures lease { (t : NodeStep) (m : Message) (last_term last_index : ℕ) (transfer : Bool) → m.kind ≡ Vote last_term last_index transfer → HasNoLease t.node → t.node.term < m.term → m.term ≤ (stepped t m).node.term }
 {}
 
 /// A question before the vote never gets a yes for a log that is older than the node's.
 pub fn pre_votes_look_at_logs()
-    ensures { (t : Turn) (m : Message) (last_term last_index : ℕ) → m.kind ≡ PreVote last_term last_index → is_up_to_date t.node.log last_index last_term ≡ false → ((stepped t m).node.waiting ≡ t.node.waiting) ⊎ ((stepped t m).node.waiting ≡ t.node.waiting ++ message t.node.id m.from t.node.term (PreVoteResponse false) ∷ []) }
+    ensures { (t : NodeStep) (m : Message) (last_term last_index : ℕ) → m.kind ≡ PreVote last_term last_index → is_up_to_date t.node.log last_index last_term ≡ false → ((stepped t m).node.waiting ≡ t.node.waiting) ⊎ ((stepped t m).node.waiting ≡ t.node.waiting ++ message t.node.id m.from t.node.term (PreVoteResponse false) ∷ []) }
 {}
 
 /// A leader's message starts the election timer of its followers again, and so does a vote that is given.
 pub fn timers_start_again()
-    ensures leader { (t : Turn) (m : Message) → IsLeaders m.kind → t.node.term ≤ m.term → (t.node.role ≡ Leader → t.node.term < m.term) → (stepped t m).node.clock.elapsed ≡ 0 }
-    ensures vote { (t : Turn) (m : Message) (last_term last_index : ℕ) (transfer : Bool) → m.kind ≡ Vote last_term last_index transfer → ((stepped t m).node.vote ≡ t.node.vote) ⊎ ((stepped t m).node.clock.elapsed ≡ 0) }
+    ensures leader { (t : NodeStep) (m : Message) → IsLeaders m.kind → t.node.term ≤ m.term → (t.node.role ≡ Leader → t.node.term < m.term) → (stepped t m).node.clock.elapsed ≡ 0 }
+    ensures vote { (t : NodeStep) (m : Message) (last_term last_index : ℕ) (transfer : Bool) → m.kind ≡ Vote last_term last_index transfer → ((stepped t m).node.vote ≡ t.node.vote) ⊎ ((stepped t m).node.clock.elapsed ≡ 0) }
 {}
 
 /// A node knows of no other leader than itself, if it leads, and the sender of a leader's message of its term. While it knows of one, it
 /// gives its vote to nobody else.
 pub fn leaders_are_known_by_their_messages()
-    ensures known { (t : Turn) (m : Message) → KnowsLeader t.node m (stepped t m).node }
-    ensures vote { (t : Turn) (m : Message) (last_term last_index : ℕ) (transfer : Bool) → m.kind ≡ Vote last_term last_index transfer → m.term ≡ t.node.term → ((stepped t m).node.vote ≡ t.node.vote) ⊎ ((t.node.vote ≡ 0) × (t.node.lead ≡ 0)) }
+    ensures known { (t : NodeStep) (m : Message) → KnowsLeader t.node m (stepped t m).node }
+    ensures vote { (t : NodeStep) (m : Message) (last_term last_index : ℕ) (transfer : Bool) → m.kind ≡ Vote last_term last_index transfer → m.term ≡ t.node.term → ((stepped t m).node.vote ≡ t.node.vote) ⊎ ((t.node.vote ≡ 0) × (t.node.lead ≡ 0)) }
 {}
 
 /// A snapshot is restored whole, or changes neither the log nor what is applied. A node that doesn't lead in the snapshot's term restores
 /// one that is past its commit and whose entry it lacks, and hands it over to be saved.
 pub fn snapshots_are_restored_whole()
-    ensures all { (t : Turn) (m : Message) (s : Snapshot) → m.kind ≡ kinds.Snapshot s → IsRestored (stepped t m).node s ⊎ KeepsState t.node (stepped t m).node }
-    ensures news { (t : Turn) (m : Message) (s : Snapshot) → m.kind ≡ kinds.Snapshot s → t.node.term ≤ m.term → (t.node.role ≡ Leader → t.node.term < m.term) → t.node.commit < s.index → is_term (term_at t.node.log s.index) s.term ≡ false → IsRestored (stepped t m).node s }
+    ensures all { (t : NodeStep) (m : Message) (s : Snapshot) → m.kind ≡ kinds.Snapshot s → IsRestored (stepped t m).node s ⊎ KeepsState t.node (stepped t m).node }
+    ensures news { (t : NodeStep) (m : Message) (s : Snapshot) → m.kind ≡ kinds.Snapshot s → t.node.term ≤ m.term → (t.node.role ≡ Leader → t.node.term < m.term) → t.node.commit < s.index → is_term (term_at t.node.log s.index) s.term ≡ false → IsRestored (stepped t m).node s }
     ensures handed { (n : PlainNode) → n.restored ≡ true → (ready n).snapshot ≡ Some (n.log.base_term, n.log.base) }
 {}
 
@@ -93,14 +93,14 @@ pub fn ready_is_the_state()
 /// A committed change takes effect: after an advance the configuration is what the changes among the applied entries make of it, one after
 /// another; a change that can't be made leaves it.
 pub fn committed_changes_take_effect()
-    ensures entries { (t : Turn) (i : ℕ) (es : List Entry) → (applied_all t i es).node.tracker.config ≡ config_after t.node.tracker.config es }
-    ensures advance { (t : Turn) → (own_turn t).node.tracker.config ≡ config_after t.node.tracker.config (applying t.node) }
+    ensures entries { (t : NodeStep) (i : ℕ) (es : List Entry) → (applied_all t i es).node.tracker.config ≡ config_after t.node.tracker.config es }
+    ensures advance { (t : NodeStep) → (own_turn t).node.tracker.config ≡ config_after t.node.tracker.config (applying t.node) }
 {}
 
 /// A leader leaves a joint configuration by itself, if the configuration asks for it: once its last change is applied, the change that
 /// leaves goes to the end of its log, unless it hands the lead over or its log is full.
 pub fn joint_configurations_are_left()
-    ensures { (t : Turn) → t.node.role ≡ Leader → is_joint t.node.tracker.config ≡ true → t.node.tracker.config.auto ≡ true → t.node.transferee ≡ 0 → t.node.pending_change ≤ t.node.applied → last t.node.log < MAX_INDEX → (joint_left t).node.log ≡ own t.node.log (record { term = t.node.term; body = Change Auto [] }) }
+    ensures { (t : NodeStep) → t.node.role ≡ Leader → is_joint t.node.tracker.config ≡ true → t.node.tracker.config.auto ≡ true → t.node.transferee ≡ 0 → t.node.pending_change ≤ t.node.applied → last t.node.log < MAX_INDEX → (joint_left t).node.log ≡ own t.node.log (record { term = t.node.term; body = Change Auto [] }) }
 {}
 
 /// To a member whose window is full goes no append with entries. Sending adds at most the last index to what is in flight, and an answer
@@ -114,7 +114,7 @@ pub fn full_windows_take_no_entries()
 
 /// A leader's look at its quorum ends a transfer.
 pub fn transfers_time_out()
-    ensures { (t : Turn) → t.node.role ≡ Leader → ELECTION_TICKS ≤ counted t.node.clock.elapsed → (after Tick t).node.transferee ≡ 0 }
+    ensures { (t : NodeStep) → t.node.role ≡ Leader → ELECTION_TICKS ≤ next_count t.node.clock.elapsed → (after Tick t).node.transferee ≡ 0 }
 {}
 
 /// The tests of the rules mean what they are named for: a quorum is active if a quorum of the configuration was heard of; an id is a voter's
@@ -131,6 +131,6 @@ pub fn tests_mean_their_names()
 /// change that is proposed goes into the log only where all others in it are applied (`changes_go_one_at_a_time`).
 pub fn leaders_know_of_changes()
     ensures started { (id : ℕ) (start : Snapshot) (options : Options) → LeadsKnowing (started id start options) }
-    ensures called { (c : Call) (t : Turn) → LeadsKnowing t.node → LeadsKnowing (after c t).node }
-    ensures run { (cs : List Call) (t : Turn) → LeadsKnowing t.node → LeadsKnowing (run cs t).node }
+    ensures called { (c : Call) (t : NodeStep) → LeadsKnowing t.node → LeadsKnowing (after c t).node }
+    ensures run { (cs : List Call) (t : NodeStep) → LeadsKnowing t.node → LeadsKnowing (run cs t).node }
 {}

@@ -8,7 +8,7 @@ use Rattle.std.proofs.lemmas.List.{append_cancel_right, take_at}
 use Rattle.rb_script.specs.Bytes.{space}
 use Rattle.rb_script.specs.Lines.{Line}
 use Rattle.rb_script.specs.Joined.{body, joined}
-use Rattle.rb_script.specs.Marks.{continues, is_blank, is_lead, is_rule, is_separator, is_space, is_empty_or_comment, rule, without_front}
+use Rattle.rb_script.specs.Marks.{continues, is_blank, is_lead, is_rule, is_separator, is_space, is_empty_or_comment, rule, trim_blanks}
 use Rattle.rb_script.specs.Script.{PlainBlock}
 use Rattle.rb_script.specs.Reads.{IsContinued, ReadsPlain, ReadsDouble, ReadsBlock, ReadsSome, begins_lead, begins_rule, ends_or_rules, is_readable}
 use Rattle.rb_script.proofs.LinePartLaws.{joined_last, rule_passes}
@@ -164,8 +164,8 @@ double_lines n (x ∷ y ∷ ys) more readable =
 double_form : (n : ℕ) (e more : List Line) → is_readable e ≡ true → all_behind First [] n (rule ∷ (e ++ rule ∷ rule ∷ more)) ≡ all_behind Lead [] n more
 double_form n e more readable = let step : next First rule ≡ Double = rw (rule_passes rule refl) refl in one_line First Double n rule (e ++ rule ∷ rule ∷ more) step refl refl ∙ double_lines n e more readable
 
-blank_front : (line : Line) → is_blank line ≡ true → without_front line ≡ []
-unfolding without_front
+blank_front : (line : Line) → is_blank line ≡ true → trim_blanks line ≡ []
+unfolding trim_blanks
 blank_front [] is = refl
 blank_front (b ∷ line) is = let p = and_parts (is_space b) (list_all is_space line) is in rw p.0 (blank_front line p.1)
 

@@ -9,7 +9,7 @@ use Rattle.std.proofs.lemmas.Slice.Eq.{bytes_eq-Decides}
 use Rattle.rb_script.specs.declared.limits.TheConstants.{MAX_ARGUMENTS}
 use Rattle.rb_script.specs.Bytes.{opening, closing, equals_sign}
 use Rattle.rb_script.specs.Directive.{PlainArgument, PlainDirective, begins, is_inside, is_some_piece, is_value, is_word, pieces}
-use Rattle.rb_script.specs.Heads.{argument_at as argument_there, arguments_at, before, begins_space, behind_key as behind_there, directive_of, head_at, list_at, named, then_arguments, values_at, with_key, word_head}
+use Rattle.rb_script.specs.Heads.{argument_at as argument_there, arguments_at, before, begins_space, after_key as behind_there, directive_of, head_at, list_at, named, then_arguments, values_at, with_key, word_head}
 use Rattle.rb_script.specs.Joined.{joined}
 use Rattle.rb_script.specs.Runs.{while_of, after_while}
 use Rattle.rb_script.specs.Limits.{has_few_values}
@@ -19,16 +19,16 @@ use Rattle.rb_script.specs.Reads.{IsDirective, ReadsSome}
 use Rattle.rb_script.specs.Script.{PlainBlock}
 use Rattle.rb_script.proofs.GrammarLaws.{head_complete, only_derived}
 use Rattle.rb_text.specs.Numbers.{number_of}
-use Rattle.rb_directive.specs.declared.act.Act.{Act}
-use Rattle.rb_directive.specs.declared.act.Act.TheVariants as acts
-use Rattle.rb_directive.specs.declared.act_with.ActWith.{ActWith}
-use Rattle.rb_directive.specs.declared.act_with.ActWith.TheVariants as withs
-use Rattle.rb_directive.specs.declared.asking.AddNodes.{AddNodes}
-use Rattle.rb_directive.specs.declared.asking.Request.{Request}
-use Rattle.rb_directive.specs.declared.asking.Request.TheVariants as requests
+use Rattle.rb_directive.specs.declared.node_command.NodeCommand.{NodeCommand}
+use Rattle.rb_directive.specs.declared.node_command.NodeCommand.TheVariants as acts
+use Rattle.rb_directive.specs.declared.node_command_with_arg.NodeCommandWithArg.{NodeCommandWithArg}
+use Rattle.rb_directive.specs.declared.node_command_with_arg.NodeCommandWithArg.TheVariants as withs
+use Rattle.rb_directive.specs.declared.requests.AddNodes.{AddNodes}
+use Rattle.rb_directive.specs.declared.requests.Request.{Request}
+use Rattle.rb_directive.specs.declared.requests.Request.TheVariants as requests
 use Rattle.rb_directive.specs.declared.build.Asked.{Asked}
 use Rattle.rb_directive.specs.declared.limits.TheConstants.{MAX_NODES}
-use Rattle.rb_directive.specs.Names.{act_text, act_with_text, name_text}
+use Rattle.rb_directive.specs.Names.{node_command_text, node_command_with_arg_text, name_text}
 use Rattle.rb_directive.specs.Requests.{request}
 use Rattle.rb_directive.specs.Whole.{first_word as first_said, name_of as request_name}
 use Rattle.rb_directive.proofs.BuildLaws.{request_named}
@@ -41,7 +41,7 @@ use Rattle.rb_offers.specs.Ids.{id_offers, takes_ids}
 use Rattle.rb_offers.specs.Laws.{numbers_from, words}
 use Rattle.rb_offers.specs.Nodes.{added, nodes_above, nodes_at, with_more}
 use Rattle.rb_offers.specs.Offers.{begins_with}
-use Rattle.rb_offers.specs.Unfinished.{PlainWanted, argument as argument_wanted, argument_at, behind_key, closed_or, last_piece, list_value, name_of, rest_or, value, value_at}
+use Rattle.rb_offers.specs.Unfinished.{PlainWanted, argument as argument_wanted, argument_at, after_key, closed_or, last_piece, list_value, name_of, rest_or, value, value_at}
 use Rattle.rb_offers.specs.Words.{arguments_of, first_in, first_word, past}
 use Rattle.rb_offers.proofs.AboveLaws.{nodes_known, nodes_of}
 use Rattle.rb_offers.proofs.IdLaws.{ids_offered}
@@ -92,7 +92,7 @@ option_then key bytes found goes_on none h =
     ] refl h
 
 key_then : (bytes key rest : List ℕ) (found : PlainArgument × List ℕ) (goes_on : List ℕ → List ℕ) → goes_on [] ≡ [] → behind_there key rest ≡ Some found
-    → (if begins equals_sign rest then past (behind_key bytes key rest) goes_on else key) ≡ goes_on_with found goes_on
+    → (if begins equals_sign rest then past (after_key bytes key rest) goes_on else key) ≡ goes_on_with found goes_on
 unfolding behind_there
 key_then bytes key rest found goes_on none h =
     let it : PlainArgument × List ℕ = (record { key = key; has_equals = false; values = [] }, rest) in
@@ -193,24 +193,24 @@ none_in (requests.AddNodes r) name is other = let same : bytes_eq name (codes "a
 none_in r name is other = refl
 
 -- no act is called so
-act_other : (a : Act) → bytes_eq (act_text a) (codes "add-nodes") ≡ false
+act_other : (a : NodeCommand) → bytes_eq (node_command_text a) (codes "add-nodes") ≡ false
 act_other acts.Campaign = refl
 act_other a = refl
 
-act_with_other : (a : ActWith) → bytes_eq (act_with_text a) (codes "add-nodes") ≡ false
+act_with_other : (a : NodeCommandWithArg) → bytes_eq (node_command_with_arg_text a) (codes "add-nodes") ≡ false
 act_with_other withs.Compact = refl
 act_with_other a = refl
 
 -- the word of an `add-nodes` is how many nodes it asks for
 count_in : (r : Request) (word : Option ℕ) → name_text (request_name r) ≡ codes "add-nodes" → ((nodes : AddNodes) → r ≡ requests.AddNodes nodes → word ≡ Some nodes.count) → unwrap_or word 0 ≡ nodes_in r
 count_in (requests.AddNodes nodes) word name counts = ap (λ (o : Option ℕ). unwrap_or o 0) (counts nodes refl)
-count_in (requests.Act a id) word name counts =
-    let same : bytes_eq (act_text a) (codes "add-nodes") ≡ true = (bytes_eq-Decides (act_text a) (codes "add-nodes")).1 name in
-    let other : bytes_eq (act_text a) (codes "add-nodes") ≡ false = act_other a in
+count_in (requests.NodeCommand a id) word name counts =
+    let same : bytes_eq (node_command_text a) (codes "add-nodes") ≡ true = (bytes_eq-Decides (node_command_text a) (codes "add-nodes")).1 name in
+    let other : bytes_eq (node_command_text a) (codes "add-nodes") ≡ false = act_other a in
     absurd cc
-count_in (requests.ActWith a id number) word name counts =
-    let same : bytes_eq (act_with_text a) (codes "add-nodes") ≡ true = (bytes_eq-Decides (act_with_text a) (codes "add-nodes")).1 name in
-    let other : bytes_eq (act_with_text a) (codes "add-nodes") ≡ false = act_with_other a in
+count_in (requests.NodeCommandWithArg a id number) word name counts =
+    let same : bytes_eq (node_command_with_arg_text a) (codes "add-nodes") ≡ true = (bytes_eq-Decides (node_command_with_arg_text a) (codes "add-nodes")).1 name in
+    let other : bytes_eq (node_command_with_arg_text a) (codes "add-nodes") ≡ false = act_with_other a in
     absurd cc
 count_in r word name counts =
     let same : bytes_eq (name_text (request_name r)) (codes "add-nodes") ≡ true = (bytes_eq-Decides (name_text (request_name r)) (codes "add-nodes")).1 name in absurd cc

@@ -3,7 +3,7 @@
 use Rattle.std.specs.Prelude.{ℕ, zero, suc, Bool, true, false, ◌==◌, not, if◌then◌else◌, List, [], ◌∷◌, ◌++◌, take, slice_index, slice_range, Option, Some, None}
 use Rattle.rb_script.specs.Bytes.{space, line_feed, number_sign}
 use Rattle.rb_script.specs.Lines.{Line, lines}
-use Rattle.rb_script.specs.Marks.{is_blank, is_lead, is_rule, is_separator, continues, without_front}
+use Rattle.rb_script.specs.Marks.{is_blank, is_lead, is_rule, is_separator, continues, trim_blanks}
 use Rattle.rb_script.specs.Directive.{begins}
 use Rattle.rb_script.specs.Joined.{body}
 use Rattle.rb_offers.specs.declared.part.Part.{Part}
@@ -35,7 +35,7 @@ behind_lines part head (line ∷ ls) = behind_lines (next part line) (kept (next
 
 -- the line is a comment, as far as it goes
 abbrev pub is_comment : Line → Bool
-is_comment line = begins number_sign (without_front line)
+is_comment line = begins number_sign (trim_blanks line)
 
 -- a line of this part that begins so can be one of a head
 abbrev pub goes_on : Part → Line → Bool

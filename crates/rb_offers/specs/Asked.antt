@@ -6,8 +6,8 @@ use Rattle.rb_script.specs.Lines.{Line, lines}
 use Rattle.rb_script.specs.Marks.{is_lead}
 use Rattle.rb_script.specs.Reads.{ReadsSome}
 use Rattle.rb_script.specs.Script.{PlainBlock}
-use Rattle.rb_directive.specs.declared.asking.Request.{Request}
-use Rattle.rb_directive.specs.declared.asking.Request.TheVariants as requests
+use Rattle.rb_directive.specs.declared.requests.Request.{Request}
+use Rattle.rb_directive.specs.declared.requests.Request.TheVariants as requests
 use Rattle.rb_directive.specs.declared.build.Asked.{Asked}
 use Rattle.rb_directive.specs.declared.limits.TheConstants.{MAX_NODES}
 use Rattle.rb_directive.specs.Requests.{request}

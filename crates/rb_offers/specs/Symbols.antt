@@ -2,7 +2,7 @@
 use Rattle.std.specs.Prelude.{ℕ, zero, suc, if◌then◌else◌, List, [], ◌∷◌, ◌++◌, codes, slice_index_or}
 use Rattle.std.specs.List.{flat_map}
 use Rattle.rb_script.specs.Lines.{Line, lines}
-use Rattle.rb_script.specs.Marks.{without_front}
+use Rattle.rb_script.specs.Marks.{trim_blanks}
 use Rattle.rb_text.specs.Json.{escaped}
 use Rattle.rb_document.specs.declared.position.Encoding.{Encoding}
 use Rattle.rb_document.specs.declared.position.Position.{Position}
@@ -21,7 +21,7 @@ first_characters (suc n) (b ∷ bytes) = b ∷ (if is_within b then first_charac
 
 -- what a directive is called: the first line of its head, from the first byte on that is no blank, as far as a name goes
 abbrev pub name_of : List Line → ℕ → List ℕ
-name_of ls from = first_characters MAX_NAME (without_front (slice_index_or ls from []))
+name_of ls from = first_characters MAX_NAME (trim_blanks (slice_index_or ls from []))
 
 -- the name and the kind of the symbol of a block whose head begins on a line
 unfoldable pub name_text : List Line → ℕ → List ℕ

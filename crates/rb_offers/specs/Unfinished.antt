@@ -74,11 +74,11 @@ abbrev pub value_at : List ℕ → List ℕ → Reach
 value_at key bytes = if begins opening bytes then list_value key (drop 1 bytes) else rest_or (value key bytes) (after_while is_value bytes)
 
 -- an argument whose key was read, and what follows the key
-abbrev pub behind_key : List ℕ → List ℕ → List ℕ → Reach
-behind_key bytes key rest = if begins equals_sign rest then value_at key (drop 1 rest) else rest_or (argument bytes) rest
+abbrev pub after_key : List ℕ → List ℕ → List ℕ → Reach
+after_key bytes key rest = if begins equals_sign rest then value_at key (drop 1 rest) else rest_or (argument bytes) rest
 
 unfoldable pub argument_at : List ℕ → Reach
-argument_at bytes = behind_key bytes (while_of is_word bytes) (after_while is_word bytes)
+argument_at bytes = after_key bytes (while_of is_word bytes) (after_while is_word bytes)
 
 abbrev pub reached : Reach → (List ℕ → PlainWanted) → PlainWanted
 reached (Err wanted) goes_on = wanted

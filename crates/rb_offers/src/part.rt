@@ -4,7 +4,7 @@ ghost use Rattle.std.specs.Prelude.{◌≡◌};
 ghost use Rattle.rb_script.specs.Marks.{is_lead};
 ghost use Rattle.rb_offers.specs.Above.{begins_head, is_comment, goes_on, next};
 
-use rb_script::{continues, is_blank, is_rule, is_separator, without_front};
+use rb_script::{continues, is_blank, is_rule, is_separator, trim_blanks};
 
 /// What a line may be.
 #[derive(Clone, Copy, Debug, PartialEq, Eq)]
@@ -30,7 +30,7 @@ pub(crate) enum Part {
 pub(crate) fn is_lead(line: &[u8]) -> bool
     ensures { result ≡ is_lead line.now }
 {
-    match without_front(line) {
+    match trim_blanks(line) {
         [] => true,
         [first, ..] => *first == b'#',
     }
@@ -40,7 +40,7 @@ pub(crate) fn is_lead(line: &[u8]) -> bool
 fn is_comment(line: &[u8]) -> bool
     ensures { result ≡ is_comment line.now }
 {
-    match without_front(line) {
+    match trim_blanks(line) {
         [] => false,
         [first, ..] => *first == b'#',
     }

@@ -10,7 +10,7 @@ ghost use Rattle.rb_offers.specs.Texts.{listed};
 use crate::block_lines::{BlockLines, blocks_of};
 use crate::writing::{add_range, start_of};
 use rb_document::{Encoding, LineTable, Position, is_within};
-use rb_script::{Lines, lines_of, without_front};
+use rb_script::{Lines, lines_of, trim_blanks};
 use rb_text::{Json, Piece, add_pieces};
 use std::alloc::{AllocError, Global};
 
@@ -44,7 +44,7 @@ fn line_at(text: &Lines, n: usize) -> &[u8]
 fn name_of(text: &Lines, from: usize) -> &[u8]
     ensures { result.now ≡ name_of text.now from }
 {
-    first_characters(MAX_NAME, without_front(line_at(text, from)))
+    first_characters(MAX_NAME, trim_blanks(line_at(text, from)))
 }
 
 // The name and the kind of the symbol of a block whose head begins on a line.

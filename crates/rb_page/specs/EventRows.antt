@@ -1,6 +1,6 @@
 -- What a node shows, as rows. (docs/FORMATS.md; the events are this project's.)
 use Rattle.std.specs.Prelude.{codes, List, [], ◌∷◌}
-use Rattle.rb_level.specs.MessageTypes.{type_text}
+use Rattle.rb_vocab.specs.MessageTypes.{type_text}
 use Rattle.rb_message.specs.declared.event.Event.{Event}
 use Rattle.rb_message.specs.declared.event.Event.TheVariants as events
 use Rattle.rb_texts.specs.Configs.{config_text}

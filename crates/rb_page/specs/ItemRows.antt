@@ -2,7 +2,7 @@
 -- has what changed. (docs/FORMATS.md)
 use Rattle.std.specs.Prelude.{ℕ, codes, List, [], ◌∷◌, drop}
 use Rattle.std.specs.List.{flat_map}
-use Rattle.rb_level.specs.declared.directive_error.DirectiveError.{DirectiveError}
+use Rattle.rb_vocab.specs.declared.directive_error.DirectiveError.{DirectiveError}
 use Rattle.rb_message.specs.declared.hard_state.HardState.{HardState}
 use Rattle.rb_raftlog.specs.declared.entry.Entry.{Entry}
 use Rattle.rb_texts.specs.Entries.{body_text}

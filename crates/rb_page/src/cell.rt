@@ -10,13 +10,13 @@ ghost use Rattle.rb_texts.specs.Quoted.{quoted};
 ghost use Rattle.rb_page.specs.Rows.{cell_text, plain_cell, text};
 ghost use Rattle.rb_page.specs.Spans.{spans_text};
 
-use crate::names::transition_name;
 use crate::span::{TextSpan, put_parts};
-use rb_change::{Transition, Word};
 use rb_raftlog::Body;
 use rb_script::{Sink, WriteFault};
 use rb_text::{Piece, WrittenPiece, put_pieces};
+use rb_texts::transition_name;
 use rb_tracker::Config;
+use rb_vocab::{Transition, Word};
 
 // How many bytes of a word an error shows.
 const WORD_SHOWN: usize = 64;

@@ -9,10 +9,10 @@ ghost use Rattle.rb_page.specs.Rows.{next_text, number, row, text};
 
 use crate::cell::Cell;
 use crate::message::flag;
-use crate::names::{fault_name, no_campaign_name, replaced_name, role_name, votes_name};
 use crate::row::put_next;
 use rb_message::Event;
 use rb_script::{Sink, WriteFault};
+use rb_texts::{fault_name, no_campaign_name, replaced_name, role_name, votes_name};
 
 /// Writes the row of what a node shows. A vote that is refused has none: the answer that says so has one.
 #[tactic(auto, unfolding(crate::specs::EventRows::event_rows))]

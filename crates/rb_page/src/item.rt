@@ -13,11 +13,11 @@ use crate::event::put_event;
 use crate::message::put_message;
 use crate::names::verb_name;
 use crate::row::put_next;
-use rb_level::DirectiveError;
 use rb_message::HardState;
 use rb_raftlog::Entry;
 use rb_script::{Sink, WriteFault};
 use rb_texts::Item;
+use rb_vocab::DirectiveError;
 
 /// Writes the rows of what a directive did: one of an item that happened, none of one that shows how a node stands.
 #[tactic(auto, unfolding(crate::specs::ItemRows::item_rows))]

@@ -23,5 +23,5 @@ pub use laws::{
     what_happens_has_a_row,
 };
 pub use message::flag;
-pub use names::role_name;
+pub use rb_texts::role_name;
 pub use row::{RowPlace, put_end, put_row};

@@ -14,9 +14,9 @@ ghost use Rattle.rb_page.specs.Commas.{comma_before};
 ghost use Rattle.rb_page.specs.Spans.{span_text};
 
 use itoa::Buffer;
-use rb_change::{Word, WordKind};
 use rb_script::{Sink, WriteFault};
 use rb_text::{Json, hex_digit, put_escaped};
+use rb_vocab::{Word, WordKind};
 
 /// A part of a text.
 #[derive(Clone, Copy)]

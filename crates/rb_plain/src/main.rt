@@ -3,11 +3,11 @@
 #![tactic(auto)]
 
 use rb_cluster::{Cluster, Meter};
-use rb_line::{FailFast, ReadSource, read_up_to};
 use rb_machine::Machine;
 use rb_raftlog::PlainLog;
 use rb_replay::Session;
 use rb_script::{Edit, MAX_SCRIPT, Through};
+use rb_text::{FailFast, ReadSource, read_up_to};
 use std::io;
 use std::io::{BufWriter, Write};
 use std::mem::forget;

@@ -7,8 +7,7 @@ use crate::page::name_of;
 use crate::refusal::Refusal;
 use rb_bench::{BenchFault, Outlet};
 use rb_check::Status;
-use rb_line::Source;
-use rb_text::number_of;
+use rb_text::{Source, number_of};
 use std::alloc::Global;
 use std::rt::Files;
 

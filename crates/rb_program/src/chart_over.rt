@@ -2,7 +2,7 @@
 
 ghost use Rattle.std.specs.Prelude.{◌≡◌, ◌≢◌, ◌≤◌, ℕ, List, length, Err, IsOk, IfOk, IfSome, OnOk};
 ghost use Rattle.std.specs.Io.KnownBytes.{Consumes};
-ghost use Rattle.rb_line.specs.Asked.{AsksFor, Fails};
+ghost use Rattle.rb_text.specs.Asked.{AsksFor, Fails};
 ghost use Rattle.rb_script.specs.Reading.{early_fault};
 ghost use Rattle.rb_script.specs.Writes.{Writes};
 ghost use Rattle.rb_bench.specs.Handed.{IsHandedOn};
@@ -14,8 +14,8 @@ use crate::script_steps::read_steps;
 use rb_bench::{BenchFault, Outlet};
 use rb_chart::{STYLE, chart_of, svg_of};
 use rb_check::Status;
-use rb_line::{Source, read_up_to};
 use rb_script::{Lines, MAX_SCRIPT, Sink, WriteFault};
+use rb_text::{Source, read_up_to};
 use std::alloc::{AllocError, Global};
 
 /// Reads a script, runs it and writes the picture of its run, under this name; of its directives up to the one at line `until`, where that is

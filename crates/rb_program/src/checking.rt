@@ -12,7 +12,7 @@ use crate::target::targets;
 use rb_args::CheckChoice;
 use rb_check::Status;
 use rb_checked::Shown;
-use rb_replay::is_spacing;
+use rb_replay::is_checkpoint_interval;
 use rb_suite::{CheckRequest, check};
 use std::alloc::Global;
 use std::io::Write;
@@ -117,7 +117,7 @@ fn check_review(choice: &CheckChoice, style: Style, terminals: Terminals) -> Res
 // Whether the text of `--every` is a number that a session takes.
 fn is_usual(every: Option<&str>) -> bool {
     match spacing(every) {
-        Some(every) => is_spacing(every),
+        Some(every) => is_checkpoint_interval(every),
         None => false,
     }
 }

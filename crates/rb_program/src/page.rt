@@ -6,8 +6,8 @@ use crate::refusal::Refusal;
 use rb_bench::{BenchFault, Outlet};
 use rb_check::Status;
 use rb_frame::{back, front};
-use rb_line::Source;
 use rb_steps::Frame;
+use rb_text::Source;
 use std::alloc::Global;
 use std::rt::Files;
 

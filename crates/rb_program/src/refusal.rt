@@ -6,8 +6,8 @@ use crate::misuse::Misuse;
 use rb_args::ChoiceFault;
 use rb_bench::{BenchFault, script_fault_name};
 use rb_check::{Status, fault_line};
-use rb_line::ReadFault;
 use rb_script::ScriptFault;
+use rb_text::ReadFault;
 use std::alloc::AllocError;
 use std::io;
 

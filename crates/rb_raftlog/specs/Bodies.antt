@@ -1,4 +1,4 @@
--- What an entry brings.
+-- The body of an entry.
 use Rattle.std.specs.Prelude.{Bool, false, true}
 use Rattle.rb_raftlog.specs.declared.entry.Body.{Body}
 use Rattle.rb_raftlog.specs.declared.entry.Body.TheVariants.{Payload, Change}

@@ -1,4 +1,4 @@
--- A content in pieces, and what is left behind them.
+-- A content in pieces, and the rest after them.
 use Rattle.std.specs.Prelude.{◌≡◌, ℕ, ◌+◌, ◌<◌, ◌≤◌, List, [], length, slice_index_or}
 use Rattle.rb_raftlog.specs.declared.limits.TheConstants.{PIECE, END}
 
@@ -7,5 +7,5 @@ pub record IsCut (pieces : List (List ℕ)) (rest : List ℕ) : Type 0 where
   pub whole : (k : ℕ) → k < length pieces → length (slice_index_or pieces k []) ≡ PIECE
   -- no further piece can be cut off
   pub short : length rest < PIECE + END
-  -- behind the last piece there are as many bytes as are shown
+  -- the rest has at least as many bytes as are shown
   pub ended : 0 < length pieces → END ≤ length rest

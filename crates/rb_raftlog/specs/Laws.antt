@@ -1,4 +1,4 @@
--- What laws say of logs.
+-- Definitions of the laws of logs.
 use Rattle.std.specs.Prelude.{◌≡◌, ℕ, ◌+◌, ◌<◌, ◌≤◌, Bool, IsTrue, ◌⊎◌, List, Some, Ok, slice_get}
 use Rattle.rb_raftlog.specs.declared.entry.Entry.{Entry}
 use Rattle.rb_raftlog.specs.Log.{LogValue, last, last_term, term_at, entry_at, is_term_up_to, is_up_to_date}
@@ -43,6 +43,6 @@ pub record AreMatching (v w : LogValue) : Type 0 where
   pub terms : (i j t : ℕ) → term_at v i ≡ Ok t → term_at w i ≡ Ok t → j ≤ i → v.base ≤ j → w.base ≤ j → term_at v j ≡ term_at w j
   pub entries : (i j t : ℕ) → term_at v i ≡ Ok t → term_at w i ≡ Ok t → j ≤ i → v.base < j → w.base < j → entry_at v j ≡ entry_at w j
 
--- entries that stand in a log behind an index
+-- entries that a log has after an index
 abbrev pub AreOfLog : LogValue → ℕ → List Entry → Type 0
 AreOfLog w prev es = (k : ℕ) (e : Entry) → slice_get es k ≡ Some e → entry_at w (prev + 1 + k) ≡ Ok e

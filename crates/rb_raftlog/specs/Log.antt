@@ -29,13 +29,13 @@ first v = v.base + 1
 abbrev pub last : LogValue → ℕ
 last v = v.base + length v.entries
 
--- what holds of every log
+-- the invariant of a log
 pub record IsLog (v : LogValue) : Type 0 where
   pub above_base : v.base ≤ v.durable
   pub within : v.durable ≤ last v
   pub fits : last v ≤ MAX_INDEX
 
--- a log that begins here: nothing but a base
+-- a log with only a base
 abbrev pub fresh : ℕ → ℕ → LogValue
 fresh index term = record { base = index; base_term = term; entries = []; durable = index }
 
@@ -117,13 +117,13 @@ not_durable v = drop (v.durable - v.base) v.entries
 abbrev pub made_durable : LogValue → LogValue
 made_durable v = record v { durable = last v }
 
--- an entry of one's own at the end
+-- a leader's own entry at the end
 abbrev pub own : LogValue → Entry → LogValue
 own v entry = record v { entries = v.entries ++ entry ∷ [] }
 
 -- ---- appending after an entry
 
--- the first index, from i on, at which these entries differ in term from what is held, or go past the last
+-- the first index, from i on, at which these entries differ in term from the log's, or go past its end
 abbrev pub first_new : LogValue → ℕ → List Entry → Option ℕ
 first_new v i [] = None
 first_new v i (e ∷ es) = if is_term (term_at v i) e.term then first_new v (i + 1) es else Some i
@@ -141,11 +141,12 @@ appended v prev term es commit =
     if nat_lt prev commit then v
     else (if is_term (term_at v prev) term then replaced v prev es (first_new v (prev + 1) es) else v)
 
--- whether an entry of this term can't go to index i: that is above the base, at most commit, and held with another term
+-- whether an entry of this term conflicts with a committed one: index i is above the base, at most commit, and the log has another term
+-- there
 abbrev pub is_conflict : LogValue → ℕ → ℕ → ℕ → Bool
 is_conflict v i term commit = nat_lt v.base i && nat_le i commit && is_other_term (term_at v i) term
 
--- the first of the entries, which go to index i and on, that can't
+-- the index of the first entry that conflicts with a committed one; the entries go to index i and on
 abbrev pub conflict : LogValue → ℕ → List Entry → ℕ → Option ℕ
 conflict v i [] commit = None
 conflict v i (e ∷ es) commit = if is_conflict v i e.term commit then Some i else conflict v (i + 1) es commit
@@ -170,7 +171,7 @@ abbrev pub compacted : LogValue → ℕ → Result ℕ LogFault → LogValue
 compacted v i (Ok term) = record v { base = i; base_term = term; entries = drop (i - v.base) v.entries }
 compacted v i (Err _) = v
 
--- what compacting comes to
+-- the result of compacting
 abbrev pub IsCompacted : LogValue → ℕ → ℕ → Result (Unit {0}) CompactFault → LogValue → Type 0
 IsCompacted v i applied (Ok _) w = (compact_fault v i applied ≡ None) × (w ≡ compacted v i (term_at v i))
 IsCompacted v i applied (Err OutOfMemory) w = (compact_fault v i applied ≡ None) × (w ≡ v)

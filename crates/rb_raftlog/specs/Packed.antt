@@ -7,7 +7,7 @@ use Rattle.rb_raftlog.specs.declared.limits.TheConstants.{PAGE}
 abbrev pub joined : {X : Type 0} → List (List X) → List X
 joined ps = flat_map (λ p. p) ps
 
--- each page but the last is full, and none is empty
+-- all pages except the last are full, and none is empty
 pub record IsPacked {X : Type 0} (ps : List (List X)) : Type 0 where
   -- the first k pages have PAGE * k items, or all
   pub places : (k : ℕ) → length (joined (take k ps)) ≡ min (PAGE * k) (length (joined ps))

@@ -1,13 +1,13 @@
-//! The content of a node: what its state machine has taken so far.
+//! The content of a node: the applied payloads, joined.
 //!
-//! The state machine of this bench joins the payloads that it is given, in order (a replicated state machine as in Ongaro's thesis,
-//! chapter 2, whose state can be looked at). So a content only grows, and a session keeps hundreds of contents that begin alike.
+//! The state machine of this bench joins payloads in order (a replicated state machine as in Ongaro's thesis, chapter 2). So a content only
+//! grows, and a session keeps hundreds of contents with the same beginning.
 //!
-//! It is cut into pieces of PIECE bytes, which never change and which copies share, and a rest behind them. The pieces stand in
-//! pages, so that a copy costs a pointer for each 64 pieces, some for the last ones, and the rest. Equal contents are cut at the
-//! same places. The rest always has the last bytes, as many as are shown, so these are there as one slice.
+//! A content is a list of pieces of PIECE bytes, which never change and which copies share, and a rest after them. The pieces are in pages,
+//! so a copy costs a few pointers and the rest. Equal contents are cut at the same places. The rest always has the last bytes that are
+//! shown, as one slice.
 //!
-//! A sum of all bytes goes with them, so that contents of one length that differ anywhere are usually told apart by two numbers.
+//! A content keeps a sum of all bytes, which usually tells apart contents of one length.
 
 ghost use Rattle.std.specs.Prelude.{◌≡◌, ◌+◌, ◌<◌, ◌≤◌, ◌++◌, ◌↔◌, [], length, take, IsTrue, IfOk, OnOk, OnErr};
 ghost use Rattle.rb_raftlog.specs.Content.{content_end, content_sum, sum_with, sum_from};
@@ -16,7 +16,7 @@ ghost use Rattle.rb_raftlog.specs.Packed.{joined};
 
 use crate::limits::{END, FACTOR, MAX_INDEX, PIECE};
 use crate::pages::Pages;
-use rb_change::Shared;
+use rb_vocab::Shared;
 use std::alloc::{AllocError, Global};
 use std::marker::Model;
 
@@ -25,7 +25,7 @@ use std::marker::Model;
 pub struct Content {
     // Each has PIECE bytes.
     pieces: Pages<Shared<u8>>,
-    // Fewer than PIECE + END bytes, and at least END of them where there are pieces.
+    // Fewer than PIECE + END bytes, and at least END if there are pieces.
     rest: Vec<u8>,
     // The sum of all bytes.
     sum: u64,
@@ -60,14 +60,14 @@ fn joined_bytes(alloc: Global, front: &[u8], back: &[u8]) -> Result<Vec<u8>, All
     Ok(bytes)
 }
 
-/// Whether the two are the same bytes.
+/// Whether both are equal.
 fn same_bytes(bytes: &[u8], others: &[u8]) -> bool
     ensures { IsTrue result ↔ (bytes.now ≡ others.now) }
 {
     bytes == others
 }
 
-/// A sum with one byte more.
+/// Adds a byte to a sum.
 #[tactic(auto, unfolding(crate::specs::Content::sum_with))]
 fn sum_with(sum: u64, byte: u8) -> u64
     ensures { result ≡ sum_with sum byte }
@@ -75,7 +75,7 @@ fn sum_with(sum: u64, byte: u8) -> u64
     sum.wrapping_mul(FACTOR).wrapping_add(u64::from(byte))
 }
 
-/// A sum with these bytes more.
+/// Adds bytes to a sum.
 fn sum_from(sum: u64, bytes: &[u8]) -> u64
     ensures { result ≡ sum_from sum bytes.now }
 {
@@ -86,8 +86,8 @@ fn sum_from(sum: u64, bytes: &[u8]) -> u64
     so_far
 }
 
-/// Appends the bytes, with which a piece is full, and cuts that off.
-fn cut_off(
+/// Appends the bytes, which fill a piece, and moves that piece to the pieces.
+fn split_off_piece(
     pieces: &mut Pages<Shared<u8>>,
     rest: &mut Vec<u8>,
     bytes: &[u8],
@@ -111,7 +111,7 @@ fn cut_off(
     Ok(())
 }
 
-/// Appends the bytes, and cuts a piece off where one is full.
+/// Appends the bytes. If they fill a piece, moves it to the pieces.
 fn grow(pieces: &mut Pages<Shared<u8>>, rest: &mut Vec<u8>, bytes: &[u8]) -> Result<(), AllocError>
     requires cut { IsCut pieces.old rest.old.items }
     requires fits { length rest.old.items + length bytes.now ≤ PIECE + END }
@@ -123,10 +123,10 @@ fn grow(pieces: &mut Pages<Shared<u8>>, rest: &mut Vec<u8>, bytes: &[u8]) -> Res
         rest.extend_from_slice(bytes)?;
         return Ok(());
     }
-    cut_off(pieces, rest, bytes)
+    split_off_piece(pieces, rest, bytes)
 }
 
-/// Whether the two lists of pieces are equal.
+/// Whether both lists of pieces are equal.
 fn same_pieces(pieces: &Pages<Shared<u8>>, others: &Pages<Shared<u8>>) -> bool
     ensures { IsTrue result ↔ (pieces.now ≡ others.now) }
 {
@@ -162,7 +162,7 @@ impl Content {
         Ok(content)
     }
 
-    /// How many bytes there are, without going over them.
+    /// The number of bytes, without going over them.
     pub fn len(&self) -> usize
         ensures { result ≡ length self.now }
     {
@@ -170,7 +170,7 @@ impl Content {
         self.pieces.len() * PIECE + self.rest.len()
     }
 
-    /// The last 32 bytes, or all where there are fewer. Nothing is joined or copied.
+    /// The last 32 bytes, or all if there are fewer, without a copy.
     pub fn end(&self) -> &[u8]
         ensures { result.now ≡ content_end self.now }
     {
@@ -178,7 +178,7 @@ impl Content {
         &self.rest[self.rest.len().saturating_sub(END)..]
     }
 
-    // Appends the first bytes, at least one, and gives how many: as many as fit before the next piece is cut off.
+    // Appends the first bytes, up to the end of a piece, and returns their number.
     fn append_some(&mut self, bytes: &[u8]) -> Result<usize, AllocError>
         requires { 0 < length bytes.now }
         ensures { IfOk result (λ n. (0 < n) × (n ≤ length bytes.now) × (self.new ≡ self.old ++ take n bytes.now)) }
@@ -190,8 +190,8 @@ impl Content {
         Ok(n)
     }
 
-    /// Appends the bytes. It copies them, once or twice, and at times a page of pointers: what it costs goes by what is appended,
-    /// and not by what is there. A content of more than 2,000,000,000 pieces is refused as if memory had been.
+    /// Appends the bytes. The cost is that of copying them once or twice, and at times a page of pointers. A content of more than
+    /// 2,000,000,000 pieces is refused like a lack of memory.
     pub fn append(&mut self, bytes: &[u8]) -> Result<(), AllocError>
         ensures { OnOk result (self.new ≡ self.old ++ bytes.now) }
     {
@@ -202,7 +202,7 @@ impl Content {
         Ok(())
     }
 
-    /// The same content once more: pointers to its pieces, some of them by the page, and a copy of the rest.
+    /// Copies the content: pointers to its pages and pieces, and a copy of the rest.
     pub fn try_copy(&self) -> Result<Content, AllocError>
         ensures { IfOk result (λ copy. copy ≡ self.now) }
     {
@@ -213,7 +213,7 @@ impl Content {
         })
     }
 
-    /// A sum of the bytes, without going over them. Equal contents have equal sums, and different ones usually different sums.
+    /// A sum of the bytes, without going over them. Different contents usually have different sums.
     pub fn sum(&self) -> u64
         ensures { result ≡ content_sum self.now }
     {
@@ -221,18 +221,18 @@ impl Content {
         self.sum
     }
 
-    // Whether both are the same bytes. Their ends are looked at first.
-    fn has_bytes_of(&self, other: &Content) -> bool
+    // Whether both have equal bytes. Compares their ends first.
+    fn has_same_bytes(&self, other: &Content) -> bool
         ensures { IsTrue result ↔ (self.now ≡ other.now) }
     {
         same_bytes(&self.rest, &other.rest) && same_pieces(&self.pieces, &other.pieces)
     }
 
-    /// Whether both are the same bytes. Contents of different sums are told apart at once, then their ends are looked at.
+    /// Whether both have equal bytes. Compares sums first, then ends.
     pub fn same(&self, other: &Content) -> bool
         ensures { IsTrue result ↔ (self.now ≡ other.now) }
     {
-        self.sum() == other.sum() && self.has_bytes_of(other)
+        self.sum() == other.sum() && self.has_same_bytes(other)
     }
 }
 

@@ -1,14 +1,13 @@
-//! What a message holds of a log.
+//! The entries in a message.
 //!
-//! A leader sends the same entries to many followers, and a session keeps hundreds of clusters with messages under way. So what a
-//! message holds is one pointer to a list that never changes: its copies share it, and where the log that it is of has pages, it
-//! shares these too. No entries take no memory.
+//! A leader sends the same entries to many followers, and a session keeps hundreds of clusters with messages in flight. So a message has
+//! one pointer to a list that never changes. Copies share the list, and it shares the pages of its log. No entries take no memory.
 
 ghost use Rattle.std.specs.Prelude.{◌≡◌, ◌-◌, ◌<◌, ◌≤◌, ◌↔◌, [], length, drop, slice_index_or, vec_len, IsTrue, IfOk};
 ghost use Rattle.rb_raftlog.specs.Log.{last_of};
 
 use crate::entry::Entry;
-use crate::entry_list::{EntryList, Given, append_from};
+use crate::entry_list::{EntryList, EntrySlice, append_from};
 use crate::limits::MAX_INDEX;
 use crate::pages::Pages;
 use crate::pieces::Pieces;
@@ -18,11 +17,11 @@ use std::rc::Rc;
 
 /// Entries that are shared and never change. Contracts see the list of the entries.
 pub struct Entries {
-    // Nothing where there are no entries.
+    // `None` if there are no entries.
     list: Option<Rc<Pages<Entry>>>,
 }
 
-// Written out, so that giving one back is a call wherever it is owned, and is proved here alone.
+// Written by hand, so that an owner drops one by a call, which is proved only here.
 impl Drop for Entries {
     fn drop(self) {
         let Entries { list: _ } = self;
@@ -71,7 +70,7 @@ impl Entries {
         ensures { IfOk result (λ shared. shared ≡ drop from entries.now) }
     {
         let mut list = Pages::new(alloc);
-        append_from(&mut list, &Given { entries }, from)?;
+        append_from(&mut list, &EntrySlice { entries }, from)?;
         Entries::of(list)
     }
 
@@ -83,7 +82,7 @@ impl Entries {
         Entries::copied(*entries.allocator(), &entries, 0)
     }
 
-    /// How many entries there are.
+    /// The number of entries.
     pub fn len(&self) -> usize
         ensures { result ≡ length self.now }
     {
@@ -105,7 +104,7 @@ impl Entries {
         self.len() == 0
     }
 
-    /// The term of the last entry, if there is one. It costs no search.
+    /// The term of the last entry, if there is one. Costs no search.
     pub fn last_term(&self) -> Option<u64>
         ensures { result ≡ last_of self.now }
     {
@@ -126,7 +125,7 @@ impl Entries {
         }
     }
 
-    /// The same entries once more: one pointer, however many there are.
+    /// Copies the entries, at one pointer.
     pub fn try_copy(&self) -> Result<Entries, AllocError>
         ensures { IfOk result (λ copy. copy ≡ self.now) }
     {
@@ -138,7 +137,7 @@ impl Entries {
         }
     }
 
-    /// Whether both are the same entries, whoever holds them. Different numbers of entries are told apart at once, others entry by entry.
+    /// Whether both have equal entries. Compares lengths first, and then entry by entry.
     pub fn same(&self, other: &Entries) -> bool
         ensures { IsTrue result ↔ (self.now ≡ other.now) }
     {

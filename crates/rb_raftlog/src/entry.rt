@@ -1,17 +1,16 @@
 //! Entries of a Raft log.
 //!
-//! An entry is a command with the term in which a leader took it (Ongaro's thesis, section 3.3). The command is a payload, which
-//! the state machine takes as it is, or a change of the cluster's configuration (section 4). An entry doesn't know its index: that
-//! is its place in the log.
+//! An entry is a command with the term in which a leader appended it (Ongaro's thesis, section 3.3). The command is a payload for the state
+//! machine, or a change of the cluster's configuration (section 4). An entry doesn't have its index, which is its place in the log.
 //!
-//! Bytes and words are shared and never change, so a copy of an entry copies a pointer.
+//! Bytes and words are shared and never change, so a copy of an entry costs a pointer.
 
 ghost use Rattle.std.specs.Prelude.{◌≡◌, ◌↔◌, IsTrue, IfOk};
 
-use rb_change::{Shared, Transition, Word};
+use rb_vocab::{Shared, Transition, Word};
 use std::alloc::AllocError;
 
-/// What an entry brings.
+/// The command of an entry.
 #[derive(Clone, Drop)]
 pub enum Body {
     /// Bytes for the state machine.
@@ -33,14 +32,14 @@ impl Body {
         matches!(self, Body::Change { .. })
     }
 
-    /// The same body once more. It costs a pointer.
+    /// Copies the body, at one pointer.
     pub fn try_copy(&self) -> Result<Body, AllocError>
         ensures { IfOk result (λ copy. copy ≡ self.now) }
     {
         self.clone()
     }
 
-    /// Whether both bring the same.
+    /// Whether both bodies are equal.
     pub fn same(&self, other: &Body) -> bool
         ensures { IsTrue result ↔ (self.now ≡ other.now) }
     {
@@ -58,7 +57,7 @@ impl Body {
     }
 }
 
-/// An entry: the term in which it was proposed, and what it brings.
+/// An entry: the term in which it was appended, and its command.
 #[derive(Clone, Drop)]
 pub struct Entry {
     pub term: u64,
@@ -66,14 +65,14 @@ pub struct Entry {
 }
 
 impl Entry {
-    /// The same entry once more. It costs a pointer.
+    /// Copies the entry, at one pointer.
     pub fn try_copy(&self) -> Result<Entry, AllocError>
         ensures { IfOk result (λ copy. copy ≡ self.now) }
     {
         self.clone()
     }
 
-    /// Whether both are the same entry. Terms are looked at first.
+    /// Whether both entries are equal. Compares terms first.
     pub fn same(&self, other: &Entry) -> bool
         ensures { IsTrue result ↔ (self.now ≡ other.now) }
     {

@@ -1,6 +1,6 @@
-//! Lists of entries, whoever holds them.
+//! Lists of entries, as one trait.
 //!
-//! What a follower's log takes comes as a slice, or as what a message holds. Both are lists that lend each entry by its place.
+//! A follower's log appends entries from a slice or from a message. Both lend each entry by its place.
 
 ghost use Rattle.std.specs.Prelude.{◌≡◌, ◌+◌, ◌-◌, ◌<◌, ◌≤◌, ◌++◌, length, drop, slice_index_or, OnOk};
 
@@ -27,11 +27,11 @@ pub trait EntryList {
 
 /// A slice as a list of entries.
 #[derive(Drop)]
-pub(crate) struct Given<'a> {
+pub(crate) struct EntrySlice<'a> {
     pub(crate) entries: &'a [Entry],
 }
 
-impl EntryList for Given<'_> {
+impl EntryList for EntrySlice<'_> {
     ghost listed = { λ s. s.entries.now };
 
     fn len(&self) -> usize {
@@ -60,7 +60,7 @@ pub(crate) fn push_from<E: EntryList>(
     Ok(())
 }
 
-/// The same, into pages.
+/// Appends a copy of each entry from a place on to pages.
 pub(crate) fn append_from<E: EntryList>(
     pages: &mut Pages<Entry>,
     entries: &E,

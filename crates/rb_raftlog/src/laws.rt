@@ -1,7 +1,7 @@
 //! Laws of logs, in Raft's words, over the definitions alone.
 //!
-//! The contracts of [`crate::RaftLog`] say what each call gives, by these definitions. The laws say why that is what Raft asks of a
-//! log: what is committed stays, what was taken matches, and what is at most as new gets no vote. None of them is run.
+//! The contracts of [`crate::RaftLog`] state each call's result by these definitions. The laws state what Raft requires of a log: committed
+//! entries stay, appended ones match, and a candidate with an older log gets no vote. Laws have no code.
 
 ghost use Rattle.std.specs.Prelude.{◌≡◌, ◌↔◌, ℕ, ◌+◌, ◌-◌, ◌<◌, ◌≤◌, ◌⊎◌, List, [], Ok, Some, None, length, slice_get, min, true, false};
 ghost use Rattle.rb_raftlog.specs.declared.entry.Entry.{Entry};
@@ -11,7 +11,7 @@ ghost use Rattle.rb_raftlog.specs.declared.raft_log.Appended.TheVariants.{Matche
 ghost use Rattle.rb_raftlog.specs.Log.{LogValue, IsLog, last, fresh, term_at, entry_at, is_term, first_new, appended, answer, own, made_durable, compacted, restored, hint, is_up_to_date, entries_from, between, not_durable};
 ghost use Rattle.rb_raftlog.specs.Laws.{IsHint, log_is_up_to_date, IsAsNew, IsConflicting, IsFirstConflict, AreMatching, AreOfLog};
 
-/// What is at or below commit never changes by an append, whatever is sent.
+/// No append changes an entry up to commit.
 pub fn committed_entries_stay()
     ensures terms { (v : LogValue) (prev term commit i : ℕ) (es : List Entry) → i ≤ commit → term_at (appended v prev term es commit) i ≡ term_at v i }
     ensures entries { (v : LogValue) (prev term commit i : ℕ) (es : List Entry) → i ≤ commit → entry_at (appended v prev term es commit) i ≡ entry_at v i }
@@ -35,8 +35,8 @@ pub fn conflicting_entries_go()
     ensures { (v : LogValue) (prev term commit new : ℕ) (es : List Entry) → commit ≤ prev → term_at v prev ≡ Ok term → first_new v (prev + 1) es ≡ Some new → last (appended v prev term es commit) ≡ prev + length es }
 {}
 
-/// Durable is what was written. An append takes back what it replaces, and nothing else; an entry of one's own isn't durable before it is
-/// written; when all is written, all is durable.
+/// Written entries are durable. Entries that an append replaces aren't durable any more; no other is affected. A leader's own entry isn't
+/// durable before it is written. After all is written, all is durable.
 pub fn durable_is_what_was_written()
     ensures replaced { (v : LogValue) (prev term commit new : ℕ) (es : List Entry) → commit ≤ prev → term_at v prev ≡ Ok term → first_new v (prev + 1) es ≡ Some new → (appended v prev term es commit).durable ≡ min v.durable (new - 1) }
     ensures falls { (v : LogValue) (prev term commit : ℕ) (es : List Entry) → (appended v prev term es commit).durable ≤ v.durable }
@@ -68,12 +68,12 @@ pub fn logs_keep_matching()
     ensures restored { (u : LogValue) (s : Snapshot) → AreMatching u (restored s) }
 {}
 
-/// Appending the same again changes nothing, so that a message may come twice.
+/// Appending the same again changes nothing, so a message may be delivered twice.
 pub fn appending_again_changes_nothing()
     ensures { (v : LogValue) (prev term commit : ℕ) (es : List Entry) → appended (appended v prev term es commit) prev term es commit ≡ appended v prev term es commit }
 {}
 
-/// Of two logs one is at least as new as the other, and what is at least as new as a newer one is so too.
+/// Of two logs, one is at least as new as the other. "At least as new" is transitive.
 pub fn logs_are_ordered()
     ensures total { (v w : LogValue) → (log_is_up_to_date v w ≡ true) ⊎ (log_is_up_to_date w v ≡ true) }
     ensures on { (u v w : LogValue) → log_is_up_to_date u v ≡ true → log_is_up_to_date v w ≡ true → log_is_up_to_date u w ≡ true }
@@ -95,7 +95,7 @@ pub fn compacting_keeps_terms()
     ensures entries { (v : LogValue) (i term j : ℕ) → v.base < i → i < j → entry_at (compacted v i (Ok term)) j ≡ entry_at v j }
 {}
 
-/// What is durable lies between the base and the last index, whatever is done to a log.
+/// The durable index is between the base and the last index, after every call.
 pub fn durable_stays_within()
     ensures fresh { (index term : ℕ) → index ≤ MAX_INDEX → IsLog (fresh index term) }
     ensures appended { (v : LogValue) (prev term commit : ℕ) (es : List Entry) → IsLog v → prev + length es ≤ MAX_INDEX → IsLog (appended v prev term es commit) }
@@ -105,7 +105,7 @@ pub fn durable_stays_within()
     ensures restored { (s : Snapshot) → s.index ≤ MAX_INDEX → IsLog (restored s) }
 {}
 
-/// Compacting moves the base, and no more; a snapshot that is restored is the log.
+/// Compacting only moves the base. A restored snapshot replaces the log.
 pub fn bases_move()
     ensures compacted { (v : LogValue) (i term : ℕ) → v.base < i → i ≤ last v → ((compacted v i (Ok term)).base ≡ i) × (last (compacted v i (Ok term)) ≡ last v) × ((compacted v i (Ok term)).durable ≡ v.durable) }
     ensures restored { (s : Snapshot) → (term_at (restored s) s.index ≡ Ok s.term) × (last (restored s) ≡ s.index) × ((restored s).durable ≡ s.index) }

@@ -1,7 +1,7 @@
 //! Entries of a Raft log, snapshots, and logs.
 //!
-//! [`RaftLog`] says what a log is; [`PlainLog`] and [`SplitLog`] are two that mean the same. [`Entries`] is what a message holds of
-//! one, and [`Content`] what comes of applying payloads.
+//! [`RaftLog`] is the trait of a log; [`PlainLog`] and [`SplitLog`] implement it. [`Entries`] are the entries in a message. [`Content`] is
+//! the state of a node: the applied payloads.
 #![tactic(auto)]
 
 mod content;
@@ -17,7 +17,7 @@ mod pages;
 mod pieces;
 mod plain_store;
 mod raft_log;
-mod shelf;
+mod shared_vec;
 mod snapshot;
 mod split_store;
 mod store;
@@ -45,8 +45,8 @@ pub use split_store::SplitStore;
 pub use store::Store;
 pub use try_copy::{TryCopy, copies_of, push_copies};
 
-// The plain types of changes and configurations, which stand in rb_change: entries and snapshots are made of them.
-pub use rb_change::{ConfState, Shared, Transition, Word, WordKind};
+// The types of changes and configurations, from rb_vocab, which entries and snapshots contain.
+pub use rb_vocab::{ConfState, Shared, Transition, Word, WordKind};
 
 /// A log whose entries are one list.
 pub type PlainLog = Log<PlainStore>;

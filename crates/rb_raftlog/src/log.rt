@@ -1,7 +1,6 @@
 //! A log over a store.
 //!
-//! All that is said of indexes and terms is done here, once for all stores: the entry at index i is the one at place i - base - 1
-//! of the store.
+//! A log handles indexes and terms, once for all stores: the entry at index i is at place i - base - 1 of the store.
 
 ghost use Rattle.std.specs.Prelude.{◌≡◌, ◌+◌, ◌-◌, ◌<◌, ◌≤◌, length, take, drop, IsTrue, IfSome, IfOk, OnOk};
 ghost use Rattle.std.specs.List.{list_any};
@@ -10,7 +9,7 @@ ghost use Rattle.rb_raftlog.specs.Log.{LogValue, term_at, is_term, is_term_up_to
 
 use crate::entries::Entries;
 use crate::entry::Entry;
-use crate::entry_list::{EntryList, Given};
+use crate::entry_list::{EntryList, EntrySlice};
 use crate::limits::MAX_INDEX;
 use crate::pieces::Pieces;
 use crate::raft_log::{Appended, CompactFault, LogFault, RaftLog};
@@ -41,7 +40,7 @@ impl<S: Store> Model for Log<S> {
 }
 
 impl<S: Store> Log<S> {
-    // Whether the term at `index` is this one.
+    // Whether the log has this term at `index`.
     fn is_term(&self, index: u64, term: u64) -> bool
         ensures value { result ≡ is_term (term_at self.now index) term }
         ensures above { IsTrue result → self.now.base ≤ index }
@@ -62,7 +61,7 @@ impl<S: Store> Log<S> {
         }
     }
 
-    // The first index at which the entries, which go to index `from` and on, differ in term from what is held, or go past it.
+    // The first index at which the entries, which go to index `from` and on, differ in term from the log's, or go past its end.
     fn first_new<E: EntryList>(&self, from: u64, entries: &E) -> Option<u64>
         requires { from + length (E.listed entries.now) ≤ MAX_INDEX + 1 }
         ensures value { result ≡ first_new self.now from (E.listed entries.now) }
@@ -77,7 +76,8 @@ impl<S: Store> Log<S> {
         None
     }
 
-    // Whether an entry of this term can't go to `index`: that is above the base, at most `commit`, and held with another term.
+    // Whether an entry of this term conflicts with a committed one: `index` is above the base, at most `commit`, and the log has another
+    // term there.
     fn is_conflict(&self, index: u64, term: u64, commit: u64) -> bool
         ensures { result ≡ is_conflict self.now index term commit }
     {
@@ -90,7 +90,7 @@ impl<S: Store> Log<S> {
         }
     }
 
-    // The first of the entries, which go to index `from` and on, that can't.
+    // The index of the first entry that conflicts with a committed one. The entries go to index `from` and on.
     fn conflict<E: EntryList>(&self, from: u64, entries: &E, commit: u64) -> Option<u64>
         requires { from + length (E.listed entries.now) ≤ MAX_INDEX + 1 }
         ensures { result ≡ conflict self.now from (E.listed entries.now) commit }
@@ -119,7 +119,7 @@ impl<S: Store> Log<S> {
 }
 
 impl<S: Store> Log<S> {
-    // Puts the entries from `index` on in the place of what is held there. The first of all of them goes to prev + 1.
+    // Replaces the log from `index` on by the entries, the first of which goes to prev + 1.
     fn replace<E: EntryList>(
         &mut self,
         prev: u64,
@@ -135,7 +135,7 @@ impl<S: Store> Log<S> {
         self.store.extend(entries, (index - 1 - prev) as usize)
     }
 
-    // Takes the entries of a leader, whoever holds them.
+    // Appends the entries of a leader, from any list.
     fn append<E: EntryList>(
         &mut self,
         prev: u64,
@@ -179,7 +179,7 @@ impl<S: Store> RaftLog for Log<S> {
     }
 
     fn last_index(&self) -> u64 {
-        let _kept = self.store.kept();
+        let _durable_len = self.store.durable_len();
         self.base + self.store.len() as u64
     }
 
@@ -189,7 +189,7 @@ impl<S: Store> RaftLog for Log<S> {
 
     fn durable(&self) -> u64 {
         let _len = self.store.len();
-        self.base + self.store.kept() as u64
+        self.base + self.store.durable_len() as u64
     }
 
     fn term_at(&self, index: u64) -> Result<u64, LogFault> {
@@ -274,7 +274,7 @@ impl<S: Store> RaftLog for Log<S> {
         entries: &[Entry],
         commit: u64,
     ) -> Result<Appended, AllocError> {
-        self.append(prev, prev_term, &Given { entries }, commit)
+        self.append(prev, prev_term, &EntrySlice { entries }, commit)
     }
 
     fn append_shared(
@@ -293,11 +293,11 @@ impl<S: Store> RaftLog for Log<S> {
 
     fn not_durable(&self) -> Pieces<'_> {
         let _len = self.store.len();
-        self.store.pieces(self.store.kept())
+        self.store.pieces(self.store.durable_len())
     }
 
     fn mark_durable(&mut self) -> Result<(), AllocError> {
-        self.store.keep_all()
+        self.store.mark_all_durable()
     }
 
     fn compact(&mut self, index: u64, applied: u64) -> Result<(), CompactFault> {
@@ -334,7 +334,7 @@ impl<S: Store> RaftLog for Log<S> {
     fn same(&self, other: &Log<S>) -> bool {
         if self.base != other.base
             || self.base_term != other.base_term
-            || self.store.kept() != other.store.kept()
+            || self.store.durable_len() != other.store.durable_len()
             || self.store.len() != other.store.len()
             || self.last_term() != other.last_term()
         {

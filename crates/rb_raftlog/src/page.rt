@@ -1,6 +1,6 @@
-//! A page: some items, which its copies share.
+//! A page of items that copies share.
 //!
-//! While a page is shared it never changes. One that nobody shares grows in place; in the place of another comes a new one.
+//! A shared page never changes: to append, a copy makes a new page. A page that isn't shared grows in place.
 
 use crate::limits::PAGE;
 use crate::try_copy::{TryCopy, push_copies};
@@ -8,7 +8,7 @@ use std::alloc::{AllocError, Global};
 use std::marker::Model;
 use std::rc::Rc;
 
-/// A page, which its copies share. It has at least one item, and at most PAGE.
+/// A page that copies share. It has at least one item and at most PAGE.
 #[derive(Drop)]
 pub(crate) struct Page<T> {
     items: Rc<Vec<T>>,
@@ -41,8 +41,8 @@ impl<T: TryCopy> Page<T> {
         })
     }
 
-    /// A page of copies of these items, and one more behind them.
-    pub(crate) fn ending(alloc: Global, items: &[T], last: T) -> Result<Page<T>, AllocError>
+    /// A page of copies of these items and one more at the end.
+    pub(crate) fn with_last(alloc: Global, items: &[T], last: T) -> Result<Page<T>, AllocError>
         requires { length items.now < PAGE }
         ensures { IfOk result (λ page. page ≡ items.now ++ last ∷ []) }
     {
@@ -54,7 +54,7 @@ impl<T: TryCopy> Page<T> {
         })
     }
 
-    /// Appends an item. Who shares the page keeps it as it was.
+    /// Appends an item. Copies that share the page keep it as it was.
     pub(crate) fn push(&mut self, item: T) -> Result<(), AllocError>
         requires { length self.old < PAGE }
         ensures ok { OnOk result (self.new ≡ self.old ++ item ∷ []) }
@@ -65,7 +65,7 @@ impl<T: TryCopy> Page<T> {
             return Ok(());
         }
         let alloc = *self.items.allocator();
-        let page = Page::ending(alloc, self.as_slice(), item)?;
+        let page = Page::with_last(alloc, self.as_slice(), item)?;
         *self = page;
         Ok(())
     }
@@ -79,7 +79,7 @@ impl<T: TryCopy> Page<T> {
         self.items.as_slice()
     }
 
-    /// The same page once more: a pointer to it.
+    /// Copies the page, at one pointer.
     pub(crate) fn try_copy(&self) -> Result<Page<T>, AllocError>
         ensures { IfOk result (λ copy. copy ≡ self.now) }
     {
@@ -91,7 +91,7 @@ impl<T: TryCopy> Page<T> {
 }
 
 impl<T: TryCopy> TryCopy for Page<T> {
-    // It takes one pointer.
+    // It costs one pointer.
     fn try_copy(&self) -> Result<Page<T>, AllocError> {
         Page::try_copy(self)
     }

@@ -1,7 +1,7 @@
-//! A list of pages, which its copies share.
+//! A list of pages that copies share.
 //!
-//! The last page grows, and is put anew where it is shared; the others stay as they are. So the last stands apart, and the others on a
-//! shelf: a copy of the list costs two pointers, and what is appended changes the last page alone, until there is a page more.
+//! Only the last page grows; if it is shared, a new page replaces it. So the last page is separate, and the others are in a shared vector.
+//! A copy of the list costs two pointers, and an append only changes the last page until it is full.
 
 ghost use Rattle.std.specs.Prelude.{◌≡◌, ◌+◌, ◌<◌, ◌≤◌, ◌++◌, ◌∷◌, [], length, take, drop, unwrap_or, option_to_list, slice_index_or, IfOk, OnOk, OnErr};
 ghost use Rattle.rb_raftlog.specs.declared.limits.TheConstants.{PAGE};
@@ -9,7 +9,7 @@ ghost use Rattle.rb_raftlog.specs.Packed.{joined};
 
 use crate::limits::PAGE;
 use crate::page::Page;
-use crate::shelf::Shelf;
+use crate::shared_vec::SharedVec;
 use crate::try_copy::TryCopy;
 use std::alloc::{AllocError, Global};
 use std::marker::Model;
@@ -17,9 +17,9 @@ use std::marker::Model;
 /// Pages. Contracts see the list of them, each as the list of its items.
 #[derive(Drop)]
 pub(crate) struct PageList<T> {
-    // All but the last. Nothing where there are none.
-    shelf: Option<Shelf<Page<T>>>,
-    // The last. Nothing where there is no page at all.
+    // All pages except the last, if there are any.
+    shared_vec: Option<SharedVec<Page<T>>>,
+    // The last page, if there is any.
     last: Option<Page<T>>,
 }
 
@@ -28,63 +28,66 @@ impl<T> Model for PageList<T> {
 
     ghost Value = { List (List T) };
 
-    ghost view = { λ p. unwrap_or p.shelf [] ++ option_to_list p.last };
+    ghost view = { λ p. unwrap_or p.shared_vec [] ++ option_to_list p.last };
 
-    ghost invariant = { λ p. 0 < length (unwrap_or p.shelf []) → 0 < length (option_to_list p.last) };
+    ghost invariant = { λ p. 0 < length (unwrap_or p.shared_vec []) → 0 < length (option_to_list p.last) };
 }
 
-/// The pages on a shelf.
-fn on_shelf<T: TryCopy>(shelf: &Option<Shelf<Page<T>>>) -> &[Page<T>]
-    ensures { result.now ≡ unwrap_or shelf.now [] }
+/// The pages before the last one.
+fn full_pages<T: TryCopy>(shared_vec: &Option<SharedVec<Page<T>>>) -> &[Page<T>]
+    ensures { result.now ≡ unwrap_or shared_vec.now [] }
 {
-    match shelf {
+    match shared_vec {
         None => &[],
-        Some(shelf) => shelf.as_slice(),
+        Some(shared_vec) => shared_vec.as_slice(),
     }
 }
 
-/// Puts a page on a shelf.
-fn put<T: TryCopy>(
-    shelf: &mut Option<Shelf<Page<T>>>,
+/// Appends a full page.
+fn push_full_page<T: TryCopy>(
+    shared_vec: &mut Option<SharedVec<Page<T>>>,
     alloc: Global,
     page: Page<T>,
 ) -> Result<(), AllocError>
-    ensures ok { OnOk result (unwrap_or shelf.new [] ≡ unwrap_or shelf.old [] ++ page ∷ []) }
-    ensures err { OnErr result (unwrap_or shelf.new [] ≡ unwrap_or shelf.old []) }
+    ensures ok { OnOk result (unwrap_or shared_vec.new [] ≡ unwrap_or shared_vec.old [] ++ page ∷ []) }
+    ensures err { OnErr result (unwrap_or shared_vec.new [] ≡ unwrap_or shared_vec.old []) }
 {
-    if let Some(shelf) = shelf {
-        return shelf.push(page);
+    if let Some(shared_vec) = shared_vec {
+        return shared_vec.push(page);
     }
     let mut pages = Vec::new(alloc);
     pages.push(page)?;
-    *shelf = Some(Shelf::of(pages)?);
+    *shared_vec = Some(SharedVec::of(pages)?);
     Ok(())
 }
 
-/// Leaves the first k pages on a shelf, or all where there are fewer.
-fn leave<T: TryCopy>(shelf: &mut Option<Shelf<Page<T>>>, k: usize) -> Result<(), AllocError>
-    ensures ok { OnOk result (unwrap_or shelf.new [] ≡ take k (unwrap_or shelf.old [])) }
-    ensures err { OnErr result (unwrap_or shelf.new [] ≡ unwrap_or shelf.old []) }
+/// Keeps the first k pages, or all if there are fewer.
+fn truncate_pages<T: TryCopy>(
+    shared_vec: &mut Option<SharedVec<Page<T>>>,
+    k: usize,
+) -> Result<(), AllocError>
+    ensures ok { OnOk result (unwrap_or shared_vec.new [] ≡ take k (unwrap_or shared_vec.old [])) }
+    ensures err { OnErr result (unwrap_or shared_vec.new [] ≡ unwrap_or shared_vec.old []) }
 {
-    if let Some(shelf) = shelf {
-        if k < shelf.as_slice().len() {
-            shelf.cut(k)?;
+    if let Some(shared_vec) = shared_vec {
+        if k < shared_vec.as_slice().len() {
+            shared_vec.cut(k)?;
         }
     }
     Ok(())
 }
 
-/// Takes the first k pages off a shelf, or all where there are fewer.
-fn take_off<T: TryCopy>(shelf: &mut Option<Shelf<Page<T>>>, k: usize)
-    ensures { unwrap_or shelf.new [] ≡ drop k (unwrap_or shelf.old []) }
+/// Drops the first k pages, or all if there are fewer.
+fn drop_first_pages<T: TryCopy>(shared_vec: &mut Option<SharedVec<Page<T>>>, k: usize)
+    ensures { unwrap_or shared_vec.new [] ≡ drop k (unwrap_or shared_vec.old []) }
 {
-    if let Some(pages) = shelf {
+    if let Some(pages) = shared_vec {
         if k < pages.as_slice().len() {
             pages.drop_front(k);
             return;
         }
     }
-    *shelf = None;
+    *shared_vec = None;
 }
 
 /// The items of a page, if there is one.
@@ -103,7 +106,7 @@ impl<T: TryCopy> PageList<T> {
         ensures { result ≡ [] }
     {
         PageList {
-            shelf: None,
+            shared_vec: None,
             last: None,
         }
     }
@@ -113,9 +116,9 @@ impl<T: TryCopy> PageList<T> {
         requires { k < length self.now }
         ensures { result.now ≡ slice_index_or self.now k result.now }
     {
-        let shelved = on_shelf(&self.shelf);
-        if k < shelved.len() {
-            return &shelved[k];
+        let full = full_pages(&self.shared_vec);
+        if k < full.len() {
+            return &full[k];
         }
         match &self.last {
             None => unreachable!(),
@@ -123,26 +126,26 @@ impl<T: TryCopy> PageList<T> {
         }
     }
 
-    /// What follows the first k pages: those of them on the shelf, and the items of the last.
+    /// The pages after the first k, and the items of the last page.
     pub(crate) fn after(&self, k: usize) -> (&[Page<T>], &[T])
         requires { k ≤ length self.now }
         ensures { joined result.0.now ++ result.1.now ≡ joined (drop k self.now) }
     {
-        let shelved = on_shelf(&self.shelf);
-        if k > shelved.len() {
+        let full = full_pages(&self.shared_vec);
+        if k > full.len() {
             return (&[], &[]);
         }
-        (&shelved[k..], items_of(&self.last))
+        (&full[k..], items_of(&self.last))
     }
 
-    /// Appends a page. The last one goes to the others.
+    /// Appends a page, which becomes the last one.
     pub(crate) fn push(&mut self, alloc: Global, page: Page<T>) -> Result<(), AllocError>
         ensures ok { OnOk result (self.new ≡ self.old ++ page ∷ []) }
         ensures err { OnErr result (self.new ≡ self.old) }
     {
         if let Some(last) = &self.last {
             let last = last.try_copy()?;
-            put(&mut self.shelf, alloc, last)?;
+            push_full_page(&mut self.shared_vec, alloc, last)?;
         }
         self.last = Some(page);
         Ok(())
@@ -161,48 +164,48 @@ impl<T: TryCopy> PageList<T> {
         }
     }
 
-    /// Leaves the first k pages, and puts one behind them.
-    pub(crate) fn end_with(&mut self, k: usize, page: Page<T>) -> Result<(), AllocError>
+    /// Keeps the first k pages, and appends one.
+    pub(crate) fn truncate_and_push(&mut self, k: usize, page: Page<T>) -> Result<(), AllocError>
         requires { k < length self.old }
         ensures ok { OnOk result (self.new ≡ take k self.old ++ page ∷ []) }
         ensures err { OnErr result (self.new ≡ self.old) }
     {
-        leave(&mut self.shelf, k)?;
+        truncate_pages(&mut self.shared_vec, k)?;
         self.last = Some(page);
         Ok(())
     }
 
-    /// Drops the first k pages. It takes no memory.
+    /// Drops the first k pages. Takes no memory.
     pub(crate) fn drop_front(&mut self, k: usize)
         requires { k ≤ length self.old }
         ensures { self.new ≡ drop k self.old }
     {
-        if k > on_shelf(&self.shelf).len() {
+        if k > full_pages(&self.shared_vec).len() {
             self.last = None;
         }
-        take_off(&mut self.shelf, k);
+        drop_first_pages(&mut self.shared_vec, k);
     }
 
-    /// No page is left.
+    /// Drops all pages.
     pub(crate) fn clear(&mut self)
         ensures { self.new ≡ [] }
     {
-        self.shelf = None;
+        self.shared_vec = None;
         self.last = None;
     }
 
-    /// The same pages once more: two pointers at most.
+    /// Copies the list, at two pointers at most.
     pub(crate) fn try_copy(&self) -> Result<PageList<T>, AllocError>
         ensures { IfOk result (λ copy. copy ≡ self.now) }
     {
-        let shelf = match &self.shelf {
+        let shared_vec = match &self.shared_vec {
             None => None,
-            Some(shelf) => Some(shelf.try_copy()?),
+            Some(shared_vec) => Some(shared_vec.try_copy()?),
         };
         let last = match &self.last {
             None => None,
             Some(page) => Some(page.try_copy()?),
         };
-        Ok(PageList { shelf, last })
+        Ok(PageList { shared_vec, last })
     }
 }

@@ -1,12 +1,11 @@
-//! A list in pages, which its copies share.
+//! A list in pages that copies share.
 //!
-//! Every page but the last is full, so the page of an item is found by a division. What is dropped from the front goes by whole
-//! pages; of the page that is then the first, some items may be left out, and are skipped. A page that copies share never changes:
-//! the last grows in place while nobody shares it. Else, and where the list is cut, it is replaced by a new one with pointers to
-//! the items that stay.
+//! All pages except the last are full, so a division finds the page of an item. Dropping from the front drops whole pages, and skips items
+//! of the first one left. A shared page never changes. The last page grows in place if it isn't shared. Otherwise, and to cut the list, a
+//! new page with pointers to the same items replaces it.
 //!
-//! So a copy costs two pointers, an item that is appended no more than itself where the list has its last page alone, else at most a
-//! page, and for one in a page's number of items a pointer for each page; a cut costs as much, and dropping takes no memory.
+//! So a copy costs two pointers. An append costs the item, or at most a page if the last page is shared, and once a page a pointer for each
+//! page. A cut costs as much. Dropping takes no memory.
 
 ghost use Rattle.std.specs.Prelude.{◌≡◌, ◌+◌, ◌<◌, ◌≤◌, ◌++◌, ◌∷◌, [], length, take, drop, IfOk, OnOk, OnErr};
 ghost use Rattle.rb_raftlog.specs.Packed.{joined, IsPacked};
@@ -21,11 +20,11 @@ use std::marker::Model;
 /// Items in pages. The first page may begin with items that were dropped.
 #[derive(Drop)]
 pub struct Pages<T> {
-    // How many items of the first page were dropped.
+    // The number of dropped items of the first page.
     skip: usize,
-    // How many items there are.
+    // The number of items.
     len: usize,
-    // Each but the last is full.
+    // All pages except the last are full.
     pages: PageList<T>,
     alloc: Global,
 }
@@ -42,7 +41,7 @@ impl<T> Model for Pages<T> {
     ghost invariant = { λ s. IsPacked s.pages × (s.skip + s.len ≡ length (joined s.pages)) × (s.skip < PAGE) × (s.len ≤ MAX_INDEX) };
 }
 
-/// Leaves the first `at` items of the pages. A page that is cut is replaced by a new one.
+/// Keeps only the first `at` items of the pages. A new page replaces one that is cut.
 fn cut_pages<T: TryCopy>(
     pages: &mut PageList<T>,
     alloc: Global,
@@ -59,11 +58,11 @@ fn cut_pages<T: TryCopy>(
     }
     let k = (at - 1) / PAGE;
     let page = Page::of(alloc, &pages.page(k).as_slice()[..at - k * PAGE])?;
-    pages.end_with(k, page)?;
+    pages.truncate_and_push(k, page)?;
     Ok(())
 }
 
-/// Appends an item to the last page, or as a new page where that is full or there is none.
+/// Appends an item to the last page, or in a new page if that is full or there is none.
 fn push_item<T: TryCopy>(
     pages: &mut PageList<T>,
     alloc: Global,
@@ -76,7 +75,7 @@ fn push_item<T: TryCopy>(
     ensures err { OnErr result (pages.new ≡ pages.old) }
 {
     if at % PAGE == 0 {
-        let page = Page::ending(alloc, &[], item)?;
+        let page = Page::with_last(alloc, &[], item)?;
         pages.push(alloc, page)?;
         return Ok(());
     }
@@ -120,7 +119,7 @@ impl<T: TryCopy> Pages<T> {
         &self.pages.page(at / PAGE).as_slice()[at % PAGE]
     }
 
-    /// The items from a place on: the rest of its page, the pages after it but the last, and the items of that.
+    /// The items from a place on: the rest of its page, the pages between, and the items of the last page.
     pub(crate) fn from(&self, k: usize) -> (&[T], &[Page<T>], &[T])
         requires { k < length self.now }
         ensures { result.0.now ++ (joined result.1.now ++ result.2.now) ≡ drop k self.now }
@@ -131,7 +130,7 @@ impl<T: TryCopy> Pages<T> {
         (&page[at % PAGE..], pages, last)
     }
 
-    /// Leaves the first n items.
+    /// Keeps only the first n items.
     pub(crate) fn cut(&mut self, n: usize) -> Result<(), AllocError>
         requires { n < length self.old }
         ensures ok { OnOk result (self.new ≡ take n self.old) }
@@ -172,7 +171,7 @@ impl<T: TryCopy> Pages<T> {
         self.len = 0;
     }
 
-    /// The same items once more: two pointers, however many there are.
+    /// Copies the list, at two pointers.
     pub fn try_copy(&self) -> Result<Pages<T>, AllocError>
         ensures { IfOk result (λ copy. copy ≡ self.now) }
     {
@@ -185,7 +184,7 @@ impl<T: TryCopy> Pages<T> {
         })
     }
 
-    /// The items from a place on once more.
+    /// Copies the items from a place on.
     pub(crate) fn copy_from(&self, k: usize) -> Result<Pages<T>, AllocError>
         requires { k ≤ length self.now }
         ensures { IfOk result (λ copy. copy ≡ drop k self.now) }

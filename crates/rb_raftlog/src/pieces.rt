@@ -1,7 +1,6 @@
 //! Entries in pieces.
 //!
-//! A log lends its entries as they lie: one slice, or the rest of a page, the pages after it, and the last one. Nothing is copied to
-//! read them.
+//! A log lends its entries without a copy: one slice, or the rest of a page, the pages after it, and the last page.
 
 use crate::entry::Entry;
 use crate::page::Page;
@@ -40,7 +39,7 @@ impl<'a> Pieces<'a> {
         }
     }
 
-    /// What a list in pages has from a place on.
+    /// The items of a list in pages from a place on.
     pub(crate) fn of(all: &'a Pages<Entry>, from: usize) -> Pieces<'a>
         requires { from ≤ length all.now }
         ensures { result ≡ drop from all.now }
@@ -52,7 +51,7 @@ impl<'a> Pieces<'a> {
         Pieces { front, pages, back }
     }
 
-    /// Takes the next piece, which has at least one entry.
+    /// Returns the next piece, which has at least one entry.
     pub fn next(&mut self) -> Option<&'a [Entry]>
         ensures none { IfNone result ((self.old ≡ []) × (self.new ≡ [])) }
         ensures some { IfSome result (λ piece. self.old ≡ piece.now ++ self.new) }

@@ -1,4 +1,4 @@
-//! Entries as one list, and how many of them are durable.
+//! Entries as one list, and the number of durable ones.
 
 ghost use Rattle.std.specs.Prelude.{◌≡◌, IfOk};
 
@@ -14,18 +14,18 @@ use std::marker::Model;
 #[derive(Drop)]
 pub struct PlainStore {
     entries: Vec<Entry>,
-    kept: usize,
+    durable_len: usize,
 }
 
 impl Model for PlainStore {
     ghost use Rattle.std.specs.Prelude.{◌≤◌, length};
-    ghost use Rattle.rb_raftlog.specs.Held.{Held};
+    ghost use Rattle.rb_raftlog.specs.Held.{StoreValue};
 
-    ghost Value = { Held };
+    ghost Value = { StoreValue };
 
-    ghost view = { λ s. record { entries = s.entries.items; kept = s.kept } };
+    ghost view = { λ s. record { entries = s.entries.items; durable_len = s.durable_len } };
 
-    ghost invariant = { λ s. s.kept ≤ length s.entries.items };
+    ghost invariant = { λ s. s.durable_len ≤ length s.entries.items };
 }
 
 /// Copies of the entries.
@@ -41,17 +41,17 @@ impl Store for PlainStore {
     fn new(alloc: Global) -> PlainStore {
         PlainStore {
             entries: Vec::new(alloc),
-            kept: 0,
+            durable_len: 0,
         }
     }
 
     fn len(&self) -> usize {
-        let _kept = self.kept;
+        let _durable_len = self.durable_len;
         self.entries.len()
     }
 
-    fn kept(&self) -> usize {
-        self.kept
+    fn durable_len(&self) -> usize {
+        self.durable_len
     }
 
     fn entry(&self, k: usize) -> &Entry {
@@ -68,7 +68,7 @@ impl Store for PlainStore {
 
     fn cut(&mut self, n: usize) -> Result<(), AllocError> {
         self.entries.truncate(n);
-        self.kept = self.kept.min(n);
+        self.durable_len = self.durable_len.min(n);
         Ok(())
     }
 
@@ -81,8 +81,8 @@ impl Store for PlainStore {
         push_from(&mut self.entries, entries, from)
     }
 
-    fn keep_all(&mut self) -> Result<(), AllocError> {
-        self.kept = self.entries.len();
+    fn mark_all_durable(&mut self) -> Result<(), AllocError> {
+        self.durable_len = self.entries.len();
         Ok(())
     }
 
@@ -90,19 +90,19 @@ impl Store for PlainStore {
         self.entries.rotate_left(n);
         let rest = self.entries.len() - n;
         self.entries.truncate(rest);
-        self.kept -= n;
+        self.durable_len -= n;
     }
 
     fn clear(&mut self) {
         self.entries.clear();
-        self.kept = 0;
+        self.durable_len = 0;
     }
 
     fn try_copy(&self) -> Result<PlainStore, AllocError> {
-        let kept = self.kept;
+        let durable_len = self.durable_len;
         Ok(PlainStore {
             entries: copies_of(*self.entries.allocator(), &self.entries)?,
-            kept,
+            durable_len,
         })
     }
 }

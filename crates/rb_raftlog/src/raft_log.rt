@@ -1,13 +1,11 @@
-//! What a log is.
+//! The trait of a log.
 //!
-//! Raft keeps a replicated log (Ongaro's thesis, chapter 3). Each node has one: entries at ascending indexes after a base, where a
-//! snapshot has taken the place of what stood before (chapter 5). A leader appends entries of its own; a follower takes those of a
-//! leader, after an entry that both have, and gives up what conflicts with them (section 3.5). What is written to stable storage
-//! is durable, up to an index.
+//! Raft replicates a log (Ongaro's thesis, chapter 3). A node's log has entries at ascending indexes after a base; a snapshot replaces the
+//! entries up to the base (chapter 5). A leader appends its own entries. A follower appends a leader's entries after an entry that both
+//! have, and drops its own entries that conflict with them (section 3.5). Entries up to the durable index are in stable storage.
 //!
-//! Contracts see a log as one plain record, whatever holds the entries: its base, the base's term, the list of entries, and the last
-//! durable index. In what is said of costs, n is the number of entries, and p the number of pages, about n / 64. A copy of an entry
-//! costs a pointer.
+//! Contracts see a log as one plain record: its base, the base's term, the list of entries, and the last durable index. In costs, n is the
+//! number of entries and p the number of pages, about n / 64. A copy of an entry costs a pointer.
 
 ghost use Rattle.std.specs.Prelude.{◌≡◌, ◌≢◌, ◌+◌, ◌<◌, ◌≤◌, ◌↔◌, Ok, Err, length, IsTrue, IfOk, IfErr, OnOk};
 ghost use Rattle.rb_raftlog.specs.Log.{LogValue, IsLog, IsCompacted, fresh, first, last, last_term, is_up_to_date, term_at, entry_at, entries_from, entries_after, has_change, hint, appended, answer, own, not_durable, made_durable, restored};
@@ -19,7 +17,7 @@ use crate::pieces::Pieces;
 use crate::snapshot::Snapshot;
 use std::alloc::{AllocError, Global};
 
-/// Why there is nothing at an index.
+/// Why a log has no entry at an index.
 #[derive(Clone, Copy, PartialEq, Eq, Debug)]
 pub enum LogFault {
     /// It is below the base, or for entries at the base.
@@ -28,23 +26,23 @@ pub enum LogFault {
     Unavailable,
 }
 
-/// Why a log isn't compacted.
+/// Why a log can't be compacted.
 #[derive(Clone, Copy, PartialEq, Eq, Debug)]
 pub enum CompactFault {
     /// The index is at or below the base.
     AlreadyCompacted,
     /// The index is above what is applied.
     PastApplied,
-    /// There is no memory. Neither of this crate's logs ever answers it.
+    /// Memory was refused. This crate's logs never return it.
     OutOfMemory,
 }
 
-/// What came of appending after an entry.
+/// The result of appending after an entry.
 #[derive(Clone, Copy, PartialEq, Eq, Debug)]
 pub enum Appended {
-    /// The log matches what was sent up to this index.
+    /// The log matches the leader's up to this index.
     Matched(u64),
-    /// The entry to append after isn't held; the leader may try at this index.
+    /// The log doesn't have the entry to append after; the leader may try at this index.
     Refused(u64),
     /// An entry that is committed would have to change, at this index.
     BelowCommit(u64),
@@ -59,16 +57,16 @@ pub trait RaftLog: Drop {
         requires { index ≤ MAX_INDEX }
         ensures { IfOk result (λ log. plain log ≡ fresh index term) };
 
-    /// The index after the base. It costs no search.
+    /// The index after the base. Costs no search.
     fn first_index(&self) -> u64
         ensures { result ≡ first (plain self.now) };
 
-    /// The index of the last entry, or the base where there is none. It costs no search.
+    /// The index of the last entry, or the base if there is none. Costs no search.
     fn last_index(&self) -> u64
         ensures value { result ≡ last (plain self.now) }
         ensures sound { IsLog (plain self.now) };
 
-    /// The term of the entry that was at the base.
+    /// The term of the entry at the base.
     fn base_term(&self) -> u64
         ensures { result ≡ (plain self.now).base_term };
 
@@ -104,7 +102,7 @@ pub trait RaftLog: Drop {
     fn entries_after(&self, index: u64) -> Result<Entries, AllocError>
         ensures { IfOk result (λ entries. entries ≡ entries_after (plain self.now) index) };
 
-    /// Whether an entry past one index and up to another changes the configuration. It costs what lies between them.
+    /// Whether an entry past one index and up to another changes the configuration. The cost is the entries between them.
     fn has_change(&self, after: u64, upto: u64) -> bool
         ensures { result ≡ has_change (plain self.now) after upto };
 
@@ -113,10 +111,10 @@ pub trait RaftLog: Drop {
     fn hint(&self, index: u64, term: u64) -> u64
         ensures { result ≡ hint (plain self.now) index term };
 
-    /// Takes the entries of a leader, which go after index `prev`, if what is there has this term. From the first on that differs
-    /// in term from what is held, or goes past it, they take the place of what stood there; what is dropped isn't durable any more.
-    /// Nothing at or below `commit` ever changes. It costs what is sent and what is dropped, and at most a page; a refusal costs what
-    /// the hint goes past.
+    /// Appends the entries of a leader after index `prev`, if the log has this term there. The first entry that differs in term from the
+    /// log's, or goes past its end, and all after it replace the log's entries there; dropped entries aren't durable any more. Nothing up
+    /// to `commit` changes. The cost is the sent and the dropped entries, and at most a page; for a refusal, the entries that the hint goes
+    /// past.
     fn append_after(
         &mut self,
         prev: u64,
@@ -140,7 +138,7 @@ pub trait RaftLog: Drop {
         ensures log { OnOk result (plain self.new ≡ appended (plain self.old) prev prev_term entries.now commit) }
         ensures answer { IfOk result (λ told. told ≡ answer (plain self.old) prev prev_term entries.now commit) };
 
-    /// Appends an entry of one's own. It costs the one entry, and in a split log whose last page is shared at most a page more.
+    /// Appends a leader's own entry. The cost is one entry, and in a split log with a shared last page at most a page more.
     fn push_own(&mut self, entry: Entry) -> Result<(), AllocError>
         requires { last (plain self.old) < MAX_INDEX }
         ensures { OnOk result (plain self.new ≡ own (plain self.old) entry) };
@@ -149,7 +147,7 @@ pub trait RaftLog: Drop {
     fn not_durable(&self) -> Pieces<'_>
         ensures { result ≡ not_durable (plain self.now) };
 
-    /// Makes all entries durable. Both logs only count.
+    /// Marks all entries as durable. Both logs only change a number.
     fn mark_durable(&mut self) -> Result<(), AllocError>
         ensures { OnOk result (plain self.new ≡ made_durable (plain self.old)) };
 
@@ -160,17 +158,16 @@ pub trait RaftLog: Drop {
         ensures value { IsCompacted (plain self.old) index applied result (plain self.new) }
         ensures memory { result ≢ Err CompactFault.OutOfMemory };
 
-    /// Puts a snapshot in the place of all entries, which are dropped. It takes no memory.
+    /// Replaces all entries by a snapshot. Takes no memory.
     fn restore(&mut self, snapshot: &Snapshot)
         requires { snapshot.now.index ≤ MAX_INDEX }
         ensures { plain self.new ≡ restored snapshot.now };
 
-    /// The same log once more. A plain log copies n entries; a split one p pointers to pages.
+    /// Copies the log. A plain log copies n entries; a split one copies p pointers to pages.
     fn try_copy(&self) -> Result<Self, AllocError>
         ensures { IfOk result (λ copy. plain copy ≡ plain self.now) };
 
-    /// Whether the two are one list on one base, whatever holds the entries. Base, length, what is durable and the last term are
-    /// looked at first; logs that agree in them are compared entry by entry.
+    /// Whether both logs are equal. Compares base, length, durable index and last term first, and then entry by entry.
     fn same(&self, other: &Self) -> bool
         ensures { IsTrue result ↔ (plain self.now ≡ plain other.now) };
 }

@@ -1,15 +1,15 @@
-//! Snapshots: what stands in the place of the entries up to an index.
+//! Snapshots, which replace the entries up to an index.
 //!
-//! A node that has fallen behind what its leader's log still holds takes the leader's content as it stood at an index, with the
-//! configuration there, in place of the entries (Ongaro's thesis, section 5.1; `Snapshot` in etcd's raft).
+//! If the leader's log was compacted past what a node needs, the node gets the leader's content and configuration at an index instead of
+//! entries (Ongaro's thesis, section 5.1; `Snapshot` in etcd's raft).
 
 ghost use Rattle.std.specs.Prelude.{◌≡◌, ◌↔◌, IsTrue, IfOk};
 
 use crate::content::Content;
-use rb_change::ConfState;
+use rb_vocab::ConfState;
 use std::alloc::AllocError;
 
-/// A node's content and configuration, as they are where the entry at an index, which is of a term, is applied.
+/// A node's content and configuration after the entry at an index was applied, and that entry's term.
 #[derive(Clone, Drop)]
 pub struct Snapshot {
     pub index: u64,
@@ -19,14 +19,14 @@ pub struct Snapshot {
 }
 
 impl Snapshot {
-    /// The same snapshot once more. It costs what a copy of its content does.
+    /// Copies the snapshot. The cost is that of copying its content.
     pub fn try_copy(&self) -> Result<Snapshot, AllocError>
         ensures { IfOk result (λ copy. copy ≡ self.now) }
     {
         self.clone()
     }
 
-    /// Whether both are the same. Numbers are looked at first.
+    /// Whether both are equal. Compares numbers first.
     pub fn same(&self, other: &Snapshot) -> bool
         ensures { IsTrue result ↔ (self.now ≡ other.now) }
     {

@@ -1,7 +1,7 @@
-//! Entries in pages that copies share, and how many of them are durable.
+//! Entries in pages that copies share, and the number of durable ones.
 //!
-//! Whether an entry is durable or not, it stands in a page, so a copy costs two pointers, however many entries a leader proposes
-//! and never saves. To make them durable is to count them.
+//! Entries that aren't durable are in the pages too. So a copy costs two pointers, even if a leader never saves what it appends. Marking
+//! entries as durable only changes their number.
 
 use crate::entries::Entries;
 use crate::entry::Entry;
@@ -16,18 +16,18 @@ use std::marker::Model;
 #[derive(Drop)]
 pub struct SplitStore {
     all: Pages<Entry>,
-    kept: usize,
+    durable_len: usize,
 }
 
 impl Model for SplitStore {
     ghost use Rattle.std.specs.Prelude.{◌≤◌, length};
-    ghost use Rattle.rb_raftlog.specs.Held.{Held};
+    ghost use Rattle.rb_raftlog.specs.Held.{StoreValue};
 
-    ghost Value = { Held };
+    ghost Value = { StoreValue };
 
-    ghost view = { λ s. record { entries = s.all; kept = s.kept } };
+    ghost view = { λ s. record { entries = s.all; durable_len = s.durable_len } };
 
-    ghost invariant = { λ s. s.kept ≤ length s.all };
+    ghost invariant = { λ s. s.durable_len ≤ length s.all };
 }
 
 impl Store for SplitStore {
@@ -36,17 +36,17 @@ impl Store for SplitStore {
     fn new(alloc: Global) -> SplitStore {
         SplitStore {
             all: Pages::new(alloc),
-            kept: 0,
+            durable_len: 0,
         }
     }
 
     fn len(&self) -> usize {
-        let _kept = self.kept;
+        let _durable_len = self.durable_len;
         self.all.len()
     }
 
-    fn kept(&self) -> usize {
-        self.kept
+    fn durable_len(&self) -> usize {
+        self.durable_len
     }
 
     fn entry(&self, k: usize) -> &Entry {
@@ -64,7 +64,7 @@ impl Store for SplitStore {
     fn cut(&mut self, n: usize) -> Result<(), AllocError> {
         if n < self.all.len() {
             self.all.cut(n)?;
-            self.kept = self.kept.min(n);
+            self.durable_len = self.durable_len.min(n);
         }
         Ok(())
     }
@@ -77,26 +77,26 @@ impl Store for SplitStore {
         append_from(&mut self.all, entries, from)
     }
 
-    fn keep_all(&mut self) -> Result<(), AllocError> {
-        self.kept = self.all.len();
+    fn mark_all_durable(&mut self) -> Result<(), AllocError> {
+        self.durable_len = self.all.len();
         Ok(())
     }
 
     fn drop_front(&mut self, n: usize) {
         self.all.drop_front(n);
-        self.kept -= n;
+        self.durable_len -= n;
     }
 
     fn clear(&mut self) {
         self.all.clear();
-        self.kept = 0;
+        self.durable_len = 0;
     }
 
     fn try_copy(&self) -> Result<SplitStore, AllocError> {
-        let kept = self.kept;
+        let durable_len = self.durable_len;
         Ok(SplitStore {
             all: self.all.try_copy()?,
-            kept,
+            durable_len,
         })
     }
 }

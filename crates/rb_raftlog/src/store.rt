@@ -1,10 +1,10 @@
-//! What holds the entries of a log.
+//! The storage of a log's entries.
 //!
-//! A log is a base with a list of entries after it. All that is decided by indexes and terms is decided by [`crate::Log`]; a store
-//! knows of neither. It is a list whose items count from 0, of which the first ones are durable.
+//! A log is a base and a list of entries after it. [`crate::Log`] handles indexes and terms; a store knows neither. It is a list with
+//! places from 0, and its first entries are durable.
 
 ghost use Rattle.std.specs.Prelude.{◌≡◌, ◌+◌, ◌-◌, ◌<◌, ◌≤◌, ◌∷◌, [], length, drop, slice_index_or, IfOk, OnOk};
-ghost use Rattle.rb_raftlog.specs.Held.{Held, nothing, cut, extended, all_kept, without};
+ghost use Rattle.rb_raftlog.specs.Held.{StoreValue, nothing, cut, extended, all_durable, without};
 
 use crate::entries::Entries;
 use crate::entry::Entry;
@@ -13,22 +13,22 @@ use crate::limits::MAX_INDEX;
 use crate::pieces::Pieces;
 use std::alloc::{AllocError, Global};
 
-/// A list of entries, of which the first ones are durable.
+/// A list of entries, the first of which are durable.
 pub trait Store: Drop {
-    ghost held: { Self → Held };
+    ghost held: { Self → StoreValue };
 
     /// No entries. It takes no memory.
     fn new(alloc: Global) -> Self
         ensures { held result ≡ nothing };
 
-    /// How many entries there are.
+    /// The number of entries.
     fn len(&self) -> usize
         ensures value { result ≡ length (held self.now).entries }
-        ensures sound { (held self.now).kept ≤ length (held self.now).entries };
+        ensures sound { (held self.now).durable_len ≤ length (held self.now).entries };
 
-    /// How many entries are durable.
-    fn kept(&self) -> usize
-        ensures { result ≡ (held self.now).kept };
+    /// The number of durable entries.
+    fn durable_len(&self) -> usize
+        ensures { result ≡ (held self.now).durable_len };
 
     /// The entry at a place, without a search.
     fn entry(&self, k: usize) -> &Entry
@@ -46,7 +46,7 @@ pub trait Store: Drop {
         requires fits { length (held self.now).entries ≤ MAX_INDEX }
         ensures { IfOk result (λ entries. entries ≡ drop from (held self.now).entries) };
 
-    /// Leaves the first n entries.
+    /// Keeps only the first n entries.
     fn cut(&mut self, n: usize) -> Result<(), AllocError>
         ensures ok { OnOk result (held self.new ≡ cut (held self.old) n) }
         ensures within { length (held self.new).entries ≤ length (held self.old).entries };
@@ -64,21 +64,21 @@ pub trait Store: Drop {
         ensures ok { OnOk result (held self.new ≡ extended (held self.old) (drop from (E.listed entries.now))) }
         ensures within { length (held self.new).entries ≤ length (held self.old).entries + (length (E.listed entries.now) - from) };
 
-    /// Makes all entries durable.
-    fn keep_all(&mut self) -> Result<(), AllocError>
-        ensures ok { OnOk result (held self.new ≡ all_kept (held self.old)) }
+    /// Marks all entries as durable.
+    fn mark_all_durable(&mut self) -> Result<(), AllocError>
+        ensures ok { OnOk result (held self.new ≡ all_durable (held self.old)) }
         ensures within { length (held self.new).entries ≤ length (held self.old).entries };
 
     /// Drops the first n entries.
     fn drop_front(&mut self, n: usize)
-        requires { n ≤ (held self.old).kept }
+        requires { n ≤ (held self.old).durable_len }
         ensures { held self.new ≡ without (held self.old) n };
 
     /// Drops all entries.
     fn clear(&mut self)
         ensures { held self.new ≡ nothing };
 
-    /// The same entries once more.
+    /// Copies the entries.
     fn try_copy(&self) -> Result<Self, AllocError>
         ensures { IfOk result (λ copy. held copy ≡ held self.now) };
 }

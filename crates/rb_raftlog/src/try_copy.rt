@@ -1,17 +1,16 @@
-//! Copies that may find no memory.
+//! Copies that can fail for lack of memory.
 //!
-//! What lists and pages hold is copied by pointers. A copy takes a count of a shared list up by one, which can be refused, so it
-//! answers a `Result`, and where it succeeds the copy is equal.
+//! Lists and pages are copied by pointers. A copy increments the count of a shared list, which can fail, so it returns a `Result`.
 
 ghost use Rattle.std.specs.Prelude.{◌≡◌, ◌++◌, ◌+◌, ◌≤◌, length, IfOk, OnOk};
 
 use crate::entry::Entry;
-use rb_change::Shared;
+use rb_vocab::Shared;
 use std::alloc::{AllocError, Global};
 
-/// What can be copied.
+/// A value that can be copied.
 pub trait TryCopy: Drop {
-    /// The same value once more.
+    /// Copies the value.
     fn try_copy(&self) -> Result<Self, AllocError>
         ensures { IfOk result (λ copy. copy ≡ self.now) };
 }
@@ -40,8 +39,7 @@ pub fn push_copies<T: TryCopy>(copies: &mut Vec<T>, items: &[T]) -> Result<(), A
     Ok(())
 }
 
-/// Copies of the items. Where there are some there is room for one more: who takes copies often puts an item behind them, and the room
-/// would double then.
+/// Copies the items. If there are any, leaves room for one more, because callers often append an item, which would double the room.
 pub fn copies_of<T: TryCopy>(alloc: Global, items: &[T]) -> Result<Vec<T>, AllocError>
     ensures { IfOk result (λ copies. copies.items ≡ items.now) }
 {

@@ -6,7 +6,7 @@ use Rattle.rb_script.specs.Script.{PlainScript}
 use Rattle.rb_replay.specs.Run.{outputs}
 use Rattle.rb_replay.specs.Report.{mismatches}
 use Rattle.rb_replay.specs.Holding.{Holding, IsFresh, IsOneRun}
-use Rattle.rb_replay.specs.Start.{is_spacing}
+use Rattle.rb_replay.specs.Start.{is_checkpoint_interval}
 use Rattle.rb_replay.specs.After.{Answer, Answered, IsAnswer, Leads, or_same, after_one, after}
 
 -- one edit
@@ -18,9 +18,9 @@ one-run : (old new : Holding) (edit : Edit) (answer : Answer) → IsOneRun old �
 one-run old new edit (Ok changed) run is = is.fresh
 one-run old new edit (Err fault) run is = subst IsOneRun (sym is) run
 
-one-spacing : (old new : Holding) (edit : Edit) (answer : Answer) → IsAnswer old edit answer new → new.spacing ≡ old.spacing
-one-spacing old new edit (Ok changed) is = is.spacing
-one-spacing old new edit (Err fault) is = ap (λ (h : Holding). h.spacing) is
+one-checkpoint_interval : (old new : Holding) (edit : Edit) (answer : Answer) → IsAnswer old edit answer new → new.checkpoint_interval ≡ old.checkpoint_interval
+one-checkpoint_interval old new edit (Ok changed) is = is.checkpoint_interval
+one-checkpoint_interval old new edit (Err fault) is = ap (λ (h : Holding). h.checkpoint_interval) is
 
 -- and many
 pub leads-script : (first last : Holding) (steps : Answered) → Leads first steps last → last.script ≡ after first.script steps
@@ -32,14 +32,14 @@ pub leads-run : (first last : Holding) (steps : Answered) → IsOneRun first →
 leads-run first last [] run leads = subst IsOneRun (sym leads) run
 leads-run first last (step ∷ steps) run leads = leads-run leads.0 last steps (one-run first leads.0 step.0 step.1 run leads.1) leads.2
 
-leads-spacing : (first last : Holding) (steps : Answered) → Leads first steps last → last.spacing ≡ first.spacing
-leads-spacing first last [] leads = ap (λ (h : Holding). h.spacing) leads
-leads-spacing first last (step ∷ steps) leads = leads-spacing leads.0 last steps leads.2 ∙ one-spacing first leads.0 step.0 step.1 leads.1
+leads-checkpoint_interval : (first last : Holding) (steps : Answered) → Leads first steps last → last.checkpoint_interval ≡ first.checkpoint_interval
+leads-checkpoint_interval first last [] leads = ap (λ (h : Holding). h.checkpoint_interval) leads
+leads-checkpoint_interval first last (step ∷ steps) leads = leads-checkpoint_interval leads.0 last steps leads.2 ∙ one-checkpoint_interval first leads.0 step.0 step.1 leads.1
 
 pub leads-fresh : (first last : Holding) (steps : Answered) → IsFresh first → Leads first steps last → IsFresh last
 leads-fresh first last steps fresh leads = record {
   run = leads-run first last steps fresh.run leads;
-  spaced = ap is_spacing (leads-spacing first last steps leads) ∙ fresh.spaced;
+  spaced = ap is_checkpoint_interval (leads-checkpoint_interval first last steps leads) ∙ fresh.spaced;
 }
 
 pub leads-outputs : (first last : Holding) (steps : Answered) → IsOneRun first → Leads first steps last → last.outputs ≡ outputs (after first.script steps)

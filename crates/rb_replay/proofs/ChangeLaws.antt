@@ -21,7 +21,7 @@ use Rattle.rb_replay.specs.Run.{directives, outputs}
 use Rattle.rb_replay.specs.Report.{differing, mismatches}
 use Rattle.rb_replay.specs.Holding.{Holding, IsOneRun}
 use Rattle.rb_replay.specs.Reuse.{Change, change_by, effect_of, change, change_of, change_for, IsChange, IsOneBlock}
-use Rattle.rb_replay.specs.Splices.{no_splice, IsMended}
+use Rattle.rb_replay.specs.Splices.{no_splice, IsUpdated}
 use Rattle.rb_replay.proofs.RunLaws.{outputs-same, length-outputs}
 use Rattle.rb_replay.proofs.DifferingLaws.{differing-accepted}
 
@@ -172,8 +172,8 @@ expect-directives s new k lines os e =
     let made = expected s new k lines os e in
     sym (ap directives made.2) ∙ set-directives s.blocks (k - 1) _ lines
 
-pub expect-mended : (s new : PlainScript) (k : ℕ) (lines : List Line) → edited s (Expect k lines) (outputs s) ≡ Ok new → IsMended s new no_splice (k - 1) (take 1 (drop (k - 1) (outputs s))) k
-expect-mended s new k lines e =
+pub expect-new_mismatches : (s new : PlainScript) (k : ℕ) (lines : List Line) → edited s (Expect k lines) (outputs s) ≡ Ok new → IsUpdated s new no_splice (k - 1) (take 1 (drop (k - 1) (outputs s))) k
+expect-new_mismatches s new k lines e =
     let made = expected s new k lines (outputs s) e in
     let same : outputs new ≡ outputs s = outputs-same new s (expect-directives s new k lines (outputs s) e) in
     let b : PlainBlock = expecting (block_at_place s.blocks k) lines in
@@ -215,7 +215,7 @@ pub record IsExpected (s new : PlainScript) (place : ℕ) : Type 0 where
   pub same : directives new ≡ directives s
   pub first : 1 ≤ place
   pub within : place ≤ length s.blocks
-  pub mended : IsMended s new no_splice (place - 1) (take 1 (drop (place - 1) (outputs s))) place
+  pub new_mismatches : IsUpdated s new no_splice (place - 1) (take 1 (drop (place - 1) (outputs s))) place
 
 pub expect-edit : (s new : PlainScript) (edit : Edit) (place : ℕ) → effect_of edit ≡ effects.Expect place → edited s edit (outputs s) ≡ Ok new → IsExpected s new place
 expect-edit s new (Expect k lines) place is e =
@@ -225,7 +225,7 @@ expect-edit s new (Expect k lines) place is e =
       same = expect-directives s new k lines (outputs s) e;
       first = made.0;
       within = made.1;
-      mended = expect-mended s new k lines e;
+      new_mismatches = expect-new_mismatches s new k lines e;
     })
 expect-edit s new edit place is e = absurd cc
 

@@ -12,7 +12,7 @@ use Rattle.rb_replay.specs.declared.splice.Splice.{Splice}
 use Rattle.rb_replay.specs.Run.{outputs}
 use Rattle.rb_replay.specs.Report.{same_lines, differing, mismatches}
 use Rattle.rb_replay.specs.Points.{IsRising}
-use Rattle.rb_replay.specs.Splices.{IsMended}
+use Rattle.rb_replay.specs.Splices.{IsUpdated}
 use Rattle.rb_replay.proofs.RunLaws.{length-outputs}
 use Rattle.rb_replay.proofs.PartLaws.{nothing_below}
 use Rattle.rb_text.proofs.SentLaws.{drop-get}
@@ -139,11 +139,11 @@ differing-accepted place [] os = refl
 differing-accepted place (b ∷ bs) [] = refl
 differing-accepted place (b ∷ bs) (o ∷ os) = let same : same_lines o o ≡ true = (same_lines-Decides o o).1 refl in rw same (differing-accepted (place + 1) bs os)
 
--- ---- mismatches that are mended
+-- ---- mismatches that are new_mismatches
 
-pub mended-differing : (old new : PlainScript) (splice : Splice) (from : ℕ) (os : List (List Line)) (stop : ℕ) → IsMended old new splice from os stop
+pub new_mismatches-differing : (old new : PlainScript) (splice : Splice) (from : ℕ) (os : List (List Line)) (stop : ℕ) → IsUpdated old new splice from os stop
     → filter (λ p. nat_lt p (from + 1)) (mismatches old) ++ (differing (from + 1) (drop from new.blocks) os ++ map (λ (p : ℕ). p - splice.old_rest + splice.new_rest) (filter (λ p. nat_le (stop + 1) p) (mismatches old))) ≡ mismatches new
-mended-differing old new splice from os stop m =
+new_mismatches-differing old new splice from os stop m =
     let mid : ℕ = length os in
     let one : from + 1 ≡ 1 + from = omega arith in
     let last : stop + 1 ≡ 1 + stop = omega arith in

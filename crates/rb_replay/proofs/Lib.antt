@@ -15,4 +15,4 @@ pub mod RewriteLaws
 pub mod RunLaws
 pub mod RunningLaws
 pub mod TestLaws
-pub mod TurnLaws
+pub mod ReplacementLaws

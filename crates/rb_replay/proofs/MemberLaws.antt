@@ -87,10 +87,10 @@ member-has c None p is first (inl front) =
     Contains-append_left (filter (λ p. nat_lt p (start c + 1)) c.points) (fresh_points c None) p
     (filter-has (λ p. nat_lt p (start c + 1)) p c.points front.0 (le-leb (suc p) (start c + 1) (omega (arith, front.1))))
 member-has c None p is first (inr (inl way)) =
-    let fits : way.0 * c.spacing ≤ length c.new.blocks - start c = omega (arith, way.2, way.3) in
+    let fits : way.0 * c.checkpoint_interval ≤ length c.new.blocks - start c = omega (arith, way.2, way.3) in
     Contains-append_right (filter (λ p. nat_lt p (start c + 1)) c.points) (fresh_points c None) p
-    (rw (way.2) (every-has c.spacing (start c) ((length c.new.blocks - start c) / c.spacing) way.0 way.1
-    ((steps-fit c.spacing (length c.new.blocks - start c) way.0 is.spaced).1 fits)))
+    (rw (way.2) (every-has c.checkpoint_interval (start c) ((length c.new.blocks - start c) / c.checkpoint_interval) way.0 way.1
+    ((steps-fit c.checkpoint_interval (length c.new.blocks - start c) way.0 is.spaced).1 fits)))
 member-has c None p is first (inr (inr old)) = absurd old
 member-has c (Some s) p is first (inl front) =
     let le : start c ≤ s = first.0.from_start in
@@ -104,10 +104,10 @@ member-has c (Some s) p is first (inr (inl way)) =
     let le : start c ≤ s = first.0.from_start in
     elim (cases_lt p s) [
       | inl lt ↦
-          let fits : way.0 * c.spacing ≤ s - 1 - start c = omega (arith, way.2, lt) in
+          let fits : way.0 * c.checkpoint_interval ≤ s - 1 - start c = omega (arith, way.2, lt) in
           Contains-append_right (filter (λ p. nat_lt p (min (start c + 1) s)) c.points) (fresh_points c (Some s) ++ map (new_point c) (filter (λ q. nat_le (old_point c s) q) c.points)) p
           (Contains-append_left (fresh_points c (Some s)) (map (new_point c) (filter (λ q. nat_le (old_point c s) q) c.points)) p
-          (rw (way.2) (every-has c.spacing (start c) ((s - 1 - start c) / c.spacing) way.0 way.1 ((steps-fit c.spacing (s - 1 - start c) way.0 is.spaced).1 fits))))
+          (rw (way.2) (every-has c.checkpoint_interval (start c) ((s - 1 - start c) / c.checkpoint_interval) way.0 way.1 ((steps-fit c.checkpoint_interval (s - 1 - start c) way.0 is.spaced).1 fits))))
       | inr ge ↦ let same : p ≡ s = omega (arith, way.3) in rest-has c s p first.0 (omega arith) (rw same first.0.is_kept)
     ]
 member-has c (Some s) p is first (inr (inr old)) = rest-has c s p first.0 old.0 old.1
@@ -119,8 +119,8 @@ has-member c None p is first has =
     elim (Contains-append_cases (filter (λ p. nat_lt p (start c + 1)) c.points) (fresh_points c None) p has) [
       | inl front ↦ let h = has-filter (λ p. nat_lt p (start c + 1)) p c.points front in inl (h.0, let lt = ltb-true p (start c + 1) h.1 in omega arith)
       | inr way ↦
-          let h = has-every c.spacing (start c) ((length c.new.blocks - start c) / c.spacing) p way in
-          let fits : h.0 * c.spacing ≤ length c.new.blocks - start c = (steps-fit c.spacing (length c.new.blocks - start c) h.0 is.spaced).0 h.2 in
+          let h = has-every c.checkpoint_interval (start c) ((length c.new.blocks - start c) / c.checkpoint_interval) p way in
+          let fits : h.0 * c.checkpoint_interval ≤ length c.new.blocks - start c = (steps-fit c.checkpoint_interval (length c.new.blocks - start c) h.0 is.spaced).0 h.2 in
           let le : start c ≤ length c.new.blocks = start-first c None is first in
           inr (inl (h.0, h.1, h.3, omega (arith, h.3)))
     ]
@@ -129,8 +129,8 @@ has-member c (Some s) p is first has =
       | inl front ↦ let h = has-filter (λ p. nat_lt p (min (start c + 1) s)) p c.points front in inl (h.0, let lt = ltb-true p (min (start c + 1) s) h.1 in omega arith)
       | inr more ↦ elim (Contains-append_cases (fresh_points c (Some s)) (map (new_point c) (filter (λ q. nat_le (old_point c s) q) c.points)) p more) [
         | inl way ↦
-            let h = has-every c.spacing (start c) ((s - 1 - start c) / c.spacing) p way in
-            let fits : h.0 * c.spacing ≤ s - 1 - start c = (steps-fit c.spacing (s - 1 - start c) h.0 is.spaced).0 h.2 in
+            let h = has-every c.checkpoint_interval (start c) ((s - 1 - start c) / c.checkpoint_interval) p way in
+            let fits : h.0 * c.checkpoint_interval ≤ s - 1 - start c = (steps-fit c.checkpoint_interval (s - 1 - start c) h.0 is.spaced).0 h.2 in
             let le : start c ≤ s = first.0.from_start in
             inr (inl (h.0, h.1, h.3, omega (arith, h.3)))
         | inr old ↦

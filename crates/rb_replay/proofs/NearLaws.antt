@@ -131,24 +131,24 @@ tail-near K n r t s x [] kept has le e = absurd kept
 tail-near K n r t s x (p ∷ ps) kept has le e = rw e (shift-near K n x r t (filter (λ y. nat_le (x + 1) y) (p ∷ ps)) (after-kept K n x has.0 p ps kept.1 has.1 has.2) le)
 
 -- the points before thinning are near, and so those of the changed script are near, and few
-pub before-near : (c : Change) (o : Option ℕ) → IsChange c → IsFirstMeeting c o → StartNear c.spacing (length c.new.blocks) (points_before c o)
+pub before-near : (c : Change) (o : Option ℕ) → IsChange c → IsFirstMeeting c o → StartNear c.checkpoint_interval (length c.new.blocks) (points_before c o)
 before-near c None is first =
     let le : start c ≤ c.front = start-le c in
-    front-near c.spacing c.front (length c.old.blocks) (length c.new.blocks) (start c) c.points (fresh_points c None) is.kept refl le
-    (way-end c.spacing (length c.new.blocks) (start c) is.spaced (omega (arith, is.new_from, is.new_within)))
+    front-near c.checkpoint_interval c.front (length c.old.blocks) (length c.new.blocks) (start c) c.points (fresh_points c None) is.kept refl le
+    (way-end c.checkpoint_interval (length c.new.blocks) (start c) is.spaced (omega (arith, is.new_from, is.new_within)))
 before-near c (Some s) is first =
     let m : Meets c s = first.0 in
     let le : start c ≤ c.front = start-le c in
     let long : length c.old.blocks - c.old_rest + c.new_rest ≡ length c.new.blocks = omega (arith, is.lengths, is.old_within) in
     let there : s ≡ old_point c s - c.old_rest + c.new_rest = omega (arith, m.in_rest) in
-    let near : AreNear c.spacing (length c.new.blocks) s (map (new_point c) (filter (λ p. nat_le (old_point c s + 1) p) c.points)) =
-    subst (λ (n : ℕ). AreNear c.spacing n s (map (new_point c) (filter (λ p. nat_le (old_point c s + 1) p) c.points))) long (tail-near c.spacing (length c.old.blocks) c.old_rest c.new_rest s (old_point c s) c.points is.kept m.is_kept (omega arith) there) in
-    rw (← (points-met c s is m)) (met-near c.spacing c.front (length c.old.blocks) (length c.new.blocks) (start c) s (min (start c + 1) s) c.points
+    let near : AreNear c.checkpoint_interval (length c.new.blocks) s (map (new_point c) (filter (λ p. nat_le (old_point c s + 1) p) c.points)) =
+    subst (λ (n : ℕ). AreNear c.checkpoint_interval n s (map (new_point c) (filter (λ p. nat_le (old_point c s + 1) p) c.points))) long (tail-near c.checkpoint_interval (length c.old.blocks) c.old_rest c.new_rest s (old_point c s) c.points is.kept m.is_kept (omega arith) there) in
+    rw (← (points-met c s is m)) (met-near c.checkpoint_interval c.front (length c.old.blocks) (length c.new.blocks) (start c) s (min (start c + 1) s) c.points
     (map (new_point c) (filter (λ p. nat_le (old_point c s + 1) p) c.points)) is.spaced is.kept refl le
     (omega (arith, is.old_from, is.old_within)) m.from_start refl near)
 
-pub points-kept : (c : Change) (o : Option ℕ) → IsChange c → IsFirstMeeting c o → AreKept c.spacing (length c.new.blocks) (points_after c o)
-points-kept c o is first = thin-kept c.spacing (length c.new.blocks) (points_before c o) (before-near c o is first)
+pub points-kept : (c : Change) (o : Option ℕ) → IsChange c → IsFirstMeeting c o → AreKept c.checkpoint_interval (length c.new.blocks) (points_after c o)
+points-kept c o is first = thin-kept c.checkpoint_interval (length c.new.blocks) (points_before c o) (before-near c o is first)
 
 -- and they are ascending
 start-rising : (K n : ℕ) (ps : List ℕ) → StartNear K n ps → IsRising 0 ps
@@ -156,7 +156,7 @@ start-rising K n [] near = absurd near
 start-rising K n (p ∷ ps) near = (omega arith, near-rising K n p ps near.1)
 
 pub before-rising : (c : Change) (o : Option ℕ) → IsChange c → IsFirstMeeting c o → IsRising 0 (points_before c o)
-before-rising c o is first = start-rising c.spacing (length c.new.blocks) (points_before c o) (before-near c o is first)
+before-rising c o is first = start-rising c.checkpoint_interval (length c.new.blocks) (points_before c o) (before-near c o is first)
 
 -- the points that a start keeps
 every-first : (K from j : ℕ) → every K from (suc j) ≡ (from + K) ∷ every K (from + K) j

@@ -13,7 +13,7 @@ use Rattle.rb_replay.specs.declared.prepare.Rejoin.{Rejoin}
 use Rattle.rb_replay.specs.Run.{directives, state, outputs}
 use Rattle.rb_replay.specs.Points.{IsRising, AreNear, AreKept, last_up_to}
 use Rattle.rb_replay.specs.Reuse.{Change, start, stop, old_point, new_point, Meets, IsFirstMeeting, IsChange, StayWhole, fresh_points, points_before}
-use Rattle.rb_replay.specs.Splices.{front_bound, old_stop, run_points, IsRejoin, IsMended}
+use Rattle.rb_replay.specs.Splices.{front_bound, old_stop, run_points, IsRejoin, IsUpdated}
 use Rattle.rb_replay.proofs.RunLaws.{outputs-front, states-front, length-outputs}
 use Rattle.rb_replay.proofs.NextLaws.{rising-first}
 use Rattle.rb_replay.proofs.PointLaws.{kept-all}
@@ -90,7 +90,7 @@ start-before q (suc k) ps rising one le below above =
 pub points-met : (c : Change) (s : ℕ) → IsChange c → Meets c s → s ∷ map (new_point c) (filter (λ p. nat_le (old_point c s + 1) p) c.points) ≡ map (new_point c) (filter (λ p. nat_le (old_point c s) p) c.points)
 points-met c s is m =
     let back : s ≡ new_point c (old_point c s) = there c s m.in_rest in
-    ap₂ (λ (q : ℕ) (qs : List ℕ). q ∷ qs) back refl ∙ sym (ap (map (new_point c)) (from-kept 0 (old_point c s) m.is_kept.0 c.points (kept-rising c.spacing (length c.old.blocks) c.points is.kept) m.is_kept.1 m.is_kept.2))
+    ap₂ (λ (q : ℕ) (qs : List ℕ). q ∷ qs) back refl ∙ sym (ap (map (new_point c)) (from-kept 0 (old_point c s) m.is_kept.0 c.points (kept-rising c.checkpoint_interval (length c.old.blocks) c.points is.kept) m.is_kept.1 m.is_kept.2))
   where
     there : (c : Change) (s : ℕ) → c.new_rest ≤ s → s ≡ new_point c (old_point c s)
     there c s le = omega arith
@@ -132,7 +132,7 @@ rest-first c (Some s) is first = omega arith
 
 pub old_stop-within : (c : Change) (o : Option ℕ) → IsChange c → IsFirstMeeting c o → old_stop c o ≤ length c.old.blocks
 old_stop-within c None is first = omega arith
-old_stop-within c (Some s) is first = kept-within c.spacing (length c.old.blocks) c.points (old_point c s) is.kept first.0.is_kept
+old_stop-within c (Some s) is first = kept-within c.checkpoint_interval (length c.old.blocks) c.points (old_point c s) is.kept first.0.is_kept
 
 pub start-first : (c : Change) (o : Option ℕ) → IsChange c → IsFirstMeeting c o → start c ≤ stop c o
 start-first c None is first = let le : start c ≤ c.front = start-le c in omega (arith, is.new_from, is.new_within)
@@ -158,8 +158,8 @@ run-length c o os is first on =
     let whole : length (take (stop c o) (outputs c.new)) ≡ stop c o = length-take-le (stop c o) (outputs c.new) (omega (arith, length-outputs c.new)) in
     omega (arith, ap length on, length-append (take (start c) (outputs c.new)) os)
 
-pub mended-ready : (c : Change) (splice : Splice) (o : Option ℕ) (os : List (List Line)) → splice.old_rest ≡ c.old_rest → splice.new_rest ≡ c.new_rest → IsChange c → StayWhole c → IsFirstMeeting c o → take (start c) (outputs c.new) ++ os ≡ take (stop c o) (outputs c.new) → IsMended c.old c.new splice (start c) os (old_stop c o)
-mended-ready c splice o os olds news is whole first on =
+pub new_mismatches-ready : (c : Change) (splice : Splice) (o : Option ℕ) (os : List (List Line)) → splice.old_rest ≡ c.old_rest → splice.new_rest ≡ c.new_rest → IsChange c → StayWhole c → IsFirstMeeting c o → take (start c) (outputs c.new) ++ os ≡ take (stop c o) (outputs c.new) → IsUpdated c.old c.new splice (start c) os (old_stop c o)
+new_mismatches-ready c splice o os olds news is whole first on =
     let long : start c + length os ≡ stop c o = run-length c o os is first on in
     record {
       same_front = front-part c (start c) c.new.blocks c.old.blocks whole.same_front (start-le c);
@@ -191,7 +191,7 @@ none-past n (p ∷ ps) all =
 pub joined-before : (c : Change) (o : Option ℕ) → IsChange c → IsFirstMeeting c o → joined_points c o ≡ points_before c o
 joined-before c None is first =
     let none : filter (λ p. nat_le (length c.old.blocks + 1) p) c.points ≡ [] =
-    none-past (length c.old.blocks) c.points (kept-all c.spacing (length c.old.blocks) c.points is.kept) in
+    none-past (length c.old.blocks) c.points (kept-all c.checkpoint_interval (length c.old.blocks) c.points is.kept) in
     ap (λ (ps : List ℕ). filter (λ p. nat_lt p (start c + 1)) c.points ++ (fresh_points c None ++ map (new_point c) ps)) none
     ∙ ap (λ (ps : List ℕ). filter (λ p. nat_lt p (start c + 1)) c.points ++ ps) (append-nil (fresh_points c None))
 joined-before c (Some s) is first =
@@ -224,7 +224,7 @@ same-at f h test n (p ∷ ps) all same =
 pub states-ready : (c : Change) (o : Option ℕ) (rejoin : Rejoin) (kept fresh : List Cluster) → IsChange c → IsFirstMeeting c o → IsRejoin c o rejoin → kept ≡ map (state c.old) c.points → fresh ≡ map (state c.new) (run_points c o)
     → take rejoin.front kept ++ (fresh ++ drop rejoin.rest kept) ≡ map (state c.new) (joined_points c o)
 states-ready c o rejoin kept fresh is first at olds run =
-    let within : All (λ p. p ≤ length c.old.blocks) c.points = kept-all c.spacing (length c.old.blocks) c.points is.kept in
+    let within : All (λ p. p ≤ length c.old.blocks) c.points = kept-all c.checkpoint_interval (length c.old.blocks) c.points is.kept in
     let one : take rejoin.front kept ≡ map (state c.new) (filter (λ p. nat_lt p (front_bound c o)) c.points) =
     ap (take rejoin.front) olds ∙ take-map (state c.old) rejoin.front c.points ∙ ap (map (state c.old)) at.fronts
     ∙ same-at (state c.old) (state c.new) (λ p. nat_lt p (front_bound c o)) (length c.old.blocks) c.points within

@@ -37,7 +37,7 @@ states-after c s t is from le same =
 pub outputs-after : (c : Change) (s : ℕ) → IsChange c → c.new_rest ≤ s → state c.new s ≡ state c.old (old_point c s) → drop s (outputs c.new) ≡ drop (old_point c s) (outputs c.old)
 outputs-after c s is from same = outputs-on c.new c.old s (old_point c s) (rest-on c s is from) same
 
--- the start is at most `front`, and less than `spacing` before it
+-- the start is at most `front`, and less than `checkpoint interval` before it
 pub start-le : (c : Change) → start c ≤ c.front
 start-le c = last_up_to-le c.front c.points
 
@@ -51,8 +51,8 @@ start-near-of K n q (p ∷ ps) le kept =
     start-at : (p q : ℕ) (ps : List ℕ) → p ≤ q → q < max p (last_up_to q ps) + K → q < last_up_to q (p ∷ ps) + K
     start-at p q ps le near = let t : nat_le p q ≡ true = le-leb p q le in rw t near
 
-pub start-near : (c : Change) → IsChange c → c.front < start c + c.spacing
-start-near c is = start-near-of c.spacing (length c.old.blocks) c.front c.points (omega arith) is.kept
+pub start-near : (c : Change) → IsChange c → c.front < start c + c.checkpoint_interval
+start-near c is = start-near-of c.checkpoint_interval (length c.old.blocks) c.front c.points (omega arith) is.kept
 
 -- a kept point is one of the old script
 pub kept-within : (K n : ℕ) (ps : List ℕ) (p : ℕ) → AreKept K n ps → Contains ps p → p ≤ n
@@ -60,17 +60,17 @@ kept-within K n ps p kept has = All-contains (λ q. q ≤ n) ps p (kept-all K n 
 
 -- the clusters meet within the new script
 pub meets-within : (c : Change) (s : ℕ) → IsChange c → Meets c s → s ≤ length c.new.blocks
-meets-within c s is m = let t : old_point c s ≤ length c.old.blocks = kept-within c.spacing (length c.old.blocks) c.points (old_point c s) is.kept m.is_kept in omega arith
+meets-within c s is m = let t : old_point c s ≤ length c.old.blocks = kept-within c.checkpoint_interval (length c.old.blocks) c.points (old_point c s) is.kept m.is_kept in omega arith
 
 pub stop-within : (c : Change) (o : Option ℕ) → IsChange c → IsFirstMeeting c o → stop c o ≤ length c.new.blocks
 stop-within c None is first = omega arith
 stop-within c (Some s) is first = meets-within c s is first.0
 
--- The cost is less than the directives from the front on, and the spacing.
-pub cost-le : (c : Change) (executed : ℕ) → IsChange c → IsCost c executed → executed + c.front + 1 ≤ length c.new.blocks + c.spacing
+-- The cost is less than the directives from the front on, and the checkpoint interval.
+pub cost-le : (c : Change) (executed : ℕ) → IsChange c → IsCost c executed → executed + c.front + 1 ≤ length c.new.blocks + c.checkpoint_interval
 cost-le c executed is cost =
     let to : stop c cost.meeting ≤ length c.new.blocks = stop-within c cost.meeting is cost.is_first in
-    let from : c.front < start c + c.spacing = start-near c is in
+    let from : c.front < start c + c.checkpoint_interval = start-near c is in
     omega (arith, cost.is_cost)
 
 -- Where the clusters agree as the rest begins, little more is executed than what stands between front and rest.
@@ -98,13 +98,13 @@ next-kept K n r (x ∷ ps) one le kept =
       | inr above ↦ inl (x, Contains-head x ps, above, omega (arith, kept.0))
     ]
 
-pub cost-near : (c : Change) (executed : ℕ) → IsChange c → IsCost c executed → state c.new c.new_rest ≡ state c.old c.old_rest → executed + c.front + 2 ≤ 2 * c.spacing + c.new_rest
+pub cost-near : (c : Change) (executed : ℕ) → IsChange c → IsCost c executed → state c.new c.new_rest ≡ state c.old c.old_rest → executed + c.front + 2 ≤ 2 * c.checkpoint_interval + c.new_rest
 cost-near c executed is cost same =
-    let from : c.front < start c + c.spacing = start-near c is in
-    let to : stop c cost.meeting < c.new_rest + c.spacing = stops-soon c is same cost.meeting cost.is_first (next-kept c.spacing (length c.old.blocks) c.old_rest c.points is.spaced is.old_within is.kept) in
+    let from : c.front < start c + c.checkpoint_interval = start-near c is in
+    let to : stop c cost.meeting < c.new_rest + c.checkpoint_interval = stops-soon c is same cost.meeting cost.is_first (next-kept c.checkpoint_interval (length c.old.blocks) c.old_rest c.points is.spaced is.old_within is.kept) in
     omega (arith, cost.is_cost)
   where
-    stops-soon : (c : Change) → IsChange c → state c.new c.new_rest ≡ state c.old c.old_rest → (o : Option ℕ) → IsFirstMeeting c o → (((p : ℕ) × Contains c.points p × (c.old_rest ≤ p) × (p < c.old_rest + c.spacing)) ⊎ (length c.old.blocks + 1 < c.old_rest + c.spacing)) → stop c o < c.new_rest + c.spacing
+    stops-soon : (c : Change) → IsChange c → state c.new c.new_rest ≡ state c.old c.old_rest → (o : Option ℕ) → IsFirstMeeting c o → (((p : ℕ) × Contains c.points p × (c.old_rest ≤ p) × (p < c.old_rest + c.checkpoint_interval)) ⊎ (length c.old.blocks + 1 < c.old_rest + c.checkpoint_interval)) → stop c o < c.new_rest + c.checkpoint_interval
     stops-soon c is same o first (inr e) = let to : stop c o ≤ length c.new.blocks = stop-within c o is first in omega arith
     stops-soon c is same None first (inl f) = absurd (first (new_point c f.0) (meets-at c f.0 is same f.2 f.1))
     stops-soon c is same (Some s) first (inl f) =
@@ -113,9 +113,9 @@ cost-near c executed is cost same =
           | inr ge ↦ omega (arith, f.3, f.2)
         ]
 
--- and of one block no more than twice the spacing, less one
-pub cost-small : (c : Change) (executed : ℕ) → IsChange c → IsOneBlock c → IsCost c executed → state c.new c.new_rest ≡ state c.old c.old_rest → executed + 1 ≤ 2 * c.spacing
-cost-small c executed is one cost same = let near : executed + c.front + 2 ≤ 2 * c.spacing + c.new_rest = cost-near c executed is cost same in omega (arith, one.new_to)
+-- and of one block no more than twice the checkpoint interval, less one
+pub cost-small : (c : Change) (executed : ℕ) → IsChange c → IsOneBlock c → IsCost c executed → state c.new c.new_rest ≡ state c.old c.old_rest → executed + 1 ≤ 2 * c.checkpoint_interval
+cost-small c executed is one cost same = let near : executed + c.front + 2 ≤ 2 * c.checkpoint_interval + c.new_rest = cost-near c executed is cost same in omega (arith, one.new_to)
 
 -- Where nothing was met up to `at`, running does not stop there.
 pub cost-at_least : (c : Change) (at n : ℕ) → ((t : ℕ) → t < at → Meets c t → ⊥) → at ≤ length c.new.blocks → IsCost c n → at - start c ≤ n

@@ -19,15 +19,15 @@ running-run meaning s c outs points kept at le = record {
   states_are = rw (kept, points) refl;
 }
 
-pub running-paced : {M : Type 0} (c : Run M) → c.points.items ≡ [] → c.at ≡ c.from → c.due ≡ c.spacing → PacedAt c
-running-paced c points at due = rw (points, at, due) (paced_start c.spacing c.from)
+pub running-paced : {M : Type 0} (c : Run M) → c.points.items ≡ [] → c.at ≡ c.from → c.until_checkpoint ≡ c.checkpoint_interval → PacedAt c
+running-paced c points at until_checkpoint = rw (points, at, until_checkpoint) (paced_start c.checkpoint_interval c.from)
 
 -- the points of a run up to the end, and up to a meeting
-pub running-end : {M : Type 0} (c : Run M) (ch : Change) → PacedOn c → c.spacing ≡ ch.spacing → c.from ≡ start ch → c.at ≡ length ch.new.blocks → c.points.items ≡ run_points ch None
-running-end c ch paced spacing from at = paced_end c.spacing c.from c.at c.due c.points.items paced ∙ rw (spacing, from, at) refl
+pub running-end : {M : Type 0} (c : Run M) (ch : Change) → PacedOn c → c.checkpoint_interval ≡ ch.checkpoint_interval → c.from ≡ start ch → c.at ≡ length ch.new.blocks → c.points.items ≡ run_points ch None
+running-end c ch paced checkpoint_interval from at = paced_end c.checkpoint_interval c.from c.at c.until_checkpoint c.points.items paced ∙ rw (checkpoint_interval, from, at) refl
 
-pub running-meeting : {M : Type 0} (c : Run M) (ch : Change) (s : ℕ) → 1 ≤ c.spacing → c.from ≤ c.at → PacedAt c → c.spacing ≡ ch.spacing → c.from ≡ start ch → c.at ≡ s → c.points.items ≡ fresh_points ch (Some s)
-running-meeting c ch s one le paced spacing from at = paced_meeting c.spacing c.from c.at c.due c.points.items one le paced ∙ rw (spacing, from, at) refl
+pub running-meeting : {M : Type 0} (c : Run M) (ch : Change) (s : ℕ) → 1 ≤ c.checkpoint_interval → c.from ≤ c.at → PacedAt c → c.checkpoint_interval ≡ ch.checkpoint_interval → c.from ≡ start ch → c.at ≡ s → c.points.items ≡ fresh_points ch (Some s)
+running-meeting c ch s one le paced checkpoint_interval from at = paced_meeting c.checkpoint_interval c.from c.at c.until_checkpoint c.points.items one le paced ∙ rw (checkpoint_interval, from, at) refl
 
 -- a kept cluster more
 pub states-more : {M : Type 0} (meaning : M → Cluster) (s : PlainScript) (kept : List M) (points : List ℕ) (m : M) (at : ℕ) → map meaning kept ≡ map (state s) points → meaning m ≡ state s at → map meaning (kept ++ m ∷ []) ≡ map (state s) (points ++ at ∷ [])

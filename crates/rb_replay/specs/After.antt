@@ -1,4 +1,4 @@
--- What edits make of a session, and the script after a list of edits. (This project's.)
+-- Edits of a session, and the script after a list of edits. (This project's.)
 use Rattle.std.specs.Prelude.{◌≡◌, List, [], ◌∷◌, length, Result, Ok, Err}
 use Rattle.rb_script.specs.declared.edit.Edit.{Edit}
 use Rattle.rb_script.specs.declared.fault.EditFault.{EditFault}
@@ -10,18 +10,18 @@ use Rattle.rb_replay.specs.Report.{mismatches}
 use Rattle.rb_replay.specs.Holding.{Holding, IsOneRun}
 use Rattle.rb_replay.specs.Reuse.{ReusesFor}
 
--- An accepted edit puts its script in. What is held then is what one run of that script gives.
+-- After an accepted edit, the session is that of one run of the new script.
 pub record IsEdited (old : Holding) (edit : Edit) (changed : Changed) (new : Holding) : Type 0 where
   pub script : edited old.script edit (outputs old.script) ≡ Ok new.script
   pub fresh : IsOneRun new
-  pub spacing : new.spacing ≡ old.spacing
+  pub checkpoint_interval : new.checkpoint_interval ≡ old.checkpoint_interval
   pub reuse : ReusesFor old edit new.script changed.executed new.points
   pub mismatches_are : changed.mismatches ≡ length (mismatches new.script)
 
 abbrev pub Answer : Type 0
 Answer = Result Changed EditFault
 
--- a refused one leaves all as it was
+-- a refused edit changes nothing
 abbrev pub IsAnswer : Holding → Edit → Answer → Holding → Type 0
 IsAnswer old edit (Ok changed) new = IsEdited old edit changed new
 IsAnswer old edit (Err fault) new = new ≡ old
@@ -44,7 +44,7 @@ abbrev pub after_one : PlainScript → Edit → Answer → PlainScript
 after_one s edit (Ok changed) = or_same s (edited s edit (outputs s))
 after_one s edit (Err fault) = s
 
--- The script with those edits made that were accepted.
+-- The script with the accepted edits applied.
 abbrev pub after : PlainScript → Answered → PlainScript
 after s [] = s
 after s (step ∷ steps) = after (after_one s step.0 step.1) steps

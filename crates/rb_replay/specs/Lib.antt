@@ -7,4 +7,4 @@ pub mod Run
 pub mod Running
 pub mod Splices
 pub mod Start
-pub mod Turns
+pub mod Replacements

@@ -1,4 +1,4 @@
--- Where a script's expectations are not its outputs, and the texts that say so. (This project's.)
+-- The mismatches of a script, and the report. (This project's.)
 use Rattle.std.specs.Prelude.{ℕ, ◌+◌, Bool, if◌then◌else◌, List, [], ◌∷◌, ◌++◌, length, map, codes, decimal}
 use Rattle.std.specs.List.{flat_map}
 use Rattle.std.specs.Option.{unwrap_or, option_map}
@@ -37,7 +37,7 @@ mismatch_line k = codes "mismatch " ++ decimal k
 abbrev pub expected_at : PlainScript → ℕ → List Line
 expected_at s k = unwrap_or (option_map (λ b. b.expected) (at_place s.blocks k)) []
 
--- what is reported of the mismatch at place k
+-- the report of the mismatch at place k
 abbrev pub mismatch_lines : PlainScript → ℕ → List Line
 mismatch_lines s k =
     mismatch_line k ∷ (marked (codes "- ") (expected_at s k) ++ marked (codes "+ ") (unwrap_or (output_at s k) []))

@@ -1,4 +1,4 @@
--- What an edit, or another script, uses again of the run before it. (This project's.)
+-- Reusing the old run after a change. (This project's.)
 use Rattle.std.specs.Prelude.{◌≡◌, ℕ, ◌+◌, ◌-◌, ◌*◌, ◌/◌, ◌<◌, ◌≤◌, ◌⊎◌, min, nat_le, nat_lt, List, ◌++◌, length, take, drop, filter, map, Contains, Option, Some, None}
 use Rattle.rb_script.specs.Script.{PlainScript}
 use Rattle.rb_script.specs.declared.edit.Edit.{Edit}
@@ -12,7 +12,7 @@ use Rattle.rb_replay.specs.Points.{last_up_to, every, thin, AreKept}
 use Rattle.rb_replay.specs.Holding.{Holding}
 
 -- Two scripts and what they share: the first `front` directives, and those after old point `old_rest`, which
--- stand after new point `new_rest`. Clusters of the old script are kept at `points`, `spacing` directives
+-- stand after new point `new_rest`. Clusters of the old script are kept at `points`, `checkpoint interval` directives
 -- apart.
 pub record Change : Type 0 where
   pub old : PlainScript
@@ -20,12 +20,12 @@ pub record Change : Type 0 where
   pub front : ℕ
   pub old_rest : ℕ
   pub new_rest : ℕ
-  pub spacing : ℕ
+  pub checkpoint_interval : ℕ
   pub points : List ℕ
 
 abbrev pub change : Holding → PlainScript → ℕ → ℕ → ℕ → Change
 change h new front old_rest new_rest =
-    record { old = h.script; new = new; front = front; old_rest = old_rest; new_rest = new_rest; spacing = h.spacing; points = h.points }
+    record { old = h.script; new = new; front = front; old_rest = old_rest; new_rest = new_rest; checkpoint_interval = h.checkpoint_interval; points = h.points }
 
 -- what an edit changes of a run: the directives between a front and a rest that stay, or only expectations
 abbrev pub effect_of : Edit → Effect
@@ -77,8 +77,8 @@ stop c None = length c.new.blocks
 
 -- the points on the way: start + K, start + 2 * K and so on, before a meeting or up to the end
 abbrev pub fresh_points : Change → Option ℕ → List ℕ
-fresh_points c None = every c.spacing (start c) ((length c.new.blocks - start c) / c.spacing)
-fresh_points c (Some s) = every c.spacing (start c) ((s - 1 - start c) / c.spacing)
+fresh_points c None = every c.checkpoint_interval (start c) ((length c.new.blocks - start c) / c.checkpoint_interval)
+fresh_points c (Some s) = every c.checkpoint_interval (start c) ((s - 1 - start c) / c.checkpoint_interval)
 
 -- The points before thinning: up to the start, those on the way, and from a meeting on those of the old
 -- script.
@@ -88,7 +88,7 @@ points_before c (Some s) =
     filter (λ p. nat_lt p (min (start c + 1) s)) c.points ++ (fresh_points c (Some s) ++ map (new_point c) (filter (λ p. nat_le (old_point c s) p) c.points))
 
 abbrev pub points_after : Change → Option ℕ → List ℕ
-points_after c meeting = thin c.spacing (points_before c meeting)
+points_after c meeting = thin c.checkpoint_interval (points_before c meeting)
 
 -- which points stand in that list
 abbrev pub IsOldPoint : Change → Option ℕ → ℕ → Type 0
@@ -98,7 +98,7 @@ IsOldPoint c (Some s) p = (s ≤ p) × Contains c.points (old_point c p)
 abbrev pub IsPointBefore : Change → Option ℕ → ℕ → Type 0
 IsPointBefore c meeting p =
     (Contains c.points p × (p ≤ start c))
-    ⊎ ((j : ℕ) × (1 ≤ j) × (p ≡ start c + j * c.spacing) × (p ≤ stop c meeting))
+    ⊎ ((j : ℕ) × (1 ≤ j) × (p ≡ start c + j * c.checkpoint_interval) × (p ≤ stop c meeting))
     ⊎ IsOldPoint c meeting p
 
 -- what a change is like: front and rest have the same directives, which is all that a run reads of blocks
@@ -110,8 +110,8 @@ pub record IsChange (c : Change) : Type 0 where
   pub old_within : c.old_rest ≤ length c.old.blocks
   pub new_within : c.new_rest ≤ length c.new.blocks
   pub lengths : length c.new.blocks + c.old_rest ≡ length c.old.blocks + c.new_rest
-  pub spaced : 1 ≤ c.spacing
-  pub kept : AreKept c.spacing (length c.old.blocks) c.points
+  pub spaced : 1 ≤ c.checkpoint_interval
+  pub kept : AreKept c.checkpoint_interval (length c.old.blocks) c.points
 
 -- and where front and rest have the same blocks, with what is expected of them
 pub record StayWhole (c : Change) : Type 0 where
@@ -124,13 +124,13 @@ pub record IsOneBlock (c : Change) : Type 0 where
   pub old_to : c.old_rest ≤ c.front + 1
   pub new_to : c.new_rest ≤ c.front + 1
 
--- how many directives are executed
+-- the number of executed directives
 pub record IsCost (c : Change) (executed : ℕ) : Type 0 where
   pub meeting : Option ℕ
   pub is_first : IsFirstMeeting c meeting
   pub is_cost : executed ≡ stop c meeting - start c
 
--- What is used again, exactly: where running stops, how much was executed, and which points are kept then.
+-- The reuse, exactly: where the run stops, how many directives are executed, and the points of the checkpoints.
 pub record Reuses (c : Change) (executed : ℕ) (points : List ℕ) : Type 0 where
   pub cost : IsCost c executed
   pub are_points : points ≡ points_after c cost.meeting

@@ -7,20 +7,20 @@ use Rattle.rb_replay.specs.declared.run.Run.{Run}
 use Rattle.rb_replay.specs.Run.{state, outputs}
 use Rattle.rb_replay.specs.Points.{every}
 
--- How points are kept on the way: `due` directives are still to run up to the next one. Whoever comes to
+-- How points are kept on the way: `until_checkpoint` directives are still to run up to the next one. Whoever comes to
 -- `at` has not kept it yet.
-pub record IsPaced (K from at due : ℕ) (points : List ℕ) : Type 0 where
+pub record IsPaced (K from at until_checkpoint : ℕ) (points : List ℕ) : Type 0 where
   pub so_far : points ≡ every K from (length points)
-  pub next : at + due ≡ from + (length points + 1) * K
-  pub most : due ≤ K
-  pub fresh : due ≡ K → at ≡ from
+  pub next : at + until_checkpoint ≡ from + (length points + 1) * K
+  pub most : until_checkpoint ≤ K
+  pub fresh : until_checkpoint ≡ K → at ≡ from
 
--- and who goes on from `at` has kept it if it was due
-pub record IsPacedOn (K from at due : ℕ) (points : List ℕ) : Type 0 where
+-- and who goes on from `at` has kept it if it was until_checkpoint
+pub record IsPacedOn (K from at until_checkpoint : ℕ) (points : List ℕ) : Type 0 where
   pub so_far : points ≡ every K from (length points)
-  pub next : at + due ≡ from + (length points + 1) * K
-  pub least : 1 ≤ due
-  pub most : due ≤ K
+  pub next : at + until_checkpoint ≡ from + (length points + 1) * K
+  pub least : 1 ≤ until_checkpoint
+  pub most : until_checkpoint ≤ K
 
 -- what a run of a script from a point on has brought
 pub record HasRun {M : Type 0} (meaning : M → Cluster) (s : PlainScript) (c : Run M) : Type 0 where
@@ -31,7 +31,7 @@ pub record HasRun {M : Type 0} (meaning : M → Cluster) (s : PlainScript) (c : 
 
 -- and its points, when it comes to a point, and when it goes on from it
 abbrev pub PacedAt : {M : Type 0} → Run M → Type 0
-PacedAt c = IsPaced c.spacing c.from c.at c.due c.points.items
+PacedAt c = IsPaced c.checkpoint_interval c.from c.at c.until_checkpoint c.points.items
 
 abbrev pub PacedOn : {M : Type 0} → Run M → Type 0
-PacedOn c = IsPacedOn c.spacing c.from c.at c.due c.points.items
+PacedOn c = IsPacedOn c.checkpoint_interval c.from c.at c.until_checkpoint c.points.items

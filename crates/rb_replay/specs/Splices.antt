@@ -37,7 +37,7 @@ pub record IsRerun {M : Type 0} (meaning : M → Cluster) (c : Change) (r : Reru
   pub is_first : IsFirstMeeting c r.met
   pub from_is : r.running.from ≡ start c
   pub at_is : r.running.at ≡ stop c r.met
-  pub spacing_is : r.running.spacing ≡ c.spacing
+  pub spacing_is : r.running.checkpoint_interval ≡ c.checkpoint_interval
   pub has_run : HasRun meaning c.new r.running
   pub points_are : r.running.points.items ≡ run_points c r.met
 
@@ -54,7 +54,7 @@ no_splice = record { front = 0; old_rest = 0; new_rest = 0 }
 
 -- Blocks and outputs of two scripts are the same up to a point, and from an old point on, but that they
 -- move.
-pub record IsMended (old new : PlainScript) (splice : Splice) (from : ℕ) (os : List (List Line)) (stop : ℕ) : Type 0 where
+pub record IsUpdated (old new : PlainScript) (splice : Splice) (from : ℕ) (os : List (List Line)) (stop : ℕ) : Type 0 where
   -- up to `from` both scripts have the same blocks
   pub same_front : take from new.blocks ≡ take from old.blocks
   -- and answer the same
@@ -83,7 +83,7 @@ pub record IsReady {M : Type 0} (meaning : M → Cluster) (c : Change) (kept : L
   -- the run went from the start to the stop, and kept clusters as far apart as the session does
   pub from_is : r.running.from ≡ start c
   pub at_is : r.running.at ≡ stop c meeting
-  pub spacing_is : r.running.spacing ≡ c.spacing
+  pub spacing_is : r.running.checkpoint_interval ≡ c.checkpoint_interval
   -- the new points, before thinning, and the new mismatches stand ready whole
   pub points_are : r.points.items ≡ points_before c meeting
   pub mismatches_are : r.mismatches.items ≡ mismatches c.new

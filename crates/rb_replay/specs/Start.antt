@@ -5,13 +5,13 @@ use Rattle.rb_script.specs.declared.fault.ScriptFault.TheVariants as reads
 use Rattle.rb_script.specs.Script.{PlainScript}
 use Rattle.rb_script.specs.Reads.{Reads}
 use Rattle.rb_script.specs.Reading.{Refuses}
-use Rattle.rb_replay.specs.declared.spacing.TheConstants.{MAX_SPACING}
+use Rattle.rb_replay.specs.declared.checkpoint_interval.TheConstants.{MAX_CHECKPOINT_INTERVAL}
 use Rattle.rb_replay.specs.declared.fault.StartFault.{StartFault}
 use Rattle.rb_replay.specs.declared.fault.StartFault.TheVariants.{Script, BadSpacing, OutOfMemory}
 
 -- how far apart clusters may be kept
-abbrev pub is_spacing : ℕ → Bool
-is_spacing every = nat_le 1 every && nat_le every MAX_SPACING
+abbrev pub is_checkpoint_interval : ℕ → Bool
+is_checkpoint_interval every = nat_le 1 every && nat_le every MAX_CHECKPOINT_INTERVAL
 
 -- the fault of a start for one of reading: want of memory is the start's own
 abbrev pub of_reading : ScriptFault → StartFault

@@ -1,11 +1,11 @@
-//! The blocks of a script by their index.
+//! The blocks of a script, by index.
 
 ghost use Rattle.std.specs.Prelude.{◌≡◌, ◌-◌, ◌<◌, ◌≤◌, Some, length, slice_get};
 ghost use Rattle.rb_script.specs.declared.limits.TheConstants.{MAX_DIRECTIVES};
 
 use rb_script::{Block, Script};
 
-/// The block at an index, which counts from 0.
+/// The block at an index, counted from 0.
 pub(crate) fn block_at(script: &Script, index: usize) -> &Block
     requires few { length script.now.blocks ≤ MAX_DIRECTIVES }
     requires within { index < length script.now.blocks }
@@ -14,7 +14,7 @@ pub(crate) fn block_at(script: &Script, index: usize) -> &Block
     script.block(index + 1).unwrap()
 }
 
-/// The block at an index that counts from the last, which is 0.
+/// The block at an index counted from the end, where the last block is 0.
 pub(crate) fn block_from_last(script: &Script, index: usize) -> &Block
     requires few { length script.now.blocks ≤ MAX_DIRECTIVES }
     requires within { index < length script.now.blocks }

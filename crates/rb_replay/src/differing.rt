@@ -1,25 +1,25 @@
-//! Where expectations are not the outputs.
+//! Finding mismatches.
 
 ghost use Rattle.std.specs.Prelude.{◌≡◌, ◌+◌, ◌-◌, ◌≤◌, length, drop, take, IfOk};
 ghost use Rattle.rb_script.specs.declared.limits.TheConstants.{MAX_DIRECTIVES};
 ghost use Rattle.rb_replay.specs.Report.{differing, same_lines};
 
 use crate::blocks::block_at;
-use rb_script::{Grouped, Lines, Script};
+use rb_script::{ChunkedList, Lines, Script};
 use std::alloc::{AllocError, Global};
 
-/// Whether these are the same lines.
+/// Compares the lines.
 fn is_same(a: &Lines, b: &Lines) -> bool
     ensures { result ≡ same_lines a.now b.now }
 {
     a.same(b)
 }
 
-/// The places after `from`, up to `to`, where the expectation is not the output.
+/// Lists the places after `from`, up to `to`, whose output isn't the expected one.
 pub(crate) fn list_differing(
     alloc: Global,
     script: &Script,
-    outputs: &Grouped<Lines>,
+    outputs: &ChunkedList<Lines>,
     from: usize,
     to: usize,
 ) -> Result<Vec<usize>, AllocError>

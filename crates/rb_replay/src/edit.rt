@@ -1,16 +1,16 @@
-//! Edits of a session.
+//! Edits a session.
 
 ghost use Rattle.std.specs.Prelude.{◌≡◌};
 ghost use Rattle.rb_replay.specs.Reuse.{effect_of};
 
-use crate::ready::take_over;
+use crate::ready::install_checkpoints;
 use crate::session::{Changed, Session};
 use crate::splice::{Common, Effect, Splice};
 use rb_machine::{Count, Machine};
 use rb_script::{Edit, EditFault, Script};
 use std::alloc::AllocError;
 
-/// What the edit changes.
+/// The effect of an edit on the run.
 fn effect_of(edit: &Edit) -> Effect
     ensures { result ≡ effect_of edit.now }
 {
@@ -51,26 +51,24 @@ impl<M: Machine> Session<M> {
     ghost use Rattle.rb_replay.specs.Reuse.{change_by, IsChange, StayWhole, IsCost, Reuses, IsCostFor};
     ghost use Rattle.rb_replay.specs.After.{IsAnswer};
 
-    /// Makes one edit, and runs what it changes. A refused edit changes nothing. Refusals come in the
-    /// order of [`EditFault`], and all but want of memory before anything runs.
+    /// Applies an edit, and reruns what it changes. A refused edit changes nothing. The first fault in the order of [`EditFault`] is
+    /// reported. All but `OutOfMemory` are found before anything runs.
     pub fn edit(&mut self, edit: &Edit, meter: &mut M::Meter) -> Result<Changed, EditFault>
         requires { M.Meter.count_of meter.old ≤ 2 ^ 62 }
-        // An accepted edit puts in the script that it makes, and answers as one run of it. A refused one
-        // changes nothing.
+        // After an accepted edit the session is that of one run of the new script. A refused edit changes nothing.
         ensures answer { IsAnswer self.old edit.now result self.new }
-        // Which fault it is.
+        // Which fault is reported.
         ensures faults { IfErr result (λ fault. EditFails fault (edited self.old.script edit.now (outputs self.old.script))) }
-        // Those of the script are found whether or not there is memory.
+        // Faults of the script are found whether or not there is memory.
         ensures early { IfErr (edited self.old.script edit.now (outputs self.old.script)) (λ fault. result ≡ Err fault) }
-        // It executes as many directives as it says, and a refused one none, or for want of memory at
-        // most those.
+        // It executes as many directives as it reports; a refused edit none, or at most as many if memory ran out.
         ensures counted { IfOk result (λ changed. M.Meter.count_of meter.new ≡ M.Meter.count_of meter.old + changed.executed) }
         ensures not_run { IfErr result (λ fault. fault ≢ EditFault.OutOfMemory → M.Meter.count_of meter.new ≡ M.Meter.count_of meter.old) }
         ensures refused { OnErr result ((new : PlainScript) → edited self.old.script edit.now (outputs self.old.script) ≡ Ok new → (n : ℕ) → IsCostFor self.old edit.now new n → M.Meter.count_of meter.new ≤ M.Meter.count_of meter.old + n) }
-        // Whatever the answer, the meter never falls, and rises by no more than a script may have directives.
+        // The meter never falls, and rises by at most `MAX_DIRECTIVES`.
         ensures least { M.Meter.count_of meter.old ≤ M.Meter.count_of meter.new }
         ensures most { M.Meter.count_of meter.new ≤ M.Meter.count_of meter.old + MAX_DIRECTIVES }
-        // All that is held is what one run of the script gives, whatever the answer.
+        // In any case the session is that of one run of its script.
         ensures fresh { IsOneRun self.new }
     {
         let new = self.script.edited(edit, &self.outputs)?;
@@ -81,7 +79,7 @@ impl<M: Machine> Session<M> {
         }
     }
 
-    /// Puts the new script in, and runs what has to be run.
+    /// Replaces the script, and reruns what changed.
     pub(crate) fn replay(
         &mut self,
         new: Script,
@@ -94,7 +92,7 @@ impl<M: Machine> Session<M> {
         requires few { length new.blocks ≤ MAX_DIRECTIVES }
         requires meter { M.Meter.count_of meter.old ≤ 2 ^ 62 }
         ensures script { OnOk result (self.new.script ≡ new) }
-        ensures spacing { self.new.spacing ≡ self.old.spacing }
+        ensures checkpoint_interval { self.new.checkpoint_interval ≡ self.old.checkpoint_interval }
         ensures reuse { IfOk result (λ changed. Reuses (change_by self.old new splice) changed.executed self.new.points) }
         ensures counted { IfOk result (λ changed. M.Meter.count_of meter.new ≡ M.Meter.count_of meter.old + changed.executed) }
         ensures mismatches { IfOk result (λ changed. changed.mismatches ≡ length self.new.mismatches) }
@@ -106,14 +104,14 @@ impl<M: Machine> Session<M> {
     {
         let ready = self.prepare(&new, splice, common, meter)?;
         self.kept.reserve(ready.running.kept.len())?;
-        // From here on nothing can fail.
+        // Nothing can fail from here on.
         let executed = (ready.running.at - ready.running.from) as u64;
         let mismatches = ready.mismatches.len();
         self.outputs = ready.outputs;
         self.points = ready.points;
         self.mismatches = ready.mismatches;
         self.script = new;
-        take_over(
+        install_checkpoints(
             ready.running,
             ready.rejoin,
             &mut self.points,

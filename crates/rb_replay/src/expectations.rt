@@ -1,4 +1,4 @@
-//! Edits that change expectations alone.
+//! Edits that only change expectations.
 
 use crate::session::{Changed, Session};
 use crate::splice::Splice;
@@ -11,16 +11,16 @@ impl<M: Machine> Session<M> {
     ghost use Rattle.rb_replay.specs.Run.{directives, outputs};
     ghost use Rattle.rb_replay.specs.Report.{mismatches};
     ghost use Rattle.rb_replay.specs.Holding.{Holding, IsOneRun};
-    ghost use Rattle.rb_replay.specs.Splices.{IsMended, no_splice};
+    ghost use Rattle.rb_replay.specs.Splices.{IsUpdated, no_splice};
 
-    /// Puts in a script whose directive at the place expects other lines.
+    /// Replaces the script by one with another expectation at this place.
     pub(crate) fn expect(&mut self, new: Script, place: usize) -> Result<Changed, AllocError>
         requires same { directives new ≡ directives self.old.script }
         requires first { 1 ≤ place }
         requires within { place ≤ length self.old.script.blocks }
-        requires mended { IsMended self.old.script new no_splice (place - 1) (take 1 (drop (place - 1) (outputs self.old.script))) place }
+        requires new_mismatches { IsUpdated self.old.script new no_splice (place - 1) (take 1 (drop (place - 1) (outputs self.old.script))) place }
         ensures script { OnOk result (self.new.script ≡ new) }
-        ensures spacing { self.new.spacing ≡ self.old.spacing }
+        ensures checkpoint_interval { self.new.checkpoint_interval ≡ self.old.checkpoint_interval }
         ensures points { self.new.points ≡ self.old.points }
         ensures executed { IfOk result (λ changed. changed.executed ≡ 0) }
         ensures mismatches { IfOk result (λ changed. changed.mismatches ≡ length self.new.mismatches) }
@@ -32,7 +32,7 @@ impl<M: Machine> Session<M> {
             old_rest: 0,
             new_rest: 0,
         };
-        let mismatches = self.mended(&new, splice, &self.outputs, place - 1, place, place)?;
+        let mismatches = self.new_mismatches(&new, splice, &self.outputs, place - 1, place, place)?;
         self.mismatches = mismatches;
         self.script = new;
         Ok(Changed {
@@ -41,12 +41,12 @@ impl<M: Machine> Session<M> {
         })
     }
 
-    /// Puts in a script whose directives expect their outputs.
+    /// Replaces the script by one whose directives expect their outputs.
     pub(crate) fn accept(&mut self, new: Script) -> Changed
         requires same { directives new ≡ directives self.old.script }
         requires none { mismatches new ≡ [] }
         ensures script { self.new.script ≡ new }
-        ensures spacing { self.new.spacing ≡ self.old.spacing }
+        ensures checkpoint_interval { self.new.checkpoint_interval ≡ self.old.checkpoint_interval }
         ensures points { self.new.points ≡ self.old.points }
         ensures executed { result.executed ≡ 0 }
         ensures mismatches { result.mismatches ≡ length self.new.mismatches }

@@ -1,4 +1,4 @@
-//! Why no session starts.
+//! Faults of starting a session.
 
 ghost use Rattle.std.specs.Prelude.{◌≡◌};
 ghost use Rattle.rb_replay.specs.declared.fault.StartFault.TheVariants.{OutOfMemory as StartOutOfMemory};
@@ -8,16 +8,16 @@ use rb_script::ScriptFault;
 use std::alloc::AllocError;
 use thiserror::Error;
 
-/// Why no session starts.
+/// Why a session can't start.
 #[derive(Clone, Copy, Debug, PartialEq, Eq, Error)]
 pub enum StartFault {
-    /// The bytes are no script.
+    /// The bytes are not a script.
     #[error("{0}")]
     Script(ScriptFault),
-    /// Clusters are kept 1 to 64 directives apart.
+    /// The checkpoint interval is not from 1 to 64.
     #[error("clusters are kept 1 to 64 directives apart")]
     BadSpacing,
-    /// Memory was refused.
+    /// There was no memory.
     #[error("out of memory")]
     OutOfMemory,
 }

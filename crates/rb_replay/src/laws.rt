@@ -1,4 +1,4 @@
-//! Laws of what is held and used again, over all scripts, edits and turns.
+//! Laws of a session and of the reuse of checkpoints, for all scripts, edits and replacements.
 
 ghost use Rattle.std.specs.Prelude.{◌≡◌, ℕ, ◌+◌, ◌-◌, ◌*◌, ◌/◌, ◌<◌, ◌≤◌, ◌↔◌, List, [], Option, Ok, Contains, IfSome, length, slice_index};
 ghost use Rattle.rb_script.specs.declared.edit.Edit.{Edit};
@@ -16,10 +16,9 @@ ghost use Rattle.rb_replay.specs.Points.{AreKept, IsRising};
 ghost use Rattle.rb_replay.specs.Holding.{Holding, IsFresh, IsOneRun};
 ghost use Rattle.rb_replay.specs.Reuse.{Change, change_by, change_of, IsChange, IsOneBlock, IsCost, IsFirstMeeting, points_before, IsPointBefore};
 ghost use Rattle.rb_replay.specs.After.{Answered, Leads, after};
-ghost use Rattle.rb_replay.specs.Turns.{IsLongestSplice, IsTurned, IsTurnCost, shown};
+ghost use Rattle.rb_replay.specs.Replacements.{IsLongestSplice, IsReplaced, IsReplacementCost, shown};
 
-/// Whatever edits a session is given, and whichever of them it accepts, it answers as one run of the
-/// script with the accepted ones made.
+/// After any edits, a session is that of one run of the script with the accepted edits applied.
 pub fn edits_answer_as_one_run()
     ensures script { (first last : Holding) (steps : Answered) → Leads first steps last → last.script ≡ after first.script steps }
     ensures run { (first last : Holding) (steps : Answered) → IsOneRun first → Leads first steps last → IsOneRun last }
@@ -28,64 +27,63 @@ pub fn edits_answer_as_one_run()
     ensures mismatches { (first last : Holding) (steps : Answered) → IsOneRun first → Leads first steps last → last.mismatches ≡ mismatches (after first.script steps) }
 {}
 
-/// A rewritten script reads, where the outputs can be expected at all, as the one that accepting them makes, and as no
-/// other. It has no mismatches.
+/// If the outputs can be expected, the rewritten script reads as the script that accepts them, and only as that. It has no
+/// mismatches.
 pub fn rewritten_scripts_match()
     ensures reads { (s new : PlainScript) → edited s edits.Accept (outputs s) ≡ Ok new → IsScript new → Reads (rewritten s) new }
     ensures once { (s new t : PlainScript) → edited s edits.Accept (outputs s) ≡ Ok new → IsScript new → Reads (rewritten s) t → (t ≡ new) × (mismatches t ≡ []) }
 {}
 
-/// A session that was turned into a script shows what one shows that was started with it: nothing is left of the scripts before.
-pub fn turned_sessions_show_a_fresh_start()
-    ensures { (old turned started : Holding) (script : PlainScript) (changed : Changed) → IsTurned old script changed turned → IsOneRun started → started.script ≡ script → shown turned ≡ shown started }
+/// A session whose script was replaced shows what a session shows that was started with that script.
+pub fn replaced_sessions_show_a_fresh_start()
+    ensures { (old replaced started : Holding) (script : PlainScript) (changed : Changed) → IsReplaced old script changed replaced → IsOneRun started → started.script ≡ script → shown replaced ≡ shown started }
 {}
 
-/// What an accepted edit changes of a session's script is a change, so that the laws below hold of it. At most one block goes,
-/// at most one comes, and all others stay.
+/// An accepted edit is a change, so the laws below hold for it. At most one block is removed, at most one is added, and all others
+/// stay.
 pub fn edits_are_changes()
     ensures change { (h : Holding) (edit : Edit) (new : PlainScript) → IsOneRun h → edited h.script edit (outputs h.script) ≡ Ok new → IfSome (change_of h new edit) IsChange }
     ensures one { (h : Holding) (edit : Edit) (new : PlainScript) → IsOneRun h → edited h.script edit (outputs h.script) ≡ Ok new → IfSome (change_of h new edit) IsOneBlock }
 {}
 
-/// What differs between a session's script and another is a change too, and there is one such change: one longest rest, and one
-/// longest front before it. So a turn has at most one cost.
-pub fn turns_are_changes()
+/// The difference between a session's script and another is a change, and it is unique: the longest rest, and the longest front
+/// before it. So a replacement has at most one cost.
+pub fn replacements_are_changes()
     ensures change { (h : Holding) (new : PlainScript) (splice : Splice) → IsOneRun h → IsLongestSplice (directives h.script) (directives new) splice → IsChange (change_by h new splice) }
     ensures once { (old new : List PlainDirective) (a b : Splice) → IsLongestSplice old new a → IsLongestSplice old new b → a ≡ b }
-    ensures cost { (h : Holding) (new : PlainScript) (m n : ℕ) → IsTurnCost h new m → IsTurnCost h new n → m ≡ n }
+    ensures cost { (h : Holding) (new : PlainScript) (m n : ℕ) → IsReplacementCost h new m → IsReplacementCost h new n → m ≡ n }
 {}
 
-/// Turning a session into a script of the same directives executes nothing, whatever they are expected to give.
+/// Replacing a script by one with the same directives executes nothing.
 pub fn expectations_cost_nothing()
-    ensures { (h : Holding) (new : PlainScript) (n : ℕ) → IsOneRun h → directives new ≡ directives h.script → IsTurnCost h new n → n ≡ 0 }
+    ensures { (h : Holding) (new : PlainScript) (n : ℕ) → IsOneRun h → directives new ≡ directives h.script → IsReplacementCost h new n → n ≡ 0 }
 {}
 
-/// There is at most one cost of a change.
+/// A change has at most one cost.
 pub fn cost_is_one()
     ensures { (c : Change) (m n : ℕ) → IsCost c m → IsCost c n → m ≡ n }
 {}
 
-/// A change executes less than the directives after the common front, and the spacing.
+/// A change executes fewer directives than those after the common front plus the checkpoint interval.
 pub fn cost_is_bounded()
-    ensures { (c : Change) (n : ℕ) → IsChange c → IsCost c n → n + c.front + 1 ≤ length c.new.blocks + c.spacing }
+    ensures { (c : Change) (n : ℕ) → IsChange c → IsCost c n → n + c.front + 1 ≤ length c.new.blocks + c.checkpoint_interval }
 {}
 
-/// Where the clusters agree as the rest begins, one of an edit executes less than twice the spacing, and any less than that and
-/// what stands between front and rest.
+/// If the clusters are equal where the rest begins, an edit executes fewer directives than twice the checkpoint interval. For
+/// others add the directives between front and rest.
 pub fn cost_is_small()
-    ensures one { (c : Change) (n : ℕ) → IsChange c → IsOneBlock c → IsCost c n → state c.new c.new_rest ≡ state c.old c.old_rest → n + 1 ≤ 2 * c.spacing }
-    ensures any { (c : Change) (n : ℕ) → IsChange c → IsCost c n → state c.new c.new_rest ≡ state c.old c.old_rest → n + c.front + 2 ≤ 2 * c.spacing + c.new_rest }
+    ensures one { (c : Change) (n : ℕ) → IsChange c → IsOneBlock c → IsCost c n → state c.new c.new_rest ≡ state c.old c.old_rest → n + 1 ≤ 2 * c.checkpoint_interval }
+    ensures any { (c : Change) (n : ℕ) → IsChange c → IsCost c n → state c.new c.new_rest ≡ state c.old c.old_rest → n + c.front + 2 ≤ 2 * c.checkpoint_interval + c.new_rest }
 {}
 
-/// The points before thinning are ascending, and are those up to the start, those on the way from it up
-/// to the stop, and from a meeting on those of the old script.
+/// The points before thinning ascend. They are those up to the start, those on the way to the stop, and from a meeting on those of
+/// the old script.
 pub fn points_are_members()
     ensures ascending { (c : Change) (meeting : Option ℕ) → IsChange c → IsFirstMeeting c meeting → IsRising 0 (points_before c meeting) }
     ensures members { (c : Change) (meeting : Option ℕ) (p : ℕ) → IsChange c → IsFirstMeeting c meeting → Contains (points_before c meeting) p ↔ IsPointBefore c meeting p }
 {}
 
-/// There is a first kept point, and it is 0; neighbours are at most the spacing apart, and less than the spacing follows
-/// the last.
+/// The first checkpoint is 0. Neighbours are at most the checkpoint interval apart, and fewer directives than that follow the last.
 pub fn points_are_near()
     ensures some { (K n : ℕ) (points : List ℕ) → AreKept K n points → 0 < length points }
     ensures first { (K n : ℕ) (points : List ℕ) → AreKept K n points → slice_index points 0 ≡ 0 }
@@ -95,7 +93,7 @@ pub fn points_are_near()
     ensures within { (K n : ℕ) (points : List ℕ) → AreKept K n points → slice_index points (length points - 1) ≤ n }
 {}
 
-/// There are few kept points.
+/// There are few checkpoints.
 pub fn points_are_few()
     ensures { (K n : ℕ) (points : List ℕ) → AreKept K n points → length points ≤ 2 * (n / (K + 1)) + 2 }
 {}

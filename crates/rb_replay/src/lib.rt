@@ -1,12 +1,12 @@
-//! A session keeps a script's outputs while the script is edited.
+//! A session: a script with its outputs, which stay up to date while the script is edited.
 //!
-//! [`Session::start`] reads a script and runs it whole on a [`Machine`](rb_machine::Machine). An edit
-//! then runs only what it has to: from the last cluster that was kept before the change, up to where the
-//! old clusters are met again. [`Session::turn_into`] does the same for another script. What a session answers is always
-//! what one run of its script from the empty cluster gives.
+//! [`Session::start`] reads a script and runs it on a [`Machine`](rb_machine::Machine). An edit reruns only from the last checkpoint
+//! before the change to the first checkpoint where the cluster is the same as before. [`Session::replace_script`] does the same for
+//! another script. A session's answers are always those of one run of its script from the empty cluster.
 #![tactic(auto)]
 
 mod blocks;
+mod checkpoint_interval;
 mod differing;
 mod edit;
 mod expectations;
@@ -17,21 +17,22 @@ mod outputs;
 mod points;
 mod prepare;
 mod ready;
+mod replace_script;
 mod report;
 mod run;
 mod same;
 mod session;
-mod spacing;
 mod splice;
 mod start;
-mod turn;
 
+pub use checkpoint_interval::{
+    MAX_CHECKPOINT_INTERVAL, checkpoint_interval_limit_is, is_checkpoint_interval,
+};
 pub use fault::StartFault;
 pub use laws::{
     cost_is_bounded, cost_is_one, cost_is_small, edits_answer_as_one_run, edits_are_changes,
     expectations_cost_nothing, points_are_few, points_are_members, points_are_near,
-    rewritten_scripts_match, turned_sessions_show_a_fresh_start, turns_are_changes,
+    replaced_sessions_show_a_fresh_start, replacements_are_changes, rewritten_scripts_match,
 };
 pub use outputs::Outputs;
 pub use session::{Changed, Session};
-pub use spacing::{MAX_SPACING, is_spacing, spacing_limit_is};

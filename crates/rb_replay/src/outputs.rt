@@ -1,15 +1,15 @@
-//! What directives printed.
+//! The outputs of directives.
 
-use rb_script::{Grouped, Lines};
+use rb_script::{ChunkedList, Lines};
 use std::alloc::{AllocError, Global};
 use std::marker::Model;
 use std::rc::Rc;
 
-/// What directives printed, one after another.
+/// A list of outputs, built one by one.
 #[derive(Drop)]
 pub struct Outputs {
     pub(crate) alloc: Global,
-    // to be shared
+    // shared with sessions
     pub(crate) shared: Vec<Rc<Lines>>,
 }
 
@@ -26,7 +26,7 @@ impl Model for Outputs {
 impl Outputs {
     ghost use Rattle.std.specs.Prelude.{◌≡◌, ◌∷◌, [], ◌++◌, OnOk, IfOk};
 
-    /// None.
+    /// Makes an empty list.
     pub fn new(alloc: Global) -> Outputs
         ensures { result ≡ [] }
     {
@@ -36,17 +36,17 @@ impl Outputs {
         }
     }
 
-    /// Adds the next one.
+    /// Appends an output.
     pub fn push(&mut self, output: Lines) -> Result<(), AllocError>
         ensures { OnOk result (self.new ≡ self.old ++ output ∷ []) }
     {
         self.shared.push(Rc::new(self.alloc, output)?)?;
         Ok(())
     }
-    /// The list of them.
-    pub(crate) fn grouped(self) -> Result<Grouped<Lines>, AllocError>
+    /// Makes a list in chunks.
+    pub(crate) fn chunked(self) -> Result<ChunkedList<Lines>, AllocError>
         ensures { IfOk result (λ list. list ≡ self) }
     {
-        Grouped::of(self.alloc, self.shared)
+        ChunkedList::of(self.alloc, self.shared)
     }
 }

@@ -1,4 +1,4 @@
-//! The plain work on points, and on what is kept at them.
+//! Lists of points and of their clusters.
 
 ghost use Rattle.std.specs.Prelude.{◌≡◌, ◌+◌, ◌-◌, ◌<◌, ◌≤◌, ℕ, ◌++◌, length, take, drop, filter, map, nat_lt, nat_le, vec_len, vec_capacity, slice_index, IfOk, All};
 ghost use Rattle.rb_script.specs.declared.limits.TheConstants.{MAX_DIRECTIVES};
@@ -9,7 +9,7 @@ ghost use Rattle.rb_replay.specs.Splices.{IsNext};
 use crate::splice::Splice;
 use std::alloc::{AllocError, Global};
 
-/// How many of the points are below the bound.
+/// Counts the points below the bound.
 pub(crate) fn count_below(points: &[usize], bound: usize) -> usize
     requires { IsRising 0 points.now }
     ensures next { IsNext points.now bound result }
@@ -29,7 +29,7 @@ pub(crate) fn count_below(points: &[usize], bound: usize) -> usize
     low
 }
 
-/// Where the greatest point that is at most `front` stands among the points.
+/// Finds the index of the greatest point that is at most `front`.
 pub(crate) fn find_start(points: &[usize], front: usize) -> usize
     requires rising { IsRising 0 points.now }
     requires some { 0 < length points.now }
@@ -41,8 +41,8 @@ pub(crate) fn find_start(points: &[usize], front: usize) -> usize
     count_below(points, front + 1) - 1
 }
 
-/// Splices out the items from `from` to `to`.
-fn taken_out<T: Drop>(items: &mut Vec<T>, from: usize, to: usize)
+/// Removes the items from `from` to `to`.
+fn remove_range<T: Drop>(items: &mut Vec<T>, from: usize, to: usize)
     requires order { from ≤ to }
     requires within { to ≤ vec_len items.old }
     ensures items { items.new.items ≡ take from items.old.items ++ drop to items.old.items }
@@ -53,8 +53,8 @@ fn taken_out<T: Drop>(items: &mut Vec<T>, from: usize, to: usize)
     items.truncate(left);
 }
 
-/// Puts the fresh items in before the one at `at`. It takes no memory.
-fn put_in<T: Drop>(items: &mut Vec<T>, at: usize, fresh: &mut Vec<T>)
+/// Inserts the fresh items before the one at `at`. Allocates nothing.
+fn insert_at<T: Drop>(items: &mut Vec<T>, at: usize, fresh: &mut Vec<T>)
     requires within { at ≤ vec_len items.old }
     requires room { vec_len items.old + vec_len fresh.old ≤ vec_capacity items.old }
     ensures { items.new.items ≡ take at items.old.items ++ (fresh.old.items ++ drop at items.old.items) }
@@ -64,8 +64,8 @@ fn put_in<T: Drop>(items: &mut Vec<T>, at: usize, fresh: &mut Vec<T>)
     items[at..].rotate_right(count);
 }
 
-/// So many items from `from` on and the first of the fresh ones change places.
-fn exchange<T: Drop>(items: &mut Vec<T>, from: usize, count: usize, fresh: &mut Vec<T>)
+/// Swaps `count` items from `from` on with the first fresh ones.
+fn swap_range<T: Drop>(items: &mut Vec<T>, from: usize, count: usize, fresh: &mut Vec<T>)
     requires within { from + count ≤ vec_len items.old }
     requires few { count ≤ vec_len fresh.old }
     ensures items { items.new.items ≡ take from items.old.items ++ (take count fresh.old.items ++ drop (from + count) items.old.items) }
@@ -77,28 +77,28 @@ fn exchange<T: Drop>(items: &mut Vec<T>, from: usize, count: usize, fresh: &mut 
     items[from..from + count].swap_with_slice(&mut fresh[0..count]);
 }
 
-/// Puts the fresh items in place of those from `from` to `to`. It takes no memory: what follows them is never set aside. As many as
-/// both have change places, so that what follows is moved once, past those that are left over, and stays where it is where none are.
-pub(crate) fn put_between<T: Drop>(items: &mut Vec<T>, from: usize, to: usize, fresh: &mut Vec<T>)
+/// Replaces the items from `from` to `to` by the fresh ones. Allocates nothing. Items are swapped as far as both have them, so the
+/// items after them move at most once.
+pub(crate) fn replace_range<T: Drop>(items: &mut Vec<T>, from: usize, to: usize, fresh: &mut Vec<T>)
     requires order { from ≤ to }
     requires within { to ≤ vec_len items.old }
     requires room { vec_len items.old + vec_len fresh.old ≤ vec_capacity items.old }
     ensures { items.new.items ≡ take from items.old.items ++ (fresh.old.items ++ drop to items.old.items) }
 {
     let count = fresh.len().min(to - from);
-    exchange(items, from, count, fresh);
+    swap_range(items, from, count, fresh);
     if from + count < to {
-        taken_out(items, from + count, to);
+        remove_range(items, from + count, to);
     } else {
-        taken_out(fresh, 0, count);
-        put_in(items, to, fresh);
+        remove_range(fresh, 0, count);
+        insert_at(items, to, fresh);
     }
 }
 
-/// Thins the points, and drops what is kept at those that go.
-pub(crate) fn thin<M: Drop>(points: &mut Vec<usize>, kept: &mut Vec<M>, spacing: usize)
+/// Thins the points, and drops the clusters of those that are removed.
+pub(crate) fn thin<M: Drop>(points: &mut Vec<usize>, kept: &mut Vec<M>, checkpoint_interval: usize)
     requires { vec_len kept.old ≡ vec_len points.old }
-    ensures points { points.new.items ≡ thin spacing points.old.items }
+    ensures points { points.new.items ≡ thin checkpoint_interval points.old.items }
     ensures kept { (f : M → Cluster) (g : ℕ → Cluster) → map f kept.old.items ≡ map g points.old.items → map f kept.new.items ≡ map g points.new.items }
 {
     if points.len() < 2 {
@@ -106,7 +106,7 @@ pub(crate) fn thin<M: Drop>(points: &mut Vec<usize>, kept: &mut Vec<M>, spacing:
     }
     let mut i = 1;
     while i + 1 < points.len() {
-        if points[i + 1].saturating_sub(points[i - 1]) <= spacing {
+        if points[i + 1].saturating_sub(points[i - 1]) <= checkpoint_interval {
             points.remove(i);
             let _ = kept.remove(i);
         } else {
@@ -115,7 +115,7 @@ pub(crate) fn thin<M: Drop>(points: &mut Vec<usize>, kept: &mut Vec<M>, spacing:
     }
 }
 
-/// The points of the front, those that were run to, and those of the rest where they stand now.
+/// Concatenates the points of the front, the fresh ones, and those of the rest, which are moved by the splice.
 pub(crate) fn joined(
     alloc: Global,
     front: &[usize],

@@ -1,4 +1,4 @@
-//! Making ready all that is to change, before anything is changed: what is run, and where the old run goes on.
+//! Preparing a change: everything new is made before the session is changed.
 
 use crate::differing::list_differing;
 use crate::points::{count_below, joined};
@@ -7,7 +7,7 @@ use crate::run::Rerun;
 use crate::session::Session;
 use crate::splice::{Common, Splice};
 use rb_machine::{Count, Machine};
-use rb_script::{Grouped, Lines, Script};
+use rb_script::{ChunkedList, Lines, Script};
 use std::alloc::AllocError;
 
 impl<M: Machine> Session<M> {
@@ -17,15 +17,15 @@ impl<M: Machine> Session<M> {
     ghost use Rattle.rb_replay.specs.Report.{mismatches};
     ghost use Rattle.rb_replay.specs.Holding.{Holding};
     ghost use Rattle.rb_replay.specs.Reuse.{change_by, IsChange, StayWhole, IsCost};
-    ghost use Rattle.rb_replay.specs.Splices.{old_stop as old_stop_of, IsRerun, IsRejoin, IsMended, IsReady};
+    ghost use Rattle.rb_replay.specs.Splices.{old_stop as old_stop_of, IsRerun, IsRejoin, IsUpdated, IsReady};
 
-    /// The mismatches of the new script: those of the front stay, the outputs that may have changed, those after `from` up to `to`, are
-    /// compared, and those of the rest move with it.
-    pub(crate) fn mended(
+    /// The mismatches of the new script. Those of the front stay, outputs after `from` and up to `to` are compared, and those of the
+    /// rest are moved.
+    pub(crate) fn new_mismatches(
         &self,
         new: &Script,
         splice: Splice,
-        new_outputs: &Grouped<Lines>,
+        new_outputs: &ChunkedList<Lines>,
         from: usize,
         to: usize,
         old_stop: usize,
@@ -34,7 +34,7 @@ impl<M: Machine> Session<M> {
         requires small { splice.new_rest ≤ MAX_DIRECTIVES }
         requires order { from ≤ to }
         requires there { to ≤ length new_outputs.now }
-        requires mended { IsMended self.now.script new.now splice from (take (to - from) (drop from new_outputs.now)) old_stop }
+        requires new_mismatches { IsUpdated self.now.script new.now splice from (take (to - from) (drop from new_outputs.now)) old_stop }
         ensures { IfOk result (λ v. v.items ≡ mismatches new.now) }
     {
         let fresh = list_differing(self.alloc, new, new_outputs, from, to)?;
@@ -49,14 +49,14 @@ impl<M: Machine> Session<M> {
         )
     }
 
-    /// The mismatches of the new script after a run. Where other lines may be expected of any directive, all outputs are compared.
+    /// The mismatches of the new script after a run. If any expectation may differ, all outputs are compared.
     fn mismatches_after(
         &self,
         new: &Script,
         splice: Splice,
         common: Common,
         run: &Rerun<M>,
-        new_outputs: &Grouped<Lines>,
+        new_outputs: &ChunkedList<Lines>,
         old_stop: usize,
     ) -> Result<Vec<usize>, AllocError>
         requires change { IsChange (change_by self.now new.now splice) }
@@ -69,7 +69,7 @@ impl<M: Machine> Session<M> {
     {
         let running = &run.running;
         match common {
-            Common::Blocks => self.mended(
+            Common::Blocks => self.new_mismatches(
                 new,
                 splice,
                 new_outputs,
@@ -81,8 +81,8 @@ impl<M: Machine> Session<M> {
         }
     }
 
-    /// What stands ready after a run.
-    fn assembled(
+    /// Assembles the new outputs, mismatches and points after a run.
+    fn assemble(
         &self,
         new: &Script,
         splice: Splice,
@@ -98,8 +98,8 @@ impl<M: Machine> Session<M> {
         ensures ready { IfOk result (IsReady M.meaning (change_by self.now new.now splice) self.now.kept) }
         ensures running { IfOk result (λ ready. ready.running ≡ run.running) }
     {
-        // The old outputs before the run, its own, and the old ones behind it.
-        let outputs = self.outputs.with_part(
+        // The old outputs before the run, its own, and the old ones after it.
+        let outputs = self.outputs.splice(
             self.alloc,
             run.running.from,
             &run.running.outputs,
@@ -129,7 +129,7 @@ impl<M: Machine> Session<M> {
         })
     }
 
-    /// Runs what has to be run. It changes nothing but the meter.
+    /// Reruns what changed. Changes nothing but the meter.
     pub(crate) fn prepare(
         &self,
         new: &Script,
@@ -149,26 +149,26 @@ impl<M: Machine> Session<M> {
     {
         let run = self.run_on(new, splice, meter)?;
         let rejoin = self.rejoin(new, splice, &run);
-        self.assembled(new, splice, common, run, rejoin)
+        self.assemble(new, splice, common, run, rejoin)
     }
 }
 
-/// Up to where the old run stays, and from where on it is used again.
+/// Which part of the old run stays, and which is reused, by indices.
 #[derive(Clone, Copy)]
 pub(crate) struct Rejoin {
-    // the old point from which on outputs are used again
+    // outputs are reused from this old point on
     pub(crate) old_stop: usize,
-    // how many of the old points stay, and the index of the first that is used again
+    // the number of old points that stay, and the index of the first one that is reused
     pub(crate) front: usize,
     pub(crate) rest: usize,
 }
 
-/// Where the old run goes on, in old points.
+/// Where the old run continues, by old points.
 #[derive(Clone, Copy)]
 struct Bounds {
-    // from here on the old run is used again
+    // the old run is reused from here on
     old_stop: usize,
-    // what is below stays
+    // points below this one stay
     front: usize,
 }
 
@@ -179,7 +179,7 @@ impl<M: Machine> Session<M> {
     ghost use Rattle.rb_replay.specs.Reuse.{change_by, IsChange};
     ghost use Rattle.rb_replay.specs.Splices.{old_stop, front_bound, IsRerun, IsRejoin};
 
-    /// Where the old run goes on.
+    /// Finds where the old run continues.
     fn bounds(&self, new: &Script, splice: Splice, run: &Rerun<M>) -> Bounds
         requires change { IsChange (change_by self.now new.now splice) }
         requires few { length new.now.blocks ≤ MAX_DIRECTIVES }
@@ -200,7 +200,7 @@ impl<M: Machine> Session<M> {
         }
     }
 
-    /// The same by the indices of the points.
+    /// Finds the same by indices of points.
     pub(crate) fn rejoin(&self, new: &Script, splice: Splice, run: &Rerun<M>) -> Rejoin
         requires change { IsChange (change_by self.now new.now splice) }
         requires few { length new.now.blocks ≤ MAX_DIRECTIVES }

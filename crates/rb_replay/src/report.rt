@@ -23,7 +23,7 @@ fn put_marked<'p, S: Sink>(sink: &mut S, mark: &'p [u8], lines: &'p Lines) -> Re
     Ok(())
 }
 
-/// Writes where a mismatch is.
+/// Writes the place of a mismatch.
 fn put_place<S: Sink>(sink: &mut S, place: usize) -> Result<(), WriteFault>
     ensures wrote { Writes result (S.held sink.old) (S.held sink.new) (line_text (mismatch_line place)) }
     ensures all { S.takes_all sink.old → IsOk result × S.takes_all sink.new }
@@ -36,7 +36,7 @@ fn put_place<S: Sink>(sink: &mut S, place: usize) -> Result<(), WriteFault>
     put_pieces(sink, &line)
 }
 
-/// Writes a mismatch: where it is, what was expected, and the output.
+/// Writes a mismatch: its place, the expected lines, and the output.
 fn put_mismatch<S: Sink>(
     sink: &mut S,
     place: usize,
@@ -51,7 +51,7 @@ fn put_mismatch<S: Sink>(
     put_marked(sink, b"+ ", output)
 }
 
-/// Writes how many directives and mismatches there are.
+/// Writes the numbers of directives and mismatches.
 fn put_total<S: Sink>(sink: &mut S, directives: usize, mismatches: usize) -> Result<(), WriteFault>
     ensures wrote { Writes result (S.held sink.old) (S.held sink.new) (line_text (total_line directives mismatches)) }
     ensures all { S.takes_all sink.old → IsOk result × S.takes_all sink.new }
@@ -76,8 +76,8 @@ impl<M: Machine> Session<M> {
     ghost use Rattle.rb_replay.specs.Report.{report, rewritten, mismatch_lines};
     ghost use Rattle.rb_replay.specs.Holding.{Holding};
 
-    /// Writes each mismatch, and how many directives and mismatches there are. Takes no memory. On a
-    /// failure what went out is a beginning of the text.
+    /// Writes each mismatch, and the numbers of directives and mismatches. Allocates nothing. After a failure a beginning of the text is
+    /// written.
     pub fn write_report<S: Sink>(&self, sink: &mut S) -> Result<(), WriteFault>
         ensures wrote { Writes result (S.held sink.old) (S.held sink.new) (report self.now.script) }
         ensures all { S.takes_all sink.old → IsOk result × S.takes_all sink.new }
@@ -88,7 +88,7 @@ impl<M: Machine> Session<M> {
         put_total(sink, self.script.len(), self.mismatches.len())
     }
 
-    /// Writes the script. Takes no memory. On a failure what went out is a beginning of the text.
+    /// Writes the script. Allocates nothing. After a failure a beginning of the text is written.
     pub fn write_script<S: Sink>(&self, sink: &mut S) -> Result<(), WriteFault>
         ensures wrote { Writes result (S.held sink.old) (S.held sink.new) (text self.now.script) }
         ensures all { S.takes_all sink.old → IsOk result × S.takes_all sink.new }
@@ -96,8 +96,7 @@ impl<M: Machine> Session<M> {
         self.script.write_to(sink)
     }
 
-    /// Writes the script with its outputs in place of its expectations. Takes no memory. On a failure
-    /// what went out is a beginning of the text.
+    /// Writes the script with its outputs as expectations. Allocates nothing. After a failure a beginning of the text is written.
     pub fn write_rewritten<S: Sink>(&self, sink: &mut S) -> Result<(), WriteFault>
         ensures wrote { Writes result (S.held sink.old) (S.held sink.new) (rewritten self.now.script) }
         ensures all { S.takes_all sink.old → IsOk result × S.takes_all sink.new }

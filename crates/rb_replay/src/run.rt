@@ -1,4 +1,4 @@
-//! A run of a script under way, and an edited script that is run on from a kept cluster.
+//! Running a script, and rerunning a changed script from a checkpoint.
 
 ghost use Rattle.std.specs.Prelude.{◌≡◌, ◌+◌, ◌<◌, ◌≤◌, ◌^◌, ℕ, [], length, IfOk, OnOk, ◌-◌, map, IsTrue, false, Contains, slice_index};
 ghost use Rattle.rb_script.specs.declared.limits.TheConstants.{MAX_DIRECTIVES};
@@ -18,62 +18,62 @@ use rb_script::{Lines, Script};
 use std::alloc::{AllocError, Global};
 use std::rc::Rc;
 
-/// What a run of a script from a point on has brought so far.
+/// The results so far of a run from a point on.
 #[derive(Drop)]
 pub(crate) struct Run<M> {
     pub(crate) alloc: Global,
-    // to be shared
+    // shared with the session
     pub(crate) outputs: Vec<Rc<Lines>>,
-    // the points at which the machine was kept on the way, and what was kept
+    // the checkpoints on the way: their points, and their machines
     pub(crate) points: Vec<usize>,
     pub(crate) kept: Vec<M>,
-    pub(crate) spacing: usize,
-    // the point that it began at, and the one that it has come to
+    pub(crate) checkpoint_interval: usize,
+    // the points where it began, and where it is
     pub(crate) from: usize,
     pub(crate) at: usize,
-    // how many directives are to run before the machine is kept again
-    pub(crate) due: usize,
+    // the number of directives until the next checkpoint
+    pub(crate) until_checkpoint: usize,
 }
 
 impl<M: Machine> Run<M> {
-    /// Nothing has run yet.
-    pub(crate) fn new(alloc: Global, spacing: usize, from: usize) -> Run<M>
+    /// Starts a run.
+    pub(crate) fn new(alloc: Global, checkpoint_interval: usize, from: usize) -> Run<M>
         ensures outputs { result.outputs.items ≡ [] }
         ensures points { result.points.items ≡ [] }
         ensures kept { result.kept.items ≡ [] }
-        ensures spacing { result.spacing ≡ spacing }
+        ensures checkpoint_interval { result.checkpoint_interval ≡ checkpoint_interval }
         ensures from { result.from ≡ from }
         ensures at { result.at ≡ from }
-        ensures due { result.due ≡ spacing }
+        ensures until_checkpoint { result.until_checkpoint ≡ checkpoint_interval }
     {
         Run {
             alloc,
             outputs: Vec::new(alloc),
             points: Vec::new(alloc),
             kept: Vec::new(alloc),
-            spacing,
+            checkpoint_interval,
             from,
             at: from,
-            due: spacing,
+            until_checkpoint: checkpoint_interval,
         }
     }
 
-    /// Keeps the machine if its point is due.
-    pub(crate) fn keep_due(&mut self, machine: &M) -> Result<(), AllocError>
-        requires spaced { 1 ≤ self.old.spacing }
+    /// Retains a checkpoint after each checkpoint interval.
+    pub(crate) fn retain_checkpoint(&mut self, machine: &M) -> Result<(), AllocError>
+        requires spaced { 1 ≤ self.old.checkpoint_interval }
         requires paced { PacedAt self.old }
         ensures paced { OnOk result (PacedOn self.new) }
         ensures run { (s : PlainScript) → HasRun M.meaning s self.old → M.meaning machine.now ≡ state s self.old.at → OnOk result (HasRun M.meaning s self.new) }
-        ensures spacing { self.new.spacing ≡ self.old.spacing }
+        ensures checkpoint_interval { self.new.checkpoint_interval ≡ self.old.checkpoint_interval }
         ensures from { self.new.from ≡ self.old.from }
         ensures at { self.new.at ≡ self.old.at }
     {
-        if self.due > 0 {
+        if self.until_checkpoint > 0 {
             return Ok(());
         }
         self.kept.push(machine.try_copy()?)?;
         self.points.push(self.at)?;
-        self.due = self.spacing;
+        self.until_checkpoint = self.checkpoint_interval;
         Ok(())
     }
 
@@ -93,7 +93,7 @@ impl<M: Machine> Run<M> {
         ensures run { OnOk result (HasRun M.meaning script.now self.new) }
         ensures paced { OnOk result (PacedAt self.new) }
         ensures machine { IfOk result (λ next. M.meaning next ≡ state script.now self.new.at) }
-        ensures spacing { self.new.spacing ≡ self.old.spacing }
+        ensures checkpoint_interval { self.new.checkpoint_interval ≡ self.old.checkpoint_interval }
         ensures from { self.new.from ≡ self.old.from }
         ensures at { OnOk result (self.new.at ≡ self.old.at + 1) }
         ensures counted { M.Meter.count_of meter.new ≡ M.Meter.count_of meter.old + 1 }
@@ -102,19 +102,19 @@ impl<M: Machine> Run<M> {
         let (next, lines) = machine.run(block.directive(), meter)?;
         self.outputs.push(Rc::new(self.alloc, lines)?)?;
         self.at += 1;
-        self.due -= 1;
+        self.until_checkpoint -= 1;
         Ok(next)
     }
 }
 
-/// What was run, and where the old clusters were met, if they were.
+/// A rerun, and the point where it met an old cluster, if it did.
 #[derive(Drop)]
 pub(crate) struct Rerun<M> {
     pub(crate) running: Run<M>,
     pub(crate) met: Option<usize>,
 }
 
-/// Whether something is kept at the point. The index is that of the point, or of the next one that is kept.
+/// Whether there is a checkpoint at the point. The index is its own, or that of the next checkpoint.
 fn is_kept(points: &[usize], index: usize, point: usize) -> bool
     requires rising { IsRising 0 points.now }
     requires next { IsNext points.now point index }
@@ -127,8 +127,8 @@ fn is_kept(points: &[usize], index: usize, point: usize) -> bool
     }
 }
 
-/// Whether the machine's cluster is the one that is kept for this place of the new script. Where it is
-/// not, the index moves on to the next point.
+/// Whether the machine's cluster equals the old checkpoint for this point of the new script. If it doesn't, the index moves on to the
+/// next checkpoint.
 fn meets<M: Machine>(
     splice: Splice,
     points: &[usize],
@@ -165,8 +165,8 @@ impl<M: Machine> Session<M> {
     ghost use Rattle.rb_replay.specs.Reuse.{change_by, IsChange, IsCost};
     ghost use Rattle.rb_replay.specs.Splices.{IsRerun};
 
-    /// The last kept cluster before the change, and its point.
-    fn last_kept(&self, front: usize) -> Result<(usize, M), AllocError>
+    /// Copies the last checkpoint before the change, with its point.
+    fn last_checkpoint(&self, front: usize) -> Result<(usize, M), AllocError>
         requires { front ≤ MAX_DIRECTIVES }
         ensures point { IfOk result (λ found. found.0 ≡ last_up_to front self.now.points) }
         ensures machine { IfOk result (λ found. M.meaning found.1 ≡ state self.now.script found.0) }
@@ -176,7 +176,7 @@ impl<M: Machine> Session<M> {
         Ok((self.points[index], machine))
     }
 
-    /// Runs the new script on from the last kept cluster, up to where the old ones are met or to its end.
+    /// Reruns the new script from the last checkpoint to the first equal one, or to its end.
     pub(crate) fn run_on(
         &self,
         new: &Script,
@@ -192,8 +192,8 @@ impl<M: Machine> Session<M> {
         ensures least { M.Meter.count_of meter.old ≤ M.Meter.count_of meter.new }
         ensures most { M.Meter.count_of meter.new ≤ M.Meter.count_of meter.old + length new.now.blocks }
     {
-        let (from, mut machine) = self.last_kept(splice.front)?;
-        let mut running = Run::new(self.alloc, self.spacing, from);
+        let (from, mut machine) = self.last_checkpoint(splice.front)?;
+        let mut running = Run::new(self.alloc, self.checkpoint_interval, from);
         let mut index = count_below(&self.points, splice.old_rest);
         'steps: while !meets(
             splice,
@@ -203,7 +203,7 @@ impl<M: Machine> Session<M> {
             &machine,
             running.at,
         ) {
-            running.keep_due(&machine)?;
+            running.retain_checkpoint(&machine)?;
             if running.at == new.len() {
                 return Ok(Rerun { running, met: None });
             }

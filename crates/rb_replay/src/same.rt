@@ -1,4 +1,4 @@
-//! Whether two blocks have the same directive, which is all that a run reads of a block.
+//! Comparing the directives of blocks. A run reads nothing else of a block.
 
 ghost use Rattle.std.specs.Prelude.{◌≡◌, ◌<◌, ◌↔◌, IsTrue, length};
 ghost use Rattle.rb_script.specs.Directive.{plain_argument};
@@ -7,9 +7,8 @@ ghost use Rattle.rb_script.specs.Heads.{directive_of};
 
 use rb_script::{Block, DirectiveRef};
 
-/// Whether the blocks have the same directive, whatever else stands in them: their name, their arguments and their input
-/// lines are the same.
-pub(crate) fn runs_the_same(a: &Block, b: &Block) -> bool
+/// Compares the directives of two blocks: their names, arguments and input lines.
+pub(crate) fn has_same_directive(a: &Block, b: &Block) -> bool
     ensures { IsTrue result ↔ (directive_of a.now ≡ directive_of b.now) }
 {
     is_same(&a.directive(), &b.directive())

@@ -1,29 +1,29 @@
-//! A session, and what can be read of it.
+//! A session, and reading its state.
 
 use rb_machine::Machine;
-use rb_script::{Block, Grouped, Lines, Script};
+use rb_script::{Block, ChunkedList, Lines, Script};
 use std::alloc::Global;
 use std::marker::Model;
 
-/// A script with what one run of it gives, and clusters of that run.
+/// A script with the outputs of one run, and checkpoints of that run.
 pub struct Session<M: Machine> {
     pub(crate) alloc: Global,
     pub(crate) script: Script,
-    pub(crate) spacing: usize,
-    pub(crate) outputs: Grouped<Lines>,
+    pub(crate) checkpoint_interval: usize,
+    pub(crate) outputs: ChunkedList<Lines>,
     pub(crate) mismatches: Vec<usize>,
-    // where clusters are kept, and those clusters
+    // the checkpoints: their points, and their clusters
     pub(crate) points: Vec<usize>,
     pub(crate) kept: Vec<M>,
 }
 
-// Written out, so that giving one back is a call wherever it is owned, and is proved here alone.
+// Written by hand, so that dropping one is a call for the prover, and is proved only here.
 impl<M: Machine> Drop for Session<M> {
     fn drop(self) {
         let Session {
             alloc: _,
             script: _,
-            spacing: _,
+            checkpoint_interval: _,
             outputs: _,
             mismatches: _,
             points: _,
@@ -38,17 +38,17 @@ impl<M: Machine> Model for Session<M> {
 
     ghost Value = { Holding };
 
-    ghost view = { λ s. record { script = s.script; spacing = s.spacing; outputs = s.outputs; mismatches = s.mismatches.items; points = s.points.items; kept = map M.meaning s.kept.items } };
+    ghost view = { λ s. record { script = s.script; checkpoint_interval = s.checkpoint_interval; outputs = s.outputs; mismatches = s.mismatches.items; points = s.points.items; kept = map M.meaning s.kept.items } };
 
-    ghost invariant = { λ s. IsOneRun (record { script = s.script; spacing = s.spacing; outputs = s.outputs; mismatches = s.mismatches.items; points = s.points.items; kept = map M.meaning s.kept.items }) };
+    ghost invariant = { λ s. IsOneRun (record { script = s.script; checkpoint_interval = s.checkpoint_interval; outputs = s.outputs; mismatches = s.mismatches.items; points = s.points.items; kept = map M.meaning s.kept.items }) };
 }
 
-/// What an edit came to.
+/// The result of an edit.
 #[derive(Clone, Copy, Debug, PartialEq, Eq)]
 pub struct Changed {
-    /// How many directives were executed.
+    /// The number of executed directives.
     pub executed: u64,
-    /// How many mismatches there are now.
+    /// The number of mismatches after it.
     pub mismatches: usize,
 }
 
@@ -58,10 +58,10 @@ impl<M: Machine> Session<M> {
     ghost use Rattle.rb_replay.specs.Run.{at_place, output_at};
     ghost use Rattle.rb_replay.specs.Report.{mismatches};
 
-    /// How many directives the script has.
+    /// The number of directives.
     pub fn len(&self) -> usize
         ensures len { result ≡ length self.now.script.blocks }
-        // All that the session holds is what one run of its script gives.
+        // The session is that of one run of its script.
         ensures fresh { IsOneRun self.now }
     {
         self.script.len()
@@ -74,14 +74,14 @@ impl<M: Machine> Session<M> {
         self.script.is_empty()
     }
 
-    /// The block at a place, which counts from 1.
+    /// The block at a place, counted from 1.
     pub fn block(&self, place: usize) -> Option<&Block>
         ensures { option_copied result ≡ at_place self.now.script.blocks place }
     {
         self.script.block(place)
     }
 
-    /// The output of the directive at a place, which counts from 1.
+    /// The output of the directive at a place, counted from 1.
     pub fn output(&self, place: usize) -> Option<&Lines>
         ensures { option_copied result ≡ output_at self.now.script place }
     {
@@ -91,15 +91,14 @@ impl<M: Machine> Session<M> {
         }
     }
 
-    /// The places where the expectation is not the output, in order.
+    /// The places of mismatches, in order.
     pub fn mismatches(&self) -> &[usize]
         ensures { result.now ≡ mismatches self.now.script }
     {
         self.mismatches.as_slice()
     }
 
-    /// The points at which clusters are kept, in order. Point `i` is the one after the first `i`
-    /// directives.
+    /// The points of the checkpoints, in order. Point `i` is after the first `i` directives.
     pub fn checkpoints(&self) -> &[usize]
         ensures { result.now ≡ self.now.points }
     {

@@ -1,6 +1,6 @@
-//! What an edit, or another script, changes.
+//! The difference between two scripts.
 
-/// Where the common front of two scripts ends, and where their common rest begins in either.
+/// Where the common front of two scripts ends, and where their common rest begins in each.
 #[derive(Clone, Copy)]
 pub(crate) struct Splice {
     pub(crate) front: usize,
@@ -8,19 +8,19 @@ pub(crate) struct Splice {
     pub(crate) new_rest: usize,
 }
 
-/// What front and rest of two scripts have in common.
+/// What the common front and rest contain.
 #[derive(Clone, Copy)]
 pub(crate) enum Common {
-    /// Their blocks, with what is expected of them.
+    /// The same blocks, also with the same expectations.
     Blocks,
-    /// Their directives. Other lines may be expected of any of them.
+    /// The same directives. Expectations may differ.
     Directives,
 }
 
-/// What an edit changes of a run.
+/// The effect of an edit on the run.
 #[derive(Clone, Copy)]
 pub(crate) enum Effect {
-    /// Other directives are run between a front and a rest that stay.
+    /// Other directives run, between a front and a rest that stay.
     Replay(Splice),
     /// The directive at this place expects other lines.
     Expect(usize),

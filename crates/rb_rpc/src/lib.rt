@@ -1,10 +1,10 @@
 //! Messages between an editor and a server: JSON-RPC 2.0 behind heads, as the language server protocol has them.
 //!
 //! A message is fields, an empty line, and a body as long as the fields say. A [`MessageReader`] gives the bodies of what a [`Source`] of
-//! [`rb_line`] gives, one at a time, however the source cuts its bytes; [`framed`] is a body as it goes out. [`read`] is the JSON of a body,
+//! [`rb_text`] gives, one at a time, however the source cuts its bytes; [`framed`] is a body as it goes out. [`read`] is the JSON of a body,
 //! [`incoming_of`] what it says, and [`success`] and [`failure`] are answers. [`text_at`] and its neighbours read what is given to a method.
 //!
-//! [`Source`]: rb_line::Source
+//! [`Source`]: rb_text::Source
 #![tactic(auto)]
 
 mod answer;

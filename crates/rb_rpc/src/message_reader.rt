@@ -5,7 +5,7 @@ ghost use Rattle.std.specs.Io.KnownBytes.{Keeps};
 ghost use Rattle.rb_rpc.specs.Reading.{GivesNext, body_of, end_of, left_of};
 
 use crate::head::{Framed, message_at};
-use rb_line::{InputFault, Source};
+use rb_text::{InputFault, Source};
 use std::alloc::{AllocError, Global};
 
 // How many bytes one call may give.

@@ -22,7 +22,7 @@ use Rattle.rb_script.specs.Marks.{is_space, is_blank}
 use Rattle.rb_script.specs.Runs.{while_of, after_while}
 use Rattle.rb_script.specs.Tokens.{token, line_at, IsPart}
 use Rattle.rb_script.specs.Parsed.{KeepsValues, with_one, ParsesValues, ParsesArgument, ParsesArguments, ParsesHead}
-use Rattle.rb_script.specs.Heads.{head_at, begins_space, ValuesThere, ArgumentThere, list_at, values_at, with_key, behind_key, argument_at, ArgumentsThere, before, then_arguments, arguments_at, HeadThere, named, word_head, few_or}
+use Rattle.rb_script.specs.Heads.{head_at, begins_space, ValuesThere, ArgumentThere, list_at, values_at, with_key, after_key, argument_at, ArgumentsThere, before, then_arguments, arguments_at, HeadThere, named, word_head, few_or}
 use Rattle.rb_script.proofs.ListLaws.{every-append}
 use Rattle.rb_script.proofs.RunLaws.{begins_by, run_parts, run_all, after_stops, while_one, after_one, while_over, after_over, all_wider, after_len, after_shorter}
 use Rattle.rb_script.proofs.TokenLaws.{some_run, begins_at, begins_nowhere, front_cons}
@@ -233,11 +233,11 @@ keeps_token head before found next so_far item value same keeps is part one =
 -- ---- the argument with values
 
 -- with too many values behind a key and its sign there is no argument to keep
-pub values_too_many : (head : List Line) (key : Span) (left bytes next : List ℕ) (b : ℕ) → Some b ≡ slice_get bytes 0 → b ≡ 61 → next ≡ drop 1 bytes → ParsesValues head (Ok None) left (values_at next) → ParsesArgument head (Ok None) left (behind_key (token head key) bytes)
-unfolding behind_key
+pub values_too_many : (head : List Line) (key : Span) (left bytes next : List ℕ) (b : ℕ) → Some b ≡ slice_get bytes 0 → b ≡ 61 → next ≡ drop 1 bytes → ParsesValues head (Ok None) left (values_at next) → ParsesArgument head (Ok None) left (after_key (token head key) bytes)
+unfolding after_key
 values_too_many head key left bytes next b front at61 after gives =
     let e : bytes ≡ 61 ∷ next = front_cons bytes b next front after ∙ ap (λ (x : ℕ). x ∷ next) at61 in
-    (record { key = token head key; has_equals = true; values = gives.0 }, ap (behind_key (token head key)) e ∙ ap (with_key (token head key)) gives.1, gives.2)
+    (record { key = token head key; has_equals = true; values = gives.0 }, ap (after_key (token head key)) e ∙ ap (with_key (token head key)) gives.1, gives.2)
 
 -- ---- the bound on the number of arguments
 

@@ -6,7 +6,7 @@ use Rattle.rb_script.specs.declared.argument.ArgumentSpans.{ArgumentSpans}
 use Rattle.rb_script.specs.Directive.{no_argument, plain_argument}
 use Rattle.rb_script.specs.Tokens.{SpannedArgument, SpannedDirective, argument_of, plain}
 use Rattle.rb_script.specs.Parsed.{spanned, AreParts}
-use Rattle.rb_script.specs.Told.{IsSpanned, no_spans, argument_at}
+use Rattle.rb_script.specs.Spans.{IsSpanned, no_spans, argument_at}
 
 module _ (d : SpannedDirective) (args : List ArgumentSpans) (i : ℕ) (a : ArgumentSpans) (same : map spanned args ≡ d.args) (lt : i < length (plain d).args) (is : a ≡ get_or args i a) where
   within : i < length d.args

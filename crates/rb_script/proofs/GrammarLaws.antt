@@ -11,7 +11,7 @@ use Rattle.rb_script.specs.Script.{PlainBlock}
 use Rattle.rb_script.specs.Joined.{joined}
 use Rattle.rb_script.specs.Runs.{while_of, after_while}
 use Rattle.rb_script.specs.Directive.{PlainArgument, PlainDirective, is_word, is_value, is_inside, is_some_piece, pieces, begins, IsRun, IsArgument, AreArguments, Derives}
-use Rattle.rb_script.specs.Heads.{ArgumentThere, ArgumentsThere, HeadThere, begins_space, ValuesThere, list_at, values_at, with_key, behind_key, argument_at, before, then_arguments, arguments_at, named, word_head, head_at, with_inputs, directive_of}
+use Rattle.rb_script.specs.Heads.{ArgumentThere, ArgumentsThere, HeadThere, begins_space, ValuesThere, list_at, values_at, with_key, after_key, argument_at, before, then_arguments, arguments_at, named, word_head, head_at, with_inputs, directive_of}
 use Rattle.rb_script.specs.Valid.{IsBlock}
 use Rattle.rb_script.proofs.RunLaws.{begins_by, run_parts, run_all, run_of, after_run, begins_wider}
 use Rattle.rb_script.proofs.TokenLaws.{some_run}
@@ -123,16 +123,16 @@ begins_no x [] value ends = refl
 begins_no x (b ∷ bytes) value ends = ne_eqb b x (λ e. both_ways (is_value b) ends (ap is_value e ∙ value))
 
 -- the key is the run at the front
-key_read : (key rest : List ℕ) → IsRun is_word key → begins_by is_word rest ≡ false → argument_at (key ++ rest) ≡ behind_key key rest
+key_read : (key rest : List ℕ) → IsRun is_word key → begins_by is_word rest ≡ false → argument_at (key ++ rest) ≡ after_key key rest
 unfolding argument_at
 key_read key rest word ends =
-    let read = λ (k : List ℕ) (after : List ℕ). cond (is_some_piece k) (behind_key k after) None in
+    let read = λ (k : List ℕ) (after : List ℕ). cond (is_some_piece k) (after_key k after) None in
     ap (λ k. read k (after_while is_word (key ++ rest))) (run_of is_word key rest word.all ends) ∙ ap (read key) (after_run is_word key rest word.all ends)
-    ∙ ap (λ t. cond t (behind_key key rest) None) (run_some is_word key word)
+    ∙ ap (λ t. cond t (after_key key rest) None) (run_some is_word key word)
 
 -- a key with no sign behind it is an argument
-alone_read : (key rest : List ℕ) → begins_by is_value rest ≡ false → behind_key key rest ≡ Some (record { key = key; has_equals = false; values = [] }, rest)
-unfolding behind_key
+alone_read : (key rest : List ℕ) → begins_by is_value rest ≡ false → after_key key rest ≡ Some (record { key = key; has_equals = false; values = [] }, rest)
+unfolding after_key
 alone_read key rest ends =
     ap (λ t. cond t (with_key key (values_at (drop 1 rest))) (Some (record { key = key; has_equals = false; values = [] }, rest))) (begins_no 61 rest refl ends)
 
@@ -142,8 +142,8 @@ unopened_before [] rest unopened ends = begins_no 40 rest refl ends
 unopened_before (b ∷ value) rest unopened ends = unopened
 
 -- a value is read up to its end
-value_read : (key value rest : List ℕ) → list_all is_value value ≡ true → begins 40 value ≡ false → begins_by is_value rest ≡ false → behind_key key (61 ∷ (value ++ rest)) ≡ Some (record { key = key; has_equals = true; values = value ∷ [] }, rest)
-unfolding behind_key values_at
+value_read : (key value rest : List ℕ) → list_all is_value value ≡ true → begins 40 value ≡ false → begins_by is_value rest ≡ false → after_key key (61 ∷ (value ++ rest)) ≡ Some (record { key = key; has_equals = true; values = value ∷ [] }, rest)
+unfolding after_key values_at
 value_read key value rest bare unopened ends =
     let bytes = value ++ rest in
     let read : List ℕ → List ℕ → ValuesThere = λ v after. Some (v ∷ [], after) in
@@ -151,8 +151,8 @@ value_read key value rest bare unopened ends =
     ∙ ap (λ v. with_key key (read v (after_while is_value bytes))) (run_of is_value value rest bare ends) ∙ ap (λ after. with_key key (read value after)) (after_run is_value value rest bare ends)
 
 -- a list is read up to its parenthesis
-list_read : (key inside rest : List ℕ) → list_all is_inside inside ≡ true → behind_key key (61 ∷ 40 ∷ (inside ++ 41 ∷ rest)) ≡ Some (record { key = key; has_equals = true; values = pieces inside }, rest)
-unfolding behind_key values_at list_at
+list_read : (key inside rest : List ℕ) → list_all is_inside inside ≡ true → after_key key (61 ∷ 40 ∷ (inside ++ 41 ∷ rest)) ≡ Some (record { key = key; has_equals = true; values = pieces inside }, rest)
+unfolding after_key values_at list_at
 list_read key inside rest flat =
     let bytes = inside ++ 41 ∷ rest in
     let read : List ℕ → List ℕ → ValuesThere = λ vs after. cond (begins 41 after) (Some (pieces vs, drop 1 after)) None in

@@ -28,7 +28,7 @@ pub mod SentLaws
 pub mod WriteLaws
 pub mod LengthLaws
 pub mod SharedLaws
-pub mod GroupLaws
+pub mod ChunkLaws
 pub mod EditedLaws
 pub mod LinePartLaws
 pub mod EndLaws

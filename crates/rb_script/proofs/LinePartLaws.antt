@@ -4,7 +4,7 @@ use Rattle.std.specs.Prelude.{◌==◌}
 use Rattle.std.proofs.lemmas.Bool.{cases_Bool, and_parts, or_cases, eqb-true}
 use Rattle.std.proofs.lemmas.List.{take-append-drop, append-nil}
 use Rattle.rb_script.specs.Lines.{Line}
-use Rattle.rb_script.specs.Marks.{is_space, is_blank, without_front, is_empty_or_comment, is_lead, rule, is_rule, is_separator, continues}
+use Rattle.rb_script.specs.Marks.{is_space, is_blank, trim_blanks, is_empty_or_comment, is_lead, rule, is_rule, is_separator, continues}
 use Rattle.rb_script.specs.Joined.{body, joined}
 use Rattle.rb_script.specs.LineParts.{AreBlanks, IsComment, IsRuleWithin, AsksForNext}
 use Rattle.rb_script.specs.Runs.{while_of}
@@ -39,11 +39,11 @@ blanks_complete line h = all_pass is_space (λ (b : ℕ). (b ≡ 32) ⊎ (b ≡ 
 -- ---- what stands before the first byte that is no blank
 
 -- blanks at the front are gone
-front_gone : (blanks rest : Line) → AreBlanks blanks → without_front (blanks ++ rest) ≡ without_front rest
+front_gone : (blanks rest : Line) → AreBlanks blanks → trim_blanks (blanks ++ rest) ≡ trim_blanks rest
 front_gone blanks rest h = front_is (blanks ++ rest) ∙ after_over is_space blanks rest (blanks_complete blanks h) ∙ sym (front_is rest)
 
 -- each line is blanks and what is left
-front_parts : (line : Line) → line ≡ while_of is_space line ++ without_front line
+front_parts : (line : Line) → line ≡ while_of is_space line ++ trim_blanks line
 front_parts line = sym (ap (λ (l : Line). while_of is_space line ++ l) (front_is line) ∙ run_parts is_space line)
 
 front_blank : (line : Line) → AreBlanks (while_of is_space line)
@@ -61,16 +61,16 @@ pub lead_sound : (line : Line) → is_lead line ≡ true → AreBlanks line ⊎ 
 unfolding is_lead
 lead_sound line h =
     let blanks = while_of is_space line in
-    elim (first_sound (without_front line) h) [
+    elim (first_sound (trim_blanks line) h) [
       | inl none ↦ inl (subst AreBlanks (sym (front_parts line ∙ ap (λ (l : Line). blanks ++ l) none ∙ append-nil blanks)) (front_blank line))
       | inr x ↦ inr (record { blanks = blanks; text = x.0; parts = front_parts line ∙ ap (λ (l : Line). blanks ++ l) x.1; blank = front_blank line })
     ]
 
 -- and the other way round
 pub lead_complete : (line : Line) → AreBlanks line ⊎ IsComment line → is_lead line ≡ true
-unfolding is_lead without_front
+unfolding is_lead trim_blanks
 lead_complete line (inl blank) = ap is_empty_or_comment (front_is line ∙ (run_whole is_space line (blanks_complete line blank)).1)
-lead_complete line (inr c) = ap (λ (l : Line). is_empty_or_comment (without_front l)) c.parts ∙ ap is_empty_or_comment (front_gone c.blanks (35 ∷ c.text) c.blank)
+lead_complete line (inr c) = ap (λ (l : Line). is_empty_or_comment (trim_blanks l)) c.parts ∙ ap is_empty_or_comment (front_gone c.blanks (35 ∷ c.text) c.blank)
 
 -- ---- the line ----
 
@@ -83,7 +83,7 @@ rule_passes line e = ap is_rule e
 pub separator_sound : (line : Line) → is_separator line ≡ true → IsRuleWithin line
 unfolding is_separator
 separator_sound line h =
-    let rest = without_front line in
+    let rest = trim_blanks line in
     let p = and_parts (is_rule (take 4 rest)) (is_blank (drop 4 rest)) h in
     record {
       before = while_of is_space line;
@@ -94,7 +94,7 @@ separator_sound line h =
 
 -- and the other way round
 pub separator_complete : (line : Line) → IsRuleWithin line → is_separator line ≡ true
-unfolding is_separator is_rule without_front
+unfolding is_separator is_rule trim_blanks
 separator_complete line s =
     ap is_separator s.parts ∙ ap (λ (l : Line). is_rule (take 4 l) && is_blank (drop 4 l)) (front_gone s.before (rule ++ s.after) s.blank.0) ∙ blanks_complete s.after s.blank.1
 

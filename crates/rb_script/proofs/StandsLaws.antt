@@ -4,7 +4,7 @@ use Rattle.std.specs.Prelude.{Some, None}
 use Rattle.std.proofs.lemmas.Bool.{eqb-true}
 use Rattle.rb_script.specs.Runs.{while_of, after_while}
 use Rattle.rb_script.specs.Directive.{PlainArgument, is_word, is_value, is_inside, is_some_piece, pieces, begins, IsRun, IsArgument}
-use Rattle.rb_script.specs.Heads.{ArgumentThere, list_at, values_at, with_key, behind_key, argument_at}
+use Rattle.rb_script.specs.Heads.{ArgumentThere, list_at, values_at, with_key, after_key, argument_at}
 use Rattle.rb_script.proofs.RunLaws.{begins_by, run_parts, run_all}
 use Rattle.rb_script.proofs.TokenLaws.{some_run}
 
@@ -77,8 +77,8 @@ stands_values key bytes word =
     ] refl
 
 -- after a key stands its sign, or the argument ends
-stands_behind : (key bytes : List ℕ) → IsRun is_word key → Stands (key ++ bytes) (behind_key key bytes)
-unfolding behind_key
+stands_behind : (key bytes : List ℕ) → IsRun is_word key → Stands (key ++ bytes) (after_key key bytes)
+unfolding after_key
 stands_behind key bytes word =
     let a : PlainArgument = record { key = key; has_equals = false; values = [] } in
     elim (begins 61 bytes) as (λ t. begins 61 bytes ≡ t → Stands (key ++ bytes) (cond t (with_key key (values_at (drop 1 bytes))) (Some (a, bytes)))) [
@@ -94,8 +94,8 @@ unfolding argument_at
 stands bytes =
     let key = while_of is_word bytes in
     let after = after_while is_word bytes in
-    elim (is_some_piece key) as (λ t. is_some_piece key ≡ t → Stands bytes (cond t (behind_key key after) None)) [
-      | true ↦ λ h. subst (λ (l : List ℕ). Stands l (behind_key key after)) (run_parts is_word bytes) (stands_behind key after (run_is is_word bytes (sym (some_run is_word bytes) ∙ h)))
+    elim (is_some_piece key) as (λ t. is_some_piece key ≡ t → Stands bytes (cond t (after_key key after) None)) [
+      | true ↦ λ h. subst (λ (l : List ℕ). Stands l (after_key key after)) (run_parts is_word bytes) (stands_behind key after (run_is is_word bytes (sym (some_run is_word bytes) ∙ h)))
       | false ↦ λ h. tt
     ] refl
 

@@ -4,7 +4,7 @@ use Rattle.std.specs.List.{list_all, flat_map, AllByRecursion}
 use Rattle.std.proofs.lemmas.Bool.{cases_Bool, and_parts, and_from, or_parts, not-true}
 use Rattle.rb_script.specs.declared.limits.TheConstants.{MAX_LINE}
 use Rattle.rb_script.specs.Lines.{Line, in_first, cut, lines, without_returns, text_of}
-use Rattle.rb_script.specs.Marks.{is_blank, is_lead, is_rule, is_separator, rule, without_front}
+use Rattle.rb_script.specs.Marks.{is_blank, is_lead, is_rule, is_separator, rule, trim_blanks}
 use Rattle.rb_script.specs.Script.{PlainBlock, PlainScript, needs_double, shown, block_lines, script_lines, text}
 use Rattle.rb_script.specs.Reads.{begins_rule, ReadsPlain, ReadsDouble, ReadsBlock, ReadsBlocks, Reads}
 use Rattle.rb_script.specs.Valid.{IsLine, IsBlock, IsScript}
@@ -60,7 +60,7 @@ shown_reads e more =
 
 -- the line ---- is a separator
 rule_separates : is_separator rule ≡ true
-unfolding is_separator is_rule without_front
+unfolding is_separator is_rule trim_blanks
 rule_separates = refl
 
 -- the lines of a block read as that block

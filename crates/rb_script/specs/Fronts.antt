@@ -11,7 +11,7 @@ use Rattle.rb_script.specs.Reading.{capped}
 use Rattle.rb_script.specs.Valid.{IsBlock}
 use Rattle.rb_script.specs.Tokens.{SpannedArgument, SpannedDirective, token, argument_of}
 use Rattle.rb_script.specs.Parsed.{spanned}
-use Rattle.rb_script.specs.Told.{IsSpanned}
+use Rattle.rb_script.specs.Spans.{IsSpanned}
 
 -- what stands above an expectation, and where the tokens of its head stand
 pub record PlainFront : Type 0 where

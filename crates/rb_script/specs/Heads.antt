@@ -35,11 +35,11 @@ abbrev pub with_key : List ℕ → ValuesThere → ArgumentThere
 with_key key None = None
 with_key key (Some found) = Some (record { key = key; has_equals = true; values = found.0 }, found.1)
 
-unfoldable pub behind_key : List ℕ → List ℕ → ArgumentThere
-behind_key key bytes = if begins equals_sign bytes then with_key key (values_at (drop 1 bytes)) else Some (record { key = key; has_equals = false; values = [] }, bytes)
+unfoldable pub after_key : List ℕ → List ℕ → ArgumentThere
+after_key key bytes = if begins equals_sign bytes then with_key key (values_at (drop 1 bytes)) else Some (record { key = key; has_equals = false; values = [] }, bytes)
 
 unfoldable pub argument_at : List ℕ → ArgumentThere
-argument_at bytes = if is_some_piece (while_of is_word bytes) then behind_key (while_of is_word bytes) (after_while is_word bytes) else None
+argument_at bytes = if is_some_piece (while_of is_word bytes) then after_key (while_of is_word bytes) (after_while is_word bytes) else None
 
 abbrev pub ArgumentsThere : Type 0
 ArgumentsThere = Option (List PlainArgument)

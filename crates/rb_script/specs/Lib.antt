@@ -3,7 +3,7 @@ pub mod Lines
 pub mod ShortTexts
 pub mod LineTexts
 pub mod Flat
-pub mod Kept
+pub mod LineStorage
 pub mod Marks
 pub mod Script
 pub mod Joined
@@ -25,8 +25,8 @@ pub mod HeadLines
 pub mod Found
 pub mod Parsed
 pub mod Fronts
-pub mod Told
-pub mod Groups
+pub mod Spans
+pub mod Chunks
 pub mod Shared
 pub mod Edits
 pub mod LineParts

@@ -3,6 +3,6 @@ use Rattle.std.specs.Prelude.{List, ℕ}
 use Rattle.rb_script.specs.declared.line_text.TextBytes.{TextBytes}
 use Rattle.rb_script.specs.declared.line_text.TextBytes.TheVariants.{Short, Long}
 
-abbrev pub kept_bytes : TextBytes → List ℕ
-kept_bytes (Short short) = short
-kept_bytes (Long long) = long.items
+abbrev pub stored_bytes : TextBytes → List ℕ
+stored_bytes (Short short) = short
+stored_bytes (Long long) = long.items

@@ -14,16 +14,16 @@ is_space b = b == space || b == tab
 abbrev pub is_blank : Line → Bool
 is_blank line = list_all is_space line
 
-unfoldable pub without_front : Line → Line
-without_front [] = []
-without_front (b ∷ line) = if is_space b then without_front line else b ∷ line
+unfoldable pub trim_blanks : Line → Line
+trim_blanks [] = []
+trim_blanks (b ∷ line) = if is_space b then trim_blanks line else b ∷ line
 
 abbrev pub is_empty_or_comment : Line → Bool
 is_empty_or_comment [] = true
 is_empty_or_comment (b ∷ line) = b == number_sign
 
 unfoldable pub is_lead : Line → Bool
-is_lead line = is_empty_or_comment (without_front line)
+is_lead line = is_empty_or_comment (trim_blanks line)
 
 -- the line ----
 abbrev pub rule : Line
@@ -34,7 +34,7 @@ is_rule line = bytes_eq line rule
 
 -- the line ----, blanks around it allowed
 unfoldable pub is_separator : Line → Bool
-is_separator line = is_rule (take 4 (without_front line)) && is_blank (drop 4 (without_front line))
+is_separator line = is_rule (take 4 (trim_blanks line)) && is_blank (drop 4 (trim_blanks line))
 
 -- the last byte that isn't blank is a backslash
 unfoldable pub continues : Line → Bool

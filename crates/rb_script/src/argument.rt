@@ -4,14 +4,14 @@ use crate::span::Span;
 use std::alloc::{AllocError, Global};
 use std::default::MadeWith;
 
-/// Where the key and the values of an argument stand.
+/// The positions of an argument's key and values.
 pub(crate) struct ArgumentSpans {
     pub(crate) key: Span,
     pub(crate) has_equals: bool,
     pub(crate) values: Vec<Span>,
 }
 
-// Written out, so that giving one back is a call wherever it is owned, and is proved here alone.
+// Written by hand, so that dropping one is a call for the prover, and is proved only here.
 impl Drop for ArgumentSpans {
     fn drop(self) {
         let ArgumentSpans {
@@ -22,7 +22,7 @@ impl Drop for ArgumentSpans {
     }
 }
 
-// What a short list of arguments holds where it has none.
+// Fills the unused places of a short list of arguments.
 impl MadeWith<Global> for ArgumentSpans {
     fn made_with(alloc: Global) -> ArgumentSpans {
         ArgumentSpans {
@@ -37,7 +37,7 @@ impl MadeWith<Global> for ArgumentSpans {
     }
 }
 
-// A clone has values in memory of its own.
+// Clones the values into new memory.
 impl Clone for ArgumentSpans {
     ghost use Rattle.std.specs.Prelude.{◌≡◌};
     ghost use Rattle.rb_script.specs.Parsed.{spanned};

@@ -18,7 +18,7 @@ pub struct Block {
     text_len: usize,
 }
 
-// Written out, so that giving one back is a call wherever it is owned, and is proved here alone.
+// Written by hand, so that dropping one is a call for the prover, and is proved only here.
 impl Drop for Block {
     fn drop(self) {
         let Block {
@@ -53,23 +53,23 @@ impl Block {
     ghost use Rattle.rb_script.specs.Heads.{directive_of};
     ghost use Rattle.rb_script.specs.Reading.{block_of, early_fault, capped};
 
-    /// The block that the bytes are, where no line stands after it. Lines of faults count within the bytes.
+    /// Reads bytes that are one block with no line after it. Faults count lines within the bytes.
     pub fn read(alloc: Global, bytes: &[u8]) -> Result<Block, ScriptFault>
-        // What is read is the one block of the bytes.
+        // The result is the block that the bytes are.
         ensures found { IfOk result (λ b. Reads bytes.now (alone b)) }
-        // The one block of the bytes is read, unless memory runs out.
+        // If the bytes are a block, it is read, unless memory runs out.
         ensures only { (b : PlainBlock) → Reads bytes.now (alone b) → Gives {X = PlainBlock} {Y = PlainBlock} (λ x. x) result (Ok b) }
-        // Where it is a fault, the bytes are not one block, unless memory ran out.
+        // If there is a fault, the bytes are not one block, unless memory ran out.
         ensures refused { IfErr result (λ fault. fault ≢ ScriptFault.OutOfMemory → (b : PlainBlock) → Reads bytes.now (alone b) → ⊥) }
-        // Which fault it is.
+        // Which fault is reported.
         ensures exact { Gives (λ b. b) result (block_of bytes.now) }
-        // These are found before any growth.
+        // Some faults are found before anything is allocated.
         ensures early { IfSome (early_fault bytes.now) (λ fault. result ≡ Err fault) }
     {
         reading::one_block(alloc, bytes)
     }
 
-    // The block of what stands above its expectation, and that.
+    // Makes a block of the lines above its expectation, and the expectation.
     pub(crate) fn new(front: Front, expected: Expected) -> Block
         requires block { IsBlock (block_of_front front expected) }
         requires tokens { HasTokens front }
@@ -83,9 +83,9 @@ impl Block {
         }
     }
 
-    /// The directive. Nothing is copied.
+    /// The directive, without copying.
     pub fn directive(&self) -> DirectiveRef<'_>
-        // It is what the grammar says of the head, with the input.
+        // It is derived from the head by the grammar, with the input.
         ensures whole { plain result ≡ directive_of self.now }
         ensures head { result.head ≡ self.now.head }
     {
@@ -105,7 +105,7 @@ impl Block {
         &self.front
     }
 
-    /// The same block.
+    /// Copies the block.
     pub fn try_copy(&self) -> Result<Block, AllocError>
         ensures { IfOk result (λ copy. copy ≡ self.now) }
     {
@@ -116,7 +116,7 @@ impl Block {
         })
     }
 
-    /// The block with these expected lines in place of its own.
+    /// Copies the block with other expected lines.
     pub(crate) fn with_expected(&self, lines: &Lines) -> Result<Block, AllocError>
         requires { is_expectation lines.now ≡ true }
         ensures { IfOk result (λ b. b ≡ expecting self.now lines.now) }
@@ -125,16 +125,16 @@ impl Block {
         Ok(Block::new(self.front.try_copy()?, expected))
     }
 
-    /// How long the canonical text is.
+    /// The length of the canonical text.
     pub(crate) fn text_len(&self) -> usize
         ensures len { result ≡ capped (length (block_text self.now)) }
-        // It is a valid block.
+        // The block is valid.
         ensures valid { IsBlock self.now }
     {
         self.text_len
     }
 
-    /// How long the canonical text would be with these expected lines.
+    /// The length of the canonical text with other expected lines.
     pub(crate) fn text_len_with(&self, lines: &Lines) -> usize
         ensures { result ≡ capped (length (block_text (expecting self.now lines.now))) }
     {

@@ -1,12 +1,12 @@
-//! A directive, as it stands in a block.
+//! The directive of a block.
 
 use crate::argument::ArgumentSpans;
 use crate::front::Front;
 use crate::span::Span;
 use std::marker::Model;
 
-/// The directive of a block: a name, arguments and input lines. Each name, key and value is a part of one line
-/// of the head. Positions of arguments and values count from 0.
+/// The directive of a block: a name, arguments and input lines. A name, key or value is a slice of one line of the head.
+/// Arguments and values are counted from 0.
 #[derive(Drop)]
 pub struct DirectiveRef<'a> {
     front: &'a Front,
@@ -18,7 +18,7 @@ impl<'a> Model for DirectiveRef<'a> {
     ghost Value = { SpannedDirective };
 
     ghost use Rattle.rb_script.specs.Fronts.{directive_of_front};
-    ghost use Rattle.rb_script.specs.Told.{IsSpanned};
+    ghost use Rattle.rb_script.specs.Spans.{IsSpanned};
 
     ghost view = { λ d. directive_of_front d.front.now };
 
@@ -29,11 +29,11 @@ impl<'a> DirectiveRef<'a> {
     ghost use Rattle.std.specs.Prelude.{◌≡◌, ◌<◌, ◌↔◌, IsTrue, Some, length, slice_get};
     ghost use Rattle.rb_script.specs.Directive.{plain_argument, plain_value};
     ghost use Rattle.rb_script.specs.Tokens.{SpannedDirective, token, plain, argument_of, IsPart};
-    ghost use Rattle.rb_script.specs.Told.{IsSpanned, argument_at, value_span};
+    ghost use Rattle.rb_script.specs.Spans.{IsSpanned, argument_at, value_span};
     ghost use Rattle.rb_script.specs.Parsed.{spanned, AreParts};
     ghost use Rattle.rb_script.specs.Fronts.{directive_of_front};
 
-    // The directive of what stands above an expectation.
+    // The directive of the lines above an expectation.
     pub(crate) fn new(front: &'a Front) -> DirectiveRef<'a>
         requires { IsSpanned (directive_of_front front.now) }
         ensures { result ≡ directive_of_front front.now }
@@ -49,7 +49,7 @@ impl<'a> DirectiveRef<'a> {
         self.text(self.front.name())
     }
 
-    /// How many arguments there are.
+    /// The number of arguments.
     pub fn args(&self) -> usize
         ensures { result ≡ length (plain self.now).args }
     {
@@ -74,7 +74,7 @@ impl<'a> DirectiveRef<'a> {
         self.argument(i).has_equals
     }
 
-    /// How many values argument `i` has: one for `key=value`, any number for `key=(..)`.
+    /// The number of values of argument `i`: one for `key=value`, any number for `key=(..)`.
     pub fn values(&self, i: usize) -> usize
         requires { i < length (plain self.now).args }
         ensures { result ≡ length (plain_argument (plain self.now) i).values }
@@ -93,7 +93,7 @@ impl<'a> DirectiveRef<'a> {
         self.text(self.argument(i).values[j])
     }
 
-    /// How many input lines there are.
+    /// The number of input lines.
     pub fn inputs(&self) -> usize
         ensures { result ≡ length self.now.inputs }
     {
@@ -108,7 +108,7 @@ impl<'a> DirectiveRef<'a> {
         self.front.input_line(i)
     }
 
-    // Where the tokens of argument `i` stand.
+    // The positions of the tokens of argument `i`.
     fn argument(&self, i: usize) -> &'a ArgumentSpans
         requires { i < length (plain self.now).args }
         ensures same { spanned result.now ≡ argument_at self.now i }

@@ -3,21 +3,21 @@
 use crate::block::Block;
 use crate::lines::Lines;
 
-/// An edit. Places count from 1.
+/// An edit. Places are counted from 1.
 pub enum Edit {
-    /// Puts the block in, so that it stands at this place.
+    /// Inserts the block at this place.
     Insert(usize, Block),
-    /// Puts the block in the place of the one there.
+    /// Replaces the block at this place.
     Replace(usize, Block),
-    /// Takes the block out.
+    /// Removes the block at this place.
     Remove(usize),
-    /// Sets the expected lines of the block there.
+    /// Sets the expected lines of the block at this place.
     Expect(usize, Lines),
-    /// Sets every expectation to its output.
+    /// Sets each expectation to the output.
     Accept,
 }
 
-// Written out, so that giving one back is a call wherever it is owned, and is proved here alone.
+// Written by hand, so that dropping one is a call for the prover, and is proved only here.
 impl Drop for Edit {
     fn drop(self) {
         match self {

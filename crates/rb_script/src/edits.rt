@@ -1,4 +1,4 @@
-//! Making an edit of a script.
+//! Applying an edit to a script.
 
 ghost use Rattle.std.specs.Prelude.{◌≡◌, ◌≤◌, ◌==◌, ◌∷◌, ◌++◌, [], true, not, length, take, drop, IfOk, OnOk, option_to_list};
 ghost use Rattle.std.specs.List.{list_all};
@@ -8,9 +8,9 @@ ghost use Rattle.rb_script.specs.Shared.{values};
 ghost use Rattle.rb_script.specs.Edits.{ends_in_return, is_text_line, is_expectation};
 
 use crate::block::Block;
+use crate::chunked_list::ChunkedList;
 use crate::edit::Edit;
 use crate::fault::EditFault;
-use crate::grouped::Grouped;
 use crate::limits::{MAX_DIRECTIVES, MAX_LINE, MAX_SCRIPT};
 use crate::lines::Lines;
 use crate::reading::is_readable;
@@ -18,7 +18,7 @@ use crate::script::Script;
 use std::alloc::{AllocError, Global};
 use std::rc::Rc;
 
-/// Whether no byte ends the line.
+/// Whether the bytes contain no LF.
 fn has_no_end(line: &[u8]) -> bool
     ensures { result ≡ list_all (λ b. not (b == 10)) line.now }
 {
@@ -35,7 +35,7 @@ fn ends_in_return(line: &[u8]) -> bool
     }
 }
 
-/// Whether the line can stand in a script.
+/// Whether a script can contain the line.
 fn is_text_line(line: &[u8]) -> bool
     ensures { result ≡ is_text_line line.now }
 {
@@ -58,7 +58,7 @@ fn is_expectation(lines: &Lines) -> bool
 }
 
 /// Whether each output can be an expectation.
-fn are_expectations(outputs: &Grouped<Lines>) -> bool
+fn are_expectations(outputs: &ChunkedList<Lines>) -> bool
     ensures { result ≡ list_all is_expectation outputs.now }
 {
     for i in 0..outputs.len() {
@@ -78,9 +78,9 @@ impl Script {
     ghost use Rattle.rb_script.specs.Edits.{edited, with_blocks, Makes, Settles};
     ghost use Rattle.rb_script.specs.declared.edit.Edit.TheVariants.{Insert, Replace, Remove, Expect, Accept};
 
-    /// The script that the edit makes. `outputs` has one output a directive; only [`Edit::Accept`] uses them.
-    /// Refusals come in the order of [`EditFault`], and all but want of memory before any growth.
-    pub fn edited(&self, edit: &Edit, outputs: &Grouped<Lines>) -> Result<Script, EditFault>
+    /// Applies the edit. `outputs` has an output for each directive; only [`Edit::Accept`] uses them. The first fault in the
+    /// order of [`EditFault`] is reported. All but `OutOfMemory` are found before anything is allocated.
+    pub fn edited(&self, edit: &Edit, outputs: &ChunkedList<Lines>) -> Result<Script, EditFault>
         requires { length outputs.now ≡ length self.now.blocks }
         ensures exact { Makes result (edited self.now edit.now outputs.now) }
         ensures early { IfErr (edited self.now edit.now outputs.now) (λ fault. result ≡ Err fault) }
@@ -109,7 +109,7 @@ impl Script {
             return Err(EditFault::TooLong);
         }
         let copy = block.try_copy()?;
-        self.with_part(place - 1, Some(copy), place - 1, text_len)
+        self.splice(place - 1, Some(copy), place - 1, text_len)
     }
 
     fn replaced(&self, place: usize, block: &Block) -> Result<Script, EditFault>
@@ -124,7 +124,7 @@ impl Script {
             return Err(EditFault::TooLong);
         }
         let copy = block.try_copy()?;
-        self.with_part(place - 1, Some(copy), place, text_len)
+        self.splice(place - 1, Some(copy), place, text_len)
     }
 
     fn removed(&self, place: usize) -> Result<Script, EditFault>
@@ -134,7 +134,7 @@ impl Script {
             return Err(EditFault::NoSuchPlace);
         };
         let text_len = self.text_len() - old.text_len();
-        self.with_part(place - 1, None, place, text_len)
+        self.splice(place - 1, None, place, text_len)
     }
 
     fn expecting(&self, place: usize, lines: &Lines) -> Result<Script, EditFault>
@@ -152,10 +152,10 @@ impl Script {
             return Err(EditFault::TooLong);
         }
         let block = old.with_expected(lines)?;
-        self.with_part(place - 1, Some(block), place, text_len)
+        self.splice(place - 1, Some(block), place, text_len)
     }
 
-    fn accepting(&self, outputs: &Grouped<Lines>) -> Result<Script, EditFault>
+    fn accepting(&self, outputs: &ChunkedList<Lines>) -> Result<Script, EditFault>
         requires { length outputs.now ≡ length self.now.blocks }
         ensures { Settles result (edited self.now Accept outputs.now) }
     {
@@ -169,17 +169,17 @@ impl Script {
         self.with_outputs(outputs, text_len)
     }
 
-    // How long the canonical text is.
+    // The length of the canonical text.
     fn text_len(&self) -> usize
         ensures len { result ≡ length (text self.now) }
-        // It is a valid script.
+        // The script is valid.
         ensures valid { IsScript self.now }
     {
         self.text_len
     }
 
-    // How long the canonical text would be with these outputs as expectations.
-    fn text_len_with(&self, outputs: &Grouped<Lines>) -> usize
+    // The length of the canonical text with these outputs as expectations.
+    fn text_len_with(&self, outputs: &ChunkedList<Lines>) -> usize
         requires { length outputs.now ≡ length self.now.blocks }
         ensures { result ≡ capped (length (text (with_outputs self.now outputs.now))) }
     {
@@ -192,8 +192,12 @@ impl Script {
         total
     }
 
-    // The script with these outputs as expectations.
-    fn with_outputs(&self, outputs: &Grouped<Lines>, text_len: usize) -> Result<Script, EditFault>
+    // Copies the script with these outputs as expectations.
+    fn with_outputs(
+        &self,
+        outputs: &ChunkedList<Lines>,
+        text_len: usize,
+    ) -> Result<Script, EditFault>
         requires count { length outputs.now ≡ length self.now.blocks }
         requires readable { list_all is_expectation outputs.now ≡ true }
         requires len { text_len ≡ length (text (with_outputs self.now outputs.now)) }
@@ -202,12 +206,12 @@ impl Script {
         ensures err { IfErr result (λ e. e ≡ EditFault.OutOfMemory) }
     {
         let made = all_expecting(self.alloc, &self.blocks, outputs)?;
-        let blocks = Grouped::of(self.alloc, made)?;
+        let blocks = ChunkedList::of(self.alloc, made)?;
         self.with_blocks(blocks, text_len)
     }
 
-    // The script with the new block, if there is one, in place of its blocks from `from` up to `to`.
-    fn with_part(
+    // Replaces the blocks from `from` to `to` by the new block, if there is one.
+    fn splice(
         &self,
         from: usize,
         new: Option<Block>,
@@ -221,12 +225,12 @@ impl Script {
         ensures err { IfErr result (λ e. e ≡ EditFault.OutOfMemory) }
     {
         let new = shared(self.alloc, new)?;
-        let blocks = self.blocks.with_part(self.alloc, from, &new, to)?;
+        let blocks = self.blocks.splice(self.alloc, from, &new, to)?;
         self.with_blocks(blocks, text_len)
     }
 
-    // The script with these blocks in place of its own.
-    fn with_blocks(&self, blocks: Grouped<Block>, text_len: usize) -> Result<Script, EditFault>
+    // Copies the script with other blocks.
+    fn with_blocks(&self, blocks: ChunkedList<Block>, text_len: usize) -> Result<Script, EditFault>
         requires { IsKeptScript (with_blocks self.now blocks) text_len }
         ensures ok { IfOk result (λ s. s ≡ with_blocks self.now blocks) }
         ensures err { IfErr result (λ e. e ≡ EditFault.OutOfMemory) }
@@ -240,7 +244,7 @@ impl Script {
     }
 }
 
-/// The new block, to be shared, if there is one.
+/// Makes the new block shared, if there is one.
 fn shared(alloc: Global, new: Option<Block>) -> Result<Vec<Rc<Block>>, AllocError>
     ensures { IfOk result (λ v. values v.items ≡ option_to_list new) }
 {
@@ -251,11 +255,11 @@ fn shared(alloc: Global, new: Option<Block>) -> Result<Vec<Rc<Block>>, AllocErro
     Ok(pointers)
 }
 
-/// Each block with its output as its expectation. A block that expects its output already is shared.
+/// Makes blocks that expect their outputs. A block that already does is shared.
 fn all_expecting(
     alloc: Global,
-    blocks: &Grouped<Block>,
-    outputs: &Grouped<Lines>,
+    blocks: &ChunkedList<Block>,
+    outputs: &ChunkedList<Lines>,
 ) -> Result<Vec<Rc<Block>>, AllocError>
     requires count { length outputs.now ≡ length blocks.now }
     requires readable { list_all is_expectation outputs.now ≡ true }
@@ -269,7 +273,7 @@ fn all_expecting(
     Ok(made)
 }
 
-/// Adds the block with this output as its expectation.
+/// Appends the block with this output as its expectation.
 fn push_expecting(
     alloc: Global,
     made: &mut Vec<Rc<Block>>,
@@ -283,7 +287,7 @@ fn push_expecting(
     Ok(())
 }
 
-/// The block with this output as its expectation.
+/// Makes the block expect this output. A block that already does is shared.
 fn expecting(alloc: Global, block: &Rc<Block>, output: &Lines) -> Result<Rc<Block>, AllocError>
     requires { is_expectation output.now ≡ true }
     ensures { IfOk result (λ b. b.value ≡ expecting block.now.value output.now) }

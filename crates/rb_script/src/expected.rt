@@ -1,11 +1,11 @@
-//! Expected lines, and the form that shows them.
+//! Expected lines, and their form.
 
 use crate::lines::Lines;
 use crate::reading::is_readable;
 use crate::writing::{form_len, needs_double};
 use std::marker::Model;
 
-/// Expected lines, with whether only the double form can show them: they are looked at for that once.
+/// Expected lines, with the form that they need, so that it is found only once.
 #[derive(Drop)]
 pub(crate) struct Expected {
     lines: Lines,
@@ -30,7 +30,7 @@ impl Expected {
     ghost use Rattle.rb_script.specs.Reads.{is_readable};
     ghost use Rattle.rb_script.specs.Reading.{capped};
 
-    /// These lines, which are looked at.
+    /// Finds the form that these lines need.
     pub(crate) fn new(lines: Lines) -> Expected
         ensures { result ≡ lines }
     {
@@ -38,7 +38,7 @@ impl Expected {
         Expected { lines, is_double }
     }
 
-    /// Whether no line ---- is the last or stands before another. What the plain form can show has none.
+    /// Whether no line ---- is the last one or directly before another. Lines in the plain form contain none.
     #[tactic(auto, using(crate::proofs::ReadingLaws::plain_readable))]
     pub(crate) fn is_readable(&self) -> bool
         ensures { result ≡ is_readable self.now }
@@ -49,7 +49,7 @@ impl Expected {
         is_readable(&self.lines)
     }
 
-    /// How long their text is, with what shows their form.
+    /// The length of their text, with the lines ---- of the double form.
     pub(crate) fn shown_len(&self) -> usize
         ensures { result ≡ capped (length (text_of (shown self.now))) }
     {

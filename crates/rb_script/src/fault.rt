@@ -1,4 +1,4 @@
-//! Why bytes are no script, and why an edit is refused.
+//! Faults of scripts and of edits.
 
 ghost use Rattle.std.specs.Prelude.{◌≡◌};
 ghost use Rattle.rb_script.specs.declared.fault.ScriptFault.TheVariants.{OutOfMemory as ScriptOutOfMemory};
@@ -7,36 +7,36 @@ ghost use Rattle.rb_script.specs.declared.fault.EditFault.TheVariants.{OutOfMemo
 use std::alloc::{AllocError, AllocFailed};
 use thiserror::Error;
 
-/// Why bytes are no script. Lines count from 1.
+/// Why bytes are not a script. Lines are counted from 1.
 #[derive(Clone, Copy, Debug, PartialEq, Eq, Error)]
 pub enum ScriptFault {
-    /// The bytes, or the canonical text, are more than [`crate::MAX_SCRIPT`].
+    /// The bytes or the canonical text are longer than [`crate::MAX_SCRIPT`].
     #[error("the script is too long")]
     TooLong,
     /// This line has more than [`crate::MAX_LINE`] bytes.
     #[error("line {0} is too long")]
     LineTooLong(usize),
-    /// The head that begins at this line is no name and arguments.
+    /// The head that begins at this line is not a name with arguments.
     #[error("line {0} is no directive")]
     BadLine(usize),
     /// No line `----` follows the head that begins at this line.
     #[error("the directive at line {0} has no separator")]
     NoSeparator(usize),
-    /// The expectation below the line `----` at this line is not closed, or a plain one could not be read back:
-    /// a line `----` is its last, or stands before another.
+    /// The expectation below the line `----` at this line is not closed, or it is plain and couldn't be read back:
+    /// its last line is `----`, or two lines `----` are neighbours.
     #[error("the expectation after line {0} is not closed")]
     NotClosed(usize),
     /// There are more than [`crate::MAX_DIRECTIVES`] directives.
     #[error("there are too many directives")]
     TooManyDirectives,
-    /// One block was wanted, and no line after it.
+    /// The bytes are not exactly one block, or lines follow it.
     #[error("this is not one block")]
     NotOneBlock,
     /// The head that begins at this line has more than [`crate::MAX_ARGUMENTS`] arguments, or an argument
     /// with more than [`crate::MAX_VALUES`] values.
     #[error("the directive at line {0} has too many arguments")]
     TooManyArguments(usize),
-    /// Memory was refused.
+    /// There was no memory.
     #[error("out of memory")]
     OutOfMemory,
 }
@@ -60,19 +60,19 @@ impl<T: Drop> From<AllocFailed<T>> for ScriptFault {
 /// Why an edit is refused.
 #[derive(Clone, Copy, Debug, PartialEq, Eq, Error)]
 pub enum EditFault {
-    /// No directive stands, or can be put, at this place.
+    /// There is no directive at this place, or none can be inserted there.
     #[error("there is no such place")]
     NoSuchPlace,
     /// These lines can't be read as an expectation.
     #[error("the expectation can't be read")]
     BadExpectation,
-    /// The script has [`crate::MAX_DIRECTIVES`] directives already.
+    /// The script already has [`crate::MAX_DIRECTIVES`] directives.
     #[error("there are too many directives")]
     TooManyDirectives,
     /// The canonical text would have more than [`crate::MAX_SCRIPT`] bytes.
     #[error("the script is too long")]
     TooLong,
-    /// Memory was refused.
+    /// There was no memory.
     #[error("out of memory")]
     OutOfMemory,
 }

@@ -12,15 +12,15 @@ use smallvec::SmallVec;
 use std::alloc::{AllocError, Global};
 use std::marker::Model;
 
-/// A list of byte lines in memory of its own. A line may hold any bytes.
+/// A list of byte lines that owns its memory. A line may contain any bytes.
 pub(crate) struct FlatLines {
-    // each line, with one LF after it
+    // each line, followed by LF
     text: LineText,
-    // where each line with its LF ends in the text; most lists are short
+    // where each line ends in the text, after its LF; most lists are short
     ends: SmallVec<usize, 4>,
 }
 
-// Written out, so that giving one back is a call wherever it is owned, and is proved here alone.
+// Written by hand, so that dropping one is a call for the prover, and is proved only here.
 impl Drop for FlatLines {
     fn drop(self) {
         let FlatLines { text: _, ends: _ } = self;
@@ -39,7 +39,7 @@ impl Model for FlatLines {
 }
 
 impl FlatLines {
-    /// No lines. Takes no memory.
+    /// Makes an empty list. Allocates nothing.
     pub(crate) fn new(alloc: Global) -> Self
         ensures { result ≡ [] }
     {
@@ -49,7 +49,7 @@ impl FlatLines {
         }
     }
 
-    /// No lines, with room for so many bytes of text.
+    /// Makes an empty list, with room for this many bytes of text.
     fn with_room(alloc: Global, room: usize) -> Result<Self, AllocError>
         ensures { IfOk result (λ all. all ≡ []) }
     {
@@ -59,18 +59,18 @@ impl FlatLines {
         })
     }
 
-    /// The lines of the bytes, without their ends.
+    /// Splits the bytes into lines, without their ends.
     pub(crate) fn of(alloc: Global, bytes: &[u8]) -> Result<Self, AllocError>
         ensures { IfOk result (λ all. all ≡ lines bytes.now) }
     {
-        if is_their_text(bytes) {
+        if is_already_canonical(bytes) {
             FlatLines::of_text(alloc, bytes)
         } else {
             FlatLines::one_by_one(alloc, bytes)
         }
     }
 
-    // The lines of the bytes, which are their text: it is copied at once.
+    // Splits bytes that are already canonical: the text is copied at once.
     fn of_text(alloc: Global, bytes: &[u8]) -> Result<Self, AllocError>
         requires { text_of (lines bytes.now) ≡ bytes.now }
         ensures { IfOk result (λ all. all ≡ lines bytes.now) }
@@ -82,7 +82,7 @@ impl FlatLines {
         })
     }
 
-    // The lines of any bytes. Their text is at most as long as the bytes and the end of a last line without one.
+    // Splits any bytes. Their text is at most one LF longer than the bytes.
     fn one_by_one(alloc: Global, bytes: &[u8]) -> Result<Self, AllocError>
         ensures { IfOk result (λ all. all ≡ lines bytes.now) }
     {
@@ -95,12 +95,12 @@ impl FlatLines {
         Ok(all)
     }
 
-    /// Where the memory is.
+    /// The allocator.
     pub(crate) fn allocator(&self) -> Global {
         self.text.allocator()
     }
 
-    /// Adds a line at the end.
+    /// Appends a line.
     pub(crate) fn push(&mut self, line: &[u8]) -> Result<(), AllocError>
         ensures ok { OnOk result (self.new ≡ self.old ++ line.now ∷ []) }
         ensures err { OnErr result (self.new ≡ self.old) }
@@ -108,21 +108,21 @@ impl FlatLines {
         append_line(&mut self.text, &mut self.ends, line)
     }
 
-    /// Adds a line at the end, which is put together where it stays. Where memory runs out, nothing is known of which lines these are then.
+    /// Appends a line that is written in place. If memory runs out, the contents are unspecified.
     pub(crate) fn push_written<W: WrittenLine>(&mut self, line: &W) -> Result<(), AllocError>
         ensures { OnOk result (self.new ≡ self.old ++ W.bytes line.now ∷ []) }
     {
         write_or_clear(&mut self.text, &mut self.ends, line)
     }
 
-    /// How many lines there are.
+    /// The number of lines.
     pub(crate) fn len(&self) -> usize
         ensures { result ≡ length self.now }
     {
         self.ends.len()
     }
 
-    /// The line at position `i`, which counts from 0, without its end.
+    /// Line `i`, counted from 0, without its end.
     pub(crate) fn line(&self, i: usize) -> &[u8]
         requires { i < length self.now }
         ensures { slice_get self.now i ≡ Some result.now }
@@ -130,21 +130,21 @@ impl FlatLines {
         line_of(self.text.as_slice(), self.ends.as_slice(), i)
     }
 
-    /// The lines as one text, each with one LF.
+    /// The lines as one text, each followed by LF.
     pub(crate) fn text(&self) -> &[u8]
         ensures { result.now ≡ text_of self.now }
     {
         self.text.as_slice()
     }
 
-    /// Where the lines end in their text, and where the first of them begins.
+    /// Where the lines end in their text, and where the first one begins.
     pub(crate) fn ends(&self) -> (&[usize], usize)
         ensures { result.0.now ≡ ends_of result.1 self.now }
     {
         (self.ends.as_slice(), 0)
     }
 
-    /// The same of the lines from one position up to another, in the text of all.
+    /// Where the lines from one position to another end in the whole text, and where the first one begins.
     pub(crate) fn ends_between(&self, from: usize, to: usize) -> (&[usize], usize)
         requires order { from ≤ to }
         requires within { to ≤ length self.now }
@@ -154,7 +154,7 @@ impl FlatLines {
         (&ends[from..to], start_of(ends, from))
     }
 
-    /// The text of the lines from one position up to another.
+    /// The text of the lines from one position to another.
     pub(crate) fn text_between(&self, from: usize, to: usize) -> &[u8]
         requires order { from ≤ to }
         requires within { to ≤ length self.now }
@@ -163,7 +163,7 @@ impl FlatLines {
         text_part(self.text.as_slice(), self.ends.as_slice(), from, to)
     }
 
-    /// The same lines, in memory of their own.
+    /// Copies the lines into new memory.
     pub(crate) fn try_copy(&self) -> Result<FlatLines, AllocError>
         ensures { IfOk result (λ copy. copy ≡ self.now) }
     {
@@ -174,7 +174,7 @@ impl FlatLines {
         })
     }
 
-    /// The lines from one position up to another, in memory of their own.
+    /// Copies the lines from one position to another into new memory.
     pub(crate) fn copy_between(&self, from: usize, to: usize) -> Result<FlatLines, AllocError>
         requires order { from ≤ to }
         requires within { to ≤ length self.now }
@@ -188,7 +188,7 @@ impl FlatLines {
     }
 }
 
-// Whether a carriage return is nowhere in the bytes.
+// Whether the bytes contain no carriage return.
 fn has_no_return(bytes: &[u8]) -> bool
     ensures { IsTrue result → (k : ℕ) → k < length bytes.now → slice_index bytes.now k ≢ 13 }
 {
@@ -198,8 +198,8 @@ fn has_no_return(bytes: &[u8]) -> bool
     }
 }
 
-// Whether the bytes are the text of their lines: each line ends in an LF alone.
-fn is_their_text(bytes: &[u8]) -> bool
+// Whether the bytes are the text of their lines: each line ends with LF, without carriage returns.
+fn is_already_canonical(bytes: &[u8]) -> bool
     ensures { IsTrue result → text_of (lines bytes.now) ≡ bytes.now }
 {
     match bytes.last() {
@@ -208,7 +208,7 @@ fn is_their_text(bytes: &[u8]) -> bool
     }
 }
 
-// Where each line of the bytes, which are their text, ends in it. These are many, so that the list isn't asked with each whether it is short.
+// Finds where each line ends, in bytes that are already canonical. A `Vec` is faster here than a `SmallVec`, since there are many lines.
 fn line_ends(alloc: Global, bytes: &[u8]) -> Result<Vec<usize>, AllocError>
     requires { text_of (lines bytes.now) ≡ bytes.now }
     ensures { IfOk result (λ ends. ends.items ≡ ends_of 0 (lines bytes.now)) }
@@ -224,7 +224,7 @@ fn line_ends(alloc: Global, bytes: &[u8]) -> Result<Vec<usize>, AllocError>
     Ok(ends)
 }
 
-// Adds the line with its LF, and its end. Room comes first, so that a refusal changes nothing.
+// Appends the line with its LF, and its end. Reserves first, so that a failure changes nothing.
 fn append_line(
     text: &mut LineText,
     ends: &mut SmallVec<usize, 4>,
@@ -240,7 +240,7 @@ fn append_line(
     Ok(())
 }
 
-// Writes the line with its LF, and adds its end.
+// Writes the line with its LF, and appends its end.
 fn write_line<W: WrittenLine>(
     text: &mut LineText,
     ends: &mut SmallVec<usize, 4>,
@@ -255,7 +255,7 @@ fn write_line<W: WrittenLine>(
     Ok(())
 }
 
-// Does so, or takes all lines away where a part of this one may be written.
+// Does the same, or clears all lines if only a part of this one was written.
 fn write_or_clear<W: WrittenLine>(
     text: &mut LineText,
     ends: &mut SmallVec<usize, 4>,
@@ -275,7 +275,7 @@ fn write_or_clear<W: WrittenLine>(
     }
 }
 
-// Where a line begins, or behind the last where the next would.
+// Where a line begins, or where the next would after the last.
 fn start_of(ends: &[usize], i: usize) -> usize
     requires { i ≤ length ends.now }
     ensures { result ≡ line_start 0 ends.now i }
@@ -283,7 +283,7 @@ fn start_of(ends: &[usize], i: usize) -> usize
     if i == 0 { 0 } else { ends[i - 1] }
 }
 
-// A line of the text, without its LF.
+// Line `i` of the text, without its LF.
 fn line_of<'a>(text: &'a [u8], ends: &[usize], i: usize) -> &'a [u8]
     requires flat { IsFlat ends.now text.now }
     requires line { i < length ends.now }
@@ -293,7 +293,7 @@ fn line_of<'a>(text: &'a [u8], ends: &[usize], i: usize) -> &'a [u8]
     &whole[..whole.len() - 1]
 }
 
-// The text of the lines from one position up to another.
+// The text of the lines from one position to another.
 fn text_part<'a>(text: &'a [u8], ends: &[usize], from: usize, to: usize) -> &'a [u8]
     requires flat { IsFlat ends.now text.now }
     requires order { from ≤ to }

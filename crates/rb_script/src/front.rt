@@ -1,4 +1,4 @@
-//! What stands above an expectation.
+//! The lines of a block above its expectation.
 
 use crate::argument::ArgumentSpans;
 use crate::marks::RULE_LINE;
@@ -9,14 +9,14 @@ use smallvec::SmallVec;
 use std::alloc::AllocError;
 use std::marker::Model;
 
-/// How long a separator and the empty line after an expectation are.
+/// The length of a separator and of the empty line after an expectation.
 const AROUND_LEN: usize = RULE_LINE.len() + 1;
 
-/// What stands above an expectation: a lead, a head and an input, one behind the other in lines that others share, and where the
-/// tokens of the head stand. A script has fewer lines than a `u32` counts.
+/// The lines of a block above its expectation: lead, head and input, which are consecutive lines of the script, and the spans of
+/// the head's tokens. Line numbers of a script fit in a `u32`.
 pub(crate) struct Front {
     all: SharedLines,
-    // where each of the three begins, and where the last ends
+    // where lead, head and input begin, and where the input ends
     lead: u32,
     head: u32,
     input: u32,
@@ -25,7 +25,7 @@ pub(crate) struct Front {
     args: SmallVec<ArgumentSpans, 1>,
 }
 
-// Written out, so that giving one back is a call wherever it is owned, and is proved here alone.
+// Written by hand, so that dropping one is a call for the prover, and is proved only here.
 impl Drop for Front {
     fn drop(self) {
         let Front {
@@ -59,7 +59,7 @@ impl Front {
     ghost use Rattle.rb_script.specs.Reading.{capped};
     ghost use Rattle.rb_script.specs.Fronts.{front_of, lines_above, front_len};
 
-    /// The lead, the head and the input that begin at these positions of the lines, and the tokens of the head. Nothing is copied.
+    /// Borrows lead, head and input, which begin at these positions of the lines, without copying.
     pub(crate) fn new(
         all: &SharedLines,
         lead: usize,
@@ -86,7 +86,7 @@ impl Front {
         })
     }
 
-    /// The text of the lead, the head and the input, which stand one behind the other.
+    /// The text of lead, head and input.
     pub(crate) fn text(&self) -> &[u8]
         ensures { result.now ≡ text_of (lines_above self.now) }
     {
@@ -101,7 +101,7 @@ impl Front {
         self.all.line(self.head as usize + i)
     }
 
-    /// How many input lines there are.
+    /// The number of input lines.
     pub(crate) fn inputs(&self) -> usize
         ensures { result ≡ length self.now.input }
     {
@@ -116,21 +116,21 @@ impl Front {
         self.all.line(self.input as usize + i)
     }
 
-    /// Where the name stands in the head.
+    /// The span of the name in the head.
     pub(crate) fn name(&self) -> Span
         ensures { result ≡ self.now.name }
     {
         self.name
     }
 
-    /// Where the arguments stand in the head.
+    /// The spans of the arguments in the head.
     pub(crate) fn arguments(&self) -> &[ArgumentSpans]
         ensures { map spanned result.now ≡ self.now.args }
     {
         self.args.as_slice()
     }
 
-    /// The same, with arguments in memory of their own.
+    /// Copies the pointer to the lines, and the spans.
     pub(crate) fn try_copy(&self) -> Result<Front, AllocError>
         ensures { IfOk result (λ copy. copy ≡ self.now) }
     {
@@ -146,7 +146,7 @@ impl Front {
         })
     }
 
-    /// How long the text is without the expectation.
+    /// The length of the block's text without the expectation.
     pub(crate) fn text_len(&self) -> usize
         ensures { result ≡ capped (front_len self.now) }
     {

@@ -1,4 +1,4 @@
-//! A position in a joined head, over its lines.
+//! A cursor over a joined head.
 
 ghost use Rattle.std.specs.Prelude.{◌≡◌, ◌+◌, ◌-◌, ◌<◌, ◌≤◌, ◌++◌, ◌∷◌, ℕ, length, take, drop, slice_get};
 ghost use Rattle.rb_script.specs.Lines.{Line};
@@ -12,23 +12,23 @@ use crate::marks::{before_backslash, is_space};
 use crate::span::Span;
 use std::marker::Model;
 
-/// A class of bytes, by which a head is cut.
+/// Classes of bytes, which separate the tokens of a head.
 #[derive(Clone, Copy)]
 pub(crate) enum ByteClass {
     /// A space or a tab.
     Space,
-    /// What parts the values within parentheses: blanks and commas.
+    /// A separator of values within parentheses: a blank or a comma.
     Gap,
-    /// What a name or a key is made of.
+    /// A byte of a name or a key.
     Word,
-    /// What a value without parentheses is made of.
+    /// A byte of a value without parentheses.
     Value,
-    /// What a value within parentheses is made of.
+    /// A byte of a value within parentheses.
     Piece,
 }
 
 impl ByteClass {
-    /// Whether the byte is of the class.
+    /// Whether the class contains the byte.
     fn has(self, b: u8) -> bool
         ensures { result ≡ is_of self b }
     {
@@ -41,7 +41,7 @@ impl ByteClass {
         }
     }
 
-    /// How many bytes of the class stand at the front.
+    /// Counts the bytes of the class at the front.
     fn run_len(self, bytes: &[u8]) -> usize
         ensures len { result ≤ length bytes.now }
         ensures run { take result bytes.now ≡ while_of (is_of self) bytes.now }
@@ -56,7 +56,7 @@ impl ByteClass {
     }
 }
 
-/// What a line gives to the joined head, and whether the next line follows it.
+/// The piece of the joined head that a line contributes, and whether the next line continues it.
 fn piece_of(head: &LinePart, line: usize) -> (&[u8], bool)
     requires { line < length head.now }
     ensures joined { joined (drop line head.now) ≡ result.0.now ++ behind_piece result.1 (drop (line + 1) head.now) }
@@ -70,7 +70,7 @@ fn piece_of(head: &LinePart, line: usize) -> (&[u8], bool)
     }
 }
 
-/// A position in a joined head: what is left of one line's piece, and the lines after it.
+/// A position in a joined head: the rest of one line's piece, and the lines after it.
 #[derive(Drop)]
 pub(crate) struct HeadCursor<'a> {
     head: &'a LinePart,
@@ -101,7 +101,7 @@ impl<'a> HeadCursor<'a> {
     ghost use Rattle.rb_script.specs.Tokens.{token, IsPart};
     ghost use Rattle.rb_script.specs.ByteClasses.{is_of, IsWithinLine};
 
-    /// The beginning of the joined head.
+    /// Starts at the beginning of the joined head.
     pub(crate) fn new(head: &'a LinePart) -> HeadCursor<'a>
         requires there { 0 < length head.now }
         requires few { length head.now < 2 ^ 32 }
@@ -119,7 +119,7 @@ impl<'a> HeadCursor<'a> {
         }
     }
 
-    /// The next byte. One blank stands between the pieces of two lines.
+    /// The next byte. The pieces of two lines are separated by one blank.
     pub(crate) fn peek(&self) -> Option<u8>
         ensures { result ≡ slice_get self.now.left 0 }
     {
@@ -132,7 +132,7 @@ impl<'a> HeadCursor<'a> {
         }
     }
 
-    /// Goes past the next byte.
+    /// Skips the next byte.
     pub(crate) fn advance(&mut self)
         requires { 0 < length self.old.left }
         ensures left { self.new.left ≡ drop 1 self.old.left }
@@ -155,7 +155,7 @@ impl<'a> HeadCursor<'a> {
         }
     }
 
-    /// Goes past the bytes of the class.
+    /// Skips the bytes of the class.
     pub(crate) fn skip(&mut self, class: ByteClass)
         ensures left { self.new.left ≡ after_while (is_of class) self.old.left }
         ensures head { self.new.head ≡ self.old.head }
@@ -168,8 +168,8 @@ impl<'a> HeadCursor<'a> {
         }
     }
 
-    /// Goes past the bytes of the class, and says where they stand. The space that joins two lines is not of the
-    /// class, so they stand in one line.
+    /// Skips the bytes of the class, and returns their span. The class doesn't contain the space that joins two lines, so the
+    /// span is within one line.
     #[tactic(auto, using(crate::proofs::TokenLaws::line_short))]
     pub(crate) fn take(&mut self, class: ByteClass) -> Span
         requires { IsWithinLine class }

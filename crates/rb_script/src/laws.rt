@@ -1,8 +1,8 @@
-//! What holds of scripts, as laws: each is a call that does nothing, and its contract is what holds.
+//! Laws of scripts. Each is a function with an empty body; its contract is the law.
 //!
-//! The other contracts speak of functions on lists of lines, as `Reading.read_of` and `Edits.edited`, and of the relation
-//! `Reads`. The laws say what those mean, by what lines are made of: which lines are blank, comments, separators or
-//! continued; where an expectation ends; on which lines heads stand; why bytes are refused, and an edit; and that a text reads back.
+//! The other contracts cite functions on lists of lines, such as `Reading.read_of` and `Edits.edited`, and the relation `Reads`.
+//! The laws state what these mean for the bytes of a line: which lines are blank, comments, separators or continued, where an
+//! expectation ends, and on which lines heads are. They also state why bytes and edits are refused, and that a text reads back.
 
 ghost use Rattle.std.specs.Prelude.{◌≡◌, ◌↔◌, ℕ, ◌<◌, ◌⊎◌, true, false, List, [], ◌∷◌, ◌++◌, length, slice_get, slice_index, Some, Ok, Err};
 ghost use Rattle.std.specs.List.{AllByRecursion};
@@ -26,13 +26,13 @@ ghost use Rattle.rb_script.specs.LineParts.{AreBlanks, IsComment, IsRuleWithin, 
 ghost use Rattle.rb_script.specs.Ends.{above, CanBePlain};
 ghost use Rattle.rb_script.specs.Refusals.{CanBeExpected, MayBeMade, made_by, IsEditFault};
 
-/// Blanks are spaces and tabs, and a blank line has nothing else.
+/// Blanks are spaces and tabs. A blank line contains nothing else.
 pub fn blanks_are()
     ensures byte { (b : ℕ) → (is_space b ≡ true) ↔ ((b ≡ space) ⊎ (b ≡ tab)) }
     ensures line { (line : Line) → (is_blank line ≡ true) ↔ AreBlanks line }
 {}
 
-/// A lead line is blank, or blanks and then a number sign.
+/// A lead line is blank, or begins with blanks and a number sign.
 pub fn lead_lines_are()
     ensures { (line : Line) → (is_lead line ≡ true) ↔ (AreBlanks line ⊎ IsComment line) }
 {}
@@ -43,8 +43,8 @@ pub fn separators_are()
     ensures exact { (line : Line) → (is_rule line ≡ true) ↔ (line ≡ rule) }
 {}
 
-/// A head line asks for the next by a backslash, with blanks or nothing behind it. One blank joins them, also where
-/// nothing follows.
+/// A head line is continued by a backslash at its end, with or without blanks after it. One blank joins the lines, even if no
+/// line follows.
 pub fn heads_are_joined()
     ensures asks { (line : Line) → (continues line ≡ true) ↔ AsksForNext line }
     ensures next { (body blanks : Line) (ls : List Line) → AreBlanks blanks → joined ((body ++ backslash ∷ blanks) ∷ ls) ≡ body ++ space ∷ joined ls }
@@ -52,14 +52,14 @@ pub fn heads_are_joined()
     ensures last { (line : Line) → continues line ≡ false → joined (line ∷ []) ≡ line }
 {}
 
-/// A blank line, of blanks too, ends an expectation in the plain form, and so does the end of the lines.
+/// A blank line, or the end of the lines, ends an expectation in the plain form.
 pub fn plain_expectations_end()
     ensures at_blank { (b : PlainBlock) (separator : Line) → IsBlock b → IsRuleWithin separator → (blank : Line) (rest : List Line) → CanBePlain b.expected → AreBlanks blank →
         ReadsBlock (above b separator (b.expected ++ blank ∷ rest)) b rest }
     ensures at_end { (b : PlainBlock) (separator : Line) → IsBlock b → IsRuleWithin separator → CanBePlain b.expected → ReadsBlock (above b separator b.expected) b [] }
 {}
 
-/// Two lines `----` end an expectation in the double form. One blank line behind them is taken.
+/// Two lines `----` end an expectation in the double form. One blank line after them belongs to it.
 pub fn double_expectations_end()
     ensures at_blank { (b : PlainBlock) (separator : Line) → IsBlock b → IsRuleWithin separator → (blank : Line) (rest : List Line) → AreBlanks blank →
         ReadsBlock (above b separator (rule ∷ b.expected ++ rule ∷ rule ∷ blank ∷ rest)) b rest }
@@ -72,14 +72,14 @@ pub fn reads_once()
     ensures { (bytes : List ℕ) (a b : PlainScript) → Reads bytes a → Reads bytes b → a ≡ b }
 {}
 
-/// Why bytes are no script, or no one block: the cause of each fault, and that no fault before it in the order holds.
+/// The cause of each fault of reading. No fault before it in the order holds.
 pub fn faults_are()
     ensures script { (bytes : List ℕ) (fault : ScriptFault) → read_of bytes ≡ Err fault → IsScriptFault bytes fault }
     ensures block { (bytes : List ℕ) (fault : ScriptFault) → block_of bytes ≡ Err fault → IsBlockFault bytes fault }
 {}
 
-/// On the line that is given for a block stands the first line of its head, with the head's other lines below it. The
-/// lines ascend, one a block, and no others are those of the same blocks in the same lines.
+/// The line number of a block is that of the first line of its head, and the head's other lines follow. The numbers ascend, there
+/// is one for each block, and they are unique.
 pub fn head_lines_are()
     ensures stands { (ls : List Line) (bs : List PlainBlock) (ns : List ℕ) → AreHeadLines 1 ls bs ns → (k : ℕ) (b : PlainBlock) → slice_get bs k ≡ Some b → StandsOn ls b.head (slice_index ns k) }
     ensures ascend { (ls : List Line) (bs : List PlainBlock) (ns : List ℕ) → AreHeadLines 1 ls bs ns → (i j : ℕ) → i < j → j < length ns → slice_index ns i < slice_index ns j }
@@ -87,14 +87,14 @@ pub fn head_lines_are()
     ensures once { (ls : List Line) (bs : List PlainBlock) (ns ms : List ℕ) → AreHeadLines 1 ls bs ns → AreHeadLines 1 ls bs ms → ns ≡ ms }
 {}
 
-/// The directive of a valid block is the one that the grammar derives from its head, and no other is.
+/// The directive of a valid block is the only one that the grammar derives from its head.
 pub fn directive_is_derived()
     ensures derived { (b : PlainBlock) → IsBlock b → Derives (joined b.head) (directive_of b).name (directive_of b).args }
     ensures only { (b : PlainBlock) (name : List ℕ) (args : List PlainArgument) → Derives (joined b.head) name args → (name ≡ (directive_of b).name) × (args ≡ (directive_of b).args) }
     ensures inputs { (b : PlainBlock) → (directive_of b).inputs ≡ b.input }
 {}
 
-/// What bytes read as is valid.
+/// A script that is read is valid.
 pub fn read_is_valid()
     ensures { (bytes : List ℕ) (s : PlainScript) → Reads bytes s → IsScript s }
 {}
@@ -104,21 +104,20 @@ pub fn text_reads_back()
     ensures { (s : PlainScript) → IsScript s → Reads (text s) s }
 {}
 
-/// Lines can be expected where each reads as itself, no two neighbours are `----`, and the last is none.
+/// Lines can be expected if each reads as itself, no two neighbours are `----`, and the last one isn't.
 pub fn expectations_are()
     ensures line { (line : Line) → (is_text_line line ≡ true) ↔ IsLine line }
     ensures lines { (ls : List Line) → (is_expectation ls ≡ true) ↔ CanBeExpected ls }
 {}
 
-/// Printable lines that are neither blank nor `----`, and no longer than a line may be, can be expected, in the plain
-/// form: so what is printed can be.
+/// Printable lines that are neither blank nor `----` nor too long can be expected, in the plain form. So whatever directives
+/// print can be expected.
 pub fn solid_lines_can_be_expected()
     ensures expected { (ls : List Line) → AllByRecursion IsSolid ls → is_expectation ls ≡ true }
     ensures plain { (ls : List Line) → AllByRecursion IsSolid ls → needs_double ls ≡ false }
 {}
 
-/// Why an edit is refused: the cause of each fault, and that no fault before it in the order holds. Where it isn't
-/// refused, none of them holds.
+/// The cause of each fault of an edit. No fault before it in the order holds, and none holds for an accepted edit.
 pub fn refusals_are()
     ensures refused { (s : PlainScript) (e : Edit) (outputs : List (List Line)) (fault : EditFault) → edited s e outputs ≡ Err fault → IsEditFault s e outputs fault }
     ensures made { (s : PlainScript) (e : Edit) (outputs : List (List Line)) (t : PlainScript) → edited s e outputs ≡ Ok t → MayBeMade s e outputs × (t ≡ made_by s e outputs) }

@@ -1,14 +1,17 @@
-//! Interaction scripts: read, edited and written.
+//! Reads, edits and writes interaction scripts.
 //!
 //! A script is a list of blocks and a tail of lines. A block is a directive with its expectation: lead lines
 //! (blank lines and comments), the head (a name and arguments), input lines, a line `----`, and the expected
-//! lines. [`Script::read`] reads the bytes of a script, [`Script::edited`] makes an edit of it, and
-//! [`Script::write_to`] writes its canonical text, which reads as the same script. [`ScriptWithLines`] is a script with the
-//! lines of its bytes, and those on which its directives begin.
+//! lines. [`Script::read`] reads the bytes of a script, [`Script::edited`] applies an edit, and
+//! [`Script::write_to`] writes its canonical text, which reads as the same script. [`ScriptWithLines`] is a script with its
+//! lines and the line numbers of its directives.
 #![tactic(auto)]
 
 mod argument;
 mod block;
+mod chunk;
+mod chunk_position;
+mod chunked_list;
 mod directive;
 mod edit;
 mod edits;
@@ -16,8 +19,6 @@ mod expected;
 mod fault;
 mod flat;
 mod front;
-mod group;
-mod grouped;
 mod head_cursor;
 mod laws;
 mod limits;
@@ -25,7 +26,6 @@ mod line_part;
 mod line_text;
 mod lines;
 mod marks;
-mod place;
 mod reading;
 mod script;
 mod shared_lines;
@@ -38,10 +38,10 @@ mod writing;
 mod written_line;
 
 pub use block::Block;
+pub use chunked_list::ChunkedList;
 pub use directive::DirectiveRef;
 pub use edit::Edit;
 pub use fault::{EditFault, ScriptFault};
-pub use grouped::Grouped;
 pub use laws::{
     blanks_are, directive_is_derived, double_expectations_end, expectations_are, faults_are,
     head_lines_are, heads_are_joined, lead_lines_are, plain_expectations_end, read_is_valid,
@@ -50,7 +50,7 @@ pub use laws::{
 pub use limits::{MAX_ARGUMENTS, MAX_DIRECTIVES, MAX_LINE, MAX_SCRIPT, MAX_VALUES, limits_are};
 pub use line_text::LineText;
 pub use lines::{Lines, lines_of, without_returns};
-pub use marks::{continues, is_blank, is_rule, is_separator, is_space, without_front};
+pub use marks::{continues, is_blank, is_rule, is_separator, is_space, trim_blanks};
 pub use script::Script;
 pub use sink::{Sink, Through, WriteFault};
 pub use span::Span;

@@ -1,23 +1,23 @@
-//! How large a script may be.
+//! The limits of a script.
 
 ghost use Rattle.std.specs.Prelude.{◌≡◌};
 
-/// How many bytes a script may have, as read and as canonical text.
+/// The most bytes of a script, as read and as canonical text.
 pub const MAX_SCRIPT: usize = 4_194_304;
 
-/// How many bytes a line may have, without its end.
+/// The most bytes of a line, without its end.
 pub const MAX_LINE: usize = 65_536;
 
-/// How many directives a script may have.
+/// The most directives of a script.
 pub const MAX_DIRECTIVES: usize = 20_000;
 
-/// How many arguments a directive may have.
+/// The most arguments of a directive.
 pub const MAX_ARGUMENTS: usize = 64;
 
-/// How many values an argument may have.
+/// The most values of an argument.
 pub const MAX_VALUES: usize = 64;
 
-/// What the limits are, in numbers: definitions name the constants, and take any value of theirs.
+/// The limits as numbers. Definitions only name the constants.
 pub fn limits_are()
     ensures script { MAX_SCRIPT ≡ 4194304 }
     ensures line { MAX_LINE ≡ 65536 }

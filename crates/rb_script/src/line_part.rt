@@ -1,4 +1,4 @@
-//! A part of lines that others share.
+//! A slice of shared lines.
 
 ghost use Rattle.std.specs.Prelude.{◌≡◌, ◌↔◌, ◌<◌, ◌≤◌, [], length, slice_get, IfOk, IsTrue, Some};
 ghost use Rattle.rb_script.specs.Lines.{text_of};
@@ -9,14 +9,14 @@ use crate::shared_lines::SharedLines;
 use std::alloc::{AllocError, Global};
 use std::marker::Model;
 
-/// The lines from one position up to another. A copy costs a pointer.
+/// Shared lines from one position to another. A copy costs a pointer.
 pub(crate) struct LinePart {
     all: SharedLines,
     from: usize,
     to: usize,
 }
 
-// Written out, so that giving one back is a call wherever it is owned, and is proved here alone.
+// Written by hand, so that dropping one is a call for the prover, and is proved only here.
 impl Drop for LinePart {
     fn drop(self) {
         let LinePart {
@@ -39,7 +39,7 @@ impl Model for LinePart {
 }
 
 impl LinePart {
-    /// All of the lines. Nothing is copied.
+    /// All lines, without copying.
     pub(crate) fn whole(all: SharedLines) -> Self
         ensures { result ≡ all }
     {
@@ -47,7 +47,7 @@ impl LinePart {
         LinePart { all, from: 0, to }
     }
 
-    /// The lines from one position up to another. Nothing is copied.
+    /// Borrows the lines from one position to another, without copying.
     pub(crate) fn new(all: &SharedLines, from: usize, to: usize) -> Result<Self, AllocError>
         requires order { from ≤ to }
         requires within { to ≤ length all.now }
@@ -60,12 +60,12 @@ impl LinePart {
         })
     }
 
-    /// Where the memory is.
+    /// The allocator.
     pub(crate) fn allocator(&self) -> Global {
         self.all.allocator()
     }
 
-    /// How many lines there are.
+    /// The number of lines.
     pub(crate) fn len(&self) -> usize
         ensures { result ≡ length self.now }
     {
@@ -79,7 +79,7 @@ impl LinePart {
         self.len() == 0
     }
 
-    /// The line at position `i`, which counts from 0, without its end.
+    /// Line `i`, counted from 0, without its end.
     pub(crate) fn line(&self, i: usize) -> &[u8]
         requires { i < length self.now }
         ensures { slice_get self.now i ≡ Some result.now }
@@ -87,28 +87,28 @@ impl LinePart {
         self.all.line(self.from + i)
     }
 
-    /// Where the lines end in the text of all, and where the first of them begins.
+    /// Where the lines end in the whole text, and where the first one begins.
     pub(crate) fn ends(&self) -> (&[usize], usize)
         ensures { result.0.now ≡ ends_of result.1 self.now }
     {
         self.all.ends_between(self.from, self.to)
     }
 
-    /// The lines as one text, each with one LF.
+    /// The lines as one text, each followed by LF.
     pub(crate) fn text(&self) -> &[u8]
         ensures { result.now ≡ text_of self.now }
     {
         self.all.text_between(self.from, self.to)
     }
 
-    /// The same lines.
+    /// Copies the pointer to the lines.
     pub(crate) fn try_copy(&self) -> Result<Self, AllocError>
         ensures { IfOk result (λ copy. copy ≡ self.now) }
     {
         LinePart::new(&self.all, self.from, self.to)
     }
 
-    /// The same lines, in memory of their own.
+    /// Copies the lines into new memory.
     pub(crate) fn own(&self) -> Result<FlatLines, AllocError>
         ensures { IfOk result (λ copy. copy ≡ self.now) }
     {

@@ -1,39 +1,39 @@
-//! The text that lines are written into.
+//! A text, into which lines are written.
 
 ghost use Rattle.std.specs.Prelude.{◌≡◌, [], ◌∷◌, ◌++◌, length, OnOk, IfOk, OnErr};
 ghost use Rattle.rb_script.specs.Lines.{line_text};
-ghost use Rattle.rb_script.specs.LineTexts.{kept_bytes};
+ghost use Rattle.rb_script.specs.LineTexts.{stored_bytes};
 
 use crate::short_text::{SHORT, ShortText};
 use std::alloc::{AllocError, Global};
 use std::marker::Model;
 
-// The room of a text that becomes longer: most texts of two or three lines fit in it.
+// The capacity of a text that outgrows its value. Most texts of two or three lines fit in it.
 const ROOM: usize = 104;
 
-/// The text of lines. A short one takes no memory.
+/// The text of lines. A short one needs no allocation.
 pub struct LineText {
     kept: TextBytes,
-    // where memory comes from
+    // the allocator
     alloc: Global,
 }
 
-// Written out, so that giving one back is a call wherever it is owned, and is proved here alone.
+// Written by hand, so that dropping one is a call for the prover, and is proved only here.
 impl Drop for LineText {
     fn drop(self) {
         let LineText { kept: _, alloc: _ } = self;
     }
 }
 
-/// Where the bytes of a text are kept.
+/// The storage of a text.
 pub(crate) enum TextBytes {
     /// In the value itself.
     Short(ShortText),
-    /// In memory of their own.
+    /// On the heap.
     Long(Vec<u8>),
 }
 
-// Written out, so that giving one back is a call wherever it is owned, and is proved here alone.
+// Written by hand, so that dropping one is a call for the prover, and is proved only here.
 impl Drop for TextBytes {
     fn drop(self) {
         match self {
@@ -44,15 +44,15 @@ impl Drop for TextBytes {
 
 impl Model for LineText {
     ghost use Rattle.std.specs.Prelude.{List, ℕ};
-    ghost use Rattle.rb_script.specs.LineTexts.{kept_bytes};
+    ghost use Rattle.rb_script.specs.LineTexts.{stored_bytes};
 
     ghost Value = { List ℕ };
 
-    ghost view = { λ t. kept_bytes t.kept };
+    ghost view = { λ t. stored_bytes t.kept };
 }
 
 impl LineText {
-    /// No bytes. Takes no memory.
+    /// Makes an empty text. Allocates nothing.
     pub(crate) fn new(alloc: Global) -> Self
         ensures { result ≡ [] }
     {
@@ -62,7 +62,7 @@ impl LineText {
         }
     }
 
-    /// No bytes, with room for so many.
+    /// Makes an empty text with room for this many bytes.
     pub(crate) fn with_room(alloc: Global, room: usize) -> Result<Self, AllocError>
         ensures { IfOk result (λ text. text ≡ []) }
     {
@@ -75,7 +75,7 @@ impl LineText {
         })
     }
 
-    /// These bytes.
+    /// Makes a text of these bytes.
     pub(crate) fn of(alloc: Global, bytes: &[u8]) -> Result<Self, AllocError>
         ensures { IfOk result (λ text. text ≡ bytes.now) }
     {
@@ -84,12 +84,12 @@ impl LineText {
         Ok(text)
     }
 
-    /// Where memory comes from.
+    /// The allocator.
     pub(crate) fn allocator(&self) -> Global {
         self.alloc
     }
 
-    /// How many bytes there are.
+    /// The number of bytes.
     #[inline(always)]
     pub fn len(&self) -> usize
         ensures { result ≡ length self.now }
@@ -111,7 +111,7 @@ impl LineText {
         }
     }
 
-    /// Adds a byte at the end.
+    /// Appends a byte.
     #[inline(always)]
     pub fn push(&mut self, byte: u8) -> Result<(), AllocError>
         ensures ok { OnOk result (self.new ≡ self.old ++ byte ∷ []) }
@@ -120,7 +120,7 @@ impl LineText {
         self.kept.push(self.alloc, byte)
     }
 
-    /// Adds bytes at the end.
+    /// Appends bytes.
     #[inline(always)]
     pub fn extend_from_slice(&mut self, bytes: &[u8]) -> Result<(), AllocError>
         ensures ok { OnOk result (self.new ≡ self.old ++ bytes.now) }
@@ -129,7 +129,7 @@ impl LineText {
         self.kept.extend_from_slice(self.alloc, bytes)
     }
 
-    /// Adds a line with its LF at the end.
+    /// Appends a line with its LF.
     pub(crate) fn push_line(&mut self, line: &[u8]) -> Result<(), AllocError>
         ensures ok { OnOk result (self.new ≡ self.old ++ line_text line.now) }
         ensures err { OnErr result (self.new ≡ self.old) }
@@ -137,7 +137,7 @@ impl LineText {
         self.kept.push_line(self.alloc, line)
     }
 
-    /// Takes all bytes away.
+    /// Removes all bytes.
     pub(crate) fn clear(&mut self)
         ensures { self.new ≡ [] }
     {
@@ -148,12 +148,12 @@ impl LineText {
 impl TextBytes {
     ghost use Rattle.std.specs.Prelude.{◌≡◌, [], ◌∷◌, ◌++◌, OnOk, OnErr};
     ghost use Rattle.rb_script.specs.Lines.{line_text};
-    ghost use Rattle.rb_script.specs.LineTexts.{kept_bytes};
+    ghost use Rattle.rb_script.specs.LineTexts.{stored_bytes};
 
     #[inline(always)]
     fn push(&mut self, alloc: Global, byte: u8) -> Result<(), AllocError>
-        ensures ok { OnOk result (kept_bytes self.new ≡ kept_bytes self.old ++ byte ∷ []) }
-        ensures err { OnErr result (kept_bytes self.new ≡ kept_bytes self.old) }
+        ensures ok { OnOk result (stored_bytes self.new ≡ stored_bytes self.old ++ byte ∷ []) }
+        ensures err { OnErr result (stored_bytes self.new ≡ stored_bytes self.old) }
     {
         match self {
             TextBytes::Long(long) => {
@@ -173,8 +173,8 @@ impl TextBytes {
 
     #[inline(always)]
     fn extend_from_slice(&mut self, alloc: Global, bytes: &[u8]) -> Result<(), AllocError>
-        ensures ok { OnOk result (kept_bytes self.new ≡ kept_bytes self.old ++ bytes.now) }
-        ensures err { OnErr result (kept_bytes self.new ≡ kept_bytes self.old) }
+        ensures ok { OnOk result (stored_bytes self.new ≡ stored_bytes self.old ++ bytes.now) }
+        ensures err { OnErr result (stored_bytes self.new ≡ stored_bytes self.old) }
     {
         match self {
             TextBytes::Long(long) => long.extend_from_slice(bytes),
@@ -189,12 +189,12 @@ impl TextBytes {
         }
     }
 
-    // Adds bytes to a text that has no place for them in the value. Few texts come here, and each once.
+    // Appends bytes to a text that has no more room in its value. Few texts need this, each of them once.
     #[cold]
     #[inline(never)]
     fn grow(&mut self, alloc: Global, bytes: &[u8]) -> Result<(), AllocError>
-        ensures ok { OnOk result (kept_bytes self.new ≡ kept_bytes self.old ++ bytes.now) }
-        ensures err { OnErr result (kept_bytes self.new ≡ kept_bytes self.old) }
+        ensures ok { OnOk result (stored_bytes self.new ≡ stored_bytes self.old ++ bytes.now) }
+        ensures err { OnErr result (stored_bytes self.new ≡ stored_bytes self.old) }
     {
         match self {
             TextBytes::Short(short) => {
@@ -206,8 +206,8 @@ impl TextBytes {
     }
 
     fn push_line(&mut self, alloc: Global, line: &[u8]) -> Result<(), AllocError>
-        ensures ok { OnOk result (kept_bytes self.new ≡ kept_bytes self.old ++ line_text line.now) }
-        ensures err { OnErr result (kept_bytes self.new ≡ kept_bytes self.old) }
+        ensures ok { OnOk result (stored_bytes self.new ≡ stored_bytes self.old ++ line_text line.now) }
+        ensures err { OnErr result (stored_bytes self.new ≡ stored_bytes self.old) }
     {
         match self {
             TextBytes::Short(short) => {
@@ -224,7 +224,7 @@ impl TextBytes {
     }
 }
 
-// A text that no longer fits in the value, with more bytes, and room for an LF behind them.
+// Makes a text that no longer fits in the value, with more bytes and room for an LF.
 fn longer(alloc: Global, short: &ShortText, bytes: &[u8]) -> Result<Vec<u8>, AllocError>
     ensures { IfOk result (λ long. long.items ≡ short.now ++ bytes.now) }
 {
@@ -235,7 +235,7 @@ fn longer(alloc: Global, short: &ShortText, bytes: &[u8]) -> Result<Vec<u8>, All
     Ok(long)
 }
 
-// The same, with a line more.
+// Does the same with a line and its LF.
 fn longer_line(alloc: Global, short: &ShortText, line: &[u8]) -> Result<Vec<u8>, AllocError>
     ensures { IfOk result (λ long. long.items ≡ short.now ++ line_text line.now) }
 {
@@ -244,7 +244,7 @@ fn longer_line(alloc: Global, short: &ShortText, line: &[u8]) -> Result<Vec<u8>,
     Ok(long)
 }
 
-// Adds the line with its LF. Room comes first, so that a refusal changes nothing.
+// Appends the line with its LF. Reserves first, so that a failure changes nothing.
 fn add_line(long: &mut Vec<u8>, line: &[u8]) -> Result<(), AllocError>
     ensures ok { OnOk result (long.new.items ≡ long.old.items ++ line_text line.now) }
     ensures err { OnErr result (long.new.items ≡ long.old.items) }

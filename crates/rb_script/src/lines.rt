@@ -1,9 +1,9 @@
-//! Lists of byte lines, and the lines of bytes.
+//! Lists of byte lines, and splitting bytes into lines.
 
 ghost use Rattle.std.specs.Prelude.{◌≡◌, ◌↔◌, ◌+◌, ◌<◌, ◌≤◌, ◌^◌, [], ◌∷◌, ◌++◌, length, slice_get, OnOk, IfOk, OnErr, MatchOption, IfSome, IfNone, IsTrue, Some, ℕ, ◌≢◌, slice_index, vec_capacity};
 ghost use Rattle.rb_script.specs.Lines.{lines, text_of, without_returns};
 ghost use Rattle.rb_script.specs.Flat.{between, ends_of, from_start};
-ghost use Rattle.rb_script.specs.Kept.{kept_lines};
+ghost use Rattle.rb_script.specs.LineStorage.{stored_lines};
 
 use crate::flat::FlatLines;
 use crate::line_part::LinePart;
@@ -13,75 +13,75 @@ use memchr::memchr_iter;
 use std::alloc::{AllocError, Global};
 use std::marker::Model;
 
-/// A list of byte lines. A line may hold any bytes.
+/// A list of byte lines. A line may contain any bytes.
 pub struct Lines {
-    kept: Kept,
+    kept: LineStorage,
 }
 
-// Written out, so that giving one back is a call wherever it is owned, and is proved here alone.
+// Written by hand, so that dropping one is a call for the prover, and is proved only here.
 impl Drop for Lines {
     fn drop(self) {
         let Lines { kept: _ } = self;
     }
 }
 
-/// Where lines are kept.
-pub(crate) enum Kept {
-    /// In memory of their own.
+/// The storage of lines.
+pub(crate) enum LineStorage {
+    /// The list owns its memory.
     Own(FlatLines),
-    /// As a part of lines that others share.
+    /// The list is a slice of shared lines.
     Part(LinePart),
 }
 
-// Written out, so that giving one back is a call wherever it is owned, and is proved here alone.
-impl Drop for Kept {
+// Written by hand, so that dropping one is a call for the prover, and is proved only here.
+impl Drop for LineStorage {
     fn drop(self) {
         match self {
-            Kept::Own(_) | Kept::Part(_) => {}
+            LineStorage::Own(_) | LineStorage::Part(_) => {}
         }
     }
 }
 
 impl Model for Lines {
     ghost use Rattle.std.specs.Prelude.{List, ℕ};
-    ghost use Rattle.rb_script.specs.Kept.{kept_lines};
+    ghost use Rattle.rb_script.specs.LineStorage.{stored_lines};
 
     ghost Value = { List (List ℕ) };
 
-    ghost view = { λ a. kept_lines a.kept };
+    ghost view = { λ a. stored_lines a.kept };
 }
 
 impl Lines {
-    /// No lines. Takes no memory.
+    /// Makes an empty list. Allocates nothing.
     pub fn new(alloc: Global) -> Self
         ensures { result ≡ [] }
     {
         Lines {
-            kept: Kept::Own(FlatLines::new(alloc)),
+            kept: LineStorage::Own(FlatLines::new(alloc)),
         }
     }
 
-    /// All of the lines. Nothing is copied.
+    /// All lines, without copying.
     pub(crate) fn whole(all: SharedLines) -> Self
         ensures { result ≡ all }
     {
         Lines {
-            kept: Kept::Part(LinePart::whole(all)),
+            kept: LineStorage::Part(LinePart::whole(all)),
         }
     }
 
-    /// The lines from one position up to another. Nothing is copied.
+    /// Borrows the lines from one position to another, without copying.
     pub(crate) fn part(all: &SharedLines, from: usize, to: usize) -> Result<Self, AllocError>
         requires order { from ≤ to }
         requires within { to ≤ length all.now }
         ensures { IfOk result (λ part. part ≡ between from to all.now) }
     {
         Ok(Lines {
-            kept: Kept::Part(LinePart::new(all, from, to)?),
+            kept: LineStorage::Part(LinePart::new(all, from, to)?),
         })
     }
 
-    /// Adds a line at the end.
+    /// Appends a line.
     pub fn push(&mut self, line: &[u8]) -> Result<(), AllocError>
         ensures ok { OnOk result (self.new ≡ self.old ++ line.now ∷ []) }
         ensures err { OnErr result (self.new ≡ self.old) }
@@ -89,15 +89,14 @@ impl Lines {
         self.kept.push(line)
     }
 
-    /// Adds a line at the end, which is put together where it stays. Where memory runs out, nothing is known of the lines then: they are only
-    /// good for being dropped.
+    /// Appends a line that is written in place. If memory runs out, the contents are unspecified, and the list should be dropped.
     pub fn push_written<W: WrittenLine>(&mut self, line: &W) -> Result<(), AllocError>
         ensures { OnOk result (self.new ≡ self.old ++ W.bytes line.now ∷ []) }
     {
         self.kept.push_written(line)
     }
 
-    /// An empty text, with room for this many bytes, where the lines have their memory: for a line that is put together of many pieces.
+    /// Makes an empty text with room for this many bytes, for a line of many pieces.
     pub fn new_text(&self, room: usize) -> Result<Vec<u8>, AllocError>
         ensures empty { IfOk result (λ text. text.items ≡ []) }
         ensures room { IfOk result (λ text. room ≤ vec_capacity text) }
@@ -105,13 +104,13 @@ impl Lines {
         Vec::with_capacity(self.allocator(), room)
     }
 
-    /// How many lines there are.
+    /// The number of lines.
     pub fn len(&self) -> usize
         ensures { result ≡ length self.now }
     {
         match &self.kept {
-            Kept::Own(own) => own.len(),
-            Kept::Part(part) => part.len(),
+            LineStorage::Own(own) => own.len(),
+            LineStorage::Part(part) => part.len(),
         }
     }
 
@@ -122,39 +121,39 @@ impl Lines {
         self.len() == 0
     }
 
-    /// The line at position `i`, which counts from 0, without its end.
+    /// Line `i`, counted from 0, without its end.
     pub fn line(&self, i: usize) -> &[u8]
         requires { i < length self.now }
         ensures { slice_get self.now i ≡ Some result.now }
     {
         match &self.kept {
-            Kept::Own(own) => own.line(i),
-            Kept::Part(part) => part.line(i),
+            LineStorage::Own(own) => own.line(i),
+            LineStorage::Part(part) => part.line(i),
         }
     }
 
-    /// The lines as one text, each with one LF.
+    /// The lines as one text, each followed by LF.
     pub fn text(&self) -> &[u8]
         ensures { result.now ≡ text_of self.now }
     {
         match &self.kept {
-            Kept::Own(own) => own.text(),
-            Kept::Part(part) => part.text(),
+            LineStorage::Own(own) => own.text(),
+            LineStorage::Part(part) => part.text(),
         }
     }
 
-    /// The same lines, in memory of their own or shared.
+    /// Copies the lines, or shares them if they are shared.
     pub fn try_copy(&self) -> Result<Lines, AllocError>
         ensures { IfOk result (λ copy. copy ≡ self.now) }
     {
         let kept = match &self.kept {
-            Kept::Own(own) => Kept::Own(own.try_copy()?),
-            Kept::Part(part) => Kept::Part(part.try_copy()?),
+            LineStorage::Own(own) => LineStorage::Own(own.try_copy()?),
+            LineStorage::Part(part) => LineStorage::Part(part.try_copy()?),
         };
         Ok(Lines { kept })
     }
 
-    /// Whether these are the same lines.
+    /// Compares the lines.
     pub fn same(&self, other: &Lines) -> bool
         ensures { IsTrue result ↔ (self.now ≡ other.now) }
     {
@@ -163,59 +162,59 @@ impl Lines {
         are_as_long(ends, start, others, other_start) && is_same(self.text(), other.text())
     }
 
-    // Where the lines end in a text that has them, and where the first of them begins.
+    // Where the lines end in their text, and where the first one begins.
     fn ends(&self) -> (&[usize], usize)
         ensures { result.0.now ≡ ends_of result.1 self.now }
     {
         match &self.kept {
-            Kept::Own(own) => own.ends(),
-            Kept::Part(part) => part.ends(),
+            LineStorage::Own(own) => own.ends(),
+            LineStorage::Part(part) => part.ends(),
         }
     }
 
-    // Where the memory is.
+    // The allocator.
     fn allocator(&self) -> Global {
         match &self.kept {
-            Kept::Own(own) => own.allocator(),
-            Kept::Part(part) => part.allocator(),
+            LineStorage::Own(own) => own.allocator(),
+            LineStorage::Part(part) => part.allocator(),
         }
     }
 }
 
-impl Kept {
+impl LineStorage {
     ghost use Rattle.std.specs.Prelude.{◌≡◌, [], ◌∷◌, ◌++◌, OnOk, OnErr};
-    ghost use Rattle.rb_script.specs.Kept.{kept_lines};
+    ghost use Rattle.rb_script.specs.LineStorage.{stored_lines};
 
-    // Adds a line at the end. Shared lines stay as they are: they are copied first.
+    // Appends a line. Shared lines are copied first.
     fn push(&mut self, line: &[u8]) -> Result<(), AllocError>
-        ensures ok { OnOk result (kept_lines self.new ≡ kept_lines self.old ++ line.now ∷ []) }
-        ensures err { OnErr result (kept_lines self.new ≡ kept_lines self.old) }
+        ensures ok { OnOk result (stored_lines self.new ≡ stored_lines self.old ++ line.now ∷ []) }
+        ensures err { OnErr result (stored_lines self.new ≡ stored_lines self.old) }
     {
         match self {
-            Kept::Own(own) => own.push(line),
-            Kept::Part(part) => {
-                *self = Kept::Own(own_and(part, line)?);
+            LineStorage::Own(own) => own.push(line),
+            LineStorage::Part(part) => {
+                *self = LineStorage::Own(copy_with_line(part, line)?);
                 Ok(())
             }
         }
     }
 
-    // Adds a line at the end, which is put together where it stays.
+    // Appends a line that is written in place.
     fn push_written<W: WrittenLine>(&mut self, line: &W) -> Result<(), AllocError>
-        ensures { OnOk result (kept_lines self.new ≡ kept_lines self.old ++ W.bytes line.now ∷ []) }
+        ensures { OnOk result (stored_lines self.new ≡ stored_lines self.old ++ W.bytes line.now ∷ []) }
     {
         match self {
-            Kept::Own(own) => own.push_written(line),
-            Kept::Part(part) => {
-                *self = Kept::Own(own_with(part, line)?);
+            LineStorage::Own(own) => own.push_written(line),
+            LineStorage::Part(part) => {
+                *self = LineStorage::Own(copy_with_written(part, line)?);
                 Ok(())
             }
         }
     }
 }
 
-// The lines of a part and this one, in memory of their own.
-fn own_and(part: &LinePart, line: &[u8]) -> Result<FlatLines, AllocError>
+// Copies shared lines, and appends this one.
+fn copy_with_line(part: &LinePart, line: &[u8]) -> Result<FlatLines, AllocError>
     ensures { IfOk result (λ own. own ≡ part.now ++ line.now ∷ []) }
 {
     let mut own = part.own()?;
@@ -223,10 +222,10 @@ fn own_and(part: &LinePart, line: &[u8]) -> Result<FlatLines, AllocError>
     Ok(own)
 }
 
-// The same of a line that is put together where it stays. It stands apart, since what a function needs is cleared as it begins: who adds to
-// lines that nobody shares clears nothing of it.
+// Does the same with a line that is written in place. It is a function of its own and not inlined: a function clears its frame when it
+// begins, and a line that is appended to lines of its own shouldn't pay for this one's.
 #[inline(never)]
-fn own_with<W: WrittenLine>(part: &LinePart, line: &W) -> Result<FlatLines, AllocError>
+fn copy_with_written<W: WrittenLine>(part: &LinePart, line: &W) -> Result<FlatLines, AllocError>
     ensures { IfOk result (λ own. own ≡ part.now ++ W.bytes line.now ∷ []) }
 {
     let mut own = part.own()?;
@@ -234,7 +233,7 @@ fn own_with<W: WrittenLine>(part: &LinePart, line: &W) -> Result<FlatLines, Allo
     Ok(own)
 }
 
-// Whether lines that end so are as long as those that end as the others do.
+// Compares the lengths of two lists' lines, by where they end.
 fn are_as_long(ends: &[usize], start: usize, others: &[usize], other_start: usize) -> bool
     ensures { IsTrue result ↔ (from_start start ends.now ≡ from_start other_start others.now) }
 {
@@ -249,14 +248,14 @@ fn are_as_long(ends: &[usize], start: usize, others: &[usize], other_start: usiz
     true
 }
 
-/// Whether the two are the same bytes.
+/// Compares the bytes.
 fn is_same(line: &[u8], other: &[u8]) -> bool
     ensures { IsTrue result ↔ (line.now ≡ other.now) }
 {
     line == other
 }
 
-/// The line without the carriage returns at its end, which belong to the end.
+/// Trims the carriage returns at the end of a line, which belong to the line's end.
 pub fn without_returns(line: &[u8]) -> &[u8]
     ensures value { result.now ≡ without_returns line.now }
     ensures shorter { length result.now ≤ length line.now }
@@ -271,16 +270,16 @@ pub fn without_returns(line: &[u8]) -> &[u8]
     front
 }
 
-/// The lines of the bytes, without their ends.
+/// Splits the bytes into lines, without their ends.
 pub fn lines_of(alloc: Global, bytes: &[u8]) -> Result<Lines, AllocError>
     ensures { IfOk result (λ all. all ≡ lines bytes.now) }
 {
     Ok(Lines {
-        kept: Kept::Own(FlatLines::of(alloc, bytes)?),
+        kept: LineStorage::Own(FlatLines::of(alloc, bytes)?),
     })
 }
 
-/// Where the first line feed stands. It is looked for among the next few bytes first, since most lines are short.
+/// Finds the first LF.
 pub(crate) fn line_feed(bytes: &[u8]) -> Option<usize>
     ensures none { IfNone result ((k : ℕ) → k < length bytes.now → slice_index bytes.now k ≢ 10) }
     ensures found { IfSome result (λ end. (end < length bytes.now) × (slice_index bytes.now end ≡ 10)) }
@@ -290,7 +289,7 @@ pub(crate) fn line_feed(bytes: &[u8]) -> Option<usize>
     feeds.next()
 }
 
-/// The first line of the bytes, and what follows it.
+/// Splits off the first line.
 pub(crate) fn next_line(bytes: &[u8]) -> Option<(&[u8], &[u8])>
     ensures cut { MatchOption result (bytes.now ≡ []) (λ found. lines bytes.now ≡ found.0.now ∷ lines found.1.now) }
     ensures shorter { IfSome result (λ found. length found.1.now < length bytes.now) }

@@ -1,4 +1,4 @@
-//! Reading blocks, from the first line on.
+//! Reading the blocks of a script.
 
 ghost use Rattle.std.specs.Prelude.{◌≡◌, ◌+◌, ◌^◌, ◌<◌, ◌≤◌, ℕ, [], ◌∷◌, ◌++◌, true, false, length, drop, not, slice_index, vec_len, IsTrue, IfOk, IfErr, IfSome, IfNone, MatchOption, None, Ok, Err};
 ghost use Rattle.std.specs.List.{list_all, AllByRecursion};
@@ -18,11 +18,11 @@ ghost use Rattle.rb_script.specs.Shared.{values, parts_view, IsKeptScript};
 ghost use Rattle.rb_script.specs.HeadLines.{AreHeadLines};
 
 use crate::block::Block;
+use crate::chunked_list::ChunkedList;
 use crate::expected::Expected;
 use crate::fault::ScriptFault;
 use crate::flat::FlatLines;
 use crate::front::Front;
-use crate::grouped::Grouped;
 use crate::limits::{MAX_DIRECTIVES, MAX_LINE, MAX_SCRIPT};
 use crate::line_part::LinePart;
 use crate::lines::{Lines, next_line};
@@ -35,9 +35,9 @@ use memchr::memrchr;
 use std::alloc::{AllocError, Global};
 use std::rc::Rc;
 
-// Positions of lines count from 0. Each of these goes from a position on, which may be behind the last line.
+// Lines are counted from 0. Each function reads from a position on, which may be after the last line.
 
-/// Where the run of lines ends: before the first that isn't of it, or behind the last. Each caller names one kind, so each has its own code.
+/// Finds where the run of lines ends. Inlined, so that each kind has its own code.
 #[inline(always)]
 fn run(all: &SharedLines, start: usize, kind: LineKind) -> usize
     requires { start ≤ length all.now }
@@ -51,7 +51,7 @@ fn run(all: &SharedLines, start: usize, kind: LineKind) -> usize
     all.len()
 }
 
-/// Where the first line and those that it asks for end.
+/// Finds where the first line and its continuation lines end.
 fn head(all: &SharedLines, start: usize) -> usize
     requires { start ≤ length all.now }
     ensures order { (start ≤ result) × (result ≤ length all.now) }
@@ -65,7 +65,7 @@ fn head(all: &SharedLines, start: usize) -> usize
     last + 1
 }
 
-/// The position behind a line ----, if one is there.
+/// The position after a line ----, if there is one.
 fn after_rule(all: &SharedLines, at: usize) -> Option<usize>
     requires { at ≤ length all.now }
     ensures none { IfNone result (begins_rule (drop at all.now) ≡ false) }
@@ -79,7 +79,7 @@ fn after_rule(all: &SharedLines, at: usize) -> Option<usize>
     }
 }
 
-/// The position behind a blank line, if one is there.
+/// The position after a blank line, if there is one.
 fn after_blank(all: &SharedLines, at: usize) -> usize
     requires { at ≤ length all.now }
     ensures rest { drop result all.now ≡ after_blank (drop at all.now) }
@@ -92,7 +92,7 @@ fn after_blank(all: &SharedLines, at: usize) -> usize
     }
 }
 
-/// Whether no line ---- is the last or stands before another.
+/// Whether no line ---- is the last one or directly before another.
 pub(crate) fn is_readable(lines: &Lines) -> bool
     ensures { result ≡ is_readable lines.now }
 {
@@ -107,7 +107,7 @@ pub(crate) fn is_readable(lines: &Lines) -> bool
     !after_rule
 }
 
-/// A plain expectation, and the position behind it.
+/// Reads a plain expectation, and returns the position after it.
 fn plain(all: &SharedLines, start: usize) -> Result<Option<(Expected, usize)>, AllocError>
     requires { start ≤ length all.now }
     ensures found { IfOk result (λ found. seen all.now found ≡ plain_at (drop start all.now)) }
@@ -123,7 +123,7 @@ fn plain(all: &SharedLines, start: usize) -> Result<Option<(Expected, usize)>, A
     }
 }
 
-/// Where the first line ---- is that stands before another, and the position behind both.
+/// Finds the first two neighbouring lines ----: the position of the first, and the position after both.
 fn pair(all: &SharedLines, start: usize) -> Option<(usize, usize)>
     requires { start ≤ length all.now }
     ensures found { pair_seen all.now start result ≡ to_pair (drop start all.now) }
@@ -140,7 +140,7 @@ fn pair(all: &SharedLines, start: usize) -> Option<(usize, usize)>
     None
 }
 
-/// An expectation in the double form behind its first line ----, and the position behind it.
+/// Reads an expectation in the double form, after its first line ----, and returns the position after it.
 fn double(all: &SharedLines, start: usize) -> Result<Option<(Expected, usize)>, AllocError>
     requires { start ≤ length all.now }
     ensures found { IfOk result (λ found. seen all.now found ≡ then_blank (to_pair (drop start all.now))) }
@@ -154,7 +154,7 @@ fn double(all: &SharedLines, start: usize) -> Result<Option<(Expected, usize)>, 
     Ok(Some((expected, after_blank(all, after))))
 }
 
-/// The expectation that begins at this position, and the position behind it. Where it isn't closed, the fault has the line before it.
+/// Reads the expectation at this position, and returns the position after it. If it isn't closed, the fault has the line before it.
 #[tactic(auto, unfolding(crate::specs::Expectations::expectation_at))]
 fn expectation(all: &SharedLines, start: usize) -> Result<(Expected, usize), ScriptFault>
     requires { start ≤ length all.now }
@@ -168,7 +168,7 @@ fn expectation(all: &SharedLines, start: usize) -> Result<(Expected, usize), Scr
     found.ok_or(ScriptFault::NotClosed(start))
 }
 
-/// The block whose lead begins at one line and whose head begins at another, and the position behind it.
+/// Reads a block, whose lead begins at `from` and whose head begins at `start`, and returns the position after it.
 fn block(
     alloc: Global,
     all: &SharedLines,
@@ -199,7 +199,7 @@ fn block(
     Ok((block, after))
 }
 
-/// The blocks with the lines on which their heads begin, the tail, and how long the canonical text is.
+/// The blocks, the line numbers of their heads, the tail, and the length of the canonical text.
 #[derive(Drop)]
 struct Parts {
     blocks: Vec<Rc<Block>>,
@@ -208,7 +208,7 @@ struct Parts {
     text_len: usize,
 }
 
-/// The blocks and the tail of the lines.
+/// Reads the blocks and the tail.
 fn blocks(alloc: Global, all: &SharedLines) -> Result<Parts, ScriptFault>
     requires lines { AllByRecursion IsLine all.now }
     requires few { length all.now < 2 ^ 32 }
@@ -237,35 +237,35 @@ fn blocks(alloc: Global, all: &SharedLines) -> Result<Parts, ScriptFault>
         let number = start + 1;
         let (block, after) = block(alloc, all, at, start, number)?;
         text_len = text_len.saturating_add(block.text_len());
-        keep(&mut found, block)?;
+        push_block(&mut found, block)?;
         heads.push(number)?;
         at = after;
     }
 }
 
-/// Keeps a block behind those that were found before it.
-fn keep(found: &mut Vec<Rc<Block>>, block: Rc<Block>) -> Result<(), AllocError>
+/// Appends a block.
+fn push_block(found: &mut Vec<Rc<Block>>, block: Rc<Block>) -> Result<(), AllocError>
     ensures items { IfOk result (λ _. values found.new.items ≡ values found.old.items ++ block.value ∷ []) }
     ensures len { IfOk result (λ _. vec_len found.new ≡ vec_len found.old + 1) }
 {
     Ok(found.push(block)?)
 }
 
-/// The last line feed that has no more bytes before it than a line may have.
-fn feed_within(bytes: &[u8]) -> Option<usize>
+/// Finds the last LF that can end a line of the longest length.
+fn last_newline_within(bytes: &[u8]) -> Option<usize>
     requires { MAX_LINE < length bytes.now }
     ensures { IfSome result (λ end. (end ≤ MAX_LINE) × (slice_index bytes.now end ≡ 10)) }
 {
     memrchr(b'\n', &bytes[..MAX_LINE + 1])
 }
 
-/// Whether line feeds stand so near that no line can be too long. It goes by whole stretches of lines.
-fn has_near_feeds(bytes: &[u8]) -> bool
+/// Whether each stretch of `MAX_LINE + 1` bytes has an LF, so that no line is too long. This is faster than going line by line.
+fn has_short_lines(bytes: &[u8]) -> bool
     ensures { IsTrue result → (n : ℕ) → long_line n (lines bytes.now) ≡ None }
 {
     let mut rest = bytes;
     while rest.len() > MAX_LINE {
-        let Some(end) = feed_within(rest) else {
+        let Some(end) = last_newline_within(rest) else {
             return false;
         };
         rest = &rest[end + 1..];
@@ -273,12 +273,12 @@ fn has_near_feeds(bytes: &[u8]) -> bool
     true
 }
 
-/// The first line that is too long is a fault.
+/// Reports the first line that is too long.
 fn check_lines(bytes: &[u8]) -> Result<(), ScriptFault>
     requires { length bytes.now ≤ MAX_SCRIPT }
     ensures { result ≡ no_long_line (long_line 1 (lines bytes.now)) }
 {
-    if has_near_feeds(bytes) {
+    if has_short_lines(bytes) {
         return Ok(());
     }
     let mut rest = bytes;
@@ -293,7 +293,7 @@ fn check_lines(bytes: &[u8]) -> Result<(), ScriptFault>
     Ok(())
 }
 
-/// The lines of the bytes. What is too long is found before any growth. They are kept once, and all that is read is a part of them.
+/// Splits the bytes into lines. Lengths are checked before anything is allocated. The blocks borrow from these lines.
 #[tactic(auto, using(crate::proofs::ValidLaws::checked_lines), unfolding(crate::specs::Reading::parts_of))]
 fn short_lines(alloc: Global, bytes: &[u8]) -> Result<SharedLines, ScriptFault>
     ensures lines { IfOk result (λ all. all ≡ lines bytes.now) }
@@ -311,7 +311,7 @@ fn short_lines(alloc: Global, bytes: &[u8]) -> Result<SharedLines, ScriptFault>
     Ok(SharedLines::new(alloc, FlatLines::of(alloc, bytes)?)?)
 }
 
-/// The script of these blocks and this tail.
+/// Makes a script of the blocks and the tail.
 fn whole(
     alloc: Global,
     blocks: Vec<Rc<Block>>,
@@ -323,13 +323,13 @@ fn whole(
 {
     Ok(Script {
         alloc,
-        blocks: Grouped::of(alloc, blocks)?,
+        blocks: ChunkedList::of(alloc, blocks)?,
         tail,
         text_len,
     })
 }
 
-/// The script of the bytes, with their lines and those of its heads, or the first fault.
+/// Reads a script, with its lines and the line numbers of its heads, or reports the first fault.
 #[tactic(auto, unfolding(crate::specs::Reading::read_of, crate::specs::Reading::fits_text))]
 pub(crate) fn with_lines(alloc: Global, bytes: &[u8]) -> Result<ScriptWithLines, ScriptFault>
     ensures exact { Gives (λ read. read.script) result (read_of bytes.now) }
@@ -350,7 +350,7 @@ pub(crate) fn with_lines(alloc: Global, bytes: &[u8]) -> Result<ScriptWithLines,
     })
 }
 
-/// The script of the bytes, or the first fault.
+/// Reads a script, or reports the first fault.
 pub(crate) fn script(alloc: Global, bytes: &[u8]) -> Result<Script, ScriptFault>
     ensures exact { Gives (λ s. s) result (read_of bytes.now) }
     ensures early { IfSome (early_fault bytes.now) (λ fault. result ≡ Err fault) }
@@ -361,7 +361,7 @@ pub(crate) fn script(alloc: Global, bytes: &[u8]) -> Result<Script, ScriptFault>
     }
 }
 
-/// The block behind the pointer, or a copy of it where others share it.
+/// Takes the block out of its pointer, or copies it if it is shared.
 fn unshared(block: Rc<Block>) -> Result<Block, AllocError>
     ensures { IfOk result (λ b. b ≡ block.value) }
 {
@@ -371,7 +371,7 @@ fn unshared(block: Rc<Block>) -> Result<Block, AllocError>
     }
 }
 
-/// The first fault of the parts as one block, if they have one.
+/// Checks that the parts are one block, of an allowed length.
 #[tactic(auto, unfolding(crate::specs::Reading::fits_text))]
 fn check_alone(parts: &Parts) -> Result<(), ScriptFault>
     requires { parts.now.text_len ≡ capped (length (text (parts_view parts.now))) }
@@ -386,7 +386,7 @@ fn check_alone(parts: &Parts) -> Result<(), ScriptFault>
     Ok(())
 }
 
-/// The last of the blocks, if there is one.
+/// Returns the last block.
 fn last(mut blocks: Vec<Rc<Block>>) -> Result<Block, ScriptFault>
     ensures { (b : PlainBlock) → values blocks.items ≡ b ∷ [] → Gives {X = PlainBlock} {Y = PlainBlock} (λ b. b) result (Ok b) }
 {
@@ -396,7 +396,7 @@ fn last(mut blocks: Vec<Rc<Block>>) -> Result<Block, ScriptFault>
     }
 }
 
-/// The one block of the bytes, or the first fault.
+/// Reads bytes that are one block, or reports the first fault.
 #[tactic(auto, unfolding(crate::specs::Reading::block_of))]
 pub(crate) fn one_block(alloc: Global, bytes: &[u8]) -> Result<Block, ScriptFault>
     ensures exact { Gives (λ b. b) result (block_of bytes.now) }

@@ -1,23 +1,23 @@
-//! A script: blocks, and the lines after them.
+//! A script: blocks, and a tail of lines.
 
 use crate::block::Block;
+use crate::chunked_list::ChunkedList;
 use crate::fault::ScriptFault;
-use crate::grouped::Grouped;
 use crate::line_part::LinePart;
 use crate::reading;
 use std::alloc::Global;
 use std::marker::Model;
 
-/// A script.
+/// A script: blocks, and a tail of lines.
 pub struct Script {
     pub(crate) alloc: Global,
-    pub(crate) blocks: Grouped<Block>,
+    pub(crate) blocks: ChunkedList<Block>,
     pub(crate) tail: LinePart,
     // the length of the canonical text
     pub(crate) text_len: usize,
 }
 
-// Written out, so that giving one back is a call wherever it is owned, and is proved here alone.
+// Written by hand, so that dropping one is a call for the prover, and is proved only here.
 impl Drop for Script {
     fn drop(self) {
         let Script {
@@ -49,23 +49,23 @@ impl Script {
     ghost use Rattle.rb_script.specs.Results.{Gives};
     ghost use Rattle.rb_script.specs.Reading.{read_of, early_fault};
 
-    /// The script of the bytes.
+    /// Reads a script.
     pub fn read(alloc: Global, bytes: &[u8]) -> Result<Script, ScriptFault>
-        // What is read is the script of the bytes.
+        // The result is the script that the bytes are.
         ensures found { IfOk result (λ s. Reads bytes.now s) }
-        // What is the script of the bytes is read, unless memory runs out.
+        // If the bytes are a script, it is read, unless memory runs out.
         ensures only { (s : PlainScript) → Reads bytes.now s → Gives {X = PlainScript} {Y = PlainScript} (λ s. s) result (Ok s) }
-        // Where it is a fault, the bytes are no script, unless memory ran out.
+        // If there is a fault, the bytes are not a script, unless memory ran out.
         ensures refused { IfErr result (λ fault. fault ≢ ScriptFault.OutOfMemory → (s : PlainScript) → Reads bytes.now s → ⊥) }
-        // Which fault it is.
+        // Which fault is reported.
         ensures exact { Gives (λ s. s) result (read_of bytes.now) }
-        // These are found before any growth.
+        // Some faults are found before anything is allocated.
         ensures early { IfSome (early_fault bytes.now) (λ fault. result ≡ Err fault) }
     {
         reading::script(alloc, bytes)
     }
 
-    /// How many blocks there are.
+    /// The number of blocks.
     pub fn len(&self) -> usize
         ensures { result ≡ length self.now.blocks }
     {
@@ -79,7 +79,7 @@ impl Script {
         self.blocks.is_empty()
     }
 
-    /// The block at a place, which counts from 1.
+    /// The block at a place, counted from 1.
     pub fn block(&self, place: usize) -> Option<&Block>
         ensures { option_copied result ≡ (if place == 0 then None else slice_get self.now.blocks (place - 1)) }
     {

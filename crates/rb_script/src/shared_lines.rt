@@ -1,4 +1,4 @@
-//! Lines that copies share.
+//! Immutable lines that copies share.
 
 ghost use Rattle.std.specs.Prelude.{◌≡◌, ◌<◌, ◌≤◌, length, slice_get, IfOk, Some};
 ghost use Rattle.rb_script.specs.Lines.{text_of};
@@ -9,12 +9,12 @@ use std::alloc::{AllocError, Global};
 use std::marker::Model;
 use std::rc::Rc;
 
-/// Lines that never change. A copy costs a pointer.
+/// Immutable lines. A copy costs a pointer.
 pub(crate) struct SharedLines {
     lines: Rc<FlatLines>,
 }
 
-// Written out, so that giving one back is a call wherever it is owned, and is proved here alone.
+// Written by hand, so that dropping one is a call for the prover, and is proved only here.
 impl Drop for SharedLines {
     fn drop(self) {
         let SharedLines { lines: _ } = self;
@@ -30,7 +30,7 @@ impl Model for SharedLines {
 }
 
 impl SharedLines {
-    /// These lines, to be shared.
+    /// Makes the lines shared.
     pub(crate) fn new(alloc: Global, lines: FlatLines) -> Result<Self, AllocError>
         ensures { IfOk result (λ all. all ≡ lines) }
     {
@@ -39,19 +39,19 @@ impl SharedLines {
         })
     }
 
-    /// Where the memory is.
+    /// The allocator.
     pub(crate) fn allocator(&self) -> Global {
         self.lines.allocator()
     }
 
-    /// How many lines there are.
+    /// The number of lines.
     pub(crate) fn len(&self) -> usize
         ensures { result ≡ length self.now }
     {
         self.lines.len()
     }
 
-    /// The line at position `i`, which counts from 0, without its end.
+    /// Line `i`, counted from 0, without its end.
     pub(crate) fn line(&self, i: usize) -> &[u8]
         requires { i < length self.now }
         ensures { slice_get self.now i ≡ Some result.now }
@@ -59,7 +59,7 @@ impl SharedLines {
         self.lines.line(i)
     }
 
-    /// Where the lines from one position up to another end in the text of all, and where the first of them begins.
+    /// Where the lines from one position to another end in the whole text, and where the first one begins.
     pub(crate) fn ends_between(&self, from: usize, to: usize) -> (&[usize], usize)
         requires order { from ≤ to }
         requires within { to ≤ length self.now }
@@ -68,7 +68,7 @@ impl SharedLines {
         self.lines.ends_between(from, to)
     }
 
-    /// The text of the lines from one position up to another.
+    /// The text of the lines from one position to another.
     pub(crate) fn text_between(&self, from: usize, to: usize) -> &[u8]
         requires order { from ≤ to }
         requires within { to ≤ length self.now }
@@ -77,7 +77,7 @@ impl SharedLines {
         self.lines.text_between(from, to)
     }
 
-    /// The lines from one position up to another, in memory of their own.
+    /// Copies the lines from one position to another into new memory.
     pub(crate) fn copy_between(&self, from: usize, to: usize) -> Result<FlatLines, AllocError>
         requires order { from ≤ to }
         requires within { to ≤ length self.now }
@@ -86,7 +86,7 @@ impl SharedLines {
         self.lines.copy_between(from, to)
     }
 
-    /// The same lines.
+    /// Copies the pointer to the lines.
     pub(crate) fn try_copy(&self) -> Result<Self, AllocError>
         ensures { IfOk result (λ copy. copy ≡ self.now) }
     {

@@ -1,13 +1,13 @@
-//! A few bytes, in the value itself.
+//! A short text, stored in the value itself.
 
 ghost use Rattle.std.specs.Prelude.{◌≡◌, ◌+◌, ◌<◌, ◌≤◌, [], ◌∷◌, ◌++◌, length, take};
 
 use std::marker::Model;
 
-/// How many bytes a short text has at most: `ok`, an error, an event, or what a node does in a line or two.
+/// The most bytes of a short text: enough for `ok`, an error, an event, or a line or two of a node.
 pub(crate) const SHORT: usize = 46;
 
-/// At most so many bytes, with how many there are in one more.
+/// A text of at most [`SHORT`] bytes, with its length.
 #[derive(Drop)]
 pub(crate) struct ShortText {
     bytes: [u8; SHORT],
@@ -26,7 +26,7 @@ impl Model for ShortText {
 }
 
 impl ShortText {
-    /// No bytes.
+    /// Makes an empty text.
     pub(crate) fn new() -> ShortText
         ensures { result ≡ [] }
     {
@@ -36,7 +36,7 @@ impl ShortText {
         }
     }
 
-    /// How many bytes there are.
+    /// The number of bytes.
     #[inline(always)]
     pub(crate) fn len(&self) -> usize
         ensures len { result ≡ length self.now }
@@ -53,7 +53,7 @@ impl ShortText {
         &self.bytes[..self.len as usize]
     }
 
-    /// Adds bytes at the end.
+    /// Appends bytes.
     #[inline(always)]
     pub(crate) fn extend_from_slice(&mut self, bytes: &[u8])
         requires { length self.old + length bytes.now ≤ SHORT }
@@ -64,7 +64,7 @@ impl ShortText {
         self.len = (start + bytes.len()) as u8;
     }
 
-    /// Adds a byte at the end.
+    /// Appends a byte.
     #[inline(always)]
     pub(crate) fn push(&mut self, byte: u8)
         requires { length self.old < SHORT }
@@ -75,7 +75,7 @@ impl ShortText {
     }
 }
 
-// Puts the bytes there.
+// Copies the bytes to this position.
 #[inline(always)]
 fn put_at(all: &mut [u8], start: usize, bytes: &[u8])
     requires { start + length bytes.now ≤ length all.old }

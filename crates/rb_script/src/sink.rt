@@ -1,4 +1,4 @@
-//! Where text goes.
+//! Sinks: where text is written.
 
 ghost use Rattle.std.specs.Prelude.{ℕ, List, Option, IsOk};
 ghost use Rattle.rb_script.specs.Writes.{Writes};
@@ -6,27 +6,27 @@ ghost use Rattle.rb_script.specs.Writes.{Writes};
 use std::io::Write;
 use thiserror::Error;
 
-/// The writer failed, or took no byte.
+/// The writer failed, or accepted no byte.
 #[derive(Clone, Copy, Debug, PartialEq, Eq, Error)]
 #[error("the writer failed")]
 pub struct WriteFault;
 
-/// Takes text. Unlike a `Write` it can be known to take all.
+/// Accepts text. Unlike a `Write`, it can be known never to fail.
 pub trait Sink {
-    // the bytes that it holds, where they are known
+    // the bytes written so far, if they are known
     ghost held: { Self → Option (List ℕ) };
 
     // no write fails
     ghost takes_all: { Self → Type 0 };
 
-    /// Takes the bytes. On a failure it has taken a beginning of them.
+    /// Writes the bytes. After a failure a beginning of them is written.
     fn put(&mut self, bytes: &[u8]) -> Result<(), WriteFault>
         ensures wrote { Writes result (held self.old) (held self.new) bytes.now }
         ensures all { takes_all self.old → IsOk result × takes_all self.new };
 }
 
-/// A `Write` as a sink, or `Through(&mut writer)`. Each error is a failure, an interrupted call and a write that
-/// takes no byte too.
+/// A `Write` as a sink, or `Through(&mut writer)`. Each error is a failure, also an interrupted call and a write that accepts no
+/// byte.
 #[derive(Drop)]
 pub struct Through<W>(pub W);
 

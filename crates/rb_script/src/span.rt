@@ -1,13 +1,13 @@
-//! Where a token stands.
+//! The position of a token.
 
-/// A token of a head: the bytes of line `line` from `start` up to `end`. All count from 0, lines within the
-/// head. A script has fewer lines than a `u32` counts, and shorter ones.
+/// A token of a head: the bytes of line `line` from `start` to `end`. All are counted from 0, lines within the head. Line numbers
+/// and lengths of lines fit in a `u32`.
 #[derive(Clone, Copy, Debug, PartialEq, Eq)]
 pub struct Span {
     /// The line of the head.
     pub line: u32,
     /// Where the token begins in the line.
     pub start: u32,
-    /// Where it ends: the position behind its last byte.
+    /// Where it ends: the position after its last byte.
     pub end: u32,
 }

@@ -1,4 +1,4 @@
-//! The name and the arguments of a head.
+//! Parsing a head: its name and arguments.
 
 ghost use Rattle.std.specs.Prelude.{◌≡◌, ◌<◌, ◌≤◌, ◌^◌, ◌++◌, ◌∷◌, ℕ, List, [], length, IfOk, option_map};
 ghost use Rattle.std.specs.List.{AllByRecursion};
@@ -22,7 +22,7 @@ use crate::span::Span;
 use smallvec::SmallVec;
 use std::alloc::{AllocError, AllocFailed, Global};
 
-/// Where the name and the arguments of a head stand.
+/// The spans of a head's name and arguments.
 #[derive(Drop)]
 pub(crate) struct Tokens {
     pub(crate) name: Span,
@@ -30,12 +30,12 @@ pub(crate) struct Tokens {
     pub(crate) args: SmallVec<ArgumentSpans, 1>,
 }
 
-/// Why a part of a head can't be read.
+/// Why a head can't be parsed.
 #[derive(Clone, Copy)]
 pub(crate) enum HeadFault {
     /// It isn't in the grammar.
     Bad,
-    /// Memory was refused.
+    /// There was no memory.
     OutOfMemory,
 }
 
@@ -55,8 +55,8 @@ impl<T: Drop> From<AllocFailed<T>> for HeadFault {
     }
 }
 
-// One item more, or nothing where they are too many. So a head of a million arguments takes no memory for them. The first
-// takes room for itself alone, since most lists of a head have one item.
+// Appends an item, or returns `None` if there are too many: so a head of a million arguments needs no memory for them. The first
+// item reserves room for itself only, since most lists of a head have one item.
 fn with_item<T: Drop>(
     items: Option<Vec<T>>,
     item: T,
@@ -76,7 +76,7 @@ fn with_item<T: Drop>(
     }
 }
 
-// The values up to the closing parenthesis, which is taken, or nothing where they are too many.
+// Parses the values to the closing parenthesis, or returns `None` if there are too many.
 fn list(alloc: Global, at: &mut HeadCursor<'_>) -> Result<Option<Vec<Span>>, HeadFault>
     ensures gives { ParsesValues at.old.head result at.new.left (list_at at.old.left) }
     ensures head { at.new.head ≡ at.old.head }
@@ -99,7 +99,7 @@ fn list(alloc: Global, at: &mut HeadCursor<'_>) -> Result<Option<Vec<Span>>, Hea
     }
 }
 
-// The values behind an `=`, or nothing where they are too many: those within parentheses, or the one that stands there.
+// Parses the values after an `=`, within parentheses or one without. Returns `None` if there are too many.
 #[tactic(auto, unfolding(crate::specs::Heads::values_at))]
 fn values(alloc: Global, at: &mut HeadCursor<'_>) -> Result<Option<Vec<Span>>, HeadFault>
     ensures gives { ParsesValues at.old.head result at.new.left (values_at at.old.left) }
@@ -114,8 +114,8 @@ fn values(alloc: Global, at: &mut HeadCursor<'_>) -> Result<Option<Vec<Span>>, H
     Ok(Some(found))
 }
 
-// The argument at the front, or nothing where its values are too many.
-#[tactic(auto, unfolding(crate::specs::Heads::argument_at, crate::specs::Heads::behind_key))]
+// Parses an argument, or returns `None` if it has too many values.
+#[tactic(auto, unfolding(crate::specs::Heads::argument_at, crate::specs::Heads::after_key))]
 fn argument(alloc: Global, at: &mut HeadCursor<'_>) -> Result<Option<ArgumentSpans>, HeadFault>
     ensures gives { ParsesArgument at.old.head result at.new.left (argument_at at.old.left) }
     ensures head { at.new.head ≡ at.old.head }
@@ -145,7 +145,7 @@ fn argument(alloc: Global, at: &mut HeadCursor<'_>) -> Result<Option<ArgumentSpa
     }
 }
 
-// One argument more, or nothing where they are too many. The first takes no memory.
+// Appends an argument, or returns `None` if there are too many. The first one needs no allocation.
 fn with_one_more(
     found: Option<SmallVec<ArgumentSpans, 1>>,
     argument: ArgumentSpans,
@@ -161,7 +161,7 @@ fn with_one_more(
     }
 }
 
-// One argument more, or nothing where they or its values are too many.
+// Does the same, also with `None` for an argument with too many values.
 fn with_argument(
     found: Option<SmallVec<ArgumentSpans, 1>>,
     argument: Option<ArgumentSpans>,
@@ -175,7 +175,7 @@ fn with_argument(
     }
 }
 
-// The arguments up to the end of the head, or nothing where they or the values of one are too many.
+// Parses the arguments to the end of the head, or returns `None` if there are too many, or too many values.
 fn arguments(
     alloc: Global,
     at: &mut HeadCursor<'_>,
@@ -199,7 +199,7 @@ fn arguments(
     }
 }
 
-/// Where the name and the arguments stand in the head that is the lines from one position up to another. It begins at line `number`.
+/// Parses the head from line `start` to line `end`. `number` is its line number in faults.
 #[tactic(auto, unfolding(crate::specs::Heads::head_at, crate::specs::Heads::word_head))]
 pub(crate) fn tokens_of(
     alloc: Global,

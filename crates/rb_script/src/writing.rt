@@ -1,4 +1,4 @@
-//! Writing canonical text.
+//! Writing the canonical text.
 
 ghost use Rattle.std.specs.Prelude.{◌≡◌, IsOk, length};
 ghost use Rattle.rb_script.specs.Lines.{text_of};
@@ -7,7 +7,7 @@ ghost use Rattle.rb_script.specs.Reading.{capped};
 ghost use Rattle.rb_script.specs.Writes.{Writes};
 
 use crate::block::Block;
-use crate::grouped::Grouped;
+use crate::chunked_list::ChunkedList;
 use crate::lines::Lines;
 use crate::marks::{RULE_LINE, is_blank, is_rule};
 use crate::script::Script;
@@ -16,13 +16,13 @@ use crate::sink::{Sink, WriteFault};
 /// The separator, and the line `----` that opens the double form.
 const RULE_PAIR: &[u8] = b"----\n----\n";
 
-/// The two lines `----` that close the double form, and the empty line behind an expectation.
+/// The two lines `----` that close the double form, and the empty line after an expectation.
 const CLOSING: &[u8] = b"----\n----\n\n";
 
-/// How long what shows the double form is.
+/// The length of the lines `----` that only the double form has.
 const DOUBLE_LEN: usize = RULE_LINE.len() + RULE_PAIR.len();
 
-/// Whether only the double form can show these lines.
+/// Whether these lines need the double form.
 pub(crate) fn needs_double(expected: &Lines) -> bool
     ensures { result ≡ needs_double expected.now }
 {
@@ -35,14 +35,14 @@ pub(crate) fn needs_double(expected: &Lines) -> bool
     false
 }
 
-/// How long the text of these expected lines is, with what shows their form.
+/// The length of the expected lines' text, with the lines `----` of the double form.
 pub(crate) fn shown_len(expected: &Lines) -> usize
     ensures { result ≡ capped (length (text_of (shown expected.now))) }
 {
     form_len(expected, needs_double(expected))
 }
 
-/// The same, where it is known whether only the double form can show them.
+/// Does the same if the form is already known.
 pub(crate) fn form_len(expected: &Lines, is_double: bool) -> usize
     requires { is_double ≡ needs_double expected.now }
     ensures { result ≡ capped (length (text_of (shown expected.now))) }
@@ -51,21 +51,21 @@ pub(crate) fn form_len(expected: &Lines, is_double: bool) -> usize
     expected.text().len().saturating_add(marks)
 }
 
-// What stands above the expected lines of a block, below its input.
+// The lines between the input and the expected lines.
 fn opening(is_double: bool) -> &'static [u8]
     ensures { result.now ≡ text_of (opening is_double) }
 {
     if is_double { RULE_PAIR } else { RULE_LINE }
 }
 
-// What stands below them.
+// The lines after the expected lines.
 fn closing(is_double: bool) -> &'static [u8]
     ensures { result.now ≡ text_of (closing is_double) }
 {
     if is_double { CLOSING } else { b"\n" }
 }
 
-// Writes a block with these expected lines in place of its own.
+// Writes a block with other expected lines.
 fn put_block<S: Sink>(sink: &mut S, block: &Block, expected: &Lines) -> Result<(), WriteFault>
     ensures wrote { Writes result (S.held sink.old) (S.held sink.new) (block_text (expecting block.now expected.now)) }
     ensures all { S.takes_all sink.old → IsOk result × S.takes_all sink.new }
@@ -82,7 +82,7 @@ impl Script {
     ghost use Rattle.rb_script.specs.Script.{text, with_outputs};
     ghost use Rattle.rb_script.specs.Writes.{Writes};
 
-    /// Writes the canonical text. Takes no memory. On a failure what went out is a beginning of the text.
+    /// Writes the canonical text. Allocates nothing. After a failure a beginning of the text is written.
     pub fn write_to<S: Sink>(&self, sink: &mut S) -> Result<(), WriteFault>
         ensures wrote { Writes result (S.held sink.old) (S.held sink.new) (text self.now) }
         ensures all { S.takes_all sink.old → IsOk result × S.takes_all sink.new }
@@ -94,11 +94,11 @@ impl Script {
         sink.put(self.tail.text())
     }
 
-    /// Writes the canonical text with the outputs, one a block, in place of the expectations. Takes no memory.
-    /// On a failure what went out is a beginning of the text.
+    /// Writes the canonical text with outputs instead of expectations, one for each block. Allocates nothing. After a failure a
+    /// beginning of the text is written.
     pub fn write_with<S: Sink>(
         &self,
-        outputs: &Grouped<Lines>,
+        outputs: &ChunkedList<Lines>,
         sink: &mut S,
     ) -> Result<(), WriteFault>
         requires { length outputs.now ≡ length self.now.blocks }

@@ -1,15 +1,15 @@
-//! Lines that are put together where they stay.
+//! Lines that are written in place.
 
 ghost use Rattle.std.specs.Prelude.{◌≡◌, ◌++◌, List, ℕ, OnOk};
 
 use crate::line_text::LineText;
 use std::alloc::AllocError;
 
-/// A line, as whoever puts it together has it. It is written into the text of the lines that it joins.
+/// A line that can be written directly into the text of a list of lines.
 pub trait WrittenLine {
     ghost bytes: { Self → List ℕ };
 
-    /// Adds the bytes of the line at the end of a text. Where memory runs out, nothing is known of what the text holds then.
+    /// Appends the bytes of the line to a text. If memory runs out, the text is unspecified.
     fn add_to(&self, text: &mut LineText) -> Result<(), AllocError>
         ensures { OnOk result (text.new ≡ text.old ++ bytes self.now) };
 }

@@ -13,9 +13,9 @@ use crate::fault::ServeFault;
 use crate::phase::ExitStatus;
 use crate::server::{Server, hear, refused};
 use crate::service::Service;
-use rb_line::Source;
 use rb_rpc::{MAX_CALLS, MessageReader, NextMessage, ReadError, read};
 use rb_script::Sink;
+use rb_text::Source;
 use serde_json::Value;
 use std::alloc::Global;
 

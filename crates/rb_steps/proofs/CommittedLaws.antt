@@ -8,7 +8,7 @@ use Rattle.std.proofs.lemmas.Option.{none-some, same_Some, slice_get_within}
 use Rattle.rb_script.specs.Directive.{PlainDirective}
 use Rattle.rb_raftlog.specs.declared.snapshot.Snapshot.{Snapshot}
 use Rattle.rb_node.specs.declared.options.Options.{Options}
-use Rattle.rb_node.specs.Node.{PlainNode, Turn, started}
+use Rattle.rb_node.specs.Node.{PlainNode, NodeStep, started}
 use Rattle.rb_node_laws.specs.Calling.{Call, Advance, after}
 use Rattle.rb_node_laws.specs.Sound.{IsSound}
 use Rattle.rb_node_laws.proofs.CallLaws.{calls}
@@ -48,7 +48,7 @@ record HaveGoneOn (olds nodes : List PlainNode) : Type 0 where
   many : length olds ≤ length nodes
   each : (k : ℕ) (n : PlainNode) → slice_get nodes k ≡ Some n → IsOf olds k n
 
-one_called : (olds nodes : List PlainNode) (k : ℕ) (call : Call) (t : Turn) → slice_get nodes k ≡ Some t.node → HaveGoneOn olds nodes → HaveGoneOn olds (slice_set nodes k (after call t).node)
+one_called : (olds nodes : List PlainNode) (k : ℕ) (call : Call) (t : NodeStep) → slice_get nodes k ≡ Some t.node → HaveGoneOn olds nodes → HaveGoneOn olds (slice_set nodes k (after call t).node)
 one_called olds nodes k call t at h =
     let new = (after call t).node in
     let n = h.each k t.node at in

@@ -12,11 +12,11 @@ use Rattle.std.proofs.lemmas.Option.{slice_get_within}
 use Rattle.rb_raftlog.specs.declared.entry.Body.{Body}
 use Rattle.rb_raftlog.specs.declared.entry.Body.TheVariants as bodies
 use Rattle.rb_raftlog.specs.declared.entry.Entry.{Entry}
-use Rattle.rb_change.specs.declared.change.Transition.{Transition}
-use Rattle.rb_change.specs.declared.change.Transition.TheVariants as transitions
-use Rattle.rb_change.specs.declared.change.Word.{Word}
-use Rattle.rb_change.specs.declared.change.WordKind.{WordKind}
-use Rattle.rb_change.specs.declared.change.WordKind.TheVariants as kinds
+use Rattle.rb_vocab.specs.declared.change.Transition.{Transition}
+use Rattle.rb_vocab.specs.declared.change.Transition.TheVariants as transitions
+use Rattle.rb_vocab.specs.declared.change.Word.{Word}
+use Rattle.rb_vocab.specs.declared.change.WordKind.{WordKind}
+use Rattle.rb_vocab.specs.declared.change.WordKind.TheVariants as kinds
 use Rattle.rb_raftlog.specs.declared.raft_log.LogFault.{LogFault}
 use Rattle.rb_raftlog.specs.Log.{LogValue, last, entries_after, entry_at, found}
 use Rattle.rb_script.specs.Lines.{Line}

@@ -4,8 +4,8 @@ use Rattle.std.specs.Prelude.{◌&&◌, not, nat_le, if◌then◌else◌}
 use Rattle.std.specs.List.{flat_map, list_all}
 use Rattle.std.proofs.lemmas.Bool.{and_from, and_parts, leb-true, lt-ltb}
 use Rattle.std.proofs.lemmas.List.Folds.{list_all-map}
-use Rattle.rb_level.specs.declared.directive_error.DirectiveError.{DirectiveError}
-use Rattle.rb_level.specs.MessageTypes.{type_text}
+use Rattle.rb_vocab.specs.declared.directive_error.DirectiveError.{DirectiveError}
+use Rattle.rb_vocab.specs.MessageTypes.{type_text}
 use Rattle.rb_message.specs.declared.event.Event.{Event}
 use Rattle.rb_message.specs.declared.event.Event.TheVariants as events
 use Rattle.rb_message.specs.declared.kind.MessageKind.{MessageKind}

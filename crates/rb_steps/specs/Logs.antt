@@ -6,7 +6,7 @@ use Rattle.std.specs.Str.{bytes_eq}
 use Rattle.rb_raftlog.specs.declared.entry.Body.{Body}
 use Rattle.rb_raftlog.specs.declared.entry.Body.TheVariants as bodies
 use Rattle.rb_raftlog.specs.declared.entry.Entry.{Entry}
-use Rattle.rb_change.specs.declared.change.Word.{Word}
+use Rattle.rb_vocab.specs.declared.change.Word.{Word}
 use Rattle.rb_raftlog.specs.Log.{LogValue, last, entries_after}
 use Rattle.rb_texts.specs.Entries.{transition_text, letter}
 use Rattle.rb_page.specs.ItemRows.{entry_row}

@@ -2,11 +2,11 @@
 
 ghost use Rattle.std.specs.Prelude.{◌≡◌, [], IfOk};
 
-use rb_level::Level;
 use rb_machine::Observer;
 use rb_page::keep_item;
 use rb_script::Lines;
 use rb_texts::Item;
+use rb_vocab::Level;
 use std::alloc::{AllocError, Global};
 
 /// The rows of what a directive does, whatever the level is: a text an item.

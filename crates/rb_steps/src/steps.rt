@@ -94,7 +94,7 @@ pub fn steps_of<M: StepMachine>(
     let mut texts = Lines::new(alloc);
     keep_source(&mut texts, bytes)?;
     let printed = keep_directives::<M>(alloc, &mut texts, &script, heads)?;
-    let session = Session::of_outputs(alloc, script, printed)?;
+    let session = Session::from_outputs(alloc, script, printed)?;
     keep_end(&mut texts, &session)?;
     Ok((session, texts))
 }

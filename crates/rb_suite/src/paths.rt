@@ -13,7 +13,7 @@ use crate::system::RuntimeSystem;
 use rb_check::{Failure, Status};
 use rb_checked::Shown;
 use rb_files::{Found, PathError, find};
-use rb_line::FailFast;
+use rb_text::FailFast;
 use std::io;
 use std::io::{ErrorKind, Write};
 use std::rt::Files;

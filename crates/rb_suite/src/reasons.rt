@@ -60,7 +60,7 @@ fn run_explained<T: Runner>(
 {
     let script = Script::read(alloc, bytes)?;
     let (printed, whys) = run_directives(alloc, runner, &script)?;
-    let session = Session::of_outputs(alloc, script, printed)?;
+    let session = Session::from_outputs(alloc, script, printed)?;
     Ok(ScriptRun { session, whys })
 }
 

@@ -3,3 +3,9 @@ pub mod JsonLaws
 pub mod NumberLaws
 pub mod SentLaws
 pub mod WordLaws
+pub mod BegunLaws
+pub mod CutLaws
+pub mod GivenLaws
+pub mod TakenLaws
+pub mod AskedLaws
+pub mod ReadLaws

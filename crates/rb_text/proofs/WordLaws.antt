@@ -2,7 +2,7 @@
 use Rattle.std.proofs.Common.{◌≡◌, ◌≢◌, ℕ, ◌-◌, ◌<◌, true, false, cond, List, [], ◌∷◌, length, take, drop, get_or, zero, suc, refl, ap, sym, ◌∙◌, arith}
 use Rattle.std.proofs.lemmas.List.{take_rest}
 use Rattle.rb_script.specs.Lines.{Line}
-use Rattle.rb_script.specs.Marks.{is_space, without_front}
+use Rattle.rb_script.specs.Marks.{is_space, trim_blanks}
 use Rattle.rb_script.specs.Directive.{in_piece, without_empty}
 use Rattle.rb_script.specs.Heads.{begins_space}
 use Rattle.rb_text.specs.Words.{parts, words}
@@ -13,30 +13,30 @@ unfolding words parts without_empty
 words_space b line h = ap (λ t. without_empty (cond t ([] ∷ parts line) (in_piece b (parts line)))) h
 
 -- nor are all the blanks at the front
-words_front : (line : Line) → words (without_front line) ≡ words line
-unfolding without_front
+words_front : (line : Line) → words (trim_blanks line) ≡ words line
+unfolding trim_blanks
 words_front [] = refl
 words_front (b ∷ line) =
-    elim (is_space b) as (λ t. is_space b ≡ t → words (cond t (without_front line) (b ∷ line)) ≡ words (b ∷ line)) [
+    elim (is_space b) as (λ t. is_space b ≡ t → words (cond t (trim_blanks line) (b ∷ line)) ≡ words (b ∷ line)) [
       | true ↦ λ h. words_front line ∙ sym (words_space b line h)
       | false ↦ λ h. refl
     ] refl
 
 -- behind them no blank comes
-begins_front : (line : Line) → begins_space (without_front line) ≡ false
-unfolding without_front
+begins_front : (line : Line) → begins_space (trim_blanks line) ≡ false
+unfolding trim_blanks
 begins_front [] = refl
 begins_front (b ∷ line) =
-    elim (is_space b) as (λ t. is_space b ≡ t → begins_space (cond t (without_front line) (b ∷ line)) ≡ false) [
+    elim (is_space b) as (λ t. is_space b ≡ t → begins_space (cond t (trim_blanks line) (b ∷ line)) ≡ false) [
       | true ↦ λ h. begins_front line
       | false ↦ λ h. h
     ] refl
 
 -- what is left behind them
-pub words_behind : (line text : Line) → text ≡ without_front line → words line ≡ words text
+pub words_behind : (line text : Line) → text ≡ trim_blanks line → words line ≡ words text
 words_behind line text e = sym (ap words e ∙ words_front line)
 
-pub begins_behind : (line text : Line) → text ≡ without_front line → begins_space text ≡ false
+pub begins_behind : (line text : Line) → text ≡ trim_blanks line → begins_space text ≡ false
 begins_behind line text e = ap begins_space e ∙ begins_front line
 
 -- nothing has no words

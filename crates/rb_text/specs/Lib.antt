@@ -1,3 +1,11 @@
+pub use Rattle.rb_script.specs.Lines
+pub mod Begun
+pub mod Pushing
+pub mod Left
+pub mod Given
+pub mod Taken
+pub mod Asked
+pub mod Reading
 pub mod Json
 pub mod Numbers
 pub mod Pieces

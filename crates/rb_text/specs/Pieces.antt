@@ -1,4 +1,4 @@
--- The pieces that a text is put together of. (This project's.)
+-- The pieces of a text. (This project's.)
 use Rattle.std.specs.Prelude.{ℕ, List, decimal}
 use Rattle.std.specs.List.{flat_map}
 use Rattle.rb_text.specs.declared.piece.Piece.{Piece}

@@ -1,10 +1,10 @@
--- A line as words, which blanks part. (This project's.)
+-- The words of a line, separated by blanks. (This project's.)
 use Rattle.std.specs.Prelude.{if◌then◌else◌, List, [], ◌∷◌}
 use Rattle.rb_script.specs.Lines.{Line}
 use Rattle.rb_script.specs.Marks.{is_space}
 use Rattle.rb_script.specs.Directive.{in_piece, without_empty}
 
--- the line cut at each blank, empty parts too
+-- the line split at each blank, with empty parts
 unfoldable pub parts : Line → List Line
 parts [] = [] ∷ []
 parts (b ∷ line) = if is_space b then [] ∷ parts line else in_piece b (parts line)

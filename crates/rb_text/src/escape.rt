@@ -1,4 +1,4 @@
-//! Bytes that stand in a text each in a way of its own.
+//! Escaping bytes of a text.
 
 ghost use Rattle.std.specs.Prelude.{ℕ, List, IsOk};
 ghost use Rattle.std.specs.List.{flat_map};
@@ -6,21 +6,21 @@ ghost use Rattle.rb_script.specs.Writes.{Writes};
 
 use rb_script::{Sink, WriteFault};
 
-/// How a byte stands in a text.
+/// An escape: the text that is written for each byte.
 pub trait Escape {
     ghost text: { Self → ℕ → List ℕ };
 
-    /// Writes the byte as it stands there. On a failure a beginning of that went out.
+    /// Writes the text of a byte. After a failure a beginning of it is written.
     fn put<S: Sink>(&self, sink: &mut S, b: u8) -> Result<(), WriteFault>
         ensures wrote { Writes result (S.held sink.old) (S.held sink.new) (text self.now b) }
         ensures all { S.takes_all sink.old → IsOk result × S.takes_all sink.new };
 }
 
-/// Writes the bytes, each as it stands there.
+/// Writes the bytes in this escape.
 ///
 /// # Errors
 ///
-/// Where the sink failed. A beginning of the text went out then.
+/// If the sink fails. A beginning of the text is written then.
 pub fn put_escaped<S: Sink, E: Escape>(
     sink: &mut S,
     escape: &E,

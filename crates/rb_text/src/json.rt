@@ -1,4 +1,4 @@
-//! Bytes as they stand in a text of JSON, between its quotes.
+//! Escaping bytes for a string of JSON.
 
 ghost use Rattle.std.specs.Prelude.{◌≡◌, ◌<◌};
 ghost use Rattle.rb_text.specs.Json.{byte_text, hex_digit, is_plain, numbered};
@@ -6,18 +6,18 @@ ghost use Rattle.rb_text.specs.Json.{byte_text, hex_digit, is_plain, numbered};
 use crate::escape::Escape;
 use rb_script::{Sink, WriteFault};
 
-/// Which bytes stand for themselves in a text of JSON, between its quotes. Each other stands there by its number.
+/// The bytes of a JSON string that are written unescaped. Others are written as `\u00NN`.
 #[derive(Clone, Copy)]
 pub enum Json {
-    /// All but control characters, `"` and backslashes: what is past ASCII stands as it is, in UTF-8.
+    /// All but control characters, `"` and backslashes. Bytes above ASCII are left as UTF-8.
     Utf8,
-    /// Those of ASCII. A byte past it is the character of its number, as in ISO 8859-1.
+    /// Of these only ASCII. A byte above it is the character with its number, as in ISO 8859-1.
     Ascii,
-    /// The printable ones of ASCII but for `<`, `>` and `&`, so that nothing of the text is a mark of a page that has it.
+    /// Of these only printable ASCII without `<`, `>` and `&`, so that a page can contain the text.
     Page,
 }
 
-// Whether the byte stands for itself.
+// Whether the byte is written unescaped.
 fn is_plain(json: Json, b: u8) -> bool
     ensures { result ≡ is_plain json b }
 {
@@ -30,7 +30,7 @@ fn is_plain(json: Json, b: u8) -> bool
     }
 }
 
-/// One of the sixteen lower-case hexadecimal digits.
+/// The lower-case hexadecimal digit of a number below 16.
 pub fn hex_digit(n: u8) -> u8
     requires { n < 16 }
     ensures { result ≡ hex_digit n }
@@ -38,7 +38,7 @@ pub fn hex_digit(n: u8) -> u8
     if n < 10 { n + b'0' } else { n - 10 + b'a' }
 }
 
-// The byte by its number.
+// The escape `\u00NN` of a byte.
 fn numbered(b: u8) -> [u8; 6]
     ensures { result ≡ numbered b }
 {

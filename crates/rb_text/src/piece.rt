@@ -1,4 +1,4 @@
-//! The pieces that a text is put together of, one behind another.
+//! Texts made of pieces.
 
 ghost use Rattle.std.specs.Prelude.{◌≡◌, ◌++◌, ℕ, List, IsOk, OnOk};
 ghost use Rattle.std.specs.List.{flat_map};
@@ -7,16 +7,16 @@ ghost use Rattle.rb_text.specs.Pieces.{piece_text};
 
 use crate::escape::put_escaped;
 use crate::json::Json;
-use crate::writing::put_number;
+use crate::number::put_number;
 use rb_script::{Sink, Through, WriteFault};
 use std::alloc::AllocError;
 use std::mem;
 
-/// What stands in a text, whole. A crate whose texts have more than a [`Piece`] says has an enum of its own.
+/// A piece of a text. A crate with more kinds of pieces than [`Piece`] has an enum of its own.
 pub trait WrittenPiece {
     ghost text: { Self → List ℕ };
 
-    /// Writes the text of the piece. On a failure a beginning of it went out.
+    /// Writes the text of the piece. After a failure a beginning of it is written.
     fn put<S: Sink>(&self, sink: &mut S) -> Result<(), WriteFault>
         ensures wrote { Writes result (S.held sink.old) (S.held sink.new) (text self.now) }
         ensures all { S.takes_all sink.old → IsOk result × S.takes_all sink.new };
@@ -38,7 +38,7 @@ pub enum Piece<'a> {
     Bytes(&'a [u8]),
     /// A number in decimal digits.
     Number(u64),
-    /// The bytes as they stand between the quotes of a text of JSON.
+    /// The bytes, escaped for a string of JSON.
     Escaped(Json, &'a [u8]),
 }
 
@@ -58,7 +58,7 @@ impl WrittenPiece for Piece<'_> {
 ///
 /// # Errors
 ///
-/// Where the sink failed. A beginning of the text went out then.
+/// If the sink fails. A beginning of the text is written then.
 pub fn put_pieces<S: Sink, P: WrittenPiece>(sink: &mut S, pieces: &[P]) -> Result<(), WriteFault>
     ensures wrote { Writes result (S.held sink.old) (S.held sink.new) (flat_map P.text pieces.now) }
     ensures all { S.takes_all sink.old → IsOk result × S.takes_all sink.new }
@@ -69,15 +69,15 @@ pub fn put_pieces<S: Sink, P: WrittenPiece>(sink: &mut S, pieces: &[P]) -> Resul
     Ok(())
 }
 
-/// Puts the pieces behind the text.
+/// Appends the pieces to a text in memory.
 ///
 /// # Errors
 ///
-/// Where memory was refused. Some of the pieces may have been added then.
+/// If there is no memory. Some of the pieces may be appended then.
 pub fn add_pieces<P: WrittenPiece>(text: &mut Vec<u8>, pieces: &[P]) -> Result<(), AllocError>
     ensures { OnOk result (text.new.items ≡ text.old.items ++ flat_map P.text pieces.now) }
 {
-    // The text itself is the sink while the pieces go out.
+    // The text itself is the sink.
     let nothing = Vec::new(*text.allocator());
     let mut sink = Through(mem::replace(text, nothing));
     let written = put_pieces(&mut sink, pieces);

@@ -1,12 +1,12 @@
-//! The words of a line.
+//! Splitting a line into words.
 
 ghost use Rattle.std.specs.Prelude.{◌≡◌, ◌∷◌, [], ◌<◌, ℕ, true, false, length, slice_index, IfSome, IfNone, MatchOption};
 ghost use Rattle.rb_script.specs.Marks.{is_space};
 ghost use Rattle.rb_text.specs.Words.{words};
 
-use rb_script::{is_space, without_front};
+use rb_script::{is_space, trim_blanks};
 
-/// Where the first blank stands.
+/// Finds the first blank.
 fn first_space(bytes: &[u8]) -> Option<usize>
     ensures none { IfNone result ((k : ℕ) → k < length bytes.now → is_space (slice_index bytes.now k) ≡ false) }
     ensures found { IfSome result (λ end. end < length bytes.now) }
@@ -16,11 +16,11 @@ fn first_space(bytes: &[u8]) -> Option<usize>
     bytes.iter().position(|b| is_space(*b))
 }
 
-/// The first word, and what follows it.
+/// Splits off the first word.
 pub fn first_word(line: &[u8]) -> Option<(&[u8], &[u8])>
     ensures { MatchOption result (words line.now ≡ []) (λ found. words line.now ≡ found.0.now ∷ words found.1.now) }
 {
-    let text = without_front(line);
+    let text = trim_blanks(line);
     if text.is_empty() {
         return None;
     }

@@ -6,10 +6,10 @@ use Rattle.std.proofs.lemmas.Bool.{and_from, cases_Bool, false≢true}
 use Rattle.std.proofs.Math.Bool.{or-true}
 use Rattle.std.proofs.lemmas.List.Folds.{list_any-append}
 use Rattle.std.proofs.lemmas.Slice.Eq.{bytes_eq-Decides}
-use Rattle.rb_level.specs.declared.directive_error.DirectiveError.{DirectiveError}
-use Rattle.rb_level.specs.declared.directive_error.DirectiveError.TheVariants as errors
-use Rattle.rb_level.specs.declared.level.Level.{Level}
-use Rattle.rb_level.specs.declared.level.Level.TheVariants as levels
+use Rattle.rb_vocab.specs.declared.directive_error.DirectiveError.{DirectiveError}
+use Rattle.rb_vocab.specs.declared.directive_error.DirectiveError.TheVariants as errors
+use Rattle.rb_vocab.specs.declared.level.Level.{Level}
+use Rattle.rb_vocab.specs.declared.level.Level.TheVariants as levels
 use Rattle.rb_message.specs.declared.event.Event.{Event}
 use Rattle.rb_raftlog.specs.declared.entry.Entry.{Entry}
 use Rattle.rb_tracker.specs.Progresses.{PlainProgress}

@@ -2,7 +2,7 @@
 use Rattle.std.proofs.Common.{◌≡◌, ℕ, Bool, true, List, length, min, [], ◌∷◌, ◌++◌, take, codes, ap, sym, ◌∙◌, append-nil, arith}
 use Rattle.std.specs.Prelude.{if◌then◌else◌}
 use Rattle.std.proofs.lemmas.List.{take_min}
-use Rattle.rb_level.specs.declared.level.Level.{Level}
+use Rattle.rb_vocab.specs.declared.level.Level.{Level}
 use Rattle.rb_tracker.specs.declared.config.Config.{Config}
 use Rattle.rb_texts.specs.Lines.{Line}
 use Rattle.rb_texts.specs.Quoted.{quoted}

@@ -5,21 +5,15 @@ use Rattle.std.specs.List.{flat_map}
 use Rattle.rb_raftlog.specs.declared.entry.Body.{Body}
 use Rattle.rb_raftlog.specs.declared.entry.Body.TheVariants as bodies
 use Rattle.rb_raftlog.specs.declared.entry.Entry.{Entry}
-use Rattle.rb_change.specs.declared.change.Transition.{Transition}
-use Rattle.rb_change.specs.declared.change.Transition.TheVariants as transitions
-use Rattle.rb_change.specs.declared.change.Word.{Word}
-use Rattle.rb_change.specs.declared.change.WordKind.{WordKind}
-use Rattle.rb_change.specs.declared.change.WordKind.TheVariants as words
+use Rattle.rb_vocab.specs.declared.change.Word.{Word}
+use Rattle.rb_vocab.specs.declared.change.WordKind.{WordKind}
+use Rattle.rb_vocab.specs.declared.change.WordKind.TheVariants as words
+pub use Rattle.rb_vocab.specs.Transitions.{transition_text}
 use Rattle.rb_texts.specs.Quoted.{quoted}
 
 -- a place in a log
 abbrev pub place_text : ℕ → ℕ → List ℕ
 place_text term index = decimal term ++ codes "/" ++ decimal index
-
-abbrev pub transition_text : Transition → List ℕ
-transition_text transitions.Auto = codes "auto"
-transition_text transitions.Explicit = codes "explicit"
-transition_text transitions.Implicit = codes "implicit"
 
 abbrev pub letter : WordKind → List ℕ
 letter words.Voter = codes "v"

@@ -1,7 +1,7 @@
 -- Errors of directives as a line shows them. (This project's.)
 use Rattle.std.specs.Prelude.{ℕ, codes, decimal, List, ◌++◌, take}
-use Rattle.rb_level.specs.declared.directive_error.DirectiveError.{DirectiveError}
-use Rattle.rb_level.specs.declared.directive_error.DirectiveError.TheVariants as errors
+use Rattle.rb_vocab.specs.declared.directive_error.DirectiveError.{DirectiveError}
+use Rattle.rb_vocab.specs.declared.directive_error.DirectiveError.TheVariants as errors
 use Rattle.rb_texts.specs.Quoted.{quoted}
 
 -- how many bytes of a word an error shows at the most

@@ -1,9 +1,9 @@
 -- Events as a line shows them, and the level of each. (The events are this project's, and so are their levels and texts.)
 use Rattle.std.specs.Prelude.{ℕ, Bool, codes, decimal, List, ◌++◌}
-use Rattle.rb_level.specs.declared.level.Level.{Level}
-use Rattle.rb_level.specs.declared.level.Level.TheVariants as levels
-use Rattle.rb_level.specs.declared.message_type.MessageType.{MessageType}
-use Rattle.rb_level.specs.MessageTypes.{type_text}
+use Rattle.rb_vocab.specs.declared.level.Level.{Level}
+use Rattle.rb_vocab.specs.declared.level.Level.TheVariants as levels
+use Rattle.rb_vocab.specs.declared.message_type.MessageType.{MessageType}
+use Rattle.rb_vocab.specs.MessageTypes.{type_text}
 use Rattle.rb_message.specs.declared.event.Event.{Event}
 use Rattle.rb_message.specs.declared.event.Event.TheVariants as events
 use Rattle.rb_message.specs.declared.role.Role.{Role}
@@ -40,7 +40,7 @@ event_level (events.TransferStarts id to) = levels.Info
 event_level (events.TransferEnds id to) = levels.Info
 event_level (events.LostQuorum id) = levels.Warn
 
--- a level, as it stands before an event. (No event has one of the last two.)
+-- the level at the beginning of an event's line (no event has one of the last two)
 abbrev pub level_text : Level → List ℕ
 level_text levels.Debug = codes "DEBUG "
 level_text levels.Info = codes "INFO "
@@ -80,7 +80,7 @@ started_text id term index config = decimal id ++ codes " started at " ++ place_
 abbrev pub became_text : ℕ → Role → ℕ → List ℕ
 became_text id role term = decimal id ++ codes " became " ++ role_text role ++ codes " at term " ++ decimal term
 
--- an answer to a campaign, and what the answers come to
+-- an answer to a campaign, and the result so far
 abbrev pub vote_counted_text : ℕ → MessageType → Bool → ℕ → VoteResult → List ℕ
 vote_counted_text id type granted from result =
     decimal id ++ codes " has " ++ type_text type ++ codes " " ++ answer_text granted ++ codes " from " ++ decimal from ++ codes ": " ++ votes_text result

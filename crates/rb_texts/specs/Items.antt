@@ -1,7 +1,7 @@
--- What a line can show, as plain data. (What a node has is after the etcd raft documentation, "Usage"; a configuration's lists
+-- Items as plain data. (The fields of a node are after the etcd raft documentation, "Usage"; a configuration's lists
 -- are those of joint consensus, Ongaro's thesis, section 4.3; the choice of the items and the errors are this project's.)
 use Rattle.std.specs.Prelude.{ℕ, Bool, List}
-use Rattle.rb_level.specs.declared.directive_error.DirectiveError.{DirectiveError}
+use Rattle.rb_vocab.specs.declared.directive_error.DirectiveError.{DirectiveError}
 use Rattle.rb_message.specs.declared.event.Event.{Event}
 use Rattle.rb_message.specs.declared.hard_state.HardState.{HardState}
 use Rattle.rb_message.specs.declared.message.Message.{Message}

@@ -1,6 +1,6 @@
 pub use Rattle.rb_script.specs.Lines
 pub use Rattle.rb_script.specs.Marks
-pub use Rattle.rb_level.specs.Levels
+pub use Rattle.rb_vocab.specs.Levels
 pub mod Quoted
 pub mod Shapes
 pub mod Items

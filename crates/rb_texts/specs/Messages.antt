@@ -1,6 +1,6 @@
 -- Messages as a line shows them. (The types are named as in etcd raft's documentation, "MessageType"; the texts are this project's.)
 use Rattle.std.specs.Prelude.{ℕ, Bool, false, if◌then◌else◌, codes, decimal, List, [], ◌++◌, length}
-use Rattle.rb_level.specs.MessageTypes.{type_text}
+use Rattle.rb_vocab.specs.MessageTypes.{type_text}
 use Rattle.rb_message.specs.declared.kind.MessageKind.{MessageKind}
 use Rattle.rb_message.specs.declared.kind.MessageKind.TheVariants as kinds
 use Rattle.rb_message.specs.declared.message.Message.{Message}

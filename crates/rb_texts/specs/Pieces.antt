@@ -1,4 +1,4 @@
--- The pieces that a line is put together of. (This project's.)
+-- The pieces of a line. (This project's.)
 use Rattle.std.specs.Prelude.{ℕ, decimal, List, ◌++◌}
 use Rattle.std.specs.List.{flat_map}
 use Rattle.rb_texts.specs.declared.piece.LinePiece.{LinePiece}

@@ -10,7 +10,7 @@ hex_digit n = if nat_lt n 10 then n + 48 else n + 87
 abbrev pub is_printable : ℕ → Bool
 is_printable b = nat_le 32 b && nat_le b 126
 
--- a byte that stands for itself: a printable one that is neither `"` nor a backslash
+-- an unescaped byte: a printable one that is neither `"` nor a backslash
 abbrev pub is_plain : ℕ → Bool
 is_plain b = is_printable b && not (b == 34) && not (b == 92)
 
@@ -18,11 +18,11 @@ is_plain b = is_printable b && not (b == 34) && not (b == 92)
 abbrev pub numbered : ℕ → List ℕ
 numbered b = 92 ∷ 120 ∷ hex_digit (b / 16 % 16) ∷ hex_digit (b % 16) ∷ []
 
--- a byte as it stands between quotes
+-- the text of a byte between quotes
 abbrev pub escaped : ℕ → List ℕ
 escaped b = if is_plain b then b ∷ [] else numbered b
 
--- the first byte, if there is one, doesn't stand for itself
+-- the first byte, if there is one, is escaped
 abbrev pub begins_numbered : List ℕ → Bool
 begins_numbered [] = true
 begins_numbered (b ∷ bytes) = not (is_plain b)

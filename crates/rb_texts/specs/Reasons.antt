@@ -1,8 +1,8 @@
 -- The line of a reason: why a node does nothing with a message, or refuses a vote. (This project's texts.)
 use Rattle.std.specs.Prelude.{ℕ, Bool, nat_le, if◌then◌else◌, codes, decimal, List, [], ◌∷◌, ◌++◌, Option, Some, None}
-use Rattle.rb_level.specs.declared.level.Level.{Level}
-use Rattle.rb_level.specs.declared.level.Level.TheVariants as levels
-use Rattle.rb_level.specs.Levels.{rank}
+use Rattle.rb_vocab.specs.declared.level.Level.{Level}
+use Rattle.rb_vocab.specs.declared.level.Level.TheVariants as levels
+use Rattle.rb_vocab.specs.Levels.{rank}
 use Rattle.rb_message.specs.declared.event.Event.{Event}
 use Rattle.rb_message.specs.declared.event.Event.TheVariants as events
 use Rattle.rb_message.specs.declared.event.WhyIgnored.{WhyIgnored}

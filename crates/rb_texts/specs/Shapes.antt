@@ -1,4 +1,4 @@
--- What a printed line is, and never is. (This project's: what can stand in an expectation as it is.)
+-- The form of printed lines. (This project's: lines that can be expected without the double form.)
 use Rattle.std.specs.Prelude.{ℕ, Bool, ◌&&◌, not, List}
 use Rattle.std.specs.List.{list_all}
 use Rattle.rb_script.specs.Marks.{is_blank, is_rule}
@@ -8,6 +8,6 @@ use Rattle.rb_texts.specs.Quoted.{is_printable}
 abbrev pub is_one_line : List ℕ → Bool
 is_one_line line = list_all is_printable line
 
--- a line that stands in an expectation as it is: neither blank nor ----, and of printable bytes alone
+-- a line that needs only the plain form: printable, and neither blank nor ----
 abbrev pub is_solid : List ℕ → Bool
 is_solid line = not (is_blank line) && not (is_rule line) && is_one_line line

@@ -1,8 +1,8 @@
 -- The line of each item, and at which levels it is shown. (This project's texts.)
 use Rattle.std.specs.Prelude.{ℕ, Bool, true, false, nat_le, if◌then◌else◌, codes, decimal, List, [], ◌∷◌, ◌++◌}
-use Rattle.rb_level.specs.declared.level.Level.{Level}
-use Rattle.rb_level.specs.declared.level.Level.TheVariants as levels
-use Rattle.rb_level.specs.Levels.{rank}
+use Rattle.rb_vocab.specs.declared.level.Level.{Level}
+use Rattle.rb_vocab.specs.declared.level.Level.TheVariants as levels
+use Rattle.rb_vocab.specs.Levels.{rank}
 use Rattle.rb_message.specs.declared.event.Event.{Event}
 use Rattle.rb_message.specs.declared.event.Event.TheVariants as events
 use Rattle.rb_texts.specs.Configs.{config_text}
@@ -37,12 +37,12 @@ item_text (progress id view) = progress_text id view
 item_text (event e) = event_text e
 item_text (error e) = error_text e
 
--- An event is shown where its level is at or above the one that is set. A vote that is refused is told by no line: the answer that says so is one.
+-- An event is shown if its level is at least the one set. A refused vote has no line of its own, since its answer has one.
 abbrev pub is_event_shown : Level → Event → Bool
 is_event_shown level (events.RefusedVote id type from why) = false
 is_event_shown level e = nat_le (rank level) (rank (event_level e))
 
--- Errors and `ok` are shown always, an event where its level is at or above the one that is set, and all else but at none.
+-- Errors and `ok` are always shown, an event if its level is at least the one set, and everything else unless the level is none.
 abbrev pub is_shown : Level → PlainItem → Bool
 is_shown level nothing_else = true
 is_shown level (event e) = is_event_shown level e

@@ -1,7 +1,7 @@
 //! Configurations.
 //!
-//! A configuration is shown by its parts: the voters always, and the outgoing voters of a joint one, the learners, and the voters
-//! that are to be learners where there are any (Ongaro's thesis, section 4.3).
+//! A configuration always shows its voters. It shows the outgoing voters of a joint one, learners, and voters that become learners if
+//! there are any (Ongaro's thesis, section 4.3).
 
 ghost use Rattle.std.specs.Prelude.{◌≡◌, ◌++◌, OnOk};
 ghost use Rattle.rb_texts.specs.Configs.{config_text, part_text};
@@ -26,7 +26,7 @@ pub(crate) fn add_config(line: &mut LineText, config: &Config) -> Result<(), All
     add_bytes(line, shown_if(config.auto, b" auto"))
 }
 
-// Adds a part of a configuration, which is shown only where it isn't empty.
+// Adds a part of a configuration, if it isn't empty.
 fn add_part<'a>(line: &mut LineText, name: &'a [u8], ids: &'a [u64]) -> Result<(), AllocError>
     ensures { OnOk result (line.new ≡ line.old ++ part_text name.now ids.now) }
 {

@@ -8,19 +8,16 @@ ghost use Rattle.std.specs.List.{flat_map};
 ghost use Rattle.rb_texts.specs.Entries.{transition_text, letter, change_word, body_text, entry_text};
 
 use crate::piece::{LinePiece, add_bytes, add_pieces, add_place, add_quoted};
-use rb_change::{Transition, Word, WordKind};
 use rb_raftlog::{Body, Entry};
 use rb_script::LineText;
+use rb_vocab::{Transition, Word, WordKind};
 use std::alloc::AllocError;
 
-fn transition_name(transition: Transition) -> &'static [u8]
+/// The name of a transition.
+pub fn transition_name(transition: Transition) -> &'static [u8]
     ensures { result.now ≡ transition_text transition }
 {
-    match transition {
-        Transition::Auto => b"auto",
-        Transition::Explicit => b"explicit",
-        Transition::Implicit => b"implicit",
-    }
+    transition.text()
 }
 
 fn letter(kind: WordKind) -> &'static [u8]

@@ -1,13 +1,13 @@
 //! Errors of directives.
 //!
-//! An error names what was wrong, as it stands in the script: the first bytes of it, in quotes.
+//! An error quotes the first bytes of the word that is wrong.
 
 ghost use Rattle.std.specs.Prelude.{◌≡◌, ◌++◌, OnOk};
 ghost use Rattle.rb_texts.specs.Errors.{error_text, word_text};
 
 use crate::piece::{LinePiece, add_bytes, add_pieces};
-use rb_level::DirectiveError;
 use rb_script::LineText;
+use rb_vocab::DirectiveError;
 use std::alloc::AllocError;
 
 // How many bytes of a word an error shows.

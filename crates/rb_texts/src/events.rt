@@ -11,10 +11,10 @@ use crate::configs::add_config;
 use crate::messages::answer_name;
 use crate::piece::{LinePiece, add_bytes, add_pieces};
 use crate::states::role_name;
-use rb_level::{Level, MessageType};
 use rb_message::{Event, Role, WhyNoCampaign, WhyReplaced};
 use rb_script::LineText;
 use rb_tracker::{ChangeFault, Config, VoteResult};
+use rb_vocab::{Level, MessageType};
 use std::alloc::AllocError;
 
 /// The level of an event.
@@ -52,7 +52,8 @@ fn level_name(level: Level) -> &'static [u8]
     }
 }
 
-fn no_campaign_name(why: WhyNoCampaign) -> &'static [u8]
+/// The reason why a node can't campaign.
+pub fn no_campaign_name(why: WhyNoCampaign) -> &'static [u8]
     ensures { result.now ≡ no_campaign_text why }
 {
     match why {
@@ -64,7 +65,8 @@ fn no_campaign_name(why: WhyNoCampaign) -> &'static [u8]
     }
 }
 
-fn replaced_name(why: WhyReplaced) -> &'static [u8]
+/// The reason why a change is replaced by an empty entry.
+pub fn replaced_name(why: WhyReplaced) -> &'static [u8]
     ensures { result.now ≡ replaced_text why }
 {
     match why {
@@ -74,7 +76,8 @@ fn replaced_name(why: WhyReplaced) -> &'static [u8]
     }
 }
 
-fn votes_name(votes: VoteResult) -> &'static [u8]
+/// The name of a result of a vote.
+pub fn votes_name(votes: VoteResult) -> &'static [u8]
     ensures { result.now ≡ votes_text votes }
 {
     match votes {
@@ -84,7 +87,8 @@ fn votes_name(votes: VoteResult) -> &'static [u8]
     }
 }
 
-fn fault_name(fault: ChangeFault) -> &'static [u8]
+/// The name of a fault of a change.
+pub fn fault_name(fault: ChangeFault) -> &'static [u8]
     ensures { result.now ≡ fault_text fault }
 {
     match fault {
@@ -161,7 +165,7 @@ fn add_became(line: &mut LineText, id: u64, role: Role, term: u64) -> Result<(),
     add_pieces(line, &pieces)
 }
 
-// Adds an answer to a campaign, and what the answers come to.
+// Adds an answer to a campaign, and the result so far.
 fn add_vote_counted(
     line: &mut LineText,
     id: u64,
@@ -230,7 +234,7 @@ fn add_conflict(line: &mut LineText, id: u64, index: u64, commit: u64) -> Result
     add_pieces(line, &pieces)
 }
 
-// Adds that no change is made, and why.
+// Adds that a change is replaced, and why.
 fn add_replaced(
     line: &mut LineText,
     id: u64,

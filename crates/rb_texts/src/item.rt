@@ -1,12 +1,12 @@
-//! What a line can show.
+//! The items that lines show.
 //!
-//! A directive prints what it did and saw, a line an item: what a node has ready for its application (etcd raft documentation, "Usage"),
-//! where messages go, what a node is, what its log holds, and what happened in it. An item borrows what it shows.
+//! A directive prints a line for each item: what a node has ready for its application (etcd raft documentation, "Usage"), moved
+//! messages, states of nodes, logs, and events. An item borrows its data.
 
-use rb_level::DirectiveError;
 use rb_message::{Event, HardState, Message, Role};
 use rb_raftlog::Entry;
 use rb_tracker::{Config, Progress};
+use rb_vocab::DirectiveError;
 
 /// How a message is shown to move.
 #[derive(Clone, Copy, Debug, PartialEq, Eq)]
@@ -37,7 +37,7 @@ pub struct NodeLine<'a> {
     pub applied: u64,
     /// How many bytes its content has.
     pub content_len: usize,
-    /// The last bytes of the content. All that stand here are shown: the caller cuts them.
+    /// The last bytes of the content, cut by the caller. All of these are shown.
     pub content_end: &'a [u8],
 }
 
@@ -56,14 +56,14 @@ pub struct LogLine {
     pub applied: u64,
 }
 
-/// What a line shows.
+/// An item of output.
 #[derive(Drop)]
 pub enum Item<'a> {
     /// The directive printed no other line: `ok`.
     NothingElse,
-    /// The node with this id has something ready. What it has follows, a line each.
+    /// The node with this id has something ready. Its items follow.
     Ready(u64),
-    /// The hard state, where it has changed.
+    /// The hard state, if it changed.
     HardState(HardState),
     /// A snapshot was restored: its term and its index.
     Snapshot(u64, u64),
@@ -79,7 +79,7 @@ pub enum Item<'a> {
     Moved(Verb, &'a Message),
     /// No message was met.
     NoMessages,
-    /// The rounds ran out, after this many.
+    /// The limit of rounds is reached, after this many.
     Stopped(u64),
     /// The state of one node.
     RaftState(NodeLine<'a>),

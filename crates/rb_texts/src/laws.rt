@@ -1,8 +1,8 @@
-//! What holds of printed lines, as laws: calls that do nothing, and whose contracts are what holds.
+//! Laws of printed lines. Each is a function with an empty body; its contract is the law.
 
 ghost use Rattle.std.specs.Prelude.{◌≡◌, ◌≤◌, true, false, List, length};
 ghost use Rattle.std.specs.List.{list_all, AllByRecursion};
-ghost use Rattle.rb_level.specs.declared.level.Level.{Level};
+ghost use Rattle.rb_vocab.specs.declared.level.Level.{Level};
 ghost use Rattle.rb_script.specs.declared.limits.TheConstants.{MAX_LINE};
 ghost use Rattle.rb_script.specs.Lines.{Line};
 ghost use Rattle.rb_script.specs.Script.{needs_double};
@@ -16,12 +16,12 @@ pub fn lines_are_solid()
     ensures { (level : Level) (item : PlainItem) → list_all is_solid (line_of level item) ≡ true }
 {}
 
-/// What is printed can be expected, as long as no line is longer than a line may be.
+/// Printed lines can be expected if none is too long.
 pub fn printed_lines_can_be_expected()
     ensures { (ls : List Line) → list_all is_solid ls ≡ true → AllByRecursion (λ line. length line ≤ MAX_LINE) ls → is_expectation ls ≡ true }
 {}
 
-/// What is printed stands in the plain form: no printed line needs the double form, however long it is.
+/// Printed lines need only the plain form.
 pub fn printed_plain()
     ensures { (ls : List Line) → list_all is_solid ls ≡ true → needs_double ls ≡ false }
 {}

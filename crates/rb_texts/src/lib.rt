@@ -1,4 +1,4 @@
-//! The lines that directives print: the text of each item, where the level shows it.
+//! The lines that directives print: the text of each item that the level shows, and the names in these texts.
 #![tactic(auto)]
 
 mod configs;
@@ -13,8 +13,11 @@ mod reason;
 mod states;
 mod texts;
 
+pub use entries::transition_name;
+pub use events::{fault_name, no_campaign_name, replaced_name, votes_name};
 pub use item::{Item, LogLine, NodeLine, Verb};
 pub use laws::{lines_are_solid, printed_lines_can_be_expected, printed_plain};
-pub use rb_level::{DirectiveError, Level, ScriptWord, level_of};
+pub use rb_vocab::{DirectiveError, Level, ScriptWord, level_of};
 pub use reason::{Reason, put_reason, reason_of};
+pub use states::{progress_state_name, role_name};
 pub use texts::{is_shown, put};

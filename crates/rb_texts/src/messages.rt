@@ -1,7 +1,7 @@
 //! Messages.
 //!
-//! A message is shown by who sent it to whom, its type as etcd's raft names it, its term where it is of one, and what it says. Of the
-//! entries of an append the count is shown, and of a snapshot the place.
+//! A message shows its sender and receiver, etcd raft's name of its type, its term if it has one, and its fields. An append shows the
+//! number of its entries, and a snapshot its term and index.
 
 ghost use Rattle.std.specs.Prelude.{◌≡◌, ◌++◌, codes, decimal, OnOk};
 ghost use Rattle.rb_texts.specs.Entries.{body_text, place_text};

@@ -1,4 +1,4 @@
-//! The pieces that a line is put together of.
+//! The pieces of a line.
 
 ghost use Rattle.std.specs.Prelude.{◌≡◌, ◌<◌, ◌≤◌, ◌++◌, [], ◌∷◌, ℕ, true, false, if◌then◌else◌, length, OnOk, take, slice_index_or, decimal};
 ghost use Rattle.std.specs.List.{flat_map};
@@ -28,7 +28,7 @@ pub(crate) enum LinePiece<'a> {
     Ids(&'a [u64]),
 }
 
-/// The text where it is to be shown, else nothing.
+/// The text if it is shown, or an empty one.
 pub(crate) fn shown_if<'a>(shown: bool, text: &'a [u8]) -> &'a [u8]
     ensures { result.now ≡ (if shown then text.now else []) }
 {
@@ -95,7 +95,7 @@ fn add_two_digits(line: &mut LineText, n: u64) -> Result<(), AllocError>
     add_bytes(line, &[b'0' + (n / 10) as u8, b'0' + (n % 10) as u8])
 }
 
-// It stands apart, since its buffer is cleared as it begins: a short number needs none.
+// A function of its own, since it clears its buffer when it begins, and short numbers need none.
 #[inline(never)]
 fn add_digits(line: &mut LineText, n: u64) -> Result<(), AllocError>
     ensures { OnOk result (line.new ≡ line.old ++ decimal n) }
@@ -145,7 +145,7 @@ fn add_ids(line: &mut LineText, ids: &[u64]) -> Result<(), AllocError>
     Ok(())
 }
 
-// Whether the byte stands for itself between quotes.
+// Whether the byte is written unescaped between quotes.
 fn is_plain(b: u8) -> bool
     ensures { result ≡ is_plain b }
 {
@@ -159,7 +159,7 @@ fn hex_digit(n: u8) -> u8
     if n < 10 { n + b'0' } else { n - 10 + b'a' }
 }
 
-// How many bytes at the front stand for themselves.
+// Counts the unescaped bytes at the front.
 fn plain_len(bytes: &[u8]) -> usize
     ensures within { result ≤ length bytes.now }
     ensures plain { flat_map escaped (take result bytes.now) ≡ take result bytes.now }
@@ -173,7 +173,7 @@ fn plain_len(bytes: &[u8]) -> usize
     bytes.len()
 }
 
-// The bytes at the front that stand for themselves, and what follows them.
+// Splits off the unescaped bytes at the front.
 fn split_plain(bytes: &[u8]) -> (&[u8], &[u8])
     ensures whole { bytes.now ≡ result.0.now ++ result.1.now }
     ensures plain { flat_map escaped result.0.now ≡ result.0.now }
@@ -189,7 +189,7 @@ fn numbered(b: u8) -> [u8; 4]
     [b'\\', b'x', hex_digit(b / 16), hex_digit(b % 16)]
 }
 
-/// Adds the bytes in double quotes: what stands for itself in one piece, and each other byte by its number.
+/// Adds the bytes in double quotes. Unescaped bytes are added at once, each other byte by its number.
 pub(crate) fn add_quoted(line: &mut LineText, bytes: &[u8]) -> Result<(), AllocError>
     ensures { OnOk result (line.new ≡ line.old ++ quoted bytes.now) }
 {

@@ -1,6 +1,6 @@
 //! The line of a reason.
 //!
-//! It stands below the message that nothing comes of, a little to the right, and says first whether that is ignored or a vote refused.
+//! It is indented below the message that has no effect, and begins with whether the message is ignored or a vote is refused.
 
 ghost use Rattle.std.specs.Prelude.{◌≡◌, ◌++◌, codes, decimal, OnOk};
 ghost use Rattle.rb_texts.specs.Items.{plain_item};
@@ -10,12 +10,12 @@ ghost use Rattle.rb_texts.specs.States.{role_text};
 use crate::item::Item;
 use crate::piece::{LinePiece, add_bytes, add_field, add_numbered, add_pieces};
 use crate::states::role_name;
-use rb_level::Level;
 use rb_message::{Event, Role, WhyIgnored, WhyRefused};
 use rb_script::{LineText, Lines, WrittenLine};
+use rb_vocab::Level;
 use std::alloc::AllocError;
 
-/// Why nothing came of a message.
+/// Why a message has no effect.
 #[derive(Clone, Copy, PartialEq, Eq, Debug)]
 pub enum Reason {
     Ignored(WhyIgnored),

@@ -1,7 +1,7 @@
 //! Nodes, their logs, and a leader's views.
 //!
-//! A node is shown by its role, its hard state and what it knows of the rest (Ongaro's thesis, section 3.3), a leader's view by its
-//! state and the indexes that it keeps (etcd raft documentation, "Progress").
+//! A node shows its role, its hard state, its leader and its indexes (Ongaro's thesis, section 3.3). A leader's view shows its state and
+//! its indexes (etcd raft documentation, "Progress").
 
 ghost use Rattle.std.specs.Prelude.{◌≡◌, ◌++◌, OnOk};
 ghost use Rattle.rb_texts.specs.Items.{plain_node};
@@ -14,7 +14,8 @@ use rb_script::LineText;
 use rb_tracker::{Progress, ProgressState};
 use std::alloc::AllocError;
 
-pub(crate) fn role_name(role: Role) -> &'static [u8]
+/// The name of a role.
+pub fn role_name(role: Role) -> &'static [u8]
     ensures { result.now ≡ role_text role }
 {
     match role {
@@ -65,7 +66,8 @@ pub(crate) fn add_log(line: &mut LineText, log: &LogLine) -> Result<(), AllocErr
     add_pieces(line, &pieces)
 }
 
-fn progress_state_name(state: ProgressState) -> &'static [u8]
+/// The name of a view's state.
+pub fn progress_state_name(state: ProgressState) -> &'static [u8]
     ensures { result.now ≡ progress_state_text state }
 {
     match state {

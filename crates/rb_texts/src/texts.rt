@@ -14,10 +14,10 @@ use crate::item::{Item, Verb};
 use crate::messages::{add_message, verb_name};
 use crate::piece::{LinePiece, add_bytes, add_numbered, add_pieces, shown_if};
 use crate::states::{add_hard_state, add_log, add_node, add_progress};
-use rb_level::Level;
 use rb_message::{Event, Message};
 use rb_raftlog::Entry;
 use rb_script::{LineText, Lines, WrittenLine};
+use rb_vocab::Level;
 use std::alloc::AllocError;
 
 /// Adds the line of the item, or nothing where the level hides it. Where memory runs out, nothing is known of what
@@ -102,7 +102,7 @@ fn add_entry_after<'a>(
     add_entry(line, index, entry)
 }
 
-// Adds an entry of a log, and its mark where it isn't durable.
+// Adds an entry of a log, with a mark if it isn't durable.
 fn add_log_entry(
     line: &mut LineText,
     index: u64,

@@ -4,11 +4,11 @@ use Rattle.std.specs.Option.{option_map}
 use Rattle.std.proofs.lemmas.List.{length-map}
 use Rattle.std.proofs.lemmas.Option.{slice_get-map}
 use Rattle.indexmap.specs.Layout.{set_value_at}
-use Rattle.rb_tracker.specs.Progresses.{PlainProgress, marked}
+use Rattle.rb_tracker.specs.Progresses.{PlainProgress, with_active}
 use Rattle.std.specs.Map.{keys_of}
 use Rattle.rb_tracker.specs.Trackers.{PlainTracker, view_at, AreInOrder}
 use Rattle.rb_tracker.proofs.SetLaws.{if_both}
-use Rattle.rb_tracker.specs.Active.{unmarked_but, unmarked_with, unmarked_at, unmarked}
+use Rattle.rb_tracker.specs.Active.{inactive_unless_own, inactive_with, inactive_at, others_marked_inactive}
 
 -- the view of an entry at a place is the view at that place
 pub view_of_entry : (es : List (ℕ × PlainProgress)) (i : ℕ) (e : ℕ × PlainProgress) → slice_get es i ≡ Some e → view_at es i ≡ Some e.1
@@ -18,32 +18,32 @@ if_into : {X Y : Type 0} (f : X → Y) (b : Bool) (x y : X) → (if b then f x e
 if_into f true x y = refl
 if_into f false x y = refl
 
-later_step : (o : Option (ℕ × PlainProgress)) (f : ℕ × PlainProgress) (es : List (ℕ × PlainProgress)) (i own : ℕ) → unmarked_with o (f ∷ es) (suc i) own ≡ f ∷ unmarked_with o es i own
+later_step : (o : Option (ℕ × PlainProgress)) (f : ℕ × PlainProgress) (es : List (ℕ × PlainProgress)) (i own : ℕ) → inactive_with o (f ∷ es) (suc i) own ≡ f ∷ inactive_with o es i own
 later_step None f es i own = refl
-later_step (Some e) f es i own = if_into (λ l. f ∷ l) (e.0 == own) es (set_value_at es i (marked e.1 false))
+later_step (Some e) f es i own = if_into (λ l. f ∷ l) (e.0 == own) es (set_value_at es i (with_active e.1 false))
 
-unmark_suc : (own : ℕ) (es : List (ℕ × PlainProgress)) (i : ℕ) → i < length es → unmarked_at (map (unmarked_but own) (take i es) ++ drop i es) i own ≡ map (unmarked_but own) (take (suc i) es) ++ drop (suc i) es
+unmark_suc : (own : ℕ) (es : List (ℕ × PlainProgress)) (i : ℕ) → i < length es → inactive_at (map (inactive_unless_own own) (take i es) ++ drop i es) i own ≡ map (inactive_unless_own own) (take (suc i) es) ++ drop (suc i) es
 unmark_suc own [] i h = absurd (omega arith)
-unmark_suc own (e ∷ es) zero h = if_into (λ x. x ∷ es) (e.0 == own) e (e.0, marked e.1 false)
+unmark_suc own (e ∷ es) zero h = if_into (λ x. x ∷ es) (e.0 == own) e (e.0, with_active e.1 false)
 unmark_suc own (e ∷ es) (suc i) h =
-    let rest = map (unmarked_but own) (take i es) ++ drop i es in
-    later_step (slice_get rest i) (unmarked_but own e) rest i own ∙ ap (λ l. unmarked_but own e ∷ l) (unmark_suc own es i (omega arith))
+    let rest = map (inactive_unless_own own) (take i es) ++ drop i es in
+    later_step (slice_get rest i) (inactive_unless_own own e) rest i own ∙ ap (λ l. inactive_unless_own own e ∷ l) (unmark_suc own es i (omega arith))
 
 -- one more mark off
-pub unmark_more : (own : ℕ) (es : List (ℕ × PlainProgress)) (i : ℕ) → i < length es → unmarked_at (map (unmarked_but own) (take i es) ++ drop i es) i own ≡ map (unmarked_but own) (take (i + 1) es) ++ drop (i + 1) es
+pub unmark_more : (own : ℕ) (es : List (ℕ × PlainProgress)) (i : ℕ) → i < length es → inactive_at (map (inactive_unless_own own) (take i es) ++ drop i es) i own ≡ map (inactive_unless_own own) (take (i + 1) es) ++ drop (i + 1) es
 unmark_more own es i h = rw add-one (unmark_suc own es i h)
 
-same_key : (own : ℕ) (e : ℕ × PlainProgress) → (unmarked_but own e).0 ≡ e.0
-same_key own e = if_both (λ (x : ℕ × PlainProgress). x.0 ≡ e.0) (e.0 == own) e (e.0, marked e.1 false) (λ _. refl) (λ _. refl)
+same_key : (own : ℕ) (e : ℕ × PlainProgress) → (inactive_unless_own own e).0 ≡ e.0
+same_key own e = if_both (λ (x : ℕ × PlainProgress). x.0 ≡ e.0) (e.0 == own) e (e.0, with_active e.1 false) (λ _. refl) (λ _. refl)
 
-keys_unmarked : (own : ℕ) (es : List (ℕ × PlainProgress)) → keys_of (map (unmarked_but own) es) ≡ keys_of es
+keys_unmarked : (own : ℕ) (es : List (ℕ × PlainProgress)) → keys_of (map (inactive_unless_own own) es) ≡ keys_of es
 keys_unmarked own [] = refl
 keys_unmarked own (e ∷ es) = rw (keys_unmarked own es, same_key own e) refl
 
-pub unmarked_in_order : (t : PlainTracker) (own : ℕ) → AreInOrder t.views → AreInOrder (unmarked t own).views
-unfolding unmarked
+pub unmarked_in_order : (t : PlainTracker) (own : ℕ) → AreInOrder t.views → AreInOrder (others_marked_inactive t own).views
+unfolding others_marked_inactive
 unmarked_in_order t own up = rw (keys_unmarked own t.views) up
 
-pub unmarked_length : (t : PlainTracker) (own : ℕ) → length (unmarked t own).views ≡ length t.views
-unfolding unmarked
-unmarked_length t own = length-map t.views (unmarked_but own)
+pub unmarked_length : (t : PlainTracker) (own : ℕ) → length (others_marked_inactive t own).views ≡ length t.views
+unfolding others_marked_inactive
+unmarked_length t own = length-map t.views (inactive_unless_own own)

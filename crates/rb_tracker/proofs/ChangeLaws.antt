@@ -5,13 +5,13 @@ use Rattle.std.proofs.lemmas.Bool.Decides.{nat_tests}
 use Rattle.rb_tracker.specs.Sets.{has, with_id, without, union, IsAscending}
 use Rattle.rb_tracker.specs.Configs.{is_joint}
 use Rattle.rb_tracker.specs.Quorum.{IsMajority, IsQuorum, ShareVoter}
-use Rattle.rb_tracker.specs.Changes.{with_voter, with_learner, without_member, done_by, done, differing, simple, entering, enter_joint, left, leave_joint, is_explicit, is_auto, changed, IsConfig}
+use Rattle.rb_tracker.specs.Changes.{with_voter, with_learner, without_member, word_applied, words_applied, differing, simple, entering, enter_joint, left, leave_joint, is_explicit, is_auto, changed, IsConfig}
 use Rattle.rb_tracker.specs.declared.config.Config.{Config}
 use Rattle.rb_tracker.specs.declared.changes.ChangeFault.{ChangeFault}
-use Rattle.rb_change.specs.declared.change.Transition.{Transition}
-use Rattle.rb_change.specs.declared.change.Word.{Word}
-use Rattle.rb_change.specs.declared.change.WordKind.{WordKind}
-use Rattle.rb_change.specs.declared.change.WordKind.TheVariants as kind
+use Rattle.rb_vocab.specs.declared.change.Transition.{Transition}
+use Rattle.rb_vocab.specs.declared.change.Word.{Word}
+use Rattle.rb_vocab.specs.declared.change.WordKind.{WordKind}
+use Rattle.rb_vocab.specs.declared.change.WordKind.TheVariants as kind
 use Rattle.rb_tracker.proofs.SetLaws.{if_both, same_id, not_false, ascending_with_id, ascending_filter, ascending_union}
 use Rattle.rb_tracker.proofs.QuorumLaws.{majorities_meet, near_majorities_meet, incoming_shares, incoming_majority, outgoing_majority}
 
@@ -90,28 +90,28 @@ module _ (c : Config) (id : ℕ) (is : IsConfig c) where
   as_learner_is : IsConfig (with_learner c id)
   as_learner_is = if_both IsConfig (has c.learners id) _ _ (λ _. is) (λ _. if_both IsConfig (has c.outgoing id) _ _ learns_later learns_now)
 
-word_is : (w : WordKind) (c : Config) (id : ℕ) → IsConfig c → IsConfig (done_by w c id)
+word_is : (w : WordKind) (c : Config) (id : ℕ) → IsConfig c → IsConfig (word_applied w c id)
 word_is kind.Voter c id is = as_voter c id is
 word_is kind.Learner c id is = as_learner_is c id is
 word_is kind.Remove c id is = removed c id is
 word_is kind.Update c id is = is
 
-done_is : (c : Config) (ws : List Word) → IsConfig c → IsConfig (done c ws)
+done_is : (c : Config) (ws : List Word) → IsConfig c → IsConfig (words_applied c ws)
 done_is c [] is = is
-done_is c (w ∷ ws) is = done_is (done_by w.kind c w.id) ws (word_is w.kind c w.id is)
+done_is c (w ∷ ws) is = done_is (word_applied w.kind c w.id) ws (word_is w.kind c w.id is)
 
 -- no word touches the outgoing voters, or whether a joint configuration is left by itself
-word_keeps : (w : WordKind) (c : Config) (id : ℕ) → ((done_by w c id).outgoing ≡ c.outgoing) × ((done_by w c id).auto ≡ c.auto)
+word_keeps : (w : WordKind) (c : Config) (id : ℕ) → ((word_applied w c id).outgoing ≡ c.outgoing) × ((word_applied w c id).auto ≡ c.auto)
 word_keeps kind.Learner c id =
     let P : Config → Type 0 = λ d. (d.outgoing ≡ c.outgoing) × (d.auto ≡ c.auto) in
     if_both P (has c.learners id) _ _ (λ _. (refl, refl)) (λ _. if_both P (has c.outgoing id) _ _ (λ _. (refl, refl)) (λ _. (refl, refl)))
 word_keeps _ c id = (refl, refl)
 
-pub done_keeps : (c : Config) (ws : List Word) → ((done c ws).outgoing ≡ c.outgoing) × ((done c ws).auto ≡ c.auto)
+pub done_keeps : (c : Config) (ws : List Word) → ((words_applied c ws).outgoing ≡ c.outgoing) × ((words_applied c ws).auto ≡ c.auto)
 done_keeps c [] = (refl, refl)
 done_keeps c (w ∷ ws) =
     let word = word_keeps w.kind c w.id in
-    let rest = done_keeps (done_by w.kind c w.id) ws in
+    let rest = done_keeps (word_applied w.kind c w.id) ws in
     (rest.0 ∙ word.0, rest.1 ∙ word.1)
 
 -- entering and leaving
@@ -150,30 +150,30 @@ some_of n h = grind (arith, nat_tests)
 
 -- what a simple change that isn't refused says
 pub record IsSimple (c d : Config) (ws : List Word) : Type 0 where
-  pub is : done c ws ≡ d
+  pub is : words_applied c ws ≡ d
   pub some : 0 < length d.incoming
   pub near : differing c.incoming d.incoming ≤ 1
 
 pub simple_ok : (c d : Config) (ws : List Word) → simple c ws ≡ Ok d → IsSimple c d ws
 simple_ok c d ws =
-    let new = done c ws in
+    let new = words_applied c ws in
     let P : Result Config ChangeFault → Type 0 = λ r. r ≡ Ok d → IsSimple c d ws in
     if_both P (is_joint c) _ _ (λ _ e. cc)
     (λ _. if_both P (length new.incoming == 0) _ _ (λ _ e. cc)
     (λ some. if_both P (nat_lt 1 (differing c.incoming new.incoming)) _ _ (λ _ e. cc)
     (λ near e.
-    let is : done c ws ≡ d = cc in
+    let is : words_applied c ws ≡ d = cc in
     record { is = is; some = rw (← is) (some_of (length new.incoming) some); near = rw (← is) (at_most_one (differing c.incoming new.incoming) near) })))
 
 pub record IsEntered (c d : Config) (auto : Bool) (ws : List Word) : Type 0 where
   pub plain : is_joint c ≡ false
-  pub is : done (entering c auto) ws ≡ d
+  pub is : words_applied (entering c auto) ws ≡ d
   pub some : 0 < length d.incoming
   pub old : 0 < length d.outgoing
 
 pub enter_ok : (c d : Config) (auto : Bool) (ws : List Word) → enter_joint c auto ws ≡ Ok d → IsEntered c d auto ws
 enter_ok c d auto ws =
-    let new = done (entering c auto) ws in
+    let new = words_applied (entering c auto) ws in
     let P : Result Config ChangeFault → Type 0 = λ r. r ≡ Ok d → IsEntered c d auto ws in
     if_both P (is_joint c) _ _ (λ _ e. cc)
     (λ plain. if_both P (length new.outgoing == 0 || length new.incoming == 0) _ _ (λ _ e. cc)

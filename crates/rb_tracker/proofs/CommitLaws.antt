@@ -10,13 +10,13 @@ use Rattle.std.proofs.lemmas.Bool.Decides.{nat_tests}
 use Rattle.std.proofs.lemmas.List.Sorted.{sum_by-IsPermutation, All-permutation, length_permutation}
 use Rattle.std.proofs.lemmas.List.Sums.{count_by-le-length}
 use Rattle.std.proofs.lemmas.List.Elements.{All-map}
-use Rattle.rb_tracker.specs.Quorum.{most}
+use Rattle.rb_tracker.specs.Quorum.{is_majority}
 use Rattle.rb_tracker.specs.Progresses.{PlainProgress}
 use Rattle.rb_tracker.specs.Trackers.{PlainTracker}
 use Rattle.rb_tracker.proofs.SetLaws.{if_both}
 use Rattle.rb_tracker.proofs.CountLaws.{count-cons, count_all, count_none, count_map}
 use Rattle.rb_tracker.proofs.QuorumLaws.{and_true}
-use Rattle.rb_tracker.specs.Commits.{commit_of, greatest, highest, match_in, match_of, holds, is_held, IsMostHeld}
+use Rattle.rb_tracker.specs.Commits.{commit_of, greatest, highest, match_in, match_of, holds, is_held, IsHeldByMajority}
 
 -- what a search downward finds passes, where 0 does
 greatest_passes : (top : ℕ) (p : ℕ → Bool) → p 0 ≡ true → p (greatest top p) ≡ true
@@ -89,8 +89,8 @@ most_iff len count j k v some is above below =
     grind (arith, nat_tests)
 
 -- of the sorted indexes the middle one, or the lower of two, is the greatest that most of the voters hold
-pub most_held_is : (views : List (ℕ × PlainProgress)) (voters ranked : List ℕ) → 0 < length voters → IsPermutation (map (match_of views) voters) ranked → IsNonDecreasing ranked → IsMostHeld views voters (get_or ranked ((length ranked - 1) / 2) 0)
-most_held_is views voters ranked some same up =
+pub held_by_majority_is : (views : List (ℕ × PlainProgress)) (voters ranked : List ℕ) → 0 < length voters → IsPermutation (map (match_of views) voters) ranked → IsNonDecreasing ranked → IsHeldByMajority views voters (get_or ranked ((length ranked - 1) / 2) 0)
+held_by_majority_is views voters ranked some same up =
     let f = match_of views in
     let len : length ranked ≡ length voters = length_permutation _ _ same ∙ length-map voters f in
     let j = (length ranked - 1) / 2 in
@@ -114,16 +114,16 @@ module _ (t : PlainTracker) (n : ℕ) where
   unfolding commit_of
   commit_is some exactly within = rw some (sym (greatest_is (highest t.views) n _ exactly within))
 
-  pub commit_of_outgoing : (length t.config.incoming == 0) ≡ true → (length t.config.outgoing == 0) ≡ false → IsMostHeld t.views t.config.outgoing n → n ≡ commit_of t
+  pub commit_of_outgoing : (length t.config.incoming == 0) ≡ true → (length t.config.outgoing == 0) ≡ false → IsHeldByMajority t.views t.config.outgoing n → n ≡ commit_of t
   commit_of_outgoing none some is = commit_is (rw (none, some) refl) (λ k. rw none (is.decides k)) is.within
 
-  pub commit_of_incoming : (length t.config.incoming == 0) ≡ false → (length t.config.outgoing == 0) ≡ true → IsMostHeld t.views t.config.incoming n → n ≡ commit_of t
+  pub commit_of_incoming : (length t.config.incoming == 0) ≡ false → (length t.config.outgoing == 0) ≡ true → IsHeldByMajority t.views t.config.incoming n → n ≡ commit_of t
   commit_of_incoming some none is = commit_is (rw some refl) (λ k. rw (none, and_true) (is.decides k)) is.within
 
 le_min : (k a b : ℕ) → (nat_le k a && nat_le k b) ≡ nat_le k (min a b)
 le_min k a b = grind (arith, nat_tests)
 
-pub commit_of_both : (t : PlainTracker) (a b : ℕ) → (length t.config.incoming == 0) ≡ false → IsMostHeld t.views t.config.incoming a → IsMostHeld t.views t.config.outgoing b → min a b ≡ commit_of t
+pub commit_of_both : (t : PlainTracker) (a b : ℕ) → (length t.config.incoming == 0) ≡ false → IsHeldByMajority t.views t.config.incoming a → IsHeldByMajority t.views t.config.outgoing b → min a b ≡ commit_of t
 commit_of_both t a b some first second =
     commit_is t (min a b) (rw some refl) (λ k. rw (first.decides k, second.decides k) (le_min k a b)) (let h = first.within in omega arith)
 
@@ -162,7 +162,7 @@ within_highest t n some held =
     elim (cases_lt (highest t.views) n) [
       | inl past ↦
           let none = count_none having voters (λ id. holds_past n (match_of t.views id) (let low = match_within t.views id in omega arith)) in
-          absurd (most_of_none (length voters) (count_by having voters) some none (and_parts (most voters having) (most t.config.outgoing having) held).0)
+          absurd (most_of_none (length voters) (count_by having voters) some none (and_parts (is_majority voters having) (is_majority t.config.outgoing having) held).0)
       | inr within ↦ within
     ]
 

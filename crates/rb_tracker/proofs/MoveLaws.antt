@@ -4,16 +4,16 @@ use Rattle.std.proofs.lemmas.Bool.{ne_eqb, cases_Bool, and_parts, and_from, or_p
 use Rattle.std.proofs.lemmas.Bool.Decides.{Decides-or}
 use Rattle.rb_tracker.specs.Sets.{has, with_id, without}
 use Rattle.rb_tracker.specs.Configs.{voters}
-use Rattle.rb_tracker.specs.Quorum.{most, both}
-use Rattle.rb_tracker.specs.Changes.{as_learner, done_by, simple, entering, enter_joint, leave_joint, IsConfig}
+use Rattle.rb_tracker.specs.Quorum.{is_majority, is_quorum}
+use Rattle.rb_tracker.specs.Changes.{as_learner, word_applied, simple, entering, enter_joint, leave_joint, IsConfig}
 use Rattle.rb_tracker.specs.Ballots.{has_answered, answered, is_won, is_open, vote_result, IsOnce}
 use Rattle.rb_tracker.specs.Moves.{Moves, IsLeft, answered_all, grants_of}
 use Rattle.rb_tracker.specs.declared.config.Config.{Config}
 use Rattle.rb_tracker.specs.declared.votes.Votes.{Votes}
 use Rattle.rb_tracker.specs.declared.votes.VoteResult.{VoteResult}
 use Rattle.rb_tracker.specs.declared.votes.VoteResult.TheVariants.{Won, Lost}
-use Rattle.rb_change.specs.declared.change.Word.{Word}
-use Rattle.rb_change.specs.declared.change.WordKind.TheVariants as kind
+use Rattle.rb_vocab.specs.declared.change.Word.{Word}
+use Rattle.rb_vocab.specs.declared.change.WordKind.TheVariants as kind
 use Rattle.rb_tracker.proofs.SetLaws.{if_both, self_id, same_id}
 use Rattle.rb_tracker.proofs.ChangeLaws.{has_with_id, has_without, has_union, enter_ok, simple_ok, leave_ok, done_keeps}
 use Rattle.rb_tracker.proofs.VoteLaws.{most_more, is_won_won, lost_is, won_is_open, both_more, answer_grants_more, answered_once}
@@ -34,7 +34,7 @@ other_without xs id y apart = has_without xs id y ∙ ap (λ b. if b then false 
 
 -- ---- words
 
-pub voter_moves : (c : Config) (id : ℕ) → Moves c (done_by kind.Voter c id) id true false false
+pub voter_moves : (c : Config) (id : ℕ) → Moves c (word_applied kind.Voter c id) id true false false
 voter_moves c id = record {
   voting = here_with c.incoming id;
   learning = here_without c.learners id;
@@ -45,7 +45,7 @@ voter_moves c id = record {
   outgoing = refl;
 }
 
-pub removed_moves : (c : Config) (id : ℕ) → Moves c (done_by kind.Remove c id) id false false false
+pub removed_moves : (c : Config) (id : ℕ) → Moves c (word_applied kind.Remove c id) id false false false
 removed_moves c id = record {
   voting = here_without c.incoming id;
   learning = here_without c.learners id;
@@ -71,7 +71,7 @@ learner_is c id is learns =
       outgoing = refl;
     }
 
-pub learner_moves : (c : Config) (id : ℕ) → IsConfig c → Moves c (done_by kind.Learner c id) id false (not (has c.outgoing id)) (has c.outgoing id)
+pub learner_moves : (c : Config) (id : ℕ) → IsConfig c → Moves c (word_applied kind.Learner c id) id false (not (has c.outgoing id)) (has c.outgoing id)
 learner_moves c id is =
     let P : Config → Type 0 = λ d. Moves c d id false (not (has c.outgoing id)) (has c.outgoing id) in
     if_both P (has c.learners id) c (as_learner c id) (learner_is c id is)
@@ -195,11 +195,11 @@ winnable c v once alive =
     let w = answered_all v (grants_of (voters c)) in
     let p : ℕ → Bool = λ id. not (has v.refused id) in
     let q : ℕ → Bool = λ id. has w.granted id in
-    let opened : both c p ≡ true = not_lost_is c v once alive in
+    let opened : is_quorum c p ≡ true = not_lost_is c v once alive in
     let counts : (id : ℕ) → has (voters c) id ≡ true → p id ≡ true → q id ≡ true =
     λ id votes free. all_grant v (voters c) id votes (not-true (has v.refused id) free) in
-    let halves = and_parts (most c.incoming p) (most c.outgoing p) opened in
+    let halves = and_parts (is_majority c.incoming p) (is_majority c.outgoing p) opened in
     is_won_won c w
-    (and_from (most c.incoming q) (most c.outgoing q)
+    (and_from (is_majority c.incoming q) (is_majority c.outgoing q)
     (most_more p q c.incoming (λ id votes. counts id (has_union c.outgoing c.incoming id ∙ or_right (has c.outgoing id) (has c.incoming id) votes)) halves.0)
     (most_more p q c.outgoing (λ id votes. counts id (has_union c.outgoing c.incoming id ∙ or_left (has c.outgoing id) (has c.incoming id) votes)) halves.1))

@@ -4,7 +4,7 @@ use Rattle.std.specs.List.{count_by}
 use Rattle.std.proofs.lemmas.Bool.{and_parts, or_left}
 use Rattle.std.proofs.lemmas.Bool.Decides.{nat_tests}
 use Rattle.rb_tracker.specs.Sets.{has, IsAscending}
-use Rattle.rb_tracker.specs.Quorum.{most, IsMajority, IsQuorum, Share, ShareVoter}
+use Rattle.rb_tracker.specs.Quorum.{is_majority, IsMajority, IsQuorum, Share, ShareVoter}
 use Rattle.rb_tracker.specs.Changes.{differing}
 use Rattle.rb_tracker.specs.declared.config.Config.{Config}
 use Rattle.rb_tracker.proofs.CountLaws.{count-cons, count_same, count_all, count_none}
@@ -65,11 +65,11 @@ incoming_shares c p q r f = record { id = f.id; votes = or_left (has c.incoming 
 
 -- a quorum is a majority of the incoming voters
 pub incoming_majority : (c : Config) (p : ℕ → Bool) → IsQuorum c p → IsMajority c.incoming p
-incoming_majority c p is = record { some = is.some; decides = (and_parts (most c.incoming p) (most c.outgoing p) is.decides).0 }
+incoming_majority c p is = record { some = is.some; decides = (and_parts (is_majority c.incoming p) (is_majority c.outgoing p) is.decides).0 }
 
 -- and, while there are outgoing ones, of those
 pub outgoing_majority : (c : Config) (p : ℕ → Bool) → 0 < length c.outgoing → IsQuorum c p → IsMajority c.outgoing p
-outgoing_majority c p some is = record { some = some; decides = (and_parts (most c.incoming p) (most c.outgoing p) is.decides).1 }
+outgoing_majority c p some is = record { some = some; decides = (and_parts (is_majority c.incoming p) (is_majority c.outgoing p) is.decides).1 }
 
 pub quorums_meet : (c : Config) (p q : ℕ → Bool) → IsQuorum c p → IsQuorum c q → ShareVoter c p q
 quorums_meet c p q first second =

@@ -4,7 +4,7 @@ use Rattle.std.specs.List.{count_by}
 use Rattle.std.proofs.lemmas.Bool.{and_parts, and_from, or_parts}
 use Rattle.std.proofs.lemmas.Bool.Decides.{nat_tests}
 use Rattle.rb_tracker.specs.Sets.{has}
-use Rattle.rb_tracker.specs.Quorum.{most, both, IsQuorum}
+use Rattle.rb_tracker.specs.Quorum.{is_majority, is_quorum, IsQuorum}
 use Rattle.rb_tracker.specs.Ballots.{has_answered, answered, is_won, is_open, vote_result, MoreGrants, IsOnce}
 use Rattle.rb_tracker.specs.declared.config.Config.{Config}
 use Rattle.rb_tracker.specs.declared.votes.Votes.{Votes}
@@ -25,15 +25,15 @@ count_more p q (x ∷ xs) more =
     (more_step (p x) (q x) _ _ (more x (has_here x xs)) (count_more p q xs (λ id inside. more id (also (x == id) (has xs id) inside))))
 
 most_more' : (len few many : ℕ) → few ≤ many → (len == 0 || nat_lt len (2 * few)) ≡ true → (len == 0 || nat_lt len (2 * many)) ≡ true
-most_more' len few many h most = grind (arith, nat_tests)
+most_more' len few many h is_majority = grind (arith, nat_tests)
 
-pub most_more : (p q : ℕ → Bool) (voters : List ℕ) → ((id : ℕ) → has voters id ≡ true → p id ≡ true → q id ≡ true) → most voters p ≡ true → most voters q ≡ true
+pub most_more : (p q : ℕ → Bool) (voters : List ℕ) → ((id : ℕ) → has voters id ≡ true → p id ≡ true → q id ≡ true) → is_majority voters p ≡ true → is_majority voters q ≡ true
 most_more p q voters more h = most_more' (length voters) (count_by p voters) (count_by q voters) (count_more p q voters more) h
 
-pub both_more : (c : Config) (p q : ℕ → Bool) → ((id : ℕ) → p id ≡ true → q id ≡ true) → both c p ≡ true → both c q ≡ true
+pub both_more : (c : Config) (p q : ℕ → Bool) → ((id : ℕ) → p id ≡ true → q id ≡ true) → is_quorum c p ≡ true → is_quorum c q ≡ true
 both_more c p q more h =
-    let halves = and_parts (most c.incoming p) (most c.outgoing p) h in
-    and_from (most c.incoming q) (most c.outgoing q) (most_more p q c.incoming (λ id _. more id) halves.0) (most_more p q c.outgoing (λ id _. more id) halves.1)
+    let halves = and_parts (is_majority c.incoming p) (is_majority c.outgoing p) h in
+    and_from (is_majority c.incoming q) (is_majority c.outgoing q) (most_more p q c.incoming (λ id _. more id) halves.0) (most_more p q c.outgoing (λ id _. more id) halves.1)
 
 -- what a result says
 pub won_is : (c : Config) (v : Votes) → vote_result c v ≡ Won → is_won c v ≡ true

@@ -1,7 +1,7 @@
--- Votes, and what they come to (Ongaro's thesis, section 3.4)
+-- Votes and their result (Ongaro's thesis, section 3.4)
 use Rattle.std.specs.Prelude.{ℕ, ◌≡◌, Bool, true, not, ◌||◌, [], if◌then◌else◌}
 use Rattle.rb_tracker.specs.Sets.{has, with_id}
-use Rattle.rb_tracker.specs.Quorum.{both}
+use Rattle.rb_tracker.specs.Quorum.{is_quorum}
 use Rattle.rb_tracker.specs.declared.config.Config.{Config}
 use Rattle.rb_tracker.specs.declared.votes.Votes.{Votes}
 use Rattle.rb_tracker.specs.declared.votes.VoteResult.{VoteResult}
@@ -13,7 +13,7 @@ no_votes = record { granted = []; refused = [] }
 abbrev pub has_answered : Votes → ℕ → Bool
 has_answered v id = has v.granted id || has v.refused id
 
--- the first answer of each id counts
+-- the first response of each id counts
 unfoldable pub answered : Votes → ℕ → Bool → Votes
 answered v id granted =
     if has_answered v id then v
@@ -21,11 +21,11 @@ answered v id granted =
 
 -- a quorum granted
 abbrev pub is_won : Config → Votes → Bool
-is_won c v = both c (λ id. has v.granted id)
+is_won c v = is_quorum c (λ id. has v.granted id)
 
--- a quorum may still grant: the rest of the voters is one
+-- a quorum may still grant: the voters that haven't refused are one
 abbrev pub is_open : Config → Votes → Bool
-is_open c v = both c (λ id. not (has v.refused id))
+is_open c v = is_quorum c (λ id. not (has v.refused id))
 
 unfoldable pub vote_result : Config → Votes → VoteResult
 vote_result c v = if is_won c v then Won else (if is_open c v then Pending else Lost)

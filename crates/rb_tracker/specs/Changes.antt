@@ -6,16 +6,16 @@ use Rattle.rb_tracker.specs.Configs.{is_joint}
 use Rattle.rb_tracker.specs.declared.config.Config.{Config}
 use Rattle.rb_tracker.specs.declared.changes.ChangeFault.{ChangeFault}
 use Rattle.rb_tracker.specs.declared.changes.ChangeFault.TheVariants as fault
-use Rattle.rb_change.specs.declared.change.Transition.{Transition}
-use Rattle.rb_change.specs.declared.change.Transition.TheVariants.{Auto, Explicit, Implicit}
-use Rattle.rb_change.specs.declared.change.Word.{Word}
-use Rattle.rb_change.specs.declared.change.WordKind.{WordKind}
-use Rattle.rb_change.specs.declared.change.WordKind.TheVariants as kind
+use Rattle.rb_vocab.specs.declared.change.Transition.{Transition}
+use Rattle.rb_vocab.specs.declared.change.Transition.TheVariants.{Auto, Explicit, Implicit}
+use Rattle.rb_vocab.specs.declared.change.Word.{Word}
+use Rattle.rb_vocab.specs.declared.change.WordKind.{WordKind}
+use Rattle.rb_vocab.specs.declared.change.WordKind.TheVariants as kind
 
 abbrev pub with_voter : Config → ℕ → Config
 with_voter c id = record c { incoming = with_id c.incoming id; learners = without c.learners id; next = without c.next id }
 
--- no incoming voter any more; a learner at once or, where it is an outgoing voter, when the joint configuration is left
+-- an incoming voter becomes a learner at once or, if it is an outgoing voter, when the joint configuration is left
 abbrev pub as_learner : Config → ℕ → Config
 as_learner c id =
     if has c.outgoing id
@@ -28,18 +28,18 @@ with_learner c id = if has c.learners id then c else as_learner c id
 abbrev pub without_member : Config → ℕ → Config
 without_member c id = record c { incoming = without c.incoming id; learners = without c.learners id; next = without c.next id }
 
-abbrev pub done_by : WordKind → Config → ℕ → Config
-done_by kind.Voter c id = with_voter c id
-done_by kind.Learner c id = with_learner c id
-done_by kind.Remove c id = without_member c id
-done_by kind.Update c id = c
+abbrev pub word_applied : WordKind → Config → ℕ → Config
+word_applied kind.Voter c id = with_voter c id
+word_applied kind.Learner c id = with_learner c id
+word_applied kind.Remove c id = without_member c id
+word_applied kind.Update c id = c
 
 -- the words, in order
-abbrev pub done : Config → List Word → Config
-done c [] = c
-done c (w ∷ ws) = done (done_by w.kind c w.id) ws
+abbrev pub words_applied : Config → List Word → Config
+words_applied c [] = c
+words_applied c (w ∷ ws) = words_applied (word_applied w.kind c w.id) ws
 
--- how many ids are in only one of two sets
+-- the number of ids that are in only one of two sets
 abbrev pub differing : List ℕ → List ℕ → ℕ
 differing a b = count_by (λ id. not (has b id)) a + count_by (λ id. not (has a id)) b
 
@@ -50,7 +50,7 @@ checked_simple old new =
 
 -- a change of at most one voter, at once
 abbrev pub simple : Config → List Word → Result Config ChangeFault
-simple c words = if is_joint c then Err fault.SimpleWhileJoint else checked_simple c (done c words)
+simple c words = if is_joint c then Err fault.SimpleWhileJoint else checked_simple c (words_applied c words)
 
 abbrev pub entering : Config → Bool → Config
 entering c auto = record c { outgoing = c.incoming; auto = auto }
@@ -58,14 +58,14 @@ entering c auto = record c { outgoing = c.incoming; auto = auto }
 abbrev pub checked_joint : Config → Result Config ChangeFault
 checked_joint new = if length new.outgoing == 0 || length new.incoming == 0 then Err fault.NoVoters else Ok new
 
--- the voters so far stay, as the outgoing ones, beside those that the words make
+-- the present voters become the outgoing ones; the words make the incoming ones
 abbrev pub enter_joint : Config → Bool → List Word → Result Config ChangeFault
-enter_joint c auto words = if is_joint c then Err fault.AlreadyJoint else checked_joint (done (entering c auto) words)
+enter_joint c auto words = if is_joint c then Err fault.AlreadyJoint else checked_joint (words_applied (entering c auto) words)
 
 abbrev pub left : Config → Config
 left c = record c { learners = union c.learners c.next; next = []; outgoing = []; auto = false }
 
--- the incoming voters alone decide
+-- only the incoming voters decide
 abbrev pub leave_joint : Config → Result Config ChangeFault
 leave_joint c = if is_joint c then Ok (left c) else Err fault.NotJoint
 
@@ -86,7 +86,7 @@ changed c transition words =
     else (if is_auto transition && length words == 1 then simple c words
     else enter_joint c (not (is_explicit transition)) words)
 
--- what is answered before any memory is asked for
+-- faults that are found before memory is requested
 abbrev pub is_early : Result Config ChangeFault → Bool
 is_early (Ok c) = false
 is_early (Err fault.AlreadyJoint) = true
@@ -96,7 +96,7 @@ is_early (Err fault.MoreThanOneVoter) = false
 is_early (Err fault.NoVoters) = false
 is_early (Err fault.OutOfMemory) = false
 
--- what a call gives: for want of memory another fault, unless that is answered before any is asked for
+-- the result of a call: `OutOfMemory` may replace another fault, unless that is found before memory is requested
 abbrev pub Gives : Result Config ChangeFault → Result Config ChangeFault → Type 0
 Gives (Ok c) is = is ≡ Ok c
 Gives (Err fault.AlreadyJoint) is = is ≡ Err fault.AlreadyJoint
@@ -106,8 +106,8 @@ Gives (Err fault.MoreThanOneVoter) is = is ≡ Err fault.MoreThanOneVoter
 Gives (Err fault.NoVoters) is = is ≡ Err fault.NoVoters
 Gives (Err fault.OutOfMemory) is = is_early is ≡ false
 
--- what holds of each configuration that comes of changes: its sets are sets, no voter of either half learns, and who is
--- to learn later is an outgoing voter and no incoming one
+-- the invariant of a configuration: its lists are sets, no voter is a learner, and one that becomes a learner later is an outgoing voter
+-- and not an incoming one
 pub record IsConfig (c : Config) : Type 0 where
   pub incoming : IsAscending c.incoming
   pub outgoing : IsAscending c.outgoing

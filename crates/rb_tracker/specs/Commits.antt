@@ -1,6 +1,6 @@
--- How far a quorum holds the log (Ongaro's thesis, sections 3.5 and 3.6.2)
+-- The last index that a quorum holds (Ongaro's thesis, sections 3.5 and 3.6.2)
 use Rattle.std.specs.Prelude.{ℕ, zero, suc, ◌≡◌, ◌≤◌, Bool, ◌&&◌, List, [], ◌∷◌, Option, Some, None, length, if◌then◌else◌, nat_le, ◌==◌, max}
-use Rattle.rb_tracker.specs.Quorum.{most, both}
+use Rattle.rb_tracker.specs.Quorum.{is_majority, is_quorum}
 use Rattle.rb_tracker.specs.Trackers.{PlainTracker, view_of}
 use Rattle.rb_tracker.specs.Progresses.{PlainProgress}
 
@@ -18,7 +18,7 @@ holds views n id = nat_le n (match_of views id)
 
 -- a quorum holds an index
 abbrev pub is_held : PlainTracker → ℕ → Bool
-is_held t n = both t.config (λ id. holds t.views n id)
+is_held t n = is_quorum t.config (λ id. holds t.views n id)
 
 -- the highest index of any view
 unfoldable pub highest : List (ℕ × PlainProgress) → ℕ
@@ -36,7 +36,7 @@ commit_of t =
     if length t.config.incoming == 0 && length t.config.outgoing == 0 then 0
     else greatest (highest t.views) (λ n. is_held t n)
 
--- the greatest index that most of a set of voters hold
-pub record IsMostHeld (views : List (ℕ × PlainProgress)) (voters : List ℕ) (n : ℕ) : Type 0 where
-  pub decides : (k : ℕ) → most voters (λ id. holds views k id) ≡ nat_le k n
+-- the greatest index that a majority of the voters holds
+pub record IsHeldByMajority (views : List (ℕ × PlainProgress)) (voters : List ℕ) (n : ℕ) : Type 0 where
+  pub decides : (k : ℕ) → is_majority voters (λ id. holds views k id) ≡ nat_le k n
   pub within : n ≤ highest views

@@ -2,9 +2,9 @@
 use Rattle.std.specs.Prelude.{ℕ, Bool, not, ◌||◌, List, length, ◌==◌}
 use Rattle.rb_tracker.specs.Sets.{has, union, set_of}
 use Rattle.rb_tracker.specs.declared.config.Config.{Config}
-use Rattle.rb_change.specs.declared.conf_state.ConfState.{ConfState}
+use Rattle.rb_vocab.specs.declared.conf_state.ConfState.{ConfState}
 
--- two sets of voters decide
+-- the configuration is joint: two sets of voters decide
 abbrev pub is_joint : Config → Bool
 is_joint c = not (length c.outgoing == 0)
 

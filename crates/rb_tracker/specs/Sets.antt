@@ -5,7 +5,7 @@ abbrev pub has : List ℕ → ℕ → Bool
 has [] id = false
 has (x ∷ xs) id = if x == id then true else has xs id
 
--- with one more id, in its place
+-- with one more id
 abbrev pub with_id : List ℕ → ℕ → List ℕ
 with_id [] id = id ∷ []
 with_id (x ∷ xs) id = if nat_lt x id then x ∷ with_id xs id else (if x == id then x ∷ xs else id ∷ x ∷ xs)
@@ -14,7 +14,7 @@ with_id (x ∷ xs) id = if nat_lt x id then x ∷ with_id xs id else (if x == id
 abbrev pub without : List ℕ → ℕ → List ℕ
 without ids id = filter (λ x. not (x == id)) ids
 
--- how many ids stand before the place of one
+-- the number of lower ids
 abbrev pub rank : List ℕ → ℕ → ℕ
 rank [] id = 0
 rank (x ∷ xs) id = if nat_lt x id then rank xs id + 1 else 0

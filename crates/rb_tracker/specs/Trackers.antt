@@ -40,7 +40,7 @@ view_of views id = lookup (nat_eq id) views
 abbrev pub has_view : List (ℕ × PlainProgress) → ℕ → Bool
 has_view views id = is_some (view_of views id)
 
--- with one more view, in its place
+-- with one more view
 abbrev pub with_new : PlainTracker → ℕ → PlainProgress → PlainTracker
 with_new t id view = record t { views = insert t.views (rank (keys_of t.views) id) (id, view) }
 

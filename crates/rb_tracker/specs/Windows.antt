@@ -1,8 +1,8 @@
--- Windows: what was sent to a follower and isn't answered (etcd raft documentation, "MaxInflightMsgs")
+-- Windows: the appends in flight to a follower (etcd raft documentation, "MaxInflightMsgs")
 use Rattle.std.specs.Prelude.{ℕ, Bool, ◌≤◌, length, List, [], ◌∷◌, ◌++◌, nat_lt, filter, ◌==◌}
 use Rattle.rb_tracker.specs.Sets.{IsAscending}
 
--- the last index of each append in flight, and how many there may be
+-- the last index of each append in flight, and the capacity
 pub record PlainWindow : Type 0 where
   pub in_flight : List ℕ
   pub capacity : ℕ
@@ -19,11 +19,11 @@ emptied w = record w { in_flight = [] }
 abbrev pub pushed : PlainWindow → ℕ → PlainWindow
 pushed w index = record w { in_flight = w.in_flight ++ index ∷ [] }
 
--- what is above an index stays, in order
+-- the appends above an index stay, in order
 abbrev pub freed : PlainWindow → ℕ → PlainWindow
 freed w index = record w { in_flight = filter (λ i. nat_lt index i) w.in_flight }
 
--- what is true of each window
+-- the invariant of a window
 pub record IsWindow (in_flight : List ℕ) (capacity : ℕ) : Type 0 where
   pub within : length in_flight ≤ capacity
   pub ascending : IsAscending in_flight

@@ -1,30 +1,30 @@
 //! Changes of a configuration.
 //!
-//! A *simple* change adds or takes out at most one voter: any majority of the old voters and any of the new ones share one, so the
-//! new configuration may count at once. For more than one voter the cluster enters a *joint* configuration, in which the voters so far
-//! are the outgoing ones and decide together with the incoming ones, and leaves it again (Ongaro's thesis, sections 4.1 and 4.3;
-//! etcd raft documentation, "Configuration changes"). Each call makes a new configuration: a refused change leaves the old one.
+//! A *simple* change adds or removes at most one voter. Any majority of the old voters and any of the new ones share a voter, so the change
+//! takes effect at once. For more voters, the cluster enters a *joint* configuration and later leaves it. There, the old voters, the
+//! outgoing ones, decide together with the incoming ones (Ongaro's thesis, sections 4.1 and 4.3; etcd raft documentation, "Configuration
+//! changes"). Each call returns a new configuration: a refused change keeps the old one.
 ghost use Rattle.std.specs.Prelude.{◌≡◌, IfOk, OnOk};
 ghost use Rattle.rb_tracker.specs.declared.changes.ChangeFault.TheVariants.{OutOfMemory};
-ghost use Rattle.rb_tracker.specs.Changes.{with_voter, as_learner, with_learner, without_member, done_by, done, differing, checked_simple, simple, entering, checked_joint, enter_joint, left, leave_joint, is_explicit, is_auto, changed, Gives};
+ghost use Rattle.rb_tracker.specs.Changes.{with_voter, as_learner, with_learner, without_member, word_applied, words_applied, differing, checked_simple, simple, entering, checked_joint, enter_joint, left, leave_joint, is_explicit, is_auto, changed, Gives};
 
 use crate::config::Config;
 use crate::id_set::IdSet;
-use rb_change::{Transition, Word, WordKind};
+use rb_vocab::{Transition, Word, WordKind};
 use std::alloc::AllocError;
 
-/// Why a configuration isn't changed. Of several reasons the first that holds is answered, in the order of each call.
+/// Why a change is refused: the first reason that holds, in the order of each call.
 #[derive(Clone, Copy, PartialEq, Eq, Debug)]
 pub enum ChangeFault {
     /// A joint configuration can't be entered from a joint one.
     AlreadyJoint,
-    /// What isn't joint can't be left.
+    /// Only a joint configuration can be left.
     NotJoint,
-    /// A joint configuration doesn't change at once.
+    /// A joint configuration can't have a simple change.
     SimpleWhileJoint,
-    /// A simple change may add or take out one voter.
+    /// A simple change may add or remove one voter.
     MoreThanOneVoter,
-    /// Somebody has to vote.
+    /// There must be a voter.
     NoVoters,
     OutOfMemory,
 }
@@ -37,7 +37,7 @@ impl From<AllocError> for ChangeFault {
     }
 }
 
-// How many ids are in only one of two sets.
+// The number of ids that are in only one of two sets.
 fn differing(a: &IdSet, b: &IdSet) -> usize
     ensures { result ≡ differing a.now b.now }
 {
@@ -103,8 +103,8 @@ impl Config {
         self.next.remove(id);
     }
 
-    fn do_word(&mut self, word: &Word) -> Result<(), AllocError>
-        ensures { OnOk result (self.new ≡ done_by word.now.kind self.old word.now.id) }
+    fn apply_word(&mut self, word: &Word) -> Result<(), AllocError>
+        ensures { OnOk result (self.new ≡ word_applied word.now.kind self.old word.now.id) }
     {
         match word.kind {
             WordKind::Voter => self.add_voter(word.id),
@@ -117,12 +117,12 @@ impl Config {
         }
     }
 
-    // The configuration once the words are done, in order.
-    fn done(mut self, words: &[Word]) -> Result<Config, AllocError>
-        ensures { IfOk result (λ config. config ≡ done self words.now) }
+    // Applies the words, in order.
+    fn apply_words(mut self, words: &[Word]) -> Result<Config, AllocError>
+        ensures { IfOk result (λ config. config ≡ words_applied self words.now) }
     {
         for word in words {
-            self.do_word(word)?;
+            self.apply_word(word)?;
         }
         Ok(self)
     }
@@ -147,11 +147,11 @@ impl Config {
         if self.is_joint() {
             return Err(ChangeFault::SimpleWhileJoint);
         }
-        let new = self.try_copy()?.done(words)?;
+        let new = self.try_copy()?.apply_words(words)?;
         self.checked_simple(new)
     }
 
-    // A copy in which the incoming voters are the outgoing ones too.
+    // A copy whose outgoing voters are its incoming ones.
     fn entering(&self, auto: bool) -> Result<Config, AllocError>
         ensures { IfOk result (λ config. config ≡ entering self.now auto) }
     {
@@ -170,15 +170,15 @@ impl Config {
         Ok(self)
     }
 
-    /// The joint configuration of the voters so far and of those that the words make. `auto` says that a leader is to leave it by
-    /// itself. Its faults, in order: `AlreadyJoint`, `NoVoters`; `OutOfMemory` may come in place of the latter.
+    /// The joint configuration of the present voters and of those after the words. With `auto`, a leader leaves it by itself. Its faults,
+    /// in order: `AlreadyJoint`, `NoVoters`; `OutOfMemory` may replace the latter.
     pub fn enter_joint(&self, auto: bool, words: &[Word]) -> Result<Config, ChangeFault>
         ensures { Gives result (enter_joint self.now auto words.now) }
     {
         if self.is_joint() {
             return Err(ChangeFault::AlreadyJoint);
         }
-        let new = self.entering(auto)?.done(words)?;
+        let new = self.entering(auto)?.apply_words(words)?;
         new.checked_joint()
     }
 
@@ -193,7 +193,7 @@ impl Config {
         Ok(new)
     }
 
-    /// The configuration in which the incoming voters alone decide. Its faults: `NotJoint`, `OutOfMemory`.
+    /// The configuration in which only the incoming voters decide. Its faults: `NotJoint`, `OutOfMemory`.
     pub fn leave_joint(&self) -> Result<Config, ChangeFault>
         ensures { Gives result (leave_joint self.now) }
     {
@@ -203,8 +203,9 @@ impl Config {
         Ok(self.left()?)
     }
 
-    /// The configuration after a change as an entry has it: no words leave a joint configuration, one word is a simple change unless
-    /// the transition says otherwise, and several enter a joint one, which is left by itself unless the transition is explicit.
+    /// The configuration after an entry's change. Without words, it leaves a joint configuration. One word is a simple change, unless the
+    /// transition says otherwise. Several words enter a joint configuration; a leader leaves it by itself unless the transition is
+    /// explicit.
     #[tactic(auto, unfolding(crate::specs::Changes::changed))]
     pub fn changed(&self, transition: Transition, words: &[Word]) -> Result<Config, ChangeFault>
         ensures { Gives result (changed self.now transition words.now) }

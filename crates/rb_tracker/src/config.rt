@@ -1,33 +1,32 @@
 //! Configurations: who votes, and who learns.
 //!
-//! A plain configuration has one set of voters, the incoming, and learners, who are sent entries and never vote. A *joint* one has
-//! outgoing voters too, those from before a change: then a majority of each set has to agree, so that neither can decide alone.
-//! Who goes from voter to learner while it is still an outgoing voter waits in `next` (Ongaro's thesis, section 4.3; etcd raft
-//! documentation, "Learners").
+//! A plain configuration has one set of voters, the incoming ones, and learners, which get entries and never vote. A *joint* one also has
+//! the voters from before the change, the outgoing ones. Then a majority of each set must agree, so neither decides alone. An outgoing
+//! voter that becomes a learner waits in `next` (Ongaro's thesis, section 4.3; etcd raft documentation, "Learners").
 ghost use Rattle.std.specs.Prelude.{◌≡◌, ◌↔◌, [], false, IsTrue, IfOk};
 ghost use Rattle.rb_tracker.specs.Configs.{is_joint, is_voter, is_member, voters, members, config_of, state_of};
 
 use crate::id_set::IdSet;
-use rb_change::ConfState;
+use rb_vocab::ConfState;
 use std::alloc::{AllocError, Global};
 
-/// Who votes, who learns, and who learns once a joint configuration is left. Each set stands in a small vector of its own, ascending.
+/// The voters, the learners, and those that become learners when the joint configuration is left. Each set is a small ascending vector.
 #[derive(Clone, Drop)]
 pub struct Config {
     /// The voters.
     pub incoming: IdSet,
-    /// The voters from before the change, while it is joint; else none.
+    /// In a joint configuration, the voters from before the change; otherwise none.
     pub outgoing: IdSet,
-    /// Those that are sent entries and don't vote.
+    /// The nodes that get entries and don't vote.
     pub learners: IdSet,
-    /// Outgoing voters that become learners once the joint configuration is left.
+    /// Outgoing voters that become learners when the joint configuration is left.
     pub next: IdSet,
     /// Whether a leader leaves the joint configuration by itself.
     pub auto: bool,
 }
 
 impl Config {
-    /// A configuration of nobody.
+    /// A configuration without members.
     pub fn new(alloc: Global) -> Config
         ensures { result ≡ record { incoming = []; outgoing = []; learners = []; next = []; auto = false } }
     {
@@ -53,7 +52,7 @@ impl Config {
         })
     }
 
-    /// The configuration as a snapshot carries it.
+    /// The configuration in the form of a snapshot.
     pub fn to_state(&self) -> Result<ConfState, AllocError>
         ensures { IfOk result (λ state. state ≡ state_of self.now) }
     {
@@ -66,21 +65,21 @@ impl Config {
         })
     }
 
-    /// Whether two sets of voters decide.
+    /// Whether the configuration is joint.
     pub fn is_joint(&self) -> bool
         ensures { result ≡ is_joint self.now }
     {
         !self.outgoing.is_empty()
     }
 
-    /// Whether an id votes, in either set.
+    /// Whether an id is a voter, in either set.
     pub fn is_voter(&self, id: u64) -> bool
         ensures { result ≡ is_voter self.now id }
     {
         self.incoming.contains(id) || self.outgoing.contains(id)
     }
 
-    /// Whether an id votes or learns, now or later.
+    /// Whether an id is a voter or a learner, now or later.
     pub fn is_member(&self, id: u64) -> bool
         ensures { result ≡ is_member self.now id }
     {
@@ -112,7 +111,7 @@ impl Config {
         self.clone()
     }
 
-    /// Whether both are the same configuration. It takes no memory.
+    /// Whether both configurations are equal. Takes no memory.
     pub fn same(&self, other: &Config) -> bool
         ensures { IsTrue result ↔ (self.now ≡ other.now) }
     {

@@ -1,21 +1,20 @@
 //! Sets of ids.
 //!
-//! Voters and learners are sets: an id is in or it isn't, and it has no order and no count. What the code keeps is the one
-//! list of the ids that is ascending, so that equal sets are equal lists, and to go over a set is to go up its ids.
+//! Voters and learners are sets. The code keeps the ids as an ascending list, so equal sets are equal lists.
 ghost use Rattle.std.specs.Prelude.{◌≡◌, ◌≤◌, ◌↔◌, ◌==◌, [], length, IsTrue, IfOk, OnOk, OnErr};
 ghost use Rattle.rb_tracker.specs.Sets.{has, with_id, without, rank, union, set_of, IsAscending};
 
-use rb_change::Shared;
+use rb_vocab::Shared;
 use smallvec::SmallVec;
 use std::alloc::{AllocError, Global};
 use std::marker::Model;
 
-/// A set of ids. Up to eight of them stand in the value, and take no memory.
+/// A set of ids. Up to eight ids are stored in the value itself, and take no memory.
 pub struct IdSet {
     ids: SmallVec<u64, 8>,
 }
 
-// Written out, so that giving one back is a call wherever it is owned, and is proved here alone.
+// Written by hand, so that an owner drops one by a call, which is proved only here.
 impl Drop for IdSet {
     fn drop(self) {
         let IdSet { ids: _ } = self;
@@ -83,14 +82,14 @@ impl IdSet {
         false
     }
 
-    /// Leaves no id.
+    /// Removes all ids.
     pub fn clear(&mut self)
         ensures { self.new ≡ [] }
     {
         self.ids.clear();
     }
 
-    // How many ids stand before the place of one.
+    // The number of lower ids.
     fn rank(&self, id: u64) -> usize
         ensures rank { result ≡ rank self.now id }
         ensures within { result ≤ length self.now }
@@ -105,14 +104,14 @@ impl IdSet {
         at
     }
 
-    /// Takes an id out, if it is there.
+    /// Removes an id, if it is there.
     pub fn remove(&mut self, id: u64)
         ensures { self.new ≡ without self.old id }
     {
         self.ids.retain(|x| *x != id);
     }
 
-    /// Puts an id in, in its place. For want of memory nothing changes.
+    /// Inserts an id. If memory is refused, nothing changes.
     pub fn insert(&mut self, id: u64) -> Result<(), AllocError>
         ensures ok { OnOk result (self.new ≡ with_id self.old id) }
         ensures err { OnErr result (self.new ≡ self.old) }
@@ -125,7 +124,7 @@ impl IdSet {
         Ok(())
     }
 
-    /// Puts in the ids of a list.
+    /// Inserts the ids of a list.
     pub fn extend(&mut self, ids: &[u64]) -> Result<(), AllocError>
         ensures { OnOk result (self.new ≡ union self.old ids.now) }
     {
@@ -150,7 +149,7 @@ impl IdSet {
         })
     }
 
-    /// Whether both are the same set. It takes no memory.
+    /// Whether both sets are equal. Takes no memory.
     pub fn same(&self, other: &IdSet) -> bool
         ensures { IsTrue result ↔ (self.now ≡ other.now) }
     {

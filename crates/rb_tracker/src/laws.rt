@@ -5,22 +5,22 @@
 //! These are the facts of it that are about sets and counts alone, over all configurations, views and votes.
 ghost use Rattle.std.specs.Prelude.{◌≡◌, ◌≤◌, ◌<◌, ◌↔◌, ℕ, Bool, true, false, not, List, [], length, Ok};
 ghost use Rattle.indexmap.specs.Layout.{set_value_at};
-ghost use Rattle.rb_change.specs.declared.conf_state.ConfState.{ConfState};
-ghost use Rattle.rb_change.specs.declared.change.Transition.{Transition};
-ghost use Rattle.rb_change.specs.declared.change.Word.{Word};
-ghost use Rattle.rb_change.specs.declared.change.WordKind.TheVariants as kind;
+ghost use Rattle.rb_vocab.specs.declared.conf_state.ConfState.{ConfState};
+ghost use Rattle.rb_vocab.specs.declared.change.Transition.{Transition};
+ghost use Rattle.rb_vocab.specs.declared.change.Word.{Word};
+ghost use Rattle.rb_vocab.specs.declared.change.WordKind.TheVariants as kind;
 ghost use Rattle.rb_tracker.specs.declared.config.Config.{Config};
 ghost use Rattle.rb_tracker.specs.declared.votes.Votes.{Votes};
 ghost use Rattle.rb_tracker.specs.declared.votes.VoteResult.TheVariants.{Won, Lost};
 ghost use Rattle.rb_tracker.specs.Sets.{has, set_of, IsAscending};
 ghost use Rattle.rb_tracker.specs.Configs.{config_of, state_of, voters};
 ghost use Rattle.rb_tracker.specs.Quorum.{IsMajority, IsQuorum, Share, ShareVoter};
-ghost use Rattle.rb_tracker.specs.Changes.{done_by, simple, enter_joint, leave_joint, changed, IsConfig};
+ghost use Rattle.rb_tracker.specs.Changes.{word_applied, simple, enter_joint, leave_joint, changed, IsConfig};
 ghost use Rattle.rb_tracker.specs.Ballots.{no_votes, answered, is_won, is_open, vote_result, MoreGrants, IsOnce};
 ghost use Rattle.rb_tracker.specs.Moves.{Moves, IsLeft, answered_all, grants_of};
 ghost use Rattle.rb_tracker.specs.Progresses.{PlainProgress};
 ghost use Rattle.rb_tracker.specs.Trackers.{PlainTracker, cleared, has_view, with_new, removed, with_view, AreInOrder};
-ghost use Rattle.rb_tracker.specs.Active.{unmarked};
+ghost use Rattle.rb_tracker.specs.Active.{others_marked_inactive};
 ghost use Rattle.rb_tracker.specs.Commits.{holds, is_held, commit_of};
 
 /// Two majorities of one set of voters share a voter.
@@ -61,10 +61,10 @@ pub fn changes_keep_configurations()
 /// What a word does to the member that it names, and that nobody else moves: `v` makes a voter; `l` a learner, at once or, of a voter
 /// that leaves, once the joint configuration is left; `r` removes; `u` changes nothing.
 pub fn words_move_one_member()
-    ensures voter { (c : Config) (id : ℕ) → Moves c (done_by kind.Voter c id) id true false false }
-    ensures learner { (c : Config) (id : ℕ) → IsConfig c → Moves c (done_by kind.Learner c id) id false (not (has c.outgoing id)) (has c.outgoing id) }
-    ensures removed { (c : Config) (id : ℕ) → Moves c (done_by kind.Remove c id) id false false false }
-    ensures updated { (c : Config) (id : ℕ) → done_by kind.Update c id ≡ c }
+    ensures voter { (c : Config) (id : ℕ) → Moves c (word_applied kind.Voter c id) id true false false }
+    ensures learner { (c : Config) (id : ℕ) → IsConfig c → Moves c (word_applied kind.Learner c id) id false (not (has c.outgoing id)) (has c.outgoing id) }
+    ensures removed { (c : Config) (id : ℕ) → Moves c (word_applied kind.Remove c id) id false false false }
+    ensures updated { (c : Config) (id : ℕ) → word_applied kind.Update c id ≡ c }
 {}
 
 /// Who leads leaves a joint configuration by itself exactly where it was entered so; once it is left, its incoming voters decide alone, and
@@ -123,8 +123,8 @@ pub fn views_stay_in_order()
     ensures put { (t : PlainTracker) (id : ℕ) (view : PlainProgress) → AreInOrder t.views → has_view t.views id ≡ false → AreInOrder (with_new t id view).views }
     ensures taken { (t : PlainTracker) (id : ℕ) → AreInOrder t.views → AreInOrder (removed t id).views }
     ensures written { (t : PlainTracker) (i : ℕ) (view : PlainProgress) → AreInOrder t.views → AreInOrder (with_view t i view).views }
-    ensures unmarked { (t : PlainTracker) (own : ℕ) → AreInOrder t.views → AreInOrder (unmarked t own).views }
+    ensures others_marked_inactive { (t : PlainTracker) (own : ℕ) → AreInOrder t.views → AreInOrder (others_marked_inactive t own).views }
     ensures none { (t : PlainTracker) → AreInOrder (cleared t).views }
     ensures written_length { (t : PlainTracker) (i : ℕ) (view : PlainProgress) → length (with_view t i view).views ≡ length t.views }
-    ensures unmarked_length { (t : PlainTracker) (own : ℕ) → length (unmarked t own).views ≡ length t.views }
+    ensures unmarked_length { (t : PlainTracker) (own : ℕ) → length (others_marked_inactive t own).views ≡ length t.views }
 {}

@@ -1,9 +1,9 @@
-//! What a leader knows of the others, and who counts: configurations with joint consensus and learners, majorities, votes,
-//! and each follower's progress with its window of appends in flight.
+//! Configurations with joint consensus and learners, quorums, votes, and a leader's progress of each follower, with its window of appends
+//! in flight.
 //!
-//! An entry is committed once a *quorum* holds it, and a candidate wins by the votes of a quorum. In a plain configuration a
-//! quorum is a majority of the voters. While voters change there are two sets of them, the incoming and the outgoing, and a
-//! quorum is a majority of each. So any two quorums share a voter, also across a change, which is what Raft rests on (`laws`).
+//! An entry is committed once a *quorum* holds it, and a candidate wins by the votes of a quorum. In a plain configuration a quorum is a
+//! majority of the voters. In a joint one it is a majority of the incoming and a majority of the outgoing voters. So any two quorums share
+//! a voter, also across a change. Raft's safety depends on this (`laws`).
 #![tactic(auto)]
 
 mod changes;

@@ -1,25 +1,25 @@
 //! Progress: what a leader knows of a follower's log.
 //!
-//! Of each follower the leader keeps `matched`, the last index that the follower is known to hold, and `next`, the first one to
-//! send. It *probes* until it finds where the logs agree, one append at a time; then it *replicates*, with as many appends in
-//! flight as the window holds; and where the log no longer has what the follower needs, it waits for a *snapshot* to arrive
-//! (Ongaro's thesis, section 3.5; etcd raft documentation, "Progress").
+//! For each follower the leader keeps `matched`, the last index that the follower is known to hold, and `next`, the next index to send. It
+//! *probes* with one append at a time until it finds where the logs agree. Then it *replicates*, with as many appends in flight as the
+//! window holds. If the log was compacted past what the follower needs, it waits for a *snapshot* to arrive (Ongaro's thesis, section 3.5;
+//! etcd raft documentation, "Progress").
 ghost use Rattle.std.specs.Prelude.{◌≡◌, ◌+◌, ◌<◌, ◌≤◌, ◌^◌, ◌↔◌, IsTrue, IfOk, length, true};
 ghost use Rattle.rb_tracker.specs.Windows.{is_full};
-ghost use Rattle.rb_tracker.specs.Progresses.{probing, own_view, paused, marked, resumed, probed, snapshotting, replicating, sent, is_news, acked, freed_through, believes, refused};
+ghost use Rattle.rb_tracker.specs.Progresses.{probing, own_view, paused, with_active, resumed, probed, snapshotting, replicating, sent, is_news, acked, freed_through, is_current_reject, refused};
 
 use crate::window::Window;
 use std::alloc::{AllocError, Global};
 use std::marker::Model;
 
-/// How a follower is sent entries.
+/// The state of a leader's view: how it sends entries.
 #[derive(Clone, Copy, PartialEq, Eq, Debug)]
 pub enum ProgressState {
-    /// One append at a time, until the place is found where the logs agree.
+    /// One append at a time, until the leader finds where the logs agree.
     Probe,
-    /// Appends follow one another, as many as the window holds.
+    /// As many appends in flight as the window holds.
     Replicate,
-    /// None, until a snapshot has arrived.
+    /// No appends, until a snapshot has arrived.
     Snapshot,
 }
 
@@ -46,8 +46,7 @@ impl Model for Progress {
 }
 
 impl Progress {
-    /// A member of which nothing is known: it is probed from `next` on. `capacity` is how many appends may be in flight, and
-    /// `active` its mark.
+    /// A view of a member whose log is unknown: it is probed from `next` on. `capacity` limits the appends in flight.
     pub fn new(
         alloc: Global,
         capacity: usize,
@@ -68,7 +67,7 @@ impl Progress {
         })
     }
 
-    /// A leader's view of itself: it holds all up to `matched`, and is always active.
+    /// A leader's view of itself: it holds the log up to `matched`, and is always active.
     pub fn own(
         alloc: Global,
         capacity: usize,
@@ -104,7 +103,7 @@ impl Progress {
         self.matched
     }
 
-    /// The first index that it is sent next.
+    /// The next index to send.
     pub fn next(&self) -> u64
         ensures next { result ≡ self.now.next }
         ensures fits { self.now.next < 2 ^ 41 }
@@ -112,28 +111,28 @@ impl Progress {
         self.next
     }
 
-    /// Whether a probe is on its way.
+    /// Whether a probe is in flight.
     pub fn waiting(&self) -> bool
         ensures { result ≡ self.now.waiting }
     {
         self.waiting
     }
 
-    /// The index of the snapshot on its way, or 0.
+    /// The index of the snapshot in flight, or 0.
     pub fn pending(&self) -> u64
         ensures { result ≡ self.now.pending }
     {
         self.pending
     }
 
-    /// Whether it was heard of since the leader last looked for its quorum.
+    /// Whether the leader heard from the member since it last checked its quorum.
     pub fn active(&self) -> bool
         ensures { result ≡ self.now.active }
     {
         self.active
     }
 
-    /// The appends in flight to it.
+    /// The appends in flight.
     pub fn window(&self) -> &Window
         ensures window { result.now ≡ self.now.window }
         ensures within { length self.now.window.in_flight ≤ self.now.window.capacity }
@@ -142,7 +141,7 @@ impl Progress {
         &self.window
     }
 
-    /// Whether as many appends are in flight as may be.
+    /// Whether the window of appends in flight is full.
     pub fn is_full(&self) -> bool
         ensures full { result ≡ is_full self.now.window }
         ensures within { length self.now.window.in_flight ≤ self.now.window.capacity }
@@ -150,7 +149,7 @@ impl Progress {
         self.window.len() == self.window.capacity()
     }
 
-    /// Whether it is sent nothing for now.
+    /// Whether sending is paused.
     pub fn paused(&self) -> bool
         ensures { result ≡ paused self.now }
     {
@@ -161,21 +160,21 @@ impl Progress {
         }
     }
 
-    /// Sets the mark: the member was heard of, or the leader begins to look anew.
+    /// Sets whether the member is active.
     pub fn set_active(&mut self, active: bool)
-        ensures { self.new ≡ marked self.old active }
+        ensures { self.new ≡ with_active self.old active }
     {
         self.active = active;
     }
 
-    /// A probe may be sent again.
+    /// Allows the next probe.
     pub fn resume(&mut self)
         ensures { self.new ≡ resumed self.old }
     {
         self.waiting = false;
     }
 
-    /// Probes from what the member is known to hold.
+    /// Probes from the last index that the member is known to hold.
     pub fn to_probe(&mut self)
         ensures { self.new ≡ probed self.old }
     {
@@ -185,7 +184,7 @@ impl Progress {
         self.window.clear();
     }
 
-    /// A snapshot up to `index` was sent.
+    /// Records that a snapshot up to `index` was sent.
     pub fn to_snapshot(&mut self, index: u64)
         requires { index + 1 < 2 ^ 41 }
         ensures { self.new ≡ snapshotting self.old index }
@@ -196,7 +195,7 @@ impl Progress {
         self.window.clear();
     }
 
-    // Appends follow one another from what the member is known to hold.
+    // Replicates from the last index that the member is known to hold.
     fn to_replicate(&mut self)
         ensures { self.new ≡ replicating self.old }
     {
@@ -207,8 +206,7 @@ impl Progress {
         self.window.clear();
     }
 
-    /// An append of all entries up to `last` was sent. What the member was sent already, and what a full window can't
-    /// hold, changes nothing.
+    /// Records that an append of all entries up to `last` was sent. Entries that were sent before, and a full window, change nothing.
     pub fn sent(&mut self, last: u64)
         requires { last + 1 < 2 ^ 41 }
         ensures { self.new ≡ sent self.old last }
@@ -225,14 +223,14 @@ impl Progress {
         }
     }
 
-    /// Whether an accepted index is news: more than is known, or where a probe's logs agree.
+    /// Whether an accepted index tells something new: it is past `matched`, or it is where a probe found that the logs agree.
     pub fn is_news(&self, index: u64) -> bool
         ensures { result ≡ is_news self.now index }
     {
         self.matched < index || (self.matched == index && self.state == ProgressState::Probe)
     }
 
-    /// The member holds all up to `index`: so a probe has found the place, and a snapshot may have arrived.
+    /// Records that the member holds the log up to `index`. This ends a probe, and a snapshot if it has arrived.
     pub fn acked(&mut self, index: u64)
         requires { index + 1 < 2 ^ 41 }
         ensures { self.new ≡ acked self.old index }
@@ -250,7 +248,7 @@ impl Progress {
         }
     }
 
-    /// An accepted index that is no news frees the appends up to it.
+    /// Frees the appends in flight up to an index.
     pub fn free_through(&mut self, index: u64)
         ensures { self.new ≡ freed_through self.old index }
     {
@@ -260,9 +258,9 @@ impl Progress {
         }
     }
 
-    /// Whether a refusal of what follows `index` isn't an old one.
-    pub fn believes(&self, index: u64) -> bool
-        ensures { result ≡ believes self.now index }
+    /// Whether a refusal of the entries after `index` is current, and not stale.
+    pub fn is_current_reject(&self, index: u64) -> bool
+        ensures { result ≡ is_current_reject self.now index }
     {
         match self.state {
             ProgressState::Probe => index == self.next.saturating_sub(1),
@@ -271,9 +269,10 @@ impl Progress {
         }
     }
 
-    /// What follows `index` was refused: probes further back, at the hint or, if it replicated, from what is known.
+    /// Records that the entries after `index` were refused. Probes at the hint or, if it replicated, from the last index that the member is
+    /// known to hold.
     pub fn refused(&mut self, index: u64, hint: u64)
-        requires { believes self.old index ≡ true }
+        requires { is_current_reject self.old index ≡ true }
         ensures { self.new ≡ refused self.old index hint }
     {
         match self.state {
@@ -293,7 +292,7 @@ impl Progress {
         self.clone()
     }
 
-    /// Whether both are the same view. It takes no memory.
+    /// Whether both views are equal. Takes no memory.
     pub fn same(&self, other: &Progress) -> bool
         ensures { IsTrue result ↔ (self.now ≡ other.now) }
     {

@@ -1,8 +1,7 @@
 //! Trackers: a configuration, and a leader's views of its members.
 //!
-//! A leader keeps a view of each member, of itself too, and from the views finds what a quorum holds (`committed`) and whether a
-//! quorum still hears it (`quorum_active`). The views stand in a map by id, in the order of the ids, so a place in it is the place of
-//! an id among the ids with a view.
+//! A leader keeps a view of each member, including itself. By the views it finds the index that a quorum holds (`committed`), and whether a
+//! quorum is active (`quorum_active`). The views are in a map by ascending id. The place of a view is its position in that order.
 ghost use Rattle.std.specs.Prelude.{◌≡◌, ◌<◌, ◌≤◌, ◌↔◌, ◌∷◌, [], ◌++◌, false, length, IsTrue, IfSome, IfOk, OnOk, None, Some, slice_get, nat_eq};
 ghost use Rattle.std.specs.Borrow.{sem};
 ghost use Rattle.std.specs.Map.{keys_of};
@@ -30,7 +29,7 @@ pub struct Tracker {
     views: IndexMap<u64, Progress>,
 }
 
-// Written out, so that giving one back is a call wherever it is owned, and is proved here alone.
+// Written by hand, so that an owner drops one by a call, which is proved only here.
 impl Drop for Tracker {
     fn drop(self) {
         let Tracker {
@@ -65,14 +64,14 @@ impl Tracker {
         &self.config
     }
 
-    /// Takes a configuration in place of the old one. The views stay.
+    /// Replaces the configuration. The views stay.
     pub fn set_config(&mut self, config: Config)
         ensures { self.new ≡ configured self.old config }
     {
         self.config = config;
     }
 
-    /// How many views there are.
+    /// The number of views.
     pub fn len(&self) -> usize
         ensures { result ≡ length self.now.views }
     {
@@ -94,7 +93,7 @@ impl Tracker {
         self.views.get(&id).is_some()
     }
 
-    /// The view at a place, and whose it is.
+    /// The id and the view at a place.
     pub fn view(&self, i: usize) -> (u64, &Progress)
         requires { i < length self.now.views }
         ensures { slice_get self.now.views i ≡ Some (result.0, result.1.now) }
@@ -103,7 +102,7 @@ impl Tracker {
         (*id, view)
     }
 
-    /// The view at a place alone.
+    /// The view at a place.
     pub fn progress(&self, i: usize) -> &Progress
         requires { i < length self.now.views }
         ensures { view_at self.now.views i ≡ Some result.now }
@@ -111,7 +110,7 @@ impl Tracker {
         self.views.get_index(i).unwrap().1
     }
 
-    /// Lends the view at a place.
+    /// Lends the view at a place, for a change.
     pub fn view_mut(&mut self, i: usize) -> &mut Progress
         requires { i < length self.old.views }
         ensures value { view_at self.old.views i ≡ Some result.now }
@@ -120,7 +119,7 @@ impl Tracker {
         &mut self.views[i]
     }
 
-    /// The ids that have a view.
+    /// The ids with a view, ascending.
     pub fn ids(&self) -> Result<IdSet, AllocError>
         ensures { IfOk result (λ ids. ids ≡ ids_of self.now.views) }
     {
@@ -131,7 +130,7 @@ impl Tracker {
         Ok(ids)
     }
 
-    // How many views stand before an id's place.
+    // The number of views with a lower id.
     fn rank(&self, id: u64) -> usize
         ensures rank { result ≡ rank (keys_of self.now.views) id }
         ensures within { result ≤ length self.now.views }
@@ -147,7 +146,7 @@ impl Tracker {
         at
     }
 
-    /// Puts in the view of an id that has none, in its place.
+    /// Adds a view of an id that has none.
     #[tactic(auto, using(crate::proofs::ViewLaws::insert_new))]
     pub fn add(&mut self, id: u64, view: Progress) -> Result<(), AllocError>
         requires { has_view self.old.views id ≡ false }
@@ -160,21 +159,21 @@ impl Tracker {
         Ok(())
     }
 
-    /// Takes out the view of an id, if it has one.
+    /// Removes the view of an id, if it has one.
     pub fn remove(&mut self, id: u64)
         ensures { self.new ≡ removed self.old id }
     {
         self.views.shift_remove(&id);
     }
 
-    /// Takes out all views.
+    /// Removes all views.
     pub fn clear(&mut self)
         ensures { self.new ≡ cleared self.old }
     {
         self.views.clear();
     }
 
-    /// What votes come to in the configuration. It takes no memory.
+    /// The result of votes in the configuration. Takes no memory.
     pub fn vote_result(&self, votes: &Votes) -> VoteResult
         ensures { result ≡ vote_result self.now.config votes.now }
     {
@@ -188,7 +187,7 @@ impl Tracker {
         self.clone()
     }
 
-    /// Whether both are the same configuration and the same views. It takes no memory.
+    /// Whether both have equal configurations and views. Takes no memory.
     #[tactic(auto, using(crate::proofs::WindowLaws::take_more_some))]
     pub fn same(&self, other: &Tracker) -> bool
         ensures { IsTrue result ↔ (self.now ≡ other.now) }

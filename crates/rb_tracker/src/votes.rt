@@ -1,24 +1,24 @@
-//! Votes, and what they come to.
+//! Votes and their result.
 //!
-//! A candidate asks each voter once, and the first answer of each counts. It has won as soon as a quorum granted, and lost as soon
-//! as no quorum can any more (Ongaro's thesis, section 3.4).
+//! A candidate asks each voter once, and the first response of each counts. It wins when a quorum has granted, and loses when no quorum can
+//! grant any more (Ongaro's thesis, section 3.4).
 ghost use Rattle.std.specs.Prelude.{◌≡◌, ◌↔◌, IsTrue, IfOk, OnOk, not};
 ghost use Rattle.rb_tracker.specs.Sets.{has};
-ghost use Rattle.rb_tracker.specs.Quorum.{most};
+ghost use Rattle.rb_tracker.specs.Quorum.{is_majority};
 ghost use Rattle.rb_tracker.specs.Ballots.{no_votes, has_answered, answered, is_won, is_open, vote_result};
 
 use crate::config::Config;
 use crate::id_set::IdSet;
 use std::alloc::{AllocError, Global};
 
-/// What votes come to.
+/// The result of votes.
 #[derive(Clone, Copy, PartialEq, Eq, Debug)]
 pub enum VoteResult {
     /// A quorum granted.
     Won,
     /// No quorum can grant any more.
     Lost,
-    /// Neither yet.
+    /// Neither, so far.
     Pending,
 }
 
@@ -29,18 +29,18 @@ pub struct Votes {
     pub refused: IdSet,
 }
 
-// Whether most of the voters are in a set.
-fn most_in(voters: &IdSet, set: &IdSet) -> bool
-    ensures { result ≡ most voters.now (λ id. has set.now id) }
+// Whether a majority of the voters is in a set.
+fn majority_granted(voters: &IdSet, set: &IdSet) -> bool
+    ensures { result ≡ is_majority voters.now (λ id. has set.now id) }
 {
     let voters = voters.as_slice();
     let count = voters.iter().filter(|id| set.contains(**id)).count();
     voters.is_empty() || voters.len() < 2 * count
 }
 
-// Whether most of the voters are not in a set.
-fn most_outside(voters: &IdSet, set: &IdSet) -> bool
-    ensures { result ≡ most voters.now (λ id. not (has set.now id)) }
+// Whether a majority of the voters is not in a set.
+fn majority_not_refused(voters: &IdSet, set: &IdSet) -> bool
+    ensures { result ≡ is_majority voters.now (λ id. not (has set.now id)) }
 {
     let voters = voters.as_slice();
     let rest = voters.iter().filter(|id| !set.contains(**id)).count();
@@ -48,7 +48,7 @@ fn most_outside(voters: &IdSet, set: &IdSet) -> bool
 }
 
 impl Votes {
-    /// No vote yet.
+    /// No votes.
     pub fn new(alloc: Global) -> Votes
         ensures { result ≡ no_votes }
     {
@@ -73,7 +73,7 @@ impl Votes {
         self.granted.contains(id) || self.refused.contains(id)
     }
 
-    /// An id answers. Only its first answer counts.
+    /// Counts an id's response. Only its first one counts.
     #[tactic(auto, unfolding(crate::specs::Ballots::answered))]
     pub fn answer(&mut self, id: u64, granted: bool) -> Result<(), AllocError>
         ensures { OnOk result (self.new ≡ answered self.old id granted) }
@@ -91,17 +91,17 @@ impl Votes {
     fn is_won(&self, config: &Config) -> bool
         ensures { result ≡ is_won config.now self.now }
     {
-        most_in(&config.incoming, &self.granted) && most_in(&config.outgoing, &self.granted)
+        majority_granted(&config.incoming, &self.granted) && majority_granted(&config.outgoing, &self.granted)
     }
 
     fn is_open(&self, config: &Config) -> bool
         ensures { result ≡ is_open config.now self.now }
     {
-        most_outside(&config.incoming, &self.refused)
-            && most_outside(&config.outgoing, &self.refused)
+        majority_not_refused(&config.incoming, &self.refused)
+            && majority_not_refused(&config.outgoing, &self.refused)
     }
 
-    /// What the votes come to. It takes no memory.
+    /// The result of the votes. Takes no memory.
     #[tactic(auto, unfolding(crate::specs::Ballots::vote_result))]
     pub fn result(&self, config: &Config) -> VoteResult
         ensures { result ≡ vote_result config.now self.now }
@@ -121,7 +121,7 @@ impl Votes {
         self.clone()
     }
 
-    /// Whether both are the same votes. It takes no memory.
+    /// Whether both are equal. Takes no memory.
     pub fn same(&self, other: &Votes) -> bool
         ensures { IsTrue result ↔ (self.now ≡ other.now) }
     {

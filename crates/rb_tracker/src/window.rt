@@ -1,8 +1,7 @@
 //! Windows: the appends in flight to a follower.
 //!
-//! A leader sends appends one after another without waiting for answers, up to as many as its window holds; then it waits. Of
-//! each append the window keeps its last index. The indexes rise, and an answer for one of them frees it and all below
-//! (etcd raft documentation: "Inflights").
+//! A leader sends appends without waiting for responses, until the window is full. The window keeps the last index of each append. The
+//! indexes ascend, and a response for one frees it and all lower ones (etcd raft documentation: "Inflights").
 ghost use Rattle.std.specs.Prelude.{◌≡◌, ◌<◌, ◌≤◌, ◌↔◌, ◌==◌, ◌+◌, [], length, IsTrue, IfOk, Some, slice_get, drop};
 ghost use Rattle.rb_tracker.specs.Sets.{AreBelow, IsAscending};
 ghost use Rattle.rb_tracker.specs.Windows.{empty_window, is_full, emptied, pushed, freed};
@@ -16,7 +15,7 @@ pub struct Window {
     ring: HeapCircularBuffer<u64>,
 }
 
-// Written out, so that giving one back is a call wherever it is owned, and is proved here alone.
+// Written by hand, so that an owner drops one by a call, which is proved only here.
 impl Drop for Window {
     fn drop(self) {
         let Window { ring: _ } = self;
@@ -34,7 +33,7 @@ impl Model for Window {
 }
 
 impl Window {
-    /// An empty window, with room for as many appends as it ever holds: from now on it takes no memory.
+    /// An empty window with room for `capacity` appends. It takes no memory after this.
     pub fn new(alloc: Global, capacity: usize) -> Result<Window, AllocError>
         ensures { IfOk result (λ window. window ≡ empty_window capacity) }
     {
@@ -43,7 +42,7 @@ impl Window {
         })
     }
 
-    /// How many appends are in flight.
+    /// The number of appends in flight.
     pub fn len(&self) -> usize
         ensures len { result ≡ length self.now.in_flight }
         ensures within { length self.now.in_flight ≤ self.now.capacity }
@@ -58,7 +57,7 @@ impl Window {
         self.ring.is_empty()
     }
 
-    /// How many appends may be in flight.
+    /// The most appends that may be in flight.
     pub fn capacity(&self) -> usize
         ensures { result ≡ self.now.capacity }
     {
@@ -81,7 +80,7 @@ impl Window {
         *self.ring.get(place).unwrap()
     }
 
-    /// An append up to an index above all others is in flight.
+    /// Adds an append, whose last index is above all others.
     pub fn push(&mut self, index: u64)
         requires room { length self.old.in_flight < self.old.capacity }
         requires above { AreBelow index self.old.in_flight }
@@ -90,14 +89,14 @@ impl Window {
         self.ring.push_back(index);
     }
 
-    /// Nothing is in flight any more.
+    /// Removes all appends.
     pub fn clear(&mut self)
         ensures { self.new ≡ emptied self.old }
     {
         self.ring.clear();
     }
 
-    // Takes the earliest append out.
+    // Removes the earliest append.
     fn pop(&mut self)
         requires { 0 < length self.old.in_flight }
         ensures { self.new ≡ record self.old { in_flight = drop 1 self.old.in_flight } }
@@ -105,7 +104,7 @@ impl Window {
         self.ring.pop_front();
     }
 
-    /// Frees the appends up to an index. Since they rise, the first one above it ends the way.
+    /// Frees the appends up to an index. They ascend, so it stops at the first one above the index.
     pub fn free_through(&mut self, index: u64)
         ensures { self.new ≡ freed self.old index }
     {
@@ -128,7 +127,7 @@ impl Window {
         Ok(Window { ring })
     }
 
-    /// Whether both have the same appends in flight, and room for as many. It takes no memory.
+    /// Whether both have equal appends in flight and the same capacity. Takes no memory.
     pub fn same(&self, other: &Window) -> bool
         ensures { IsTrue result ↔ (self.now ≡ other.now) }
     {

@@ -1,4 +1,4 @@
-//! Copies of a state, and comparison.
+//! Copying and comparing states.
 
 ghost use Rattle.std.specs.Prelude.{◌≡◌, ◌↔◌, IsTrue, IfOk};
 ghost use Rattle.rb_node.specs.Comparing.{HaveSameRole, HaveSameIndexes, HaveSameCounters, HaveSameLengths, HaveSameNumbers, HaveSameLists};
@@ -8,7 +8,7 @@ use rb_raftlog::RaftLog;
 use std::alloc::AllocError;
 
 impl<L: RaftLog> State<L> {
-    /// The same state once more. It costs pointers, and a view of each member where it leads.
+    /// Copies the state. The cost is a few pointers, and for a leader a view of each member.
     pub fn try_copy(&self) -> Result<State<L>, AllocError>
         ensures { IfOk result (λ copy. copy ≡ self.now) }
     {
@@ -72,9 +72,9 @@ impl<L: RaftLog> State<L> {
             && self.content.sum() == other.content.sum()
     }
 
-    /// Whether both have the same numbers, lists of the same lengths, and contents of the same sum. It costs the same however long
-    /// these are, so who compares many nodes asks for this of all of them first.
-    pub(crate) fn has_numbers_of(&self, other: &State<L>) -> bool
+    /// Whether both states may be equal: their numbers, the lengths of their lists, and the sums of their contents are. The cost doesn't
+    /// depend on those lengths, so compare many nodes by this first.
+    pub(crate) fn may_equal(&self, other: &State<L>) -> bool
         ensures { IsTrue result ↔ HaveSameNumbers self.now other.now }
     {
         self.same_role(other)
@@ -94,10 +94,10 @@ impl<L: RaftLog> State<L> {
             && self.content.same(&other.content)
     }
 
-    /// Whether both are the same in all that a node knows. Numbers are looked at first, then lists. It takes no memory.
+    /// Whether both states are equal. Compares numbers first, then lists. Takes no memory.
     pub fn same(&self, other: &State<L>) -> bool
         ensures { IsTrue result ↔ (self.now ≡ other.now) }
     {
-        self.has_numbers_of(other) && self.same_lists(other)
+        self.may_equal(other) && self.same_lists(other)
     }
 }

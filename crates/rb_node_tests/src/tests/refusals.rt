@@ -5,8 +5,8 @@ mod logs;
 mod nodes;
 mod trackers;
 
-use rb_change::Shared;
 use rb_raftlog::{Body, Entry};
+use rb_vocab::Shared;
 use std::alloc::Global;
 
 /// A list of these ids. Nothing if memory was refused.

@@ -2,7 +2,7 @@
 
 use super::bench::fakes::Room;
 use super::{is, is_text};
-use rb_script::{Edit, EditFault, Grouped, Lines, Script, Through};
+use rb_script::{ChunkedList, Edit, EditFault, Lines, Script, Through};
 use std::alloc::Global;
 use std::process::Abort;
 use std::rc::Rc;
@@ -19,13 +19,13 @@ fn lines_of(rt: &impl Abort, alloc: Global, texts: &[&[u8]]) -> Lines {
 }
 
 /// One output for each of these lists of lines.
-fn outputs_of(rt: &impl Abort, alloc: Global, outputs: &[&[&[u8]]]) -> Grouped<Lines> {
+fn outputs_of(rt: &impl Abort, alloc: Global, outputs: &[&[&[u8]]]) -> ChunkedList<Lines> {
     let mut all = Vec::new(alloc);
     for lines in outputs {
         let output = Rc::new(alloc, lines_of(rt, alloc, lines)).expect(rt, "memory");
         all.push(output).expect(rt, "memory");
     }
-    Grouped::of(alloc, all).expect(rt, "memory")
+    ChunkedList::of(alloc, all).expect(rt, "memory")
 }
 
 fn script_of(rt: &impl Abort, alloc: Global) -> Script {
@@ -45,7 +45,7 @@ fn edited(
     rt: &impl Abort,
     script: &Script,
     edit: &Edit,
-    outputs: &Grouped<Lines>,
+    outputs: &ChunkedList<Lines>,
 ) -> Result<Script, EditFault> {
     is(rt, outputs.len() == script.len(), "an output for each");
     script.edited(edit, outputs)
@@ -108,7 +108,7 @@ fn is_written_with(
     rt: &impl Abort,
     alloc: Global,
     script: &Script,
-    outputs: &Grouped<Lines>,
+    outputs: &ChunkedList<Lines>,
     want: &[u8],
 ) {
     is(rt, outputs.len() == script.len(), "an output for each");
@@ -137,16 +137,16 @@ fn output_of(alloc: Global) -> Option<Rc<Lines>> {
 }
 
 /// Three such outputs.
-fn three_outputs(alloc: Global) -> Option<Grouped<Lines>> {
+fn three_outputs(alloc: Global) -> Option<ChunkedList<Lines>> {
     let mut all = Vec::new(alloc);
     for _ in 0..3u64 {
         all.push(output_of(alloc)?).ok()?;
     }
-    Grouped::of(alloc, all).ok()
+    ChunkedList::of(alloc, all).ok()
 }
 
 /// Writes the script, and the script with these outputs.
-fn writes_both(rt: &impl Abort, script: &Script, outputs: &Grouped<Lines>) {
+fn writes_both(rt: &impl Abort, script: &Script, outputs: &ChunkedList<Lines>) {
     let mut text = Through(Room::new());
     is(rt, script.write_to(&mut text).is_ok(), "the script");
     is(rt, text.0.taken() == SCRIPT, "its text");

@@ -1,16 +1,16 @@
-//! Whether a leader still hears of a quorum.
+//! Whether a leader still hears from a quorum.
 //!
-//! Each view has a mark, which is set when the member is heard of. From time to time a leader looks whether a quorum is marked, steps
-//! down if none is, and else takes all marks off but its own (Ongaro's thesis, section 6.2; etcd raft documentation, "CheckQuorum").
+//! A member is marked active when the leader hears from it. The leader regularly checks that a quorum is active. If not, it steps down;
+//! otherwise it marks all others as inactive (Ongaro's thesis, section 6.2; etcd raft documentation, "CheckQuorum").
 ghost use Rattle.std.specs.Prelude.{◌≡◌, ◌<◌, length};
-ghost use Rattle.rb_tracker.specs.Quorum.{most};
-ghost use Rattle.rb_tracker.specs.Active.{is_active, quorum_active, marked_at, unmarked_at, unmarked};
+ghost use Rattle.rb_tracker.specs.Quorum.{is_majority};
+ghost use Rattle.rb_tracker.specs.Active.{is_active, quorum_active, with_active_at, inactive_at, others_marked_inactive};
 
 use super::Tracker;
 use crate::id_set::IdSet;
 
 impl Tracker {
-    /// Whether an id has a view whose mark is on.
+    /// Whether an id has an active view.
     pub fn is_active(&self, id: u64) -> bool
         ensures { result ≡ is_active self.now.views id }
     {
@@ -20,39 +20,39 @@ impl Tracker {
         }
     }
 
-    // Whether most of the voters have a view whose mark is on.
-    fn most_active(&self, voters: &IdSet) -> bool
-        ensures { result ≡ most voters.now (λ id. is_active self.now.views id) }
+    // Whether a majority of the voters is active.
+    fn majority_active(&self, voters: &IdSet) -> bool
+        ensures { result ≡ is_majority voters.now (λ id. is_active self.now.views id) }
     {
         let voters = voters.as_slice();
         let count = voters.iter().filter(|id| self.is_active(**id)).count();
         voters.is_empty() || voters.len() < 2 * count
     }
 
-    /// Whether a quorum is marked. It takes no memory.
+    /// Whether a quorum is active. Takes no memory.
     #[tactic(auto, unfolding(crate::specs::Active::quorum_active))]
     pub fn quorum_active(&self) -> bool
         ensures { result ≡ quorum_active self.now }
     {
         let config = self.config();
-        self.most_active(&config.incoming) && self.most_active(&config.outgoing)
+        self.majority_active(&config.incoming) && self.majority_active(&config.outgoing)
     }
 
-    /// Sets the mark of the view at a place. It takes no memory.
-    #[tactic(auto, unfolding(crate::specs::Active::marked_at))]
+    /// Sets whether the view at a place is active. Takes no memory.
+    #[tactic(auto, unfolding(crate::specs::Active::with_active_at))]
     pub fn set_active(&mut self, i: usize, active: bool)
         requires { i < length self.old.views }
-        ensures marked { self.new ≡ marked_at self.old i active }
+        ensures marked { self.new ≡ with_active_at self.old i active }
         ensures within { length self.new.views ≡ length self.old.views }
     {
         self.view_mut(i).set_active(active);
     }
 
-    // Takes the mark off the view at a place, unless it is one's own.
+    // Marks the view at a place as inactive, unless it is the leader's own.
     #[tactic(auto, using(crate::proofs::ActiveLaws::view_of_entry))]
-    fn unmark_at(&mut self, i: usize, own: u64)
+    fn mark_inactive_unless_own(&mut self, i: usize, own: u64)
         requires { i < length self.old.views }
-        ensures { self.new ≡ record self.old { views = unmarked_at self.old.views i own } }
+        ensures { self.new ≡ record self.old { views = inactive_at self.old.views i own } }
     {
         if self.view(i).0 == own {
             return;
@@ -60,13 +60,13 @@ impl Tracker {
         self.view_mut(i).set_active(false);
     }
 
-    /// Takes all marks off but one's own. It takes no memory.
-    #[tactic(auto, unfolding(crate::specs::Active::unmarked))]
-    pub fn unmark(&mut self, own: u64)
-        ensures { self.new ≡ unmarked self.old own }
+    /// Marks all views as inactive, except the leader's own. Takes no memory.
+    #[tactic(auto, unfolding(crate::specs::Active::others_marked_inactive))]
+    pub fn mark_others_inactive(&mut self, own: u64)
+        ensures { self.new ≡ others_marked_inactive self.old own }
     {
         for i in 0..self.len() {
-            self.unmark_at(i, own);
+            self.mark_inactive_unless_own(i, own);
         }
     }
 }

@@ -1,10 +1,10 @@
-//! How far a quorum holds the log.
+//! The last index that a quorum holds.
 //!
-//! An entry is committed once a majority of the voters holds it, in a joint configuration a majority of each set (Ongaro's thesis,
-//! sections 3.5 and 4.3). The definition asks how many voters hold an index; the code puts the voters' indexes in order and reads off
-//! the one that more than half of them reach.
+//! An entry is committed once a majority of the voters holds it; in a joint configuration, a majority of each set (Ongaro's thesis,
+//! sections 3.5 and 4.3). The definition counts the voters that hold an index. The code sorts the voters' indexes and takes the one that
+//! more than half of them reach.
 ghost use Rattle.std.specs.Prelude.{◌≡◌, ◌<◌, length, IfOk};
-ghost use Rattle.rb_tracker.specs.Commits.{match_of, commit_of, IsMostHeld};
+ghost use Rattle.rb_tracker.specs.Commits.{match_of, commit_of, IsHeldByMajority};
 
 use super::Tracker;
 use crate::id_set::IdSet;
@@ -22,10 +22,10 @@ impl Tracker {
         }
     }
 
-    // The greatest index that most of the voters hold. Up to sixteen voters take no memory.
-    fn most_held(&self, voters: &IdSet) -> Result<u64, AllocError>
+    // The greatest index that a majority of the voters holds. Up to sixteen voters take no memory.
+    fn held_by_majority(&self, voters: &IdSet) -> Result<u64, AllocError>
         requires { 0 < length voters.now }
-        ensures { IfOk result (λ n. IsMostHeld self.now.views voters.now n) }
+        ensures { IfOk result (λ n. IsHeldByMajority self.now.views voters.now n) }
     {
         let mut matches: SmallVec<u64, 16> = SmallVec::new(*self.views.allocator());
         for id in voters.as_slice() {
@@ -45,14 +45,14 @@ impl Tracker {
             if config.outgoing.is_empty() {
                 return Ok(0);
             }
-            return Ok(self.most_held(&config.outgoing)?);
+            return Ok(self.held_by_majority(&config.outgoing)?);
         }
         if config.outgoing.is_empty() {
-            return Ok(self.most_held(&config.incoming)?);
+            return Ok(self.held_by_majority(&config.incoming)?);
         }
         Ok(
-            self.most_held(&config.incoming)?
-                .min(self.most_held(&config.outgoing)?),
+            self.held_by_majority(&config.incoming)?
+                .min(self.held_by_majority(&config.outgoing)?),
         )
     }
 }

@@ -1,8 +1,8 @@
 use Rattle.std.proofs.Common.{refl, arith}
 use Rattle.std.proofs.lemmas.Result.{err_from_is_err_and}
-use Rattle.rb_line.proofs.AskedLaws.{goes_none, goes_then, goes_stops, goes_enough}
-use Rattle.rb_line.proofs.TakenLaws.{takes_then}
-use Rattle.rb_line.proofs.TakenLaws.{takes_none as whole_none}
+use Rattle.rb_text.proofs.AskedLaws.{goes_none, goes_then, goes_stops, goes_enough}
+use Rattle.rb_text.proofs.TakenLaws.{takes_then}
+use Rattle.rb_text.proofs.TakenLaws.{takes_none as whole_none}
 use Rattle.rb_bench.proofs.StopLaws.{stops_short}
 use Rattle.rb_bench.proofs.HearLaws.{takes_none, takes_more, gathers_long, gathers_cut, gathers_all}
 use Rattle.rb_bench.proofs.gather.gather.Goals as goal

@@ -1,8 +1,8 @@
 -- So many lines were taken.
 use Rattle.std.proofs.Common.{◌-◌, ◌≤◌}
-use Rattle.rb_line.specs.Left.{left_of}
-use Rattle.rb_line.specs.Asked.{GoesOn, HasCallsFor}
-use Rattle.rb_line.specs.Taken.{TakesWhole}
+use Rattle.rb_text.specs.Left.{left_of}
+use Rattle.rb_text.specs.Asked.{GoesOn, HasCallsFor}
+use Rattle.rb_text.specs.Taken.{TakesWhole}
 use Rattle.rb_bench.proofs.HearLaws.{Takes}
 use Rattle.rb_bench.proofs.gather.gather.Given as goal
 

@@ -1,4 +1,4 @@
-use Rattle.rb_line.proofs.AskedLaws.{goes_then, goes_stops}
+use Rattle.rb_text.proofs.AskedLaws.{goes_then, goes_stops}
 use Rattle.std.proofs.lemmas.Result.{err_from_is_err_and}
 use Rattle.rb_bench.proofs.StepLaws.{ok_then, err_then}
 use Rattle.rb_bench.proofs.StopLaws.{heard_then, stops_first, stops_after}

@@ -1,7 +1,7 @@
 -- So many turns went out, and took so much of the input.
-use Rattle.rb_line.specs.Left.{left_of}
-use Rattle.rb_line.specs.Asked.{GoesOn, HasCallsFor, size_of}
-use Rattle.rb_line.specs.Taken.{TakesWhole}
+use Rattle.rb_text.specs.Left.{left_of}
+use Rattle.rb_text.specs.Asked.{GoesOn, HasCallsFor, size_of}
+use Rattle.rb_text.specs.Taken.{TakesWhole}
 use Rattle.rb_bench.specs.Handed.{IsHandedOn}
 use Rattle.rb_bench.proofs.TurnLaws.{HasGone}
 use Rattle.rb_bench.proofs.session.converse.Given as goal

@@ -1,7 +1,7 @@
 use Rattle.std.proofs.Common.{inr}
 use Rattle.rb_bench.specs.declared.limits.TheConstants.{MAX_READS}
-use Rattle.rb_line.proofs.AskedLaws.{asked_for}
-use Rattle.rb_line.specs.Left.{left_of}
+use Rattle.rb_text.proofs.AskedLaws.{asked_for}
+use Rattle.rb_text.specs.Left.{left_of}
 use Rattle.rb_bench.proofs.ServeLaws.{serves}
 use Rattle.rb_bench.proofs.StopLaws.{serves_came}
 use Rattle.rb_bench.proofs.session.serve.Goals as goal

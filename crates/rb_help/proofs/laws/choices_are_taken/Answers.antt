@@ -1,6 +1,6 @@
 use Rattle.std.proofs.Common.{refl}
-use Rattle.rb_level.specs.Levels.{level_of}
-use Rattle.rb_level.specs.MessageTypes.{type_of}
+use Rattle.rb_vocab.specs.Levels.{level_of}
+use Rattle.rb_vocab.specs.MessageTypes.{type_of}
 use Rattle.rb_directive.specs.Forms.{flag_of, transition_of}
 use Rattle.rb_help.proofs.laws.choices_are_taken.Goals as goal
 

@@ -1,8 +1,8 @@
 //! Entries and logs to test with.
 
 use super::tested::{Item, Tested};
-use rb_change::{Shared, Transition, Word, WordKind};
 use rb_raftlog::{Appended, Body, Entry};
+use rb_vocab::{Shared, Transition, Word, WordKind};
 use std::alloc::Global;
 use std::process::Abort;
 

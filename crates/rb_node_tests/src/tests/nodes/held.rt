@@ -3,7 +3,7 @@
 use super::making::{Player, played};
 use super::moves::{ALONE, FOLLOWS, Move, START, Says, Start};
 use crate::tests::is_in_row;
-use rb_change::{Transition, WordKind};
+use rb_vocab::{Transition, WordKind};
 use std::alloc::Global;
 use std::process::Abort;
 

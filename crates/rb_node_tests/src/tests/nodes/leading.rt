@@ -3,7 +3,7 @@
 use super::before::Before;
 use super::moves::{ALONE, JOINT, LEARNER, Move, ONE_IN_FLIGHT, START, Says, TWO, TWO_STEP_DOWN};
 use super::seen::{Case, FOLLOWER, LEADER, Said, Seen, Told, cases};
-use rb_change::{Transition, WordKind};
+use rb_vocab::{Transition, WordKind};
 
 /// What a leader of term 3 does then: node 2 holds 3/11, which is applied.
 pub const COMMITS: &[Move] = &[Move::Get(2, 3, Says::Accepted(11)), Move::Advance];

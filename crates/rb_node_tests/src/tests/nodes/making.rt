@@ -6,10 +6,10 @@ use super::moves::{Members, Move, Says, Start};
 use super::seen::{Seen, said_first, seen_of};
 use crate::tests::counting::entries_in;
 use crate::tests::is;
-use rb_change::{ConfState, Shared, Transition, Word, WordKind};
 use rb_message::{Append, Event, HardState, Install, Message, MessageKind};
 use rb_node::Node;
 use rb_raftlog::{Body, CompactFault, Content, Entries, Entry, MAX_INDEX, RaftLog, Snapshot};
+use rb_vocab::{ConfState, Shared, Transition, Word, WordKind};
 use std::alloc::{AllocError, Global};
 use std::process::Abort;
 

@@ -1,7 +1,7 @@
 //! What a node is made to do, as plain values.
 
-use rb_change::{Transition, WordKind};
 use rb_node::Options;
+use rb_vocab::{Transition, WordKind};
 
 /// What a message says.
 #[derive(Clone, Copy)]

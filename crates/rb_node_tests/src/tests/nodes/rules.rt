@@ -3,7 +3,7 @@
 use super::before::Before;
 use super::moves::{ALONE, CHECKS, Move, NO_VOTER, PRE_VOTE, SOUNDS_OUT, START, Says, Start};
 use super::seen::{CANDIDATE, Case, FOLLOWER, LEADER, PRECANDIDATE, Said, Seen, Told, cases};
-use rb_change::{Transition, WordKind};
+use rb_vocab::{Transition, WordKind};
 
 /// It voted for node 2 in term 2.
 pub const VOTED: &[Move] = &[Move::Get(2, 2, Says::Vote(1, 10, false)), Move::Advance];

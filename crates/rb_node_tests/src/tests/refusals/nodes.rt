@@ -2,11 +2,11 @@
 
 use super::{entry, ids};
 use crate::tests::is;
-use rb_change::ConfState;
 use rb_message::{Append, Install, Message, MessageKind};
 use rb_node::{Node, Options};
 use rb_raftlog::{Content, Entries, MAX_INDEX, PlainLog, RaftLog, Snapshot, SplitLog};
 use rb_tracker::ProgressState;
+use rb_vocab::ConfState;
 use std::alloc::Global;
 use std::process::Abort;
 

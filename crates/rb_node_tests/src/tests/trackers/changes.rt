@@ -3,12 +3,12 @@
 use super::{are, number, put, voting};
 use crate::tests::{is, is_in_row};
 use Ask::{Enter, Entry, Leave, Simple};
-use rb_change::Transition::{Auto, Explicit, Implicit};
-use rb_change::{ConfState, Shared, Transition, Word, WordKind};
 use rb_tracker::ChangeFault::{
     AlreadyJoint, MoreThanOneVoter, NoVoters, NotJoint, SimpleWhileJoint,
 };
 use rb_tracker::{ChangeFault, Config};
+use rb_vocab::Transition::{Auto, Explicit, Implicit};
+use rb_vocab::{ConfState, Shared, Transition, Word, WordKind};
 use std::alloc::Global;
 use std::process::Abort;
 

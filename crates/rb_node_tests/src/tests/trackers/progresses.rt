@@ -28,7 +28,7 @@ fn make(view: &mut Progress, call: Call) {
         Call::Acked(index) => view.acked(u64::from(index)),
         Call::Freed(index) => view.free_through(u64::from(index)),
         Call::Refused(index, hint) => {
-            if view.believes(u64::from(index)) {
+            if view.is_current_reject(u64::from(index)) {
                 view.refused(u64::from(index), u64::from(hint));
             }
         }
@@ -235,7 +235,7 @@ static ANSWERS: [(&[Call], u64, bool, bool); 10] = [
 /// Whether the answers that a row tells of are told as it wants.
 fn is_answer(rt: &impl Abort, alloc: Global, row: &(&[Call], u64, bool, bool)) -> bool {
     let view = after(rt, alloc, row.0);
-    let told = (view.is_news(row.1), view.believes(row.1));
+    let told = (view.is_news(row.1), view.is_current_reject(row.1));
     drop(view);
     told == (row.2, row.3)
 }

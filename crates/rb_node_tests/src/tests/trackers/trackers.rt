@@ -84,10 +84,10 @@ fn marks_are(tracker: &Tracker, marks: [bool; 4]) -> bool {
 
 fn marks_go(tracker: &mut Tracker) -> bool {
     let all = marks_are(tracker, [true; 4]);
-    tracker.unmark(3);
+    tracker.mark_others_inactive(3);
     let one = marks_are(tracker, [false, false, true, false]);
     // Who has no view has no mark to keep.
-    tracker.unmark(5);
+    tracker.mark_others_inactive(5);
     all && one && marks_are(tracker, [false; 4])
 }
 

@@ -1,7 +1,7 @@
 use Rattle.std.proofs.Common.{ℕ, List, [], ◌∷◌, ◌++◌, subst, sym}
 use Rattle.std.specs.Prelude.{codes}
 use Rattle.rb_script.specs.Writes.{Writes}
-use Rattle.rb_level.specs.declared.directive_error.DirectiveError.{DirectiveError}
+use Rattle.rb_vocab.specs.declared.directive_error.DirectiveError.{DirectiveError}
 use Rattle.rb_texts.specs.Errors.{error_text, word_text}
 use Rattle.rb_page.specs.ItemRows.{error_row}
 use Rattle.rb_page.specs.Rows.{next_text, row, text}

@@ -9,7 +9,7 @@ invariant-loop-i g l = record {
   from_one : 1 ≤ l.i;
   within : l.i < vec_len l.points;
   paired : vec_len l.kept ≡ vec_len l.points;
-  thinned : thinned_from l.spacing l.i l.points.items ≡ thin l.spacing l.fn.points.items;
+  thinned : thinned_from l.checkpoint_interval l.i l.points.items ≡ thin l.checkpoint_interval l.fn.points.items;
   kept : (f : _ → Cluster) (h : ℕ → Cluster) → map f l.fn.kept.items ≡ map h l.fn.points.items → map f l.kept.items ≡ map h l.points.items;
 }
 

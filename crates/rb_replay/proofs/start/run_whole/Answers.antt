@@ -17,6 +17,6 @@ pub returns-clause-points : goal.returns-clause-points
 returns-clause-points g c =
     let at : c.loop-running.running.at ≡ length c.args.script.now.blocks = omega (arith, c.len.ensures, c.loop-running-test.false, c.loop-running.invariant.run.within) in
     let all : length c.args.script.now.blocks - 0 ≡ length c.args.script.now.blocks = omega arith in
-    let paced = rw (c.loop-running.invariant.begins, c.loop-running.invariant.spaced, at, all) at (paced_end c.loop-running.running.spacing c.loop-running.running.from c.loop-running.running.at c.loop-running.running.due c.loop-running.running.points.items c.loop-running.invariant.paced) in
+    let paced = rw (c.loop-running.invariant.begins, c.loop-running.invariant.spaced, at, all) at (paced_end c.loop-running.running.checkpoint_interval c.loop-running.running.from c.loop-running.running.at c.loop-running.running.until_checkpoint c.loop-running.running.points.items c.loop-running.invariant.paced) in
     let first : c.insert-2.new.self.items ≡ 0 ∷ c.loop-running.running.points.items = grind (arith, common_steps) in
     first ∙ ap (λ (ps : List ℕ). 0 ∷ ps) paced

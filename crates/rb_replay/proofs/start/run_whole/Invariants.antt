@@ -7,7 +7,7 @@ use Rattle.rb_replay.proofs.start.run_whole.Given as goal
 abbrev pub invariant-loop-running : goal.invariant-loop-running
 invariant-loop-running g l = record {
   begins : l.running.from ≡ 0;
-  spaced : l.running.spacing ≡ l.spacing;
+  spaced : l.running.checkpoint_interval ≡ l.checkpoint_interval;
   run : HasRun g.M.Machine.meaning l.script l.running;
   paced : PacedOn l.running;
   here : g.M.Machine.meaning l.machine ≡ state l.script l.running.at;

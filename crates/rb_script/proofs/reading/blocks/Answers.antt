@@ -80,18 +80,18 @@ loop-alloc-preserved c =
     let sound = next_sound (1 + length all) ls after c.in_ok-block.block.value some next in
     let line : (start + 1) + length (from_head ls) ≡ 1 + length all = omega (arith, ap length c.run-start.ensures.rest, length-drop start all) in
     let headed = one_more_head 1 all (values c.loop-alloc.found.items) ls c.loop-alloc.heads.items c.loop-alloc.invariant.heads c.in_ok-block.block.value after (start + 1) sound line in
-    let pushed = c.in_ok-keep.ensures.items in
+    let pushed = c.in_ok-push_block.ensures.items in
     let so_far = values c.loop-alloc.found.items in
     let block_len = c.text_len.ensures.len ∙ ap (λ (b : PlainBlock). capped (length (block_text b))) c.deref.ensures in
     let longer : c.saturating_add-text_len.result ≡ capped (blocks_len (so_far ++ c.in_ok-block.block.value ∷ [])) =
     omega (arith, c.loop-alloc.invariant.len, c.saturating_add-text_len.ensures, block_len, blocks-push-length so_far c.in_ok-block.block.value) in
     record {
       within = c.in_ok-block.ensures.within;
-      read = ap (λ bs. with_blocks bs (blocks_at (MAX_DIRECTIVES - vec_len c.keep.new.found) (1 + length all) after)) pushed
-          ∙ ap (λ k. with_blocks (values c.loop-alloc.found.items ++ c.in_ok-block.block.value ∷ []) (blocks_at (MAX_DIRECTIVES - k) (1 + length all) after)) c.in_ok-keep.ensures.len
+      read = ap (λ bs. with_blocks bs (blocks_at (MAX_DIRECTIVES - vec_len c.push_block.new.found) (1 + length all) after)) pushed
+          ∙ ap (λ k. with_blocks (values c.loop-alloc.found.items ++ c.in_ok-block.block.value ∷ []) (blocks_at (MAX_DIRECTIVES - k) (1 + length all) after)) c.in_ok-push_block.ensures.len
           ∙ blocks_more MAX_DIRECTIVES (values c.loop-alloc.found.items) (vec_len c.loop-alloc.found) (1 + length all) ls _ c.loop-alloc.invariant.read c.in_ok-block.block.value after (omega arith) some next;
       lines_left = (block_valid ls after c.in_ok-block.block.value c.loop-alloc.invariant.lines_left sound).1;
-      few = omega (arith, c.in_ok-keep.ensures.len);
+      few = omega (arith, c.in_ok-push_block.ensures.len);
       len = longer ∙ ap (λ (bs : List PlainBlock). capped (blocks_len bs)) (sym pushed);
       heads =
           subst (λ (bs : List PlainBlock). HeadsSoFar 1 all bs after c.push.new.self.items) (sym pushed)

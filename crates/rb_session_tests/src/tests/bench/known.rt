@@ -8,8 +8,8 @@ ghost use Rattle.rb_bench.specs.declared.limits.TheConstants.{MAX_READS};
 use crate::tests::{is, is_text};
 use rb_bench::{BenchFault, MAX_READS, Mode, Outlet, run_over, serve};
 use rb_check::Status;
-use rb_line::{InputFault, Source};
 use rb_script::{Sink, WriteFault};
+use rb_text::{InputFault, Source};
 use std::alloc::Global;
 use std::process::Abort;
 

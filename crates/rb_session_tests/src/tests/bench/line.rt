@@ -1,9 +1,9 @@
-//! What no clause of rb_line says: that each error of a reader is answered, and how many calls are made.
+//! What no clause of rb_text says: that each error of a reader is answered, and how many calls are made.
 
 use super::fakes::{FailingReader, repeated};
 use crate::tests::is;
-use rb_line::{Fed, InputFault, LineBuffer, LineReader, Next, Source};
 use rb_script::{Lines, MAX_LINE};
+use rb_text::{InputFault, LineBuffer, LineReader, Next, PushByte, Source};
 use std::alloc::Global;
 use std::process::Abort;
 use std::test::Fail;
@@ -194,10 +194,10 @@ fn asks_no_more_after_the_end(rt: HostRuntime) {
 
 fn feeds(rt: &impl Abort, line: &mut LineBuffer) {
     is(rt, line.is_empty(), "nothing yet");
-    is(rt, line.feed(b'a') == Fed::More, "a byte");
-    is(rt, line.feed(b'\r') == Fed::More, "a return");
+    is(rt, line.push(b'a') == PushByte::Continue, "a byte");
+    is(rt, line.push(b'\r') == PushByte::Continue, "a return");
     is(rt, !line.is_empty(), "something");
-    is(rt, line.feed(b'\n') == Fed::Line, "the end");
+    is(rt, line.push(b'\n') == PushByte::EndOfLine, "the end");
     is(rt, line.line() == b"a".as_slice(), "a line");
     line.clear();
     is(rt, line.is_empty(), "nothing more");

@@ -5,13 +5,13 @@ use Rattle.rb_text.proofs.words.first_word.Goals as goal
 
 pub returns-then-is_empty : goal.returns-then-is_empty
 returns-then-is_empty c =
-    words_behind c.args.line.now c.without_front-text.result.now c.without_front-text.ensures ∙ words_nil c.without_front-text.result.now (grind (arith, nat_tests))
+    words_behind c.args.line.now c.trim_blanks-text.result.now c.trim_blanks-text.ensures ∙ words_nil c.trim_blanks-text.result.now (grind (arith, nat_tests))
 
 pub returns-in-Some : goal.returns-in-Some
 returns-in-Some c =
-    words_behind c.args.line.now c.without_front-text.result.now c.without_front-text.ensures
-    ∙ words_at c.without_front-text.result.now c.in-Some.end (begins_behind c.args.line.now c.without_front-text.result.now c.without_front-text.ensures) c.in-Some.ensures.found c.in-Some.ensures.space c.in-Some.ensures.first
+    words_behind c.args.line.now c.trim_blanks-text.result.now c.trim_blanks-text.ensures
+    ∙ words_at c.trim_blanks-text.result.now c.in-Some.end (begins_behind c.args.line.now c.trim_blanks-text.result.now c.trim_blanks-text.ensures) c.in-Some.ensures.found c.in-Some.ensures.space c.in-Some.ensures.first
 
 pub returns-in-None : goal.returns-in-None
 returns-in-None c =
-    words_behind c.args.line.now c.without_front-text.result.now c.without_front-text.ensures ∙ words_none c.without_front-text.result.now (grind (arith, nat_tests)) c.in-None.ensures.none
+    words_behind c.args.line.now c.trim_blanks-text.result.now c.trim_blanks-text.ensures ∙ words_none c.trim_blanks-text.result.now (grind (arith, nat_tests)) c.in-None.ensures.none

@@ -3,8 +3,8 @@ use Rattle.std.specs.Prelude.{fold, slice_get}
 use Rattle.std.proofs.lemmas.Option.{slice_get_read}
 use Rattle.std.proofs.lemmas.Result.{on_ok_weaker}
 use Rattle.rb_message.specs.declared.event.Event.{Event}
-use Rattle.rb_node.specs.Node.{Turn, turn}
-use Rattle.rb_node.specs.Readying.{handed, advanced}
+use Rattle.rb_node.specs.Node.{NodeStep, node_step}
+use Rattle.rb_node.specs.Readying.{outgoing, advanced}
 use Rattle.rb_texts.specs.Items.{event}
 use Rattle.rb_machine.specs.Cluster.{Cluster, node_at, with_node}
 use Rattle.rb_machine.specs.Observers.{watched, after}
@@ -17,14 +17,14 @@ returns g c =
     let n = c.in-Some.shared.now in
     let by = g.O.Observer.meaning c.args.observer.now in
     let sent = g.O.Observer.meaning c.send_all.new.observer in
-    let t : Turn = turn c.advance.new.self c.advance.new.events.items in
+    let t : NodeStep = node_step c.advance.new.self c.advance.new.events.items in
     let nodes = c.self.inside.nodes.items in
     let low : c.place_of.result < length nodes = search rules in
     let at : node_at c.args.self.now c.args.id ≡ Some n =
     ap (λ (d : Cluster). slice_get d.nodes (c.args.id - 1)) (sym c.self.view_is) ∙ ap (slice_get nodes) (sym c.place_of.ensures)
     ∙ slice_get_read nodes (length nodes) c.place_of.result n refl low c.in-Some.ensures.value in
-    let is : t ≡ advanced (turn n []) = search rules in
-    let hands : c.advance.new.sent.items ≡ handed n = search rules in
+    let is : t ≡ advanced (node_step n []) = search rules in
+    let hands : c.advance.new.sent.items ≡ outgoing n = search rules in
     let first : watched c.send_all.new.self sent ≡ after g.O.Observer.taking by (all_sent (with_node c.args.self.now c.args.id c.advance.new.self) c.advance.new.sent.items) = search rules in
     let told : c.deref.result.now ≡ c.advance.new.events.items = search rules in
     on_ok_weaker c.show_events.result

@@ -1,6 +1,6 @@
 use Rattle.std.proofs.Common.{◌≡◌, ◌∙◌, [], List, Bool, false, Option, None, ap, ap₂}
 use Rattle.std.specs.Prelude.{fold}
-use Rattle.rb_level.specs.declared.level.Level.{Level}
+use Rattle.rb_vocab.specs.declared.level.Level.{Level}
 use Rattle.rb_script.specs.Lines.{Line}
 use Rattle.rb_script.specs.Tokens.{plain}
 use Rattle.rb_texts.specs.declared.reason.Reason.{Reason}

@@ -42,12 +42,12 @@ pub invariant_of-result : goal.invariant_of-result
 invariant_of-result g c =
     let found : Reads c.args.bytes.now c.in_ok-script.script = c.in_ok-script.ensures.found in
     let answered = c.in_ok-outputs.ensures ∙ c.in_ok-running.ensures.outputs in
-    fresh-whole c.in_ok-script.script c.args.spacing c.in_ok-outputs.outputs c.in_ok-mismatches.mismatches.items c.in_ok-running.running.points.items (map g.M.Machine.meaning c.in_ok-running.running.kept.items)
-    c.requires.spacing found.few answered (c.in_ok-mismatches.ensures ∙ differing-all c.in_ok-script.script c.in_ok-outputs.outputs c.len.result answered c.len.ensures) c.in_ok-running.ensures.points c.in_ok-running.ensures.states
+    fresh-whole c.in_ok-script.script c.args.checkpoint_interval c.in_ok-outputs.outputs c.in_ok-mismatches.mismatches.items c.in_ok-running.running.points.items (map g.M.Machine.meaning c.in_ok-running.running.kept.items)
+    c.requires.checkpoint_interval found.few answered (c.in_ok-mismatches.ensures ∙ differing-all c.in_ok-script.script c.in_ok-outputs.outputs c.len.result answered c.len.ensures) c.in_ok-running.ensures.points c.in_ok-running.ensures.states
 
 pub returns-clause-run : goal.returns-clause-run
 returns-clause-run g c =
     let found : Reads c.args.bytes.now c.in_ok-script.script = c.in_ok-script.ensures.found in
     let answered = c.in_ok-outputs.ensures ∙ c.in_ok-running.ensures.outputs in
-    fresh-whole c.in_ok-script.script c.args.spacing c.in_ok-outputs.outputs c.in_ok-mismatches.mismatches.items c.in_ok-running.running.points.items (map g.M.Machine.meaning c.in_ok-running.running.kept.items)
-    c.requires.spacing found.few answered (c.in_ok-mismatches.ensures ∙ differing-all c.in_ok-script.script c.in_ok-outputs.outputs c.len.result answered c.len.ensures) c.in_ok-running.ensures.points c.in_ok-running.ensures.states
+    fresh-whole c.in_ok-script.script c.args.checkpoint_interval c.in_ok-outputs.outputs c.in_ok-mismatches.mismatches.items c.in_ok-running.running.points.items (map g.M.Machine.meaning c.in_ok-running.running.kept.items)
+    c.requires.checkpoint_interval found.few answered (c.in_ok-mismatches.ensures ∙ differing-all c.in_ok-script.script c.in_ok-outputs.outputs c.len.result answered c.len.ensures) c.in_ok-running.ensures.points c.in_ok-running.ensures.states

@@ -26,7 +26,7 @@ pub expect-requires : goal.expect-requires
 expect-requires g c =
     let made : edited c.args.self.now.script c.args.edit.now (outputs c.args.self.now.script) ≡ Ok c.in_ok-new.new = made-of c.args.self.now _ c.args.edit.now c.self.inside.outputs (Ok c.in_ok-new.new) c.self.view_is c.self.invariant refl c.in_ok-new.ensures.exact in
     let facts = expect-edit c.args.self.now.script c.in_ok-new.new c.args.edit.now c.in-Expect.place (sym c.in-Expect.ensures) made in
-    record { same = facts.same; first = facts.first; within = facts.within; mended = facts.mended }
+    record { same = facts.same; first = facts.first; within = facts.within; new_mismatches = facts.new_mismatches }
 
 pub accept-requires : goal.accept-requires
 accept-requires g c =

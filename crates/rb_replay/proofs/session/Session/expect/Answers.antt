@@ -12,8 +12,8 @@ invariant_of-self g c = fresh-same c.args.self.now _ c.args.new c.in_ok-mismatch
 pub returns-clause-fresh : goal.returns-clause-fresh
 returns-clause-fresh g c = fresh-same c.args.self.now _ c.args.new c.in_ok-mismatches.mismatches.items c.self.view_is c.self.invariant c.requires.same c.in_ok-mismatches.ensures
 
-pub mended-requires : goal.mended-requires
-mended-requires g c =
+pub new_mismatches-requires : goal.new_mismatches-requires
+new_mismatches-requires g c =
     let fresh : IsOneRun c.args.self.now = subst IsOneRun c.self.view_is c.self.invariant in
     let held : c.self.inside.outputs ≡ outputs c.args.self.now.script = held-outputs c.self.view_is c.self.invariant in
     let one : c.args.place - (c.args.place - 1) ≡ 1 = omega (arith, c.requires.first) in
@@ -24,5 +24,5 @@ mended-requires g c =
       small = omega arith;
       order = omega arith;
       there = omega (arith, ap length held, length-outputs c.args.self.now.script, c.requires.within);
-      mended = rw (held, one) c.requires.mended;
+      new_mismatches = rw (held, one) c.requires.new_mismatches;
     }

@@ -8,10 +8,10 @@ use Rattle.rb_replay.proofs.NextLaws.{next-order}
 use Rattle.rb_replay.proofs.session.Session.rejoin.Goals as goal
 
 pub count_below-requires : goal.count_below-requires
-count_below-requires g c = rw c.deref.ensures.value (kept-rising c.self.inside.spacing _ c.self.inside.points.items c.self.invariant.near)
+count_below-requires g c = rw c.deref.ensures.value (kept-rising c.self.inside.checkpoint_interval _ c.self.inside.points.items c.self.invariant.near)
 
 pub count_below-requires-2 : goal.count_below-requires-2
-count_below-requires-2 g c = rw c.deref-2.ensures.value (kept-rising c.self.inside.spacing _ c.self.inside.points.items c.self.invariant.near)
+count_below-requires-2 g c = rw c.deref-2.ensures.value (kept-rising c.self.inside.checkpoint_interval _ c.self.inside.points.items c.self.invariant.near)
 
 pub returns : goal.returns
 returns g c =

@@ -22,24 +22,24 @@ joined : {M : Type 0} (meaning : M → Cluster) (f r : _) (inside : List M) (roo
 joined meaning f r inside room fresh held states same view ready =
     joined-map meaning f r room fresh ∙ ap (λ (k : List Cluster). take f k ++ (map meaning fresh ++ drop r k)) (ap (map meaning) same ∙ view) ∙ ready
 
-pub take_over-requires-clause-paired : goal.take_over-requires-clause-paired
-take_over-requires-clause-paired g c =
+pub install_checkpoints-requires-clause-paired : goal.install_checkpoints-requires-clause-paired
+install_checkpoints-requires-clause-paired g c =
     let ready : IsReady g.M.Machine.meaning (change_by c.args.self.now c.args.new c.args.splice) c.args.self.now.kept c.in_ok-ready.ready = c.in_ok-ready.ensures.ready in
     same-length g.M.Machine.meaning (state c.args.new) (take c.in_ok-ready.ready.rejoin.front c.reserve.new.self.items ++ (c.in_ok-ready.ready.running.kept.items ++ drop c.in_ok-ready.ready.rejoin.rest c.reserve.new.self.items)) c.in_ok-ready.ready.points.items
     (joined g.M.Machine.meaning c.in_ok-ready.ready.rejoin.front c.in_ok-ready.ready.rejoin.rest c.self.inside.kept.items c.reserve.new.self.items c.in_ok-ready.ready.running.kept.items c.args.self.now.kept (map (state c.args.new) c.in_ok-ready.ready.points.items)
     c.in_ok-reserve.ensures.items (ap (λ (h : Holding). h.kept) c.self.view_is) ready.states_are)
 
-fresh-now : (g : Over) (c : goal.After-take_over g) → IsOneRun (record { script = c.args.new; spacing = c.self.inside.spacing; outputs = c.in_ok-ready.ready.outputs; mismatches = c.in_ok-ready.ready.mismatches.items; points = c.take_over.new.points.items; kept = map g.M.Machine.meaning c.take_over.new.kept.items })
+fresh-now : (g : Over) (c : goal.After-install_checkpoints g) → IsOneRun (record { script = c.args.new; checkpoint_interval = c.self.inside.checkpoint_interval; outputs = c.in_ok-ready.ready.outputs; mismatches = c.in_ok-ready.ready.mismatches.items; points = c.install_checkpoints.new.points.items; kept = map g.M.Machine.meaning c.install_checkpoints.new.kept.items })
 fresh-now g c =
     let ready : IsReady g.M.Machine.meaning (change_by c.args.self.now c.args.new c.args.splice) c.args.self.now.kept c.in_ok-ready.ready = c.in_ok-ready.ensures.ready in
-    let spacing : c.in_ok-ready.ready.running.spacing ≡ c.self.inside.spacing = ready.spacing_is ∙ sym (ap (λ (h : Holding). h.spacing) c.self.view_is) in
+    let checkpoint_interval : c.in_ok-ready.ready.running.checkpoint_interval ≡ c.self.inside.checkpoint_interval = ready.spacing_is ∙ sym (ap (λ (h : Holding). h.checkpoint_interval) c.self.view_is) in
     record {
       answered = ready.outputs_are;
       compared = ready.mismatches_are;
-      states = c.take_over.ensures.kept (state c.args.new)
+      states = c.install_checkpoints.ensures.kept (state c.args.new)
           (joined g.M.Machine.meaning c.in_ok-ready.ready.rejoin.front c.in_ok-ready.ready.rejoin.rest c.self.inside.kept.items c.reserve.new.self.items c.in_ok-ready.ready.running.kept.items c.args.self.now.kept (map (state c.args.new) c.in_ok-ready.ready.points.items)
           c.in_ok-reserve.ensures.items (ap (λ (h : Holding). h.kept) c.self.view_is) ready.states_are);
-      near = rw (c.take_over.ensures.points, ready.points_are, ← spacing, ready.spacing_is) (points-kept (change_by c.args.self.now c.args.new c.args.splice) ready.meeting c.requires.change ready.is_first);
+      near = rw (c.install_checkpoints.ensures.points, ready.points_are, ← checkpoint_interval, ready.spacing_is) (points-kept (change_by c.args.self.now c.args.new c.args.splice) ready.meeting c.requires.change ready.is_first);
       spaced = c.self.invariant.spaced;
       few = c.requires.few;
     }
@@ -55,7 +55,7 @@ returns-clause-reuse g c =
     let ready : IsReady g.M.Machine.meaning (change_by c.args.self.now c.args.new c.args.splice) c.args.self.now.kept c.in_ok-ready.ready = c.in_ok-ready.ensures.ready in
     record {
       cost = record { meeting = ready.meeting; is_first = ready.is_first; is_cost = rw (ready.at_is, ready.from_is) refl };
-      are_points = rw (c.take_over.ensures.points, ready.spacing_is, ready.points_are) refl;
+      are_points = rw (c.install_checkpoints.ensures.points, ready.spacing_is, ready.points_are) refl;
     }
 
 pub returns-in_err-reserve-clause-refused : goal.returns-in_err-reserve-clause-refused

@@ -8,7 +8,7 @@ use Rattle.rb_replay.proofs.session.Session.run_on.Given as goal
 abbrev pub invariant-steps : goal.invariant-steps
 invariant-steps g l = record {
   begins : l.running.from ≡ start (change_by l.self l.new l.splice);
-  spaced : l.running.spacing ≡ l.self.spacing;
+  spaced : l.running.checkpoint_interval ≡ l.self.checkpoint_interval;
   run : HasRun g.M.Machine.meaning l.new l.running;
   paced : PacedAt l.running;
   here : g.M.Machine.meaning l.machine ≡ state l.new l.running.at;

@@ -1,6 +1,6 @@
 use Rattle.std.proofs.Common.{ap, subst, ◌∙◌}
 use Rattle.rb_script.specs.Tokens.{SpannedDirective}
-use Rattle.rb_script.specs.Told.{IsSpanned}
+use Rattle.rb_script.specs.Spans.{IsSpanned}
 use Rattle.rb_script.proofs.DirectiveLaws.{spanned_there, plain_there, parts_there}
 use Rattle.rb_script.proofs.directive.DirectiveRef.argument.Goals as goal
 

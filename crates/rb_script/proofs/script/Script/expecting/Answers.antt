@@ -42,12 +42,12 @@ returns-in_err-block c =
     let p = err_from_is_err_and c.from_residual.result c.from_residual.ensures.1 in
     rw (p.1, p.2) (λ outputs. exhausted _ _ (text_fits (counts (goal.at.returns-in_err-block c).After-text_len_with _ c.saturating_add-text_len.ensures outputs) c.if-text_len-gt-MAX_SCRIPT.false))
 
-pub with_part-requires : goal.with_part-requires
-with_part-requires c =
+pub splice-requires : goal.splice-requires
+splice-requires c =
     let old = c.in-Some.old.now in
     let there = c.in-Some.ensures in
     let lines = c.args.lines.now in
-    let at = (goal.at.with_part-requires c).After-text_len_with in
+    let at = (goal.at.splice-requires c).After-text_len_with in
     let inside = there_within c.args.self.now c.args.place old there in
     let counted = counts at _ c.saturating_add-text_len.ensures [] in
     let block = expecting_valid old lines c.text_len-2.ensures.valid (good at) in
@@ -59,4 +59,4 @@ with_part-requires c =
 
 pub returns : goal.returns
 returns c = λ outputs.
-    fits_grown c.with_part.result _ (counts (goal.at.returns c).After-text_len_with _ c.saturating_add-text_len.ensures outputs) c.if-text_len-gt-MAX_SCRIPT.false (ap (with_replaced c.args.self.now c.args.place) c.in_ok-block.ensures) c.with_part.ensures.ok c.with_part.ensures.err
+    fits_grown c.splice.result _ (counts (goal.at.returns c).After-text_len_with _ c.saturating_add-text_len.ensures outputs) c.if-text_len-gt-MAX_SCRIPT.false (ap (with_replaced c.args.self.now c.args.place) c.in_ok-block.ensures) c.splice.ensures.ok c.splice.ensures.err

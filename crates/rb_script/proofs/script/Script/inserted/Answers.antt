@@ -33,11 +33,11 @@ returns-in_err-copy c =
     let p = err_from_is_err_and c.from_residual.result c.from_residual.ensures.1 in
     rw (p.1, p.2) (λ outputs. exhausted _ _ (text_fits (counts (goal.at.returns-in_err-copy c).After-text_len-2 _ c.saturating_add-text_len.ensures outputs) c.if-text_len-gt-MAX_SCRIPT.false))
 
-pub with_part-requires-clause-kept : goal.with_part-requires-clause-kept
-with_part-requires-clause-kept c =
+pub splice-requires-clause-kept : goal.splice-requires-clause-kept
+splice-requires-clause-kept c =
     insert_valid c.args.self.now c.args.place c.args.block.now [] c.if-place-eq0.false (omega arith) (omega arith) c.in_ok-copy.copy c.in_ok-copy.ensures c.text_len.ensures.valid c.text_len-2.ensures.valid
-    (counts (goal.at.with_part-requires-clause-kept c).After-text_len-2 _ c.saturating_add-text_len.ensures []) c.if-text_len-gt-MAX_SCRIPT.false
+    (counts (goal.at.splice-requires-clause-kept c).After-text_len-2 _ c.saturating_add-text_len.ensures []) c.if-text_len-gt-MAX_SCRIPT.false
 
 pub returns : goal.returns
 returns c = λ outputs.
-    fits_grown c.with_part.result _ (counts (goal.at.returns c).After-text_len-2 _ c.saturating_add-text_len.ensures outputs) c.if-text_len-gt-MAX_SCRIPT.false (ap (with_inserted c.args.self.now c.args.place) c.in_ok-copy.ensures) c.with_part.ensures.ok c.with_part.ensures.err
+    fits_grown c.splice.result _ (counts (goal.at.returns c).After-text_len-2 _ c.saturating_add-text_len.ensures outputs) c.if-text_len-gt-MAX_SCRIPT.false (ap (with_inserted c.args.self.now c.args.place) c.in_ok-copy.ensures) c.splice.ensures.ok c.splice.ensures.err

@@ -8,8 +8,8 @@ returns-in_default c = λ outputs. refused _ _ (place_refused c.args.self.now (R
 pub overflow_sub-text_len : goal.overflow_sub-text_len
 overflow_sub-text_len c = old_fits c.args.self.now c.args.place c.in-Some.old.now c.in-Some.ensures c.text_len.result c.text_len-2.result c.text_len.ensures.len c.text_len-2.ensures.len
 
-pub with_part-requires : goal.with_part-requires
-with_part-requires c =
+pub splice-requires : goal.splice-requires
+splice-requires c =
     let s = c.args.self.now in
     let k = c.args.place in
     let old = c.in-Some.old.now in
@@ -18,4 +18,4 @@ with_part-requires c =
     record { from = inside.0; to = inside.1; kept = remove_valid s k old there c.text_len.result c.text_len-2.result c.text_len.ensures.valid c.text_len.ensures.len c.text_len-2.ensures.len }
 
 pub returns : goal.returns
-returns c = λ outputs. grown c.with_part.result _ (with_removed c.args.self.now c.args.place) (remove_made c.args.self.now c.args.place c.in-Some.old.now c.in-Some.ensures outputs) c.with_part.ensures.ok c.with_part.ensures.err
+returns c = λ outputs. grown c.splice.result _ (with_removed c.args.self.now c.args.place) (remove_made c.args.self.now c.args.place c.in-Some.old.now c.in-Some.ensures outputs) c.splice.ensures.ok c.splice.ensures.err

@@ -1,0 +1,9 @@
+-- From here the nodes that are left do what all were to do, and show what all were to show.
+use Rattle.std.proofs.Common.{◌≡◌, drop}
+use Rattle.rb_machine.specs.Rounds.{each_ready_processed}
+use Rattle.rb_machine.specs.Observers.{after}
+use Rattle.rb_cluster.proofs.cluster.Cluster.process_each_ready.Given as goal
+
+abbrev pub invariant-loop-id : goal.invariant-loop-id
+invariant-loop-id g l =
+    after g.O.Observer.taking (g.O.Observer.meaning l.initial.observer) (each_ready_processed l.initial.self l.ids) ≡ after g.O.Observer.taking (g.O.Observer.meaning l.observer) (each_ready_processed l.self (drop l.id-index l.ids))

@@ -1,0 +1,110 @@
+//! Requests: one variant for each directive, with the values of its arguments.
+//!
+//! Ids, numbers and flags have their defaults filled in. Payloads and contents are borrowed from the script. Optional values are
+//! `Option`s.
+
+ghost use Rattle.std.specs.Prelude.{◌≡◌};
+ghost use Rattle.rb_directive.specs.Requests.{nodes_of};
+
+use crate::change::Inputs;
+use crate::id_list::IdList;
+use crate::node_command::NodeCommand;
+use crate::node_command_with_arg::NodeCommandWithArg;
+use crate::type_set::TypeSet;
+use rb_vocab::{DirectiveError, Level, ScriptWord, Transition};
+
+/// `add-nodes`: adds nodes, all with the same options.
+#[derive(Drop)]
+pub struct AddNodes<'d> {
+    /// The number of nodes.
+    pub count: u64,
+    /// The voters.
+    pub voters: Option<IdList>,
+    /// The learners.
+    pub learners: Option<IdList>,
+    /// The index of their base.
+    pub index: Option<u64>,
+    /// The content applied up to the base.
+    pub content: Option<ScriptWord<'d>>,
+    /// The most appends in flight to one node.
+    pub inflight: u64,
+    /// Whether a node asks for prevotes before it campaigns.
+    pub prevote: bool,
+    /// Whether a leader without an active quorum steps down.
+    pub check_quorum: bool,
+    /// Whether a removed leader steps down.
+    pub step_down: bool,
+}
+
+/// `propose-conf-change`: proposes a change of the configuration.
+#[derive(Drop)]
+pub struct ProposeConfChange<'d> {
+    /// The proposing node.
+    pub id: u64,
+    /// How the cluster gets to the new configuration.
+    pub transition: Transition,
+    /// The input lines, whose words are the changes.
+    pub inputs: Inputs<'d>,
+    /// The fault of the input's words. It is reported only if the node exists.
+    pub fault: Option<DirectiveError<'d>>,
+}
+
+/// `deliver-msgs`: delivers or drops pending messages.
+#[derive(Drop)]
+pub struct DeliverMsgs {
+    /// The receivers of delivered messages, in order.
+    pub nodes: IdList,
+    /// The types of the messages; all types if it isn't given.
+    pub types: Option<TypeSet>,
+    /// The receivers of messages that are then dropped, in order.
+    pub drop: IdList,
+}
+
+/// The request of a directive.
+#[derive(Drop)]
+pub enum Request<'d> {
+    AddNodes(AddNodes<'d>),
+    /// A command to a node.
+    NodeCommand(NodeCommand, u64),
+    /// Proposes the payload at the node.
+    Propose(u64, ScriptWord<'d>),
+    ProposeConfChange(ProposeConfChange<'d>),
+    /// Processes what is ready at the nodes, in order.
+    ProcessReady(IdList),
+    DeliverMsgs(DeliverMsgs),
+    /// Runs rounds over these nodes, or over all if there are none, at most this many.
+    Stabilize(IdList, u64),
+    /// A command, the node, and the number.
+    NodeCommandWithArg(NodeCommandWithArg, u64, u64),
+    LogLevel(Level),
+    RaftLog(u64),
+    Status(u64),
+    RaftState,
+}
+
+/// The nodes that must exist for a directive, in the order in which it names them.
+#[derive(Drop)]
+pub enum Named {
+    None,
+    One(u64),
+    Many(IdList),
+}
+
+impl<'d> Request<'d> {
+    /// The nodes that must exist.
+    pub fn nodes(&self) -> Named
+        ensures { result ≡ nodes_of self.now }
+    {
+        match self {
+            Request::AddNodes(_) | Request::LogLevel(_) | Request::RaftState => Named::None,
+            Request::ProposeConfChange(change) => Named::One(change.id),
+            Request::DeliverMsgs(deliver) => Named::Many(deliver.nodes.copy()),
+            Request::ProcessReady(ids) | Request::Stabilize(ids, _) => Named::Many(ids.copy()),
+            Request::NodeCommand(_, id)
+            | Request::Propose(id, _)
+            | Request::NodeCommandWithArg(_, id, _)
+            | Request::RaftLog(id)
+            | Request::Status(id) => Named::One(*id),
+        }
+    }
+}

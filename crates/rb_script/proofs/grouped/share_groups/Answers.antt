@@ -1,7 +1,0 @@
-use Rattle.std.proofs.Common.{◌++◌, ap, ◌∙◌}
-use Rattle.std.specs.List.{each_same}
-use Rattle.std.proofs.lemmas.Result.{on_ok_weaker}
-use Rattle.rb_script.proofs.grouped.share_groups.Goals as goal
-
-pub returns : goal.returns
-returns g c = on_ok_weaker c.extend_with_clones.result (λ h. h.1 ∙ ap (λ l. c.args.into.now.items ++ l) (each_same c.args.groups.now h.0 h.2)) c.extend_with_clones.ensures.items

@@ -1,5 +1,0 @@
-use Rattle.rb_script.proofs.ShortLaws.{near_feed}
-use Rattle.rb_script.proofs.reading.feed_within.Goals as goal
-
-pub returns : goal.returns
-returns c = near_feed c.args.bytes.now c.memrchr.result c.memrchr.ensures
