@@ -89,7 +89,12 @@ impl<L: RaftLog> State<L> {
         self.finish_transfer_to(from, index)
     }
 
-    fn handle_append_response_at(&mut self, place: usize, from: u64, index: u64) -> Result<(), AllocError>
+    fn handle_append_response_at(
+        &mut self,
+        place: usize,
+        from: u64,
+        index: u64,
+    ) -> Result<(), AllocError>
         requires place { place < length self.old.tracker.views }
         requires fits { index ≤ MAX_INDEX }
         ensures { OnOk result (self.new ≡ append_response_handled_with (view_at self.old.tracker.views place) self.old place from index) }

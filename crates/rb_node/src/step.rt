@@ -156,7 +156,9 @@ impl<L: RaftLog> State<L> {
         ensures { OnOk result (node_step self.new events.new.items ≡ as_candidate message.now.kind (node_step self.old events.old.items) message.now) }
     {
         match &message.kind {
-            MessageKind::VoteResponse { granted } => self.handle_vote_response(message, *granted, events),
+            MessageKind::VoteResponse { granted } => self.handle_vote_response(
+                message, *granted, events,
+            ),
             MessageKind::Append(_) | MessageKind::Heartbeat { .. } | MessageKind::Snapshot(_) => {
                 self.follow_leader(message, events)
             }
@@ -174,12 +176,16 @@ impl<L: RaftLog> State<L> {
     {
         match &message.kind {
             MessageKind::Proposal(body) => self.handle_proposal(body, events),
-            MessageKind::AppendResponse { matched } => self.handle_append_response(message, *matched, events),
+            MessageKind::AppendResponse { matched } => self.handle_append_response(
+                message, *matched, events,
+            ),
             MessageKind::AppendRefusal { refused, hint } => self.handle_append_refusal(
                 message, *refused, *hint, events,
             ),
             MessageKind::HeartbeatResponse => self.handle_heartbeat_response(message, events),
-            MessageKind::TransferLeader { target } => self.handle_transfer_leader(message, *target, events),
+            MessageKind::TransferLeader { target } => self.handle_transfer_leader(
+                message, *target, events,
+            ),
             _ => self.ignore_by_role(Role::Leader, message, events),
         }
     }

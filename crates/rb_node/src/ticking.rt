@@ -65,7 +65,10 @@ fn check_active_quorum<L: RaftLog>(
 
 // Ticks a node that doesn't lead. A voter campaigns once its election timeout has passed.
 #[tactic(auto, unfolding(crate::specs::Ticking::non_leader_ticked))]
-fn tick_non_leader<L: RaftLog>(state: &mut State<L>, events: &mut Vec<Event>) -> Result<(), AllocError>
+fn tick_non_leader<L: RaftLog>(
+    state: &mut State<L>,
+    events: &mut Vec<Event>,
+) -> Result<(), AllocError>
     ensures { OnOk result (node_step state.new events.new.items ≡ non_leader_ticked (node_step state.old events.old.items)) }
 {
     state.clock.elapsed = next_count(state.clock.elapsed);

@@ -91,7 +91,8 @@ impl Votes {
     fn is_won(&self, config: &Config) -> bool
         ensures { result ≡ is_won config.now self.now }
     {
-        majority_granted(&config.incoming, &self.granted) && majority_granted(&config.outgoing, &self.granted)
+        majority_granted(&config.incoming, &self.granted)
+            && majority_granted(&config.outgoing, &self.granted)
     }
 
     fn is_open(&self, config: &Config) -> bool
