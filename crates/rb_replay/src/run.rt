@@ -165,8 +165,12 @@ impl<M: Machine> Session<M> {
     ghost use Rattle.rb_replay.specs.Reuse.{change_by, IsChange, IsCost};
     ghost use Rattle.rb_replay.specs.Splices.{IsRerun};
 
-    /// Copies the last checkpoint before the change, with its point.
-    fn last_checkpoint(&self, front: usize) -> Result<(usize, M), AllocError>
+    /// Copies the last checkpoint up to a point, with its own point.
+    ///
+    /// # Errors
+    ///
+    /// If memory was refused.
+    pub fn last_checkpoint(&self, front: usize) -> Result<(usize, M), AllocError>
         requires { front ≤ MAX_DIRECTIVES }
         ensures point { IfOk result (λ found. found.0 ≡ last_up_to front self.now.points) }
         ensures machine { IfOk result (λ found. M.meaning found.1 ≡ state self.now.script found.0) }
