@@ -12,8 +12,8 @@ returns-clause-taken c = λ t id. removed_in_order id t.views
 pub returns-clause-written : goal.returns-clause-written
 returns-clause-written c = λ t. set_in_order t.views
 
-pub returns-clause-unmarked : goal.returns-clause-unmarked
-returns-clause-unmarked c = unmarked_in_order
+pub returns-clause-others_marked_inactive : goal.returns-clause-others_marked_inactive
+returns-clause-others_marked_inactive c = unmarked_in_order
 
 pub returns-clause-written_length : goal.returns-clause-written_length
 returns-clause-written_length c = λ t. length-set_value_at t.views
