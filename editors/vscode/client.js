@@ -75,8 +75,8 @@ class Client {
   }
 
   // What is told of documents before the answer comes waits in the pipe: the server takes messages in order.
-  begin() {
-    const answer = this.request("initialize", { processId: process.pid, rootUri: null, capabilities: { textDocument: { publishDiagnostics: { relatedInformation: true } } } });
+  begin(options = {}) {
+    const answer = this.request("initialize", { processId: process.pid, rootUri: null, initializationOptions: options, capabilities: { textDocument: { publishDiagnostics: { relatedInformation: true } } } });
     this.notify("initialized", {});
     return answer;
   }

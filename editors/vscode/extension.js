@@ -58,9 +58,9 @@ function traced(arrow, message) {
 }
 
 function start() {
-  const program = vscode.workspace.getConfiguration("raftbench").get("program");
-  client = new Client(program, { hear, hasGone, traced });
-  client.begin();
+  const settings = vscode.workspace.getConfiguration("raftbench");
+  client = new Client(settings.get("program"), { hear, hasGone, traced });
+  client.begin({ softenLaterMismatches: settings.get("lsp.softenLaterMismatches") });
 }
 
 // What the server answers to a request about a document, or undefined where it refuses.

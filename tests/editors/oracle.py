@@ -1,4 +1,5 @@
 """What `raftbench check` says of a text, as diagnostics of an editor."""
+import json
 import pathlib
 import re
 import subprocess
@@ -39,36 +40,82 @@ def diagnostic(text: str, line: int, encoding: str, severity: int, code: str, me
     return {"range": whole_line(text, line, encoding), "severity": severity, "code": code, "source": "raftbench", "message": message}
 
 
-def of_report(text: str, report: str, encoding: str) -> list[dict[str, Any]]:
-    """Those that a report of `check` shows: a heading with a diff below it, up to an empty line, or a heading that ends in an error. Its
-    warnings, and the word that was probably meant, are for terminals alone."""
-    found = []
-    lines = [it for it in report.split("\n")[:-2] if not re.match(r"script:\d+: warning: |did you mean ", it)]
-    at = 0
+def separator(lines: list[str], head: int) -> int:
+    """The index of the line ---- of a directive whose head begins on the line with this index."""
+    at = head
+    while lines[at].endswith("\\"):
+        at += 1
+    return next(n for n in range(at + 1, len(lines)) if lines[n].strip(" \t") == "----")
+
+
+def front_of(expected: list[str], output: list[str]) -> int:
+    """How many lines both have at their front."""
+    return next((n for n, (a, b) in enumerate(zip(expected, output)) if a != b), min(len(expected), len(output)))
+
+
+def marked_line(text: str, line: int, expected: list[str], output: list[str]) -> int:
+    """The line of the first expected line that differs; the last line of the expectation if none does. Lines count from 1."""
+    lines = [it.rstrip("\r") for it in text.split("\n")]
+    below = separator(lines, line - 1) + 1
+    first = below + (lines[below:below + 1] == ["----"])
+    return first + min(front_of(expected, output) + 1, len(expected))
+
+
+def opening(expected: list[str], output: list[str]) -> str:
+    """The first lines that differ, and an empty line; nothing if a diff begins with them anyway."""
+    front = front_of(expected, output)
+    if not front:
+        return ""
+    return "".join(mark + it + "\n" for mark, side in (("- ", expected), ("+ ", output)) for it in side[front:front + 1]) + "\n"
+
+
+def slips(report: str) -> list[tuple[int, str]]:
+    """The lines that a report warns of, which count from 1, each with the sentence."""
+    return [(int(it[1]), it[2]) for it in re.finditer(r"^script:(\d+): warning: (.*)$", report, re.M)]
+
+
+def of_report(text: str, report: str, differing: dict[int, Any], encoding: str) -> list[dict[str, Any]]:
+    """Those that a report of `check` shows: a heading with a diff below it, up to an empty line, or a heading that ends in an error; below
+    either, the word that was probably meant. Mismatches after the first are information. The warnings come last."""
+    found: list[dict[str, Any]] = []
+    lines = [it for it in report.split("\n")[:-2] if not re.match(r"script:\d+: warning: ", it)]
+    severity, at = 1, 0
     while at < len(lines):
         heading = matched(HEADING.pattern, lines[at])
         line, said = int(heading[1]), heading[2]
         at += 1
-        body = []
+        body: list[str] = []
         while at < len(lines) and lines[at][:2] in ("- ", "+ ", "  "):
             body.append(lines[at])
             at += 1
+        hint = lines[at:at + 1] if lines[at:at + 1] and lines[at].startswith("did you mean ") else []
+        at += len(hint)
         if body:
-            found.append(diagnostic(text, line, encoding, 1, "mismatch", "\n".join(body)))
+            # Each byte outside ASCII is a character of its own there.
+            expected, output = ([it.encode("latin-1").decode() for it in differing[line][side]] for side in ("expected", "output"))
+            message = opening(expected, output) + "\n".join(body + hint)
+            found.append(diagnostic(text, marked_line(text, line, expected, output), encoding, severity, "mismatch", message))
+            severity = 3
             at += 1
         else:
-            found.append(diagnostic(text, line, encoding, 2, "error-output", said[said.rindex(": error: ") + 2:]))
-    return found
+            found.append(diagnostic(text, line, encoding, 2, "error-output", "\n".join([said[said.rindex(": error: ") + 2:]] + hint)))
+    return found + [diagnostic(text, line, encoding, 2, "slip", sentence) for line, sentence in slips(report)]
+
+
+def checked(program: pathlib.Path, text: str, words: list[str]) -> tuple[int, str, str]:
+    """What `check` with these words ends with and writes, of a file with the text."""
+    with tempfile.TemporaryDirectory() as room:
+        pathlib.Path(room, "script").write_bytes(text.encode())
+        done = subprocess.run([program, "check", *words, "script"], cwd=room, capture_output=True, timeout=MOST_SECONDS)
+    return done.returncode, done.stdout.decode(), done.stderr.decode()
 
 
 def diagnostics(program: pathlib.Path, text: str, encoding: str) -> list[dict[str, Any]]:
-    """What `check` says of the text, in the order of its lines."""
-    with tempfile.TemporaryDirectory() as room:
-        pathlib.Path(room, "script").write_bytes(text.encode())
-        done = subprocess.run([program, "check", "--color", "never", "script"], cwd=room, capture_output=True, timeout=MOST_SECONDS)
-    report, told = done.stdout.decode(), done.stderr.decode()
-    if done.returncode in (0, 1):
-        return of_report(text, report, encoding)
+    """What `check` says of the text, in the order of its lines, and then what it warns of."""
+    status, report, told = checked(program, text, ["--color", "never"])
+    if status in (0, 1):
+        objects = [json.loads(it) for it in checked(program, text, ["--format", "json"])[1].splitlines()] if status else []
+        return of_report(text, report, {it["line"]: it for it in objects if it.get("status") == "mismatch"}, encoding)
     refusal = next(line for line in (told + report).split("\n") if line.startswith("script:"))
     heading = matched(HEADING.pattern, refusal)
     return [diagnostic(text, int(heading[1] or 1), encoding, 1, "no-script", heading[2].removeprefix(" "))]

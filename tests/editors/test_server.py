@@ -32,6 +32,7 @@ from tests.editors import memory
 from tests.editors import metamodel
 from tests.editors import neovim
 from tests.editors import offers
+from tests.editors import oracle
 from tests.editors import plainly
 from tests.editors.client import MOST_SECONDS, Client, changed, framed, notification, opened, recorded, recorder, request, unframed
 from tests.editors.oracle import diagnostics, position
@@ -44,6 +45,12 @@ OWN_CAPABILITY = re.compile(r"initialize\.params\.capabilities[.\w]*: the type h
 ENCODINGS: list[tuple[str, list[str]]] = [("utf-16-le", []), ("utf-8", ["utf-8"])]
 # By docs/SCRIPTS.md.
 MOST_BYTES, MOST_DIRECTIVES = 4_194_304, 20_000
+# What puts in what is missing above a line that looks like a slip, by how `check` warns of it.
+FIXES = {
+    "this looks like a directive inside an expectation": ("Insert the missing empty line", "\n"),
+    "this looks like a directive inside input": ("Insert the missing ---- and an empty line", "----\n\n"),
+    "this is input": ("Insert the missing ----", "----\n"),
+}
 NOT_OPEN = {"code": -32602, "message": "the document isn't open"}
 # How many lists of edits are tried, each on a script as it stands.
 EDITING_LISTS = 500
@@ -147,13 +154,14 @@ def many_documents(_edits: int) -> Iterator[str]:
 
 
 def too_many_documents(_edits: int) -> Iterator[str]:
-    """One document more than are kept has no diagnostics, and what is asked of it is refused; where one is closed another has room."""
+    """Of one document more than are kept it is said that it isn't checked, and what is asked of it is refused; where one is closed another has
+    room."""
     with Client(PROGRAM) as client:
         client.begin()
         for n in range(MOST_DOCUMENTS + 1):
             client.send(opened(f"file:///{n}", "log-level debug\n----\nno\n"))
             told = client.receive()["params"]["diagnostics"]
-            if [it["code"] for it in told] != ["mismatch"][:n < MOST_DOCUMENTS]:
+            if [it["code"] for it in told] != ["mismatch" if n < MOST_DOCUMENTS else "not-checked"]:
                 yield f"document {n}: {told}"
         if (error := client.ask(1, "textDocument/foldingRange", textDocument={"uri": f"file:///{MOST_DOCUMENTS}"})) != NOT_OPEN:
             yield f"a document past the last: {error}"
@@ -308,9 +316,24 @@ def refused_allocations(_edits: int) -> Iterator[str]:
     yield from memory.refused_allocations(PROGRAM)
 
 
+def fixes_due(slips: list[tuple[int, str]], text: str, first: int, last: int, encoding: str) -> list[tuple[str, str, list[dict[str, Any]]]]:
+    """The quick fix of the first slip on some lines, which count from 0: its title, its kind, and its edits."""
+    for line, sentence in slips:
+        if first <= line - 1 <= last:
+            title, new = next(fix for reason, fix in FIXES.items() if sentence.startswith(reason))
+            place = plainly.range_of(text, line - 1, line - 1, encoding)
+            return [(title, "quickfix", [{"range": place, "newText": new}])]
+    return []
+
+
 def other_actions(text: str, start: Any, end: Any, encoding: str, told: Any) -> Iterator[str]:
-    """Texts for what is wrong with the actions that are told for a range: of each the edits must make the script that is due."""
+    """Texts for what is wrong with the actions that are told for a range: of each the edits must make the script that is due. Where a line looks
+    like a slip there is its quick fix alone."""
     first, last = (plainly.line_of(text, place, encoding) for place in (start, end))
+    if slips := oracle.slips(oracle.checked(PROGRAM, text, ["--color", "never"])[1]):
+        if (got := [(it["title"], it["kind"], it["edit"]["changes"][URI]) for it in told]) != (fixes := fixes_due(slips, text, first, last, encoding)):
+            yield f"{got}, and due is {fixes}"
+        return
     wanted = [("Expect what came", "quickfix", plainly.accepting(text, first, last)), ("Expect what came everywhere", "source", plainly.accepting(text))]
     due = [(title, kind, made) for title, kind, made in wanted if made and made[1]]
     if [(it["title"], it["kind"]) for it in told] != [(title, kind) for title, kind, _ in due]:
@@ -350,9 +373,27 @@ def questions(edits: int) -> Iterator[str]:
                 text, *_ = edited(dice, text)
 
 
+def questions_between_changes(_edits: int) -> Iterator[str]:
+    """After each change what is shown of a position and the actions are of the text as it then stands: also where it is no script in between."""
+    tour = (TOP / "examples" / "tour" / "01-election.txt").read_bytes().decode()
+    top = "add-nodes 1 voters=(1) index=10 log-level=none\n----\nno\n\n"
+    texts = [tour, "(", tour.replace("INFO", "WARN", 3), top + tour, tour, "", tour.replace("\n\n", "\n", 1), tour + "\ncampaign 1\n----\nno\n"]
+    with Client(PROGRAM) as client:
+        client.begin()
+        for version, text in enumerate(texts, 1):
+            client.send(changed(URI, version, {"text": text}) if version > 1 else opened(URI, text))
+            client.receive()
+            for part in 1, 3:
+                place = position(text, len(text) * part // 4, "utf-16-le")
+                told = answer_of(client, version, "codeAction", range={"start": place, "end": place}, context={"diagnostics": []})
+                yield from (f"text {version}, {place}: {it}" for it in other_actions(text, place, place, "utf-16-le", told))
+                if (told := answer_of(client, -version, "hover", position=place)) != (due := plainly.hover(text, place, "utf-16-le")):
+                    yield f"text {version}, {place}: {told}, and due is {due}"
+
+
 def accepted_by_check(_edits: int) -> Iterator[str]:
     """What the action makes of a text is what `check --accept` does, but for how new lines end."""
-    texts = ["log-level debug\n----\nno", "log-level debug\n----", "log-level debug\r\n----\r\n", "# a\n\nlog-level \\\ndebug\nin\n ---- \n----\n\nno\n----\n----\n\nlog-level x\n----\nok\n\n# expects an error\nlog-level x\n----\nok\n# \U0001d11e"]
+    texts = ["log-level debug\n----\nno", "log-level debug\n----", "log-level debug\r\n----\r\n", "# a\n\nlog-level \\\ndebug\n ---- \n----\n\nno\n----\n----\n\nlog-level x\n----\nok\n\n# expects an error\nlog-level x\n----\nok\n# \U0001d11e"]
     for text in texts:
         with Client(PROGRAM) as client, tempfile.TemporaryDirectory() as room:
             client.begin()
@@ -366,6 +407,44 @@ def accepted_by_check(_edits: int) -> Iterator[str]:
             made, due = plainly.applied(text, edits, "utf-16-le"), script.read_bytes().decode()
             if made.replace("\r\n", "\n").rstrip("\n") != due.replace("\r\n", "\n").rstrip("\n"):
                 yield f"{text!r}: {made!r}, and due is {due!r}"
+
+
+def slips_are_mended(_edits: int) -> Iterator[str]:
+    """A directive inside an expectation or input, and input that nobody reads: each is warned of, nothing is accepted, and the quick fixes, one
+    after another, make the script that was meant."""
+    meant = "add-nodes 1 voters=(1) index=10 log-level=none\n----\nok\n\ncampaign 1 log-level=none\n----\nok\n"
+    texts = [meant.replace("ok\n\ncampaign", "ok\ncampaign"), meant.replace("----\nok\n\ncampaign", "campaign"), meant.replace("----\nok\n\n", "ok\n\n", 1)]
+    for text in texts:
+        with Client(PROGRAM) as client:
+            client.begin()
+            client.send(opened(URI, text))
+            told = client.receive()["params"]["diagnostics"]
+            warned = [it for it in told if (it["severity"], it["code"], it["source"]) == (2, "slip", "raftbench")]
+            if not warned:
+                yield f"{text!r}: {told}"
+                continue
+            whole = {"start": {"line": 0, "character": 0}, "end": {"line": 99, "character": 0}}
+            actions = answer_of(client, 1, "codeAction", range=whole, context={"diagnostics": []})
+            if len(actions) != 1 or "Expect" in actions[0]["title"]:
+                yield f"{text!r}: {actions}"
+                continue
+            fixed = plainly.applied(text, actions[0]["edit"]["changes"][URI], "utf-16-le")
+            client.send(changed(URI, 2, {"text": fixed}))
+            left = [it for it in client.receive()["params"]["diagnostics"] if it["range"] == warned[0]["range"] and it["code"] == "slip"]
+            if left:
+                yield f"{text!r}: {fixed!r} has {left}"
+
+
+def later_mismatches(_edits: int) -> Iterator[str]:
+    """The first mismatch is an error, and those after it are information; where the client's settings say so they are errors."""
+    text = "add-nodes 1 voters=(1) index=10 log-level=none\n----\nno\n\nlog-level debug\n----\nno\n\nlog-level debug\n----\nno\n"
+    settings: list[tuple[Any, list[int]]] = [(None, [1, 3, 3]), ({"softenLaterMismatches": True}, [1, 3, 3]), ({"softenLaterMismatches": False}, [1, 1, 1]), ({"softenLaterMismatches": 0}, [1, 3, 3])]
+    for options, due in settings:
+        with Client(PROGRAM) as client:
+            client.begin(options=options)
+            client.send(opened(URI, text))
+            if (told := [it["severity"] for it in client.receive()["params"]["diagnostics"]]) != due:
+                yield f"{options}: {told}, and due is {due}"
 
 
 def offered_texts(dice: random.Random, edits: int) -> Iterator[str]:
@@ -497,7 +576,7 @@ def by_the_meta_model(_edits: int) -> Iterator[str]:
         yield from (f"{name}: {it}" for it in metamodel.faults(model, talk) if not OWN_CAPABILITY.match(it))
 
 
-FUNCTIONS: list[Callable[[int], Iterator[str]]] = [in_neovim, in_vscode, in_monaco, by_the_meta_model, one_byte_at_a_time, cut_off, no_message, reader_that_goes, many_documents, too_many_documents, other_texts, ends_of_lines, sizes, want_of_memory, refused_allocations, random_edits, editing_lists, what_came, folds, outlines, formatted, completed, questions, accepted_by_check]
+FUNCTIONS: list[Callable[[int], Iterator[str]]] = [in_neovim, in_vscode, in_monaco, by_the_meta_model, one_byte_at_a_time, cut_off, no_message, reader_that_goes, many_documents, too_many_documents, other_texts, ends_of_lines, sizes, want_of_memory, refused_allocations, random_edits, editing_lists, what_came, folds, outlines, formatted, completed, questions, questions_between_changes, accepted_by_check, slips_are_mended, later_mismatches]
 
 
 def results(word: str) -> Iterator[Result]:

@@ -16,7 +16,7 @@ const place = new api.Position(0, 0);
 async function marks(document) {
   await standin.until(() => shown.get(document.uri)?.length === 1, () => JSON.stringify([...shown]));
   const [told] = shown.get(document.uri);
-  assert.deepStrictEqual([told.message, told.severity, told.code, told.source, told.range.numbers], ["- no\n+ ok", 0, "mismatch", "raftbench", [0, 0, 1, 0]]);
+  assert.deepStrictEqual([told.message, told.severity, told.code, told.source, told.range.numbers], ["- no\n+ ok", 0, "mismatch", "raftbench", [2, 0, 3, 0]]);
   assert.deepStrictEqual(told.relatedInformation.map((it) => [it.message, it.location.uri, it.location.range.numbers]), [["ok", document.uri, [2, 0, 3, 0]]]);
 }
 

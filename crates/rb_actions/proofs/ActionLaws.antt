@@ -1,13 +1,14 @@
 -- Edits, directive by directive, and what is accepted.
 use Rattle.std.proofs.Common.{◌≡◌, ◌∙◌, ℕ, ◌+◌, ◌≤◌, Bool, true, false, List, [], ◌∷◌, ◌++◌, length, drop, Option, Some, None, refl, ap, sym, append_assoc, append-nil}
 use Rattle.std.proofs.Math.Bool.{or-false, or-true}
-use Rattle.std.specs.Prelude.{if◌then◌else◌, ◌&&◌, ◌||◌, not, slice_get, codes}
+use Rattle.std.specs.Prelude.{◌==◌, if◌then◌else◌, ◌&&◌, ◌||◌, not, slice_get, codes, Ok}
 use Rattle.rb_script.specs.Lines.{Line, lines}
 use Rattle.rb_script.specs.Script.{PlainBlock, PlainScript}
 use Rattle.rb_script.specs.Reads.{Reads}
 use Rattle.rb_script.proofs.ScriptLaws.{read_complete}
 use Rattle.rb_replay.specs.Report.{same_lines}
 use Rattle.rb_replay.proofs.DifferingLaws.{same_lines-Decides}
+use Rattle.rb_checked.specs.declared.warning.Warning.{Warning}
 use Rattle.rb_checked.specs.Accepting.{accepted_lines}
 use Rattle.rb_checked.specs.Checked.{of_each}
 use Rattle.rb_checked.specs.Errors.{is_unexpected}
@@ -15,9 +16,11 @@ use Rattle.rb_checked.proofs.EachLaws.{each_all, each_more}
 use Rattle.rb_document.specs.declared.position.Encoding.{Encoding}
 use Rattle.rb_document.specs.declared.position.Range.{Range}
 use Rattle.rb_actions.specs.declared.extent.LineSpan.{LineSpan}
-use Rattle.rb_actions.specs.Layouts.{IsNoScript}
+use Rattle.rb_actions.specs.Findings.{slips_of}
+use Rattle.rb_actions.specs.Layouts.{IsLayout, IsNoScript}
+use Rattle.rb_actions.specs.declared.layout.ScriptLayout.{ScriptLayout}
 use Rattle.rb_actions.specs.Extents.{extent_of}
-use Rattle.rb_actions.specs.Actions.{PlainEdit, actions, actions_of, all_but_new_errors, actions_text, comma_if, edit_of, edit_text, edits_of, is_accepted, is_wanted, listed, member_of, one_edit, span_of}
+use Rattle.rb_actions.specs.Actions.{PlainEdit, actions, actions_of, all_but_new_errors, actions_text, comma_if, edit_of, edit_text, edits_of, first_within, fixes_text, is_accepted, is_wanted, listed, member_of, one_edit, span_of}
 
 -- the edit of one directive, if it is wanted, and those behind it
 listed_more : (later wanted : Bool) (e : PlainEdit) (es : List PlainEdit) → (if wanted then comma_if later ++ member_of e else []) ++ listed (later || wanted) es ≡ listed later ((if wanted then e ∷ [] else []) ++ es)
@@ -54,10 +57,36 @@ edits_last encoding text span later heads bs os i out total past far =
 -- ---- of a text
 
 -- of a script
-pub of_read : (encoding : Encoding) (range : Range) (uri text : List ℕ) (s : PlainScript) → Reads text s
-    → actions_text uri (span_of encoding range text) (edits_of encoding text s (Some (span_of encoding range text))) (edits_of encoding text s None) ≡ actions encoding range uri text
+of_read : (encoding : Encoding) (range : Range) (uri text : List ℕ) (s : PlainScript) → Reads text s
+    → actions_of encoding range uri text (Ok s) ≡ actions encoding range uri text
 unfolding actions
 of_read encoding range uri text s reads = ap (actions_of encoding range uri text) (sym (read_complete text s reads))
+
+-- of the text of a run, no line of which looks like a slip
+pub of_run : (known encoding : Encoding) (range : Range) (uri bytes text : List ℕ) (s : PlainScript) (layout : ScriptLayout) (ws : List Warning) → IsLayout known bytes s layout → text ≡ bytes
+    → ws ≡ layout.slips.items → (length ws == 0) ≡ true
+    → actions_text uri (span_of encoding range text) (edits_of encoding bytes s (Some (span_of encoding range text))) (edits_of encoding bytes s None) ≡ actions encoding range uri bytes
+of_run known encoding range uri bytes text s layout ws is same are none =
+    let all = λ (x : List ℕ). actions_text uri (span_of encoding range x) (edits_of encoding bytes s (Some (span_of encoding range x))) (edits_of encoding bytes s None) in
+    let fixes = fixes_text encoding uri bytes (first_within (span_of encoding range bytes) (slips_of bytes s)) in
+    let empty : (length (slips_of bytes s) == 0) ≡ true = ap (λ (l : List Warning). length l == 0) (sym (are ∙ is.slips_are)) ∙ none in
+    ap all same ∙ sym (ap (λ (b : Bool). if b then all bytes else fixes) empty) ∙ of_read encoding range uri bytes s is.reads
+
+-- and where one does
+pub of_slips : (known encoding : Encoding) (range : Range) (uri bytes text : List ℕ) (s : PlainScript) (layout : ScriptLayout) (ws : List Warning) → IsLayout known bytes s layout → text ≡ bytes
+    → ws ≡ layout.slips.items → (length ws == 0) ≡ false
+    → fixes_text encoding uri text (first_within (span_of encoding range text) ws) ≡ actions encoding range uri bytes
+of_slips known encoding range uri bytes text s layout ws is same are some =
+    let all = actions_text uri (span_of encoding range bytes) (edits_of encoding bytes s (Some (span_of encoding range bytes))) (edits_of encoding bytes s None) in
+    let fixes = fixes_text encoding uri bytes (first_within (span_of encoding range bytes) (slips_of bytes s)) in
+    let full : (length (slips_of bytes s) == 0) ≡ false = ap (λ (l : List Warning). length l == 0) (sym (are ∙ is.slips_are)) ∙ some in
+    ap (λ (x : List ℕ). fixes_text encoding uri x (first_within (span_of encoding range x) ws)) same
+    ∙ ap (λ (l : List Warning). fixes_text encoding uri bytes (first_within (span_of encoding range bytes) l)) (are ∙ is.slips_are)
+    ∙ sym (ap (λ (b : Bool). if b then all else fixes) full)
+    ∙ of_read encoding range uri bytes s is.reads
+
+pub of_text : (encoding : Encoding) (range : Range) (uri text bytes : List ℕ) → bytes ≡ text → actions encoding range uri bytes ≡ actions encoding range uri text
+of_text encoding range uri text bytes same = ap (actions encoding range uri) same
 
 -- of what is none
 pub of_none : (encoding : Encoding) (range : Range) (uri text : List ℕ) → IsNoScript text → codes "[]" ≡ actions encoding range uri text

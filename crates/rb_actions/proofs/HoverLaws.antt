@@ -14,7 +14,8 @@ use Rattle.rb_document.specs.declared.position.Position.{Position}
 use Rattle.rb_offers.specs.Heads.{heads_of}
 use Rattle.rb_actions.specs.declared.extent.Extent.{Extent}
 use Rattle.rb_actions.specs.Extents.{extent_of, has_line}
-use Rattle.rb_actions.specs.Layouts.{IsNoScript, line_at}
+use Rattle.rb_actions.specs.Layouts.{IsLayout, IsNoScript, line_at}
+use Rattle.rb_actions.specs.declared.layout.ScriptLayout.{ScriptLayout}
 use Rattle.rb_actions.specs.Hovers.{hover, hover_in, hover_of, hover_text, shown}
 
 -- one directive more
@@ -76,10 +77,21 @@ hover_none encoding text s line i heads bs os before out new total past far went
 -- ---- of a text
 
 -- of a script
-pub of_read : (encoding : Encoding) (position : Position) (text : List ℕ) (s : PlainScript) → Reads text s
+of_read : (encoding : Encoding) (position : Position) (text : List ℕ) (s : PlainScript) → Reads text s
     → hover_in encoding text s (line_at encoding position text) 0 (heads_of text s) s.blocks (outputs s) ≡ hover encoding position text
 unfolding hover
 of_read encoding position text s reads = ap (hover_of encoding position text) (sym (read_complete text s reads))
+
+-- of the text of a run
+pub of_run : (known encoding : Encoding) (position : Position) (bytes text : List ℕ) (s t : PlainScript) (layout : ScriptLayout) → IsLayout known bytes s layout → text ≡ bytes → t ≡ s
+    → hover_in encoding text t (line_at encoding position text) 0 (heads_of text t) t.blocks (outputs t) ≡ hover encoding position bytes
+of_run known encoding position bytes text s t layout is same script =
+    ap (λ (x : List ℕ). hover_in encoding x t (line_at encoding position x) 0 (heads_of x t) t.blocks (outputs t)) same
+    ∙ ap (λ (x : PlainScript). hover_in encoding bytes x (line_at encoding position bytes) 0 (heads_of bytes x) x.blocks (outputs x)) script
+    ∙ of_read encoding position bytes s is.reads
+
+pub of_text : (encoding : Encoding) (position : Position) (text bytes : List ℕ) → bytes ≡ text → hover encoding position bytes ≡ hover encoding position text
+of_text encoding position text bytes same = ap (hover encoding position) same
 
 -- of what is none
 pub of_none : (encoding : Encoding) (position : Position) (text : List ℕ) → IsNoScript text → codes "null" ≡ hover encoding position text

@@ -9,3 +9,6 @@ pub mod EditedLaws
 pub mod EditedScriptLaws
 pub mod CutLaws
 pub mod AppliedLaws
+pub mod RunLaws
+pub mod FixLaws
+pub mod FrontLaws

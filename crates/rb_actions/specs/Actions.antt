@@ -9,6 +9,9 @@ use Rattle.rb_script.specs.Script.{PlainBlock, PlainScript}
 use Rattle.rb_script.specs.Reading.{read_of}
 use Rattle.rb_replay.specs.Run.{outputs}
 use Rattle.rb_replay.specs.Report.{same_lines}
+use Rattle.rb_check.specs.declared.doubt.Doubt.{Doubt}
+use Rattle.rb_check.specs.declared.doubt.Doubt.TheVariants.{InExpectation, InInput, Unread}
+use Rattle.rb_checked.specs.declared.warning.Warning.{Warning}
 use Rattle.rb_checked.specs.declared.wanted.Picked.TheVariants as picks
 use Rattle.rb_checked.specs.declared.wanted.Wanted.{Wanted}
 use Rattle.rb_checked.specs.Accepting.{is_left}
@@ -21,6 +24,7 @@ use Rattle.rb_offers.specs.Heads.{heads_of}
 use Rattle.rb_offers.specs.Texts.{range_member}
 use Rattle.rb_actions.specs.declared.extent.Extent.{Extent}
 use Rattle.rb_actions.specs.declared.extent.LineSpan.{LineSpan}
+use Rattle.rb_actions.specs.Findings.{slips_of}
 use Rattle.rb_actions.specs.Layouts.{line_at}
 use Rattle.rb_actions.specs.Extents.{extent_of, has_line}
 
@@ -142,15 +146,57 @@ actions_text uri span here all =
 abbrev pub edits_of : Encoding → List ℕ → PlainScript → Option LineSpan → List ℕ
 edits_of encoding text s span = listed false (edits_asked encoding text s span)
 
+-- ---- quick fixes of lines that look like a slip
+
+-- the line, which counts from 1, is one of these
+abbrev pub is_within : LineSpan → Warning → Bool
+is_within span w = nat_le span.first (w.line - 1) && nat_le (w.line - 1) span.last
+
+abbrev pub first_within : LineSpan → List Warning → Option Warning
+first_within span [] = None
+first_within span (w ∷ ws) = if is_within span w then Some w else first_within span ws
+
+-- what is missing above a line
+unfoldable pub missing : Doubt → List ℕ
+missing InExpectation = codes "\n"
+missing InInput = codes "----\n\n"
+missing Unread = codes "----\n"
+
+unfoldable pub fix_head : Doubt → List ℕ
+fix_head InExpectation = codes "{\"title\":\"Insert the missing empty line\",\"kind\":\"quickfix\",\"edit\":{\"changes\":{\""
+fix_head InInput = codes "{\"title\":\"Insert the missing ---- and an empty line\",\"kind\":\"quickfix\",\"edit\":{\"changes\":{\""
+fix_head Unread = codes "{\"title\":\"Insert the missing ----\",\"kind\":\"quickfix\",\"edit\":{\"changes\":{\""
+
+-- above a line, which counts from 0
+abbrev pub above : ℕ → Extent
+above n = record { head = n; expected = n; end = n; is_double = false }
+
+-- an action that puts in what is missing above the line
+unfoldable pub fix_text : Encoding → List ℕ → List ℕ → Warning → List ℕ
+fix_text encoding uri text w =
+    fix_head w.doubt ++ (flat_map escaped uri ++ (codes "\":[" ++ (edit_text encoding text (above (w.line - 1)) (missing w.doubt) ++ codes "]}}}")))
+
+abbrev pub fix_if : Encoding → List ℕ → List ℕ → Option Warning → List ℕ
+fix_if encoding uri text None = []
+fix_if encoding uri text (Some w) = fix_text encoding uri text w
+
+unfoldable pub fixes_text : Encoding → List ℕ → List ℕ → Option Warning → List ℕ
+fixes_text encoding uri text found = codes "[" ++ (fix_if encoding uri text found ++ codes "]")
+
+-- ---- of a text
+
 -- the lines on which a range begins and ends
 abbrev pub span_of : Encoding → Range → List ℕ → LineSpan
 span_of encoding range text = record { first = line_at encoding range.start text; last = line_at encoding range.end text }
 
--- of a text that is read so
+-- Of a text that is read so. Where a line looks like a slip nothing is accepted, as by `check --accept`: the expectation around it may hold
+-- directives.
 abbrev pub actions_of : Encoding → Range → List ℕ → List ℕ → Result PlainScript ScriptFault → List ℕ
 actions_of encoding range uri text (Err fault) = codes "[]"
 actions_of encoding range uri text (Ok s) =
-    actions_text uri (span_of encoding range text) (edits_of encoding text s (Some (span_of encoding range text))) (edits_of encoding text s None)
+    if length (slips_of text s) == 0
+    then actions_text uri (span_of encoding range text) (edits_of encoding text s (Some (span_of encoding range text))) (edits_of encoding text s None)
+    else fixes_text encoding uri text (first_within (span_of encoding range text) (slips_of text s))
 
 unfoldable pub actions : Encoding → Range → List ℕ → List ℕ → List ℕ
 actions encoding range uri text = actions_of encoding range uri text (read_of text)

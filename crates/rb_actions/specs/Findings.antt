@@ -1,19 +1,26 @@
 -- What is to be said of a text: of each directive of one fresh run, or of what is no script. (This project's.)
-use Rattle.std.specs.Prelude.{ℕ, ◌==◌, Bool, false, ◌&&◌, not, if◌then◌else◌, List, [], ◌∷◌, length, Option, Some, None, Result, Ok, Err}
+use Rattle.std.specs.Prelude.{ℕ, suc, ◌-◌, ◌==◌, nat_lt, Bool, false, ◌&&◌, not, if◌then◌else◌, List, [], ◌∷◌, ◌++◌, codes, length, drop, map, slice_get, slice_index_or, Option, Some, None, unwrap_or, Result, Ok, Err}
 use Rattle.std.specs.List.{list_any}
+use Rattle.std.specs.Str.{bytes_eq}
 use Rattle.rb_script.specs.declared.fault.ScriptFault.{ScriptFault}
 use Rattle.rb_script.specs.Lines.{Line, lines}
 use Rattle.rb_script.specs.Script.{PlainBlock, PlainScript}
-use Rattle.rb_script.specs.Reading.{read_of}
+use Rattle.rb_script.specs.Reads.{begins_rule}
+use Rattle.rb_script.specs.Reading.{directive_of, read_of}
 use Rattle.rb_replay.specs.Run.{outputs}
 use Rattle.rb_replay.specs.Report.{mismatches, same_lines}
 use Rattle.rb_check.specs.declared.colors.Colors.TheVariants.{Off}
+use Rattle.rb_help.specs.Suggestions.{suggested}
+use Rattle.rb_check.specs.Notices.{doubt_sentence}
 use Rattle.rb_check.specs.Refusals.{sentence, fault_line}
 use Rattle.rb_check.specs.Diffs.{parts}
 use Rattle.rb_check.specs.Folds.{folded_text}
 use Rattle.rb_checked.specs.Checked.{of_each}
+use Rattle.rb_checked.specs.declared.warning.Warning.{Warning}
+use Rattle.rb_checked.specs.Doubts.{all_warnings}
 use Rattle.rb_checked.specs.Errors.{first_line, is_error, is_unexpected}
-use Rattle.rb_actions.specs.declared.diagnostic.DiagnosticKind.TheVariants.{Mismatch, ErrorOutput, NoScript}
+use Rattle.rb_actions.specs.declared.diagnostic.DiagnosticKind.{DiagnosticKind}
+use Rattle.rb_actions.specs.declared.diagnostic.DiagnosticKind.TheVariants.{Mismatch, LaterMismatch, ErrorOutput, NoScript, Slip}
 use Rattle.rb_offers.specs.declared.block_lines.BlockLines.{BlockLines}
 use Rattle.rb_offers.specs.BlockLines.{block_lines}
 use Rattle.rb_offers.specs.Heads.{heads_of}
@@ -24,17 +31,56 @@ use Rattle.rb_actions.specs.Diagnostics.{PlainDiagnostic}
 abbrev pub diff_message : List Line → List Line → List ℕ
 diff_message expected output = without_end (folded_text Off (parts expected output))
 
+-- how many lines both lists have at their front
+abbrev pub common_front : List Line → List Line → ℕ
+common_front [] ys = 0
+common_front (x ∷ xs) [] = 0
+common_front (x ∷ xs) (y ∷ ys) = if bytes_eq x y then suc (common_front xs ys) else 0
+
+-- a line behind its mark, if there is one
+abbrev pub marked_line : List ℕ → Option Line → List ℕ
+marked_line mark None = []
+marked_line mark (Some line) = mark ++ (line ++ codes "\n")
+
+-- the first lines that differ, behind as many that are the same: where these are some, since a diff begins with them
+abbrev pub opening : ℕ → List Line → List Line → List ℕ
+opening n expected output =
+    if n == 0 then [] else marked_line (codes "- ") (slice_get expected n) ++ (marked_line (codes "+ ") (slice_get output n) ++ codes "\n")
+
+-- the word that was probably meant by a directive that is refused
+abbrev pub hint : PlainBlock → List ℕ
+hint b = unwrap_or (suggested (directive_of b)) []
+
+-- as it is told
+abbrev pub hint_end : List ℕ → List ℕ
+hint_end word = if length word == 0 then [] else codes "\ndid you mean \"" ++ (word ++ codes "\"?")
+
+abbrev pub mismatch_message : PlainBlock → List Line → List ℕ
+mismatch_message b output = (opening (common_front b.expected output) b.expected output ++ diff_message b.expected output) ++ hint_end (hint b)
+
+-- The line, which counts from 1, of the first expected line that differs, of a block that has these lines: where the output goes on behind the
+-- expectation, the last of that, or of the block without it. The double form has two lines behind the expectation.
+abbrev pub marked_at : List Line → BlockLines → List Line → List Line → ℕ
+marked_at ls p expected output = p.end - (length expected - common_front expected output - 1) - (if begins_rule (drop p.below ls) then 2 else 0)
+
+-- where another mismatch stands above
+abbrev pub mismatch_kind : ℕ → ℕ → DiagnosticKind
+mismatch_kind first line = if nat_lt first line then LaterMismatch else Mismatch
+
 -- of a block that has these lines, its head on this one
-abbrev pub mismatch : BlockLines → ℕ → PlainBlock → List Line → PlainDiagnostic
-mismatch p line b output = record { line = line; kind = Mismatch; message = diff_message b.expected output; came = Some (came_of p output) }
+abbrev pub mismatch : List Line → BlockLines → ℕ → ℕ → PlainBlock → List Line → PlainDiagnostic
+mismatch ls p first line b output =
+    record { line = marked_at ls p b.expected output; kind = mismatch_kind first line; message = mismatch_message b output; came = Some (came_of p output) }
 
-abbrev pub error_output : ℕ → List Line → PlainDiagnostic
-error_output line output = record { line = line; kind = ErrorOutput; message = first_line output; came = None }
+abbrev pub error_output : ℕ → PlainBlock → List Line → PlainDiagnostic
+error_output line b output = record { line = line; kind = ErrorOutput; message = first_line output ++ hint_end (hint b); came = None }
 
--- a directive whose head begins on a line, of the lines of a script: a mismatch, or an error that isn't said to be expected
-unfoldable pub finding : List Line → ℕ → PlainBlock → List Line → Option PlainDiagnostic
-finding ls line b output =
-    if same_lines b.expected output then (if is_unexpected ls line output then Some (error_output line output) else None) else Some (mismatch (block_lines ls line b) line b output)
+-- A directive whose head begins on a line, of the lines of a script: a mismatch, or an error that isn't said to be expected. The head of the first
+-- mismatch is known.
+unfoldable pub finding : ℕ → List Line → ℕ → PlainBlock → List Line → Option PlainDiagnostic
+finding first ls line b output =
+    if same_lines b.expected output then (if is_unexpected ls line output then Some (error_output line b output) else None)
+    else Some (mismatch ls (block_lines ls line b) first line b output)
 
 -- one before others, if there is one
 abbrev pub before : Option PlainDiagnostic → List PlainDiagnostic → List PlainDiagnostic
@@ -42,8 +88,21 @@ before None ds = ds
 before (Some d) ds = d ∷ ds
 
 -- directives in order, with the lines of their heads and their outputs
-abbrev pub findings : List Line → List ℕ → List PlainBlock → List (List Line) → List PlainDiagnostic
-findings ls heads bs os = of_each (λ line b output. before (finding ls line b output) []) heads bs os
+abbrev pub findings : ℕ → List Line → List ℕ → List PlainBlock → List (List Line) → List PlainDiagnostic
+findings first ls heads bs os = of_each (λ line b output. before (finding first ls line b output) []) heads bs os
+
+-- the line of the head at the first of some places; 0, where there is none
+abbrev pub first_head : List ℕ → List ℕ → ℕ
+first_head heads [] = 0
+first_head heads (place ∷ places) = slice_index_or heads (place - 1) 0
+
+-- a line that looks like a slip
+abbrev pub slip : Warning → PlainDiagnostic
+slip w = record { line = w.line; kind = Slip; message = doubt_sentence w.doubt; came = None }
+
+-- those of a script, as `check` warns of them
+abbrev pub slips_of : List ℕ → PlainScript → List Warning
+slips_of bytes s = all_warnings (lines bytes) (heads_of bytes s) s.blocks (outputs s)
 
 -- the place is the first of some
 abbrev pub stands_first : ℕ → List ℕ → Bool
@@ -65,7 +124,7 @@ refused fault = record { line = or_first (fault_line fault); kind = NoScript; me
 
 -- of a script, by one run of it from the empty cluster
 abbrev pub of_script : List ℕ → PlainScript → List PlainDiagnostic
-of_script bytes s = findings (lines bytes) (heads_of bytes s) s.blocks (outputs s)
+of_script bytes s = findings (first_head (heads_of bytes s) (mismatches s)) (lines bytes) (heads_of bytes s) s.blocks (outputs s) ++ map slip (slips_of bytes s)
 
 abbrev pub of_reading : List ℕ → Result PlainScript ScriptFault → List PlainDiagnostic
 of_reading bytes (Err fault) = refused fault ∷ []

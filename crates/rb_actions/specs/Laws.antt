@@ -25,22 +25,24 @@ use Rattle.rb_actions.specs.declared.extent.Extent.{Extent}
 use Rattle.rb_actions.specs.declared.extent.LineSpan.{LineSpan}
 use Rattle.rb_actions.specs.Extents.{extent_of}
 use Rattle.rb_actions.specs.Actions.{all_but_new_errors, edits_asked, form, is_accepted, lines_range}
+use Rattle.rb_actions.specs.Findings.{slips_of}
 use Rattle.rb_actions.specs.Edits.{edits_made, with_wanted}
 use Rattle.rb_actions.specs.Meanings.{meaning}
 
--- the bytes are a script, each directive's output is the expected one, and none is an error
+-- the bytes are a script, each directive's output is the expected one, none is an error, and no line looks like a slip
 pub record IsQuietText (bytes : List ℕ) : Type 0 where
   pub script : PlainScript
   pub reads : Reads bytes script
   pub same : mismatches script ≡ []
   pub no_error : list_any is_error (outputs script) ≡ false
+  pub no_slip : slips_of bytes script ≡ []
 
 -- Whatever was sent before: what goes out for a notification is what one fresh run of its document's text gives, as the text then stands, or, where
 -- memory is refused for it, the one diagnostic that says so. Nothing goes out only where it tells of no document.
 abbrev pub TextsHaveOneRun : Type 0
 TextsHaveOneRun = (no_memory : Bool) (server next : PlainServer) (method : List ℕ) (params : Option Data)
     → turned_by server (notification method params) ≡ On next
-    → IsPublished meaning no_memory next (notice_of server.phase (method_of method) params) (told_of meaning no_memory server (notification method params))
+    → IsPublished meaning no_memory server.documents next (notice_of server.phase (method_of method) params) (told_of meaning no_memory server (notification method params))
 
 -- a directive expects its output where that is accepted, and else what it did, as `check --accept` has it
 abbrev pub AcceptsAsCheckDoes : Type 0

@@ -3,7 +3,6 @@ use Rattle.std.specs.Prelude.{ℕ, List}
 use Rattle.rb_document.specs.declared.position.Encoding.{Encoding}
 use Rattle.rb_server.specs.declared.query.Query.{Query}
 use Rattle.rb_server.specs.declared.query.Query.TheVariants.{CodeAction, Formatting, Hover, Completion, FoldingRange, DocumentSymbol}
-use Rattle.rb_server.specs.declared.client.Client.{Client}
 use Rattle.rb_server.specs.Meanings.{Meaning}
 use Rattle.rb_offers.specs.Completion.{completion}
 use Rattle.rb_offers.specs.Folds.{folds}
@@ -21,9 +20,5 @@ answer encoding (Completion position) uri text = completion encoding text positi
 answer encoding FoldingRange uri text = folds text
 answer encoding DocumentSymbol uri text = symbols encoding text
 
--- It depends on the text alone, on the URI of its document, and on what the client counts and takes.
-abbrev pub diagnose_for : Client → List ℕ → List ℕ → List ℕ
-diagnose_for client uri text = diagnose client.encoding client.takes_related uri text
-
 abbrev pub meaning : Meaning
-meaning = record { diagnose = diagnose_for; answer = answer }
+meaning = record { diagnose = diagnose; answer = answer }

@@ -2,8 +2,6 @@
 
 ghost use Rattle.std.specs.Prelude.{◌≡◌, ◌≤◌, ◌^◌, ◌++◌, ◌||◌, None, Some, IfOk, OnOk, length};
 ghost use Rattle.rb_script.specs.Lines.{lines};
-ghost use Rattle.rb_script.specs.Reads.{Reads};
-ghost use Rattle.rb_replay.specs.Run.{outputs};
 ghost use Rattle.rb_document.specs.declared.limits.TheConstants.{MAX_TEXT};
 ghost use Rattle.rb_document.specs.Tables.{IsTable};
 ghost use Rattle.rb_offers.specs.BlockLines.{StandsIn};
@@ -11,9 +9,10 @@ ghost use Rattle.rb_actions.specs.Layouts.{IsLayout};
 ghost use Rattle.rb_actions.specs.Actions.{action_head, action_if, action_text, actions, actions_text, comma_behind, comma_if, edit_text, edits_of, is_accepted, is_among, is_wanted, one_edit, span_of};
 
 use crate::extent::{Extent, LineSpan, extent_of, has_line};
-use crate::layout::{ScriptLayout, layout_of, line_at};
+use crate::fix::{add_fixes, first_within};
+use crate::layout::{ScriptLayout, line_at};
 use crate::replacement::new_text;
-use crate::run::fresh_run;
+use crate::run::{DocumentRun, kept_of};
 use rb_checked::{block_at, is_same, is_unexpected, number_at, output_at};
 use rb_document::{Encoding, LineTable, Range};
 use rb_machine::{Count, Machine};
@@ -56,7 +55,7 @@ fn is_wanted(
 
 // Adds an edit that puts a new text in the place of an expectation.
 #[tactic(auto, unfolding(crate::specs::Actions::edit_text))]
-fn add_edit(
+pub(crate) fn add_edit(
     out: &mut Vec<u8>,
     encoding: Encoding,
     text: &[u8],
@@ -224,29 +223,53 @@ fn span_of(encoding: Encoding, range: Range, text: &[u8]) -> LineSpan
     }
 }
 
-// Adds the actions for a range of a script that ran.
-fn add_of_session<M: Machine>(
+// Adds the actions that accept outputs, with the edits of these lines and those of all.
+#[tactic(auto, using(crate::proofs::RunLaws::layout_by))]
+fn add_accepting<M: Machine>(
+    alloc: Global,
+    out: &mut Vec<u8>,
+    encoding: Encoding,
+    uri: &[u8],
+    run: &DocumentRun<M>,
+    span: LineSpan,
+) -> Result<(), AllocError>
+    requires { run.now.encoding ≡ encoding }
+    ensures { OnOk result (out.new.items ≡ out.old.items ++ actions_text uri.now span (edits_of encoding run.now.bytes run.now.script (Some span)) (edits_of encoding run.now.bytes run.now.script None)) }
+{
+    let text = run.text();
+    let session = run.session();
+    let layout = run.layout();
+    let here = edits(alloc, encoding, text, session, layout, Some(span))?;
+    let all = edits(alloc, encoding, text, session, layout, None)?;
+    add_both(out, uri, span, here.as_slice(), all.as_slice())
+}
+
+// Adds the actions for a range of a script that ran: a quick fix, where a line looks like a slip.
+#[tactic(auto, using(crate::proofs::ActionLaws::of_run, crate::proofs::ActionLaws::of_slips, crate::proofs::RunLaws::table_by))]
+fn add_of_run<M: Machine>(
     alloc: Global,
     out: &mut Vec<u8>,
     encoding: Encoding,
     range: Range,
     uri: &[u8],
-    text: &[u8],
-    session: &Session<M>,
+    run: &DocumentRun<M>,
 ) -> Result<(), AllocError>
-    requires reads { Reads text.now session.now.script }
-    requires bounded { length text.now ≤ MAX_TEXT }
-    ensures { OnOk result (out.new.items ≡ out.old.items ++ actions_text uri.now (span_of encoding range text.now) (edits_of encoding text.now session.now.script (Some (span_of encoding range text.now))) (edits_of encoding text.now session.now.script None)) }
+    requires { run.now.encoding ≡ encoding }
+    ensures { OnOk result (out.new.items ≡ out.old.items ++ actions encoding range uri.now run.now.bytes) }
 {
-    let layout = layout_of(alloc, encoding, session, text)?;
+    let text = run.text();
+    let layout = run.layout();
     let span = span_of(encoding, range, text);
-    let here = edits(alloc, encoding, text, session, &layout, Some(span))?;
-    let all = edits(alloc, encoding, text, session, &layout, None)?;
-    add_both(out, uri, span, here.as_slice(), all.as_slice())
+    let slips = layout.slips.as_slice();
+    if slips.is_empty() {
+        return add_accepting(alloc, out, encoding, uri, run, span);
+    }
+    let found = first_within(span, slips);
+    add_fixes(out, encoding, uri, text, &layout.table, found)
 }
 
-/// Adds the actions for a range of a text: none where it is no script.
-#[tactic(auto, using(crate::proofs::ActionLaws::of_read, crate::proofs::ActionLaws::of_none))]
+/// Adds the actions for a range of a text, by the kept run if it is that of the text: none if the text isn't a script.
+#[tactic(auto, using(crate::proofs::ActionLaws::of_text, crate::proofs::ActionLaws::of_none))]
 pub(crate) fn add_actions<M: Machine>(
     alloc: Global,
     out: &mut Vec<u8>,
@@ -254,14 +277,18 @@ pub(crate) fn add_actions<M: Machine>(
     range: Range,
     uri: &[u8],
     text: &[u8],
+    kept: &Option<DocumentRun<M>>,
     meter: &mut M::Meter,
 ) -> Result<(), AllocError>
     requires bounded { length text.now ≤ MAX_TEXT }
-    requires meter { M.Meter.count_of meter.old ≤ 2 ^ 62 }
+    requires meter { M.Meter.count_of meter.old ≤ 2 ^ 61 }
     ensures { OnOk result (out.new.items ≡ out.old.items ++ actions encoding range uri.now text.now) }
 {
-    match fresh_run::<M>(alloc, text, meter)? {
-        Some(session) => add_of_session(alloc, out, encoding, range, uri, text, &session),
+    if let Some(run) = kept_of(kept, encoding, text) {
+        return add_of_run(alloc, out, encoding, range, uri, run);
+    }
+    match DocumentRun::<M>::fresh(alloc, encoding, text, meter)? {
+        Some(run) => add_of_run(alloc, out, encoding, range, uri, &run),
         None => out.extend_from_slice(b"[]"),
     }
 }

@@ -5,9 +5,10 @@ ghost use Rattle.rb_server.specs.Serves.{BreaksOff, Served};
 ghost use Rattle.rb_actions.specs.Meanings.{meaning};
 
 use crate::action::add_actions;
+use crate::findings::of_document;
 use crate::hover::add_hover;
-use crate::kept::{Sessions, of_document};
 use crate::publishing::add_list;
+use crate::run::DocumentRun;
 use rb_check::Table;
 use rb_cluster::{Cluster, Meter};
 use rb_document::Encoding;
@@ -23,27 +24,23 @@ use std::alloc::{AllocError, Global};
 pub(crate) struct Bench {
     alloc: Global,
     table: Table,
-    sessions: Sessions<Cluster<SplitLog>>,
 }
 
 impl Bench {
     // With room for comparing outputs, which is taken once.
     fn new(alloc: Global) -> Result<Bench, AllocError> {
         let table = Table::new(alloc)?;
-        let sessions = Sessions::new(alloc);
-        Ok(Bench {
-            alloc,
-            table,
-            sessions,
-        })
+        Ok(Bench { alloc, table })
     }
 }
 
 impl Service for Bench {
+    type Kept = Option<DocumentRun<Cluster<SplitLog>>>;
+
     ghost meaning = { meaning };
 
-    fn forget(&mut self, uri: &[u8]) {
-        let _ = self.sessions.take(uri);
+    fn nothing(&self) -> Option<DocumentRun<Cluster<SplitLog>>> {
+        None
     }
 
     fn add_diagnostics(
@@ -51,20 +48,14 @@ impl Service for Bench {
         client: Client,
         uri: &[u8],
         text: &[u8],
+        kept: &mut Option<DocumentRun<Cluster<SplitLog>>>,
         out: &mut Vec<u8>,
     ) -> Result<(), AllocError> {
+        let alloc = self.alloc;
+        let encoding = client.encoding;
         let mut meter = Meter::new();
-        let table = &mut self.table;
-        let list = of_document(self.alloc, table, &mut self.sessions, &mut meter, uri, text)?;
-        add_list(
-            self.alloc,
-            out,
-            client.encoding,
-            client.takes_related,
-            uri,
-            text,
-            list.as_slice(),
-        )
+        let list = of_document(alloc, encoding, &mut self.table, kept, &mut meter, text)?;
+        add_list(alloc, out, client, uri, text, list.as_slice())
     }
 
     fn add_answer(
@@ -73,18 +64,19 @@ impl Service for Bench {
         asked: Query,
         uri: &[u8],
         text: &[u8],
+        kept: &Option<DocumentRun<Cluster<SplitLog>>>,
         out: &mut Vec<u8>,
     ) -> Result<(), AllocError> {
         let mut meter = Meter::new();
         let alloc = self.alloc;
         match asked {
-            Query::CodeAction(range) => add_actions::<Cluster<SplitLog>>(
-                alloc, out, encoding, range, uri, text, &mut meter,
-            ),
+            Query::CodeAction(range) => {
+                add_actions(alloc, out, encoding, range, uri, text, kept, &mut meter)
+            }
             Query::Formatting => add_formatting(alloc, out, encoding, text),
-            Query::Hover(position) => add_hover::<Cluster<SplitLog>>(
-                alloc, out, encoding, position, text, &mut meter,
-            ),
+            Query::Hover(position) => {
+                add_hover(alloc, out, encoding, position, text, kept, &mut meter)
+            }
             Query::Completion(position) => add_completion(alloc, out, encoding, text, position),
             Query::FoldingRange => add_folds(alloc, out, text),
             Query::DocumentSymbol => add_symbols(alloc, out, encoding, text),

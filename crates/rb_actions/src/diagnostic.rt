@@ -6,12 +6,16 @@ use std::marker::Model;
 /// Why something is said.
 #[derive(Clone, Copy, Debug, PartialEq, Eq)]
 pub(crate) enum DiagnosticKind {
-    /// A directive's output is not the expected one.
+    /// A directive's output is not the expected one, and the first such of its script.
     Mismatch,
+    /// The same after the first, which may be why.
+    LaterMismatch,
     /// It is the expected one and an error, and the script doesn't say that one is expected.
     ErrorOutput,
     /// The text is no script.
     NoScript,
+    /// The line looks like a slip.
+    Slip,
 }
 
 /// What is to be said of a line of a text.

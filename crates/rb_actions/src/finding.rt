@@ -1,16 +1,19 @@
 //! What is to be said of a directive that ran.
 
-ghost use Rattle.std.specs.Prelude.{◌≡◌, not, IfOk};
+ghost use Rattle.std.specs.Prelude.{◌≡◌, ◌++◌, ℕ, not, IfOk, OnOk};
 ghost use Rattle.rb_replay.specs.Report.{same_lines};
 ghost use Rattle.rb_offers.specs.BlockLines.{StandsIn};
-ghost use Rattle.rb_actions.specs.Findings.{diff_message, error_output, finding, mismatch};
+ghost use Rattle.rb_actions.specs.Findings.{diff_message, error_output, finding, hint, hint_end, mismatch, mismatch_kind, mismatch_message};
 
 use crate::came::came_of;
 use crate::diagnostic::{Diagnostic, DiagnosticKind};
+use crate::front::{add_opening, common_front, marked_at};
 use rb_check::{Colors, Table, put_diff};
 use rb_checked::{first_line, is_unexpected};
+use rb_help::suggested;
 use rb_offers::BlockLines;
 use rb_script::{Block, Lines, Through};
+use rb_text::{Piece, add_pieces};
 use std::alloc::{AllocError, Global};
 
 // The diff that `check` shows, without the end of its last line.
@@ -31,45 +34,115 @@ fn diff_message(
     Ok(message)
 }
 
-// Of a block that has these lines.
+// The word that was probably meant by a directive that is refused; else none.
+fn hint(block: &Block) -> &'static [u8]
+    ensures { result.now ≡ hint block.now }
+{
+    match suggested(&block.directive()) {
+        Some(word) => word,
+        None => b"",
+    }
+}
+
+// Adds the word that was probably meant, if there is one.
+fn add_hint(message: &mut Vec<u8>, word: &[u8]) -> Result<(), AllocError>
+    ensures { OnOk result (message.new.items ≡ message.old.items ++ hint_end word.now) }
+{
+    if word.is_empty() {
+        return Ok(());
+    }
+    add_pieces(
+        message,
+        &[
+            Piece::Bytes(b"\ndid you mean \""),
+            Piece::Bytes(word),
+            Piece::Bytes(b"\"?"),
+        ],
+    )
+}
+
+// The first lines that differ, the diff, and the word that was probably meant.
+fn mismatch_message(
+    alloc: Global,
+    table: &mut Table,
+    block: &Block,
+    output: &Lines,
+) -> Result<Vec<u8>, AllocError>
+    ensures { IfOk result (λ message. message.items ≡ mismatch_message block.now output.now) }
+{
+    let expected = block.expected();
+    let mut message = Vec::new(alloc);
+    add_opening(
+        &mut message,
+        common_front(expected, output),
+        expected,
+        output,
+    )?;
+    let diff = diff_message(alloc, table, expected, output)?;
+    message.extend_from_slice(diff.as_slice())?;
+    add_hint(&mut message, hint(block))?;
+    Ok(message)
+}
+
+// Whether another mismatch is above the head on the line.
+fn mismatch_kind(first: usize, line: usize) -> DiagnosticKind
+    ensures { result ≡ mismatch_kind first line }
+{
+    if first < line {
+        DiagnosticKind::LaterMismatch
+    } else {
+        DiagnosticKind::Mismatch
+    }
+}
+
+// Of a block of the text that has these lines.
 fn mismatch(
     alloc: Global,
     table: &mut Table,
+    text: &Lines,
     lines: BlockLines,
-    line: usize,
+    kind: DiagnosticKind,
     block: &Block,
     output: &Lines,
 ) -> Result<Diagnostic, AllocError>
-    ensures { IfOk result (λ d. d ≡ mismatch lines line block.now output.now) }
+    ensures { (first line : ℕ) → kind ≡ mismatch_kind first line → IfOk result (λ d. d ≡ mismatch text.now lines first line block.now output.now) }
 {
-    let message = diff_message(alloc, table, block.expected(), output)?;
+    let message = mismatch_message(alloc, table, block, output)?;
     let came = came_of(alloc, lines, output)?;
     Ok(Diagnostic {
-        line,
-        kind: DiagnosticKind::Mismatch,
+        line: marked_at(text, lines, block.expected(), output),
+        kind,
         message,
         came: Some(came),
     })
 }
 
-fn error_output(alloc: Global, line: usize, output: &Lines) -> Result<Diagnostic, AllocError>
-    ensures { IfOk result (λ d. d ≡ error_output line output.now) }
+fn error_output(
+    alloc: Global,
+    line: usize,
+    block: &Block,
+    output: &Lines,
+) -> Result<Diagnostic, AllocError>
+    ensures { IfOk result (λ d. d ≡ error_output line block.now output.now) }
 {
+    let mut message = Vec::from_slice(alloc, first_line(output))?;
+    add_hint(&mut message, hint(block))?;
     Ok(Diagnostic {
         line,
         kind: DiagnosticKind::ErrorOutput,
-        message: Vec::from_slice(alloc, first_line(output))?,
+        message,
         came: None,
     })
 }
 
 /// What is to be said of a directive, whose head begins on a line, of the lines of a script. Whether its output is another than the expected
-/// one is known.
+/// one is known, and so is the head of the first such.
 #[tactic(auto, unfolding(crate::specs::Findings::finding))]
 pub(crate) fn finding(
     alloc: Global,
     table: &mut Table,
     text: &Lines,
+    first: usize,
     line: usize,
     differs: bool,
     block: &Block,
@@ -77,14 +150,16 @@ pub(crate) fn finding(
 ) -> Result<Option<Diagnostic>, AllocError>
     requires stands { StandsIn text.now line block.now }
     requires differs { differs ≡ not (same_lines block.now.expected output.now) }
-    ensures { IfOk result (λ found. found ≡ finding text.now line block.now output.now) }
+    ensures { IfOk result (λ found. found ≡ finding first text.now line block.now output.now) }
 {
     if differs {
         let lines = BlockLines::of_block(text, line, block);
-        return Ok(Some(mismatch(alloc, table, lines, line, block, output)?));
+        let kind = mismatch_kind(first, line);
+        let found = mismatch(alloc, table, text, lines, kind, block, output)?;
+        return Ok(Some(found));
     }
     if is_unexpected(text, line, output) {
-        return Ok(Some(error_output(alloc, line, output)?));
+        return Ok(Some(error_output(alloc, line, block, output)?));
     }
     Ok(None)
 }

@@ -1,18 +1,24 @@
 //! What is to be said of a script that ran, and of what is none.
 
-ghost use Rattle.std.specs.Prelude.{◌≡◌, ◌+◌, ◌<◌, ◌≤◌, ◌^◌, ◌++◌, [], ◌∷◌, if◌then◌else◌, IfOk, OnOk, length, drop};
+ghost use Rattle.std.specs.Prelude.{◌≡◌, ◌+◌, ◌<◌, ◌≤◌, ◌^◌, ◌++◌, [], ◌∷◌, if◌then◌else◌, IfOk, OnOk, length, drop, map, slice_index_or};
 ghost use Rattle.rb_script.specs.HeadLines.{AreHeadLines};
 ghost use Rattle.rb_replay.specs.Run.{outputs};
-ghost use Rattle.rb_actions.specs.Findings.{before, findings, or_first, refused, stands_first};
+ghost use Rattle.rb_replay.specs.Report.{mismatches};
+ghost use Rattle.rb_script.specs.Lines.{lines};
+ghost use Rattle.rb_script.specs.Reads.{Reads};
+ghost use Rattle.rb_document.specs.declared.limits.TheConstants.{MAX_TEXT};
+ghost use Rattle.rb_actions.specs.Findings.{before, diagnostics_of, findings, first_head, or_first, refused, slip, stands_first};
 
 use crate::diagnostic::{Diagnostic, DiagnosticKind};
 use crate::finding::finding;
 use crate::quiet::is_quiet;
-use rb_check::{Table, fault_line, sentence};
-use rb_checked::{block_at, number_at, output_at};
-use rb_machine::Machine;
+use crate::run::DocumentRun;
+use rb_check::{Table, doubt_sentence, fault_line, sentence};
+use rb_checked::{Warning, block_at, number_at, output_at};
+use rb_document::Encoding;
+use rb_machine::{Count, Machine};
 use rb_replay::Session;
-use rb_script::{Lines, ScriptFault};
+use rb_script::{Lines, ScriptFault, ScriptWithLines};
 use std::alloc::{AllocError, Global};
 
 // Puts one behind others, if there is one.
@@ -44,6 +50,27 @@ fn behind(next: usize, is_taken: bool) -> usize
     if is_taken { next + 1 } else { next }
 }
 
+// The line of the head at the first of some places, which count from 1; 0 if there is none.
+fn first_head(heads: &[usize], places: &[usize]) -> usize
+    ensures { result ≡ first_head heads.now places.now }
+{
+    match places.first() {
+        Some(place) => number_or_none(heads, place.saturating_sub(1)),
+        None => 0,
+    }
+}
+
+// The number at an index; 0 if there is none.
+fn number_or_none(numbers: &[usize], index: usize) -> usize
+    ensures { result ≡ slice_index_or numbers.now index 0 }
+{
+    if index < numbers.len() {
+        numbers[index]
+    } else {
+        0
+    }
+}
+
 // What is to be said of each directive of a script that ran, whose lines these are, with its heads on those. The session knows which of its
 // outputs are not the expected ones.
 fn each_finding<M: Machine>(
@@ -54,9 +81,10 @@ fn each_finding<M: Machine>(
     heads: &[usize],
 ) -> Result<Vec<Diagnostic>, AllocError>
     requires { AreHeadLines 1 text.now session.now.script.blocks heads.now }
-    ensures { IfOk result (λ list. list.items ≡ findings text.now heads.now session.now.script.blocks (outputs session.now.script)) }
+    ensures { IfOk result (λ list. list.items ≡ findings (first_head heads.now (mismatches session.now.script)) text.now heads.now session.now.script.blocks (outputs session.now.script)) }
 {
     let mismatches = session.mismatches();
+    let first = first_head(heads, mismatches);
     let mut list = Vec::new(alloc);
     let mut next = 0;
     for i in 0..session.len() {
@@ -64,7 +92,7 @@ fn each_finding<M: Machine>(
         let block = block_at(session, i);
         let output = output_at(session, i);
         let differs = is_next(mismatches, next, i + 1);
-        let found = finding(alloc, table, text, line, differs, block, output)?;
+        let found = finding(alloc, table, text, first, line, differs, block, output)?;
         keep(&mut list, found)?;
         next = behind(next, differs);
     }
@@ -85,12 +113,88 @@ pub(crate) fn of_session<M: Machine>(
     heads: &[usize],
 ) -> Result<Vec<Diagnostic>, AllocError>
     requires { AreHeadLines 1 text.now session.now.script.blocks heads.now }
-    ensures { IfOk result (λ list. list.items ≡ findings text.now heads.now session.now.script.blocks (outputs session.now.script)) }
+    ensures { IfOk result (λ list. list.items ≡ findings (first_head heads.now (mismatches session.now.script)) text.now heads.now session.now.script.blocks (outputs session.now.script)) }
 {
     if is_quiet(session) {
         return Ok(Vec::new(alloc));
     }
     each_finding(alloc, table, session, text, heads)
+}
+
+// What is to be said of a line that looks like a slip.
+fn slip(alloc: Global, warning: &Warning) -> Result<Diagnostic, AllocError>
+    ensures { IfOk result (λ d. d ≡ slip warning.now) }
+{
+    Ok(Diagnostic {
+        line: warning.line,
+        kind: DiagnosticKind::Slip,
+        message: Vec::from_slice(alloc, doubt_sentence(warning.doubt))?,
+        came: None,
+    })
+}
+
+// Adds the lines that look like a slip.
+fn add_slips(alloc: Global, list: &mut Vec<Diagnostic>, slips: &[Warning]) -> Result<(), AllocError>
+    ensures { OnOk result (list.new.items ≡ list.old.items ++ map slip slips.now) }
+{
+    for warning in slips {
+        let found = slip(alloc, warning)?;
+        keep(list, Some(found))?;
+    }
+    Ok(())
+}
+
+// What is to be said of a document of whose text this was read.
+#[tactic(auto, using(crate::proofs::RunLaws::heads_by))]
+fn of_read<M: Machine>(
+    alloc: Global,
+    encoding: Encoding,
+    table: &mut Table,
+    kept: &mut Option<DocumentRun<M>>,
+    meter: &mut M::Meter,
+    bytes: &[u8],
+    read: ScriptWithLines,
+) -> Result<Vec<Diagnostic>, AllocError>
+    requires reads { Reads bytes.now read.script }
+    requires lines { read.lines ≡ lines bytes.now }
+    requires heads { AreHeadLines 1 (lines bytes.now) read.script.blocks read.heads.items }
+    requires bounded { length bytes.now ≤ MAX_TEXT }
+    requires meter { M.Meter.count_of meter.old ≤ 2 ^ 61 }
+    ensures { IfOk result (λ list. list.items ≡ diagnostics_of bytes.now) }
+{
+    let run = DocumentRun::of_read(alloc, encoding, kept.take(), bytes, read, meter)?;
+    let layout = run.layout();
+    let heads = layout.heads.as_slice();
+    let mut list = of_session(alloc, table, run.session(), &layout.lines, heads)?;
+    add_slips(alloc, &mut list, layout.slips.as_slice())?;
+    *kept = Some(run);
+    Ok(list)
+}
+
+/// The diagnostics of the text of a document, as one fresh run of it has them, by the run that is kept of the document. If the text isn't a
+/// script, the kept run stays for the next that is one.
+///
+/// # Errors
+///
+/// If memory was refused. Then no run is kept.
+#[tactic(auto, using(crate::proofs::FindingLaws::of_fault))]
+pub(crate) fn of_document<M: Machine>(
+    alloc: Global,
+    encoding: Encoding,
+    table: &mut Table,
+    kept: &mut Option<DocumentRun<M>>,
+    meter: &mut M::Meter,
+    bytes: &[u8],
+) -> Result<Vec<Diagnostic>, AllocError>
+    requires bounded { length bytes.now ≤ MAX_TEXT }
+    requires meter { M.Meter.count_of meter.old ≤ 2 ^ 61 }
+    ensures { IfOk result (λ list. list.items ≡ diagnostics_of bytes.now) }
+{
+    match ScriptWithLines::read(alloc, bytes) {
+        Ok(read) => of_read(alloc, encoding, table, kept, meter, bytes, read),
+        Err(ScriptFault::OutOfMemory) => Err(AllocError),
+        Err(fault) => of_fault(alloc, fault),
+    }
 }
 
 // What is to be said of what is no script.

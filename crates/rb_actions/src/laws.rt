@@ -1,14 +1,14 @@
 //! Laws of what an editor is told, for whoever reads the contracts. No call does anything.
 
-ghost use Rattle.std.specs.Prelude.{◌≡◌, Bool, List, ℕ, [], codes};
-ghost use Rattle.rb_document.specs.declared.position.Encoding.{Encoding};
+ghost use Rattle.std.specs.Prelude.{◌≡◌, List, ℕ, codes};
+ghost use Rattle.rb_server.specs.declared.client.Client.{Client};
 ghost use Rattle.rb_actions.specs.Laws.{AcceptsAsCheckDoes, EditedLinesRead, EditedTextsRead, EditsReplaceLines, IsQuietText, TextsHaveOneRun};
 ghost use Rattle.rb_actions.specs.Published.{diagnose};
 
-/// Nothing is said of a script whose outputs are the expected ones, and no error.
+/// There are no diagnostics of a script whose outputs are the expected ones, and no errors, where no line looks like a slip.
 #[tactic(auto, using(crate::proofs::QuietLaws::quiet_text))]
 pub fn matching_texts_have_none()
-    ensures { (encoding : Encoding) (takes_related : Bool) (uri text : List ℕ) → IsQuietText text → diagnose encoding takes_related uri text ≡ codes "[]" }
+    ensures { (client : Client) (uri text : List ℕ) → IsQuietText text → diagnose client uri text ≡ codes "[]" }
 {}
 
 /// Whatever was sent before: what goes out for a notification is what one fresh run of its document's text gives, as the text then stands, or,

@@ -3,7 +3,7 @@
 //! [`lsp`] publishes where a script's expectations are not its outputs, which directives answer an error, and why a text is no script; and it
 //! answers what is asked of a script: at a position what came of the directive there, with the cluster behind it, and for a range the actions
 //! that accept what came, each with its edit. All that is what one fresh run of the text gives. What a text offers without a run is rb_offers'.
-//! It keeps a session for each document, and what it says depends on the text alone.
+//! It keeps the run of each document's text next to it, and what it says depends on the text alone.
 #![tactic(auto)]
 
 mod action;
@@ -13,8 +13,9 @@ mod diagnostic;
 mod extent;
 mod finding;
 mod findings;
+mod fix;
+mod front;
 mod hover;
-mod kept;
 mod laws;
 mod layout;
 mod publishing;

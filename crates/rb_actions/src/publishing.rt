@@ -10,17 +10,25 @@ use crate::came::Came;
 use crate::diagnostic::{Diagnostic, DiagnosticKind};
 use rb_document::{Encoding, LineTable};
 use rb_offers::add_range_member;
+use rb_server::Client;
 use rb_text::{Json, Piece, add_pieces};
 use std::alloc::{AllocError, Global};
 
-// How grave it is, and its code.
+// Its severity, and its code.
 #[tactic(auto, unfolding(crate::specs::Published::kind_text))]
-fn kind_text(kind: DiagnosticKind) -> &'static [u8]
-    ensures { result.now ≡ kind_text kind }
+fn kind_text(softens_later: bool, kind: DiagnosticKind) -> &'static [u8]
+    ensures { result.now ≡ kind_text softens_later kind }
 {
     match kind {
         DiagnosticKind::Mismatch => {
             b",\"severity\":1,\"code\":\"mismatch\",\"source\":\"raftbench\",\"message\":\""
+        }
+        DiagnosticKind::LaterMismatch => {
+            if softens_later {
+                b",\"severity\":3,\"code\":\"mismatch\",\"source\":\"raftbench\",\"message\":\""
+            } else {
+                b",\"severity\":1,\"code\":\"mismatch\",\"source\":\"raftbench\",\"message\":\""
+            }
         }
         DiagnosticKind::ErrorOutput => {
             b",\"severity\":2,\"code\":\"error-output\",\"source\":\"raftbench\",\"message\":\""
@@ -28,18 +36,25 @@ fn kind_text(kind: DiagnosticKind) -> &'static [u8]
         DiagnosticKind::NoScript => {
             b",\"severity\":1,\"code\":\"no-script\",\"source\":\"raftbench\",\"message\":\""
         }
+        DiagnosticKind::Slip => {
+            b",\"severity\":2,\"code\":\"slip\",\"source\":\"raftbench\",\"message\":\""
+        }
     }
 }
 
-// How grave a diagnostic is, its code, and what it says.
+// The severity of a diagnostic, its code, and what it says.
 #[tactic(auto, unfolding(crate::specs::Published::message_text))]
-fn add_message(out: &mut Vec<u8>, diagnostic: &Diagnostic) -> Result<(), AllocError>
-    ensures { OnOk result (out.new.items ≡ out.old.items ++ message_text diagnostic.now) }
+fn add_message(
+    out: &mut Vec<u8>,
+    softens_later: bool,
+    diagnostic: &Diagnostic,
+) -> Result<(), AllocError>
+    ensures { OnOk result (out.new.items ≡ out.old.items ++ message_text softens_later diagnostic.now) }
 {
     add_pieces(
         out,
         &[
-            Piece::Bytes(kind_text(diagnostic.kind)),
+            Piece::Bytes(kind_text(softens_later, diagnostic.kind)),
             Piece::Escaped(Json::Utf8, diagnostic.message.as_slice()),
             Piece::Bytes(b"\""),
         ],
@@ -126,41 +141,48 @@ fn add_if(
 #[tactic(auto, unfolding(crate::specs::Published::diagnostic_text))]
 fn add_diagnostic(
     out: &mut Vec<u8>,
-    encoding: Encoding,
-    takes_related: bool,
+    client: Client,
     uri: &[u8],
     text: &[u8],
     table: &LineTable,
     diagnostic: &Diagnostic,
 ) -> Result<(), AllocError>
-    requires { IsTable encoding text.now table.now }
-    ensures { OnOk result (out.new.items ≡ out.old.items ++ diagnostic_text encoding takes_related uri.now text.now diagnostic.now) }
+    requires { IsTable client.encoding text.now table.now }
+    ensures { OnOk result (out.new.items ≡ out.old.items ++ diagnostic_text client uri.now text.now diagnostic.now) }
 {
     let start = table.start_of(diagnostic.line.saturating_sub(1));
     let end = table.start_of(diagnostic.line);
     add_range_member(out, start, end)?;
-    add_message(out, diagnostic)?;
-    add_if(out, encoding, takes_related, uri, text, table, diagnostic)?;
+    add_message(out, client.softens_later, diagnostic)?;
+    let encoding = client.encoding;
+    add_if(
+        out,
+        encoding,
+        client.takes_related,
+        uri,
+        text,
+        table,
+        diagnostic,
+    )?;
     out.extend_from_slice(b"}")
 }
 
 // Some, of which the first stands behind nothing, and the others behind commas.
 fn add_all(
     out: &mut Vec<u8>,
-    encoding: Encoding,
-    takes_related: bool,
+    client: Client,
     uri: &[u8],
     text: &[u8],
     table: &LineTable,
     list: &[Diagnostic],
 ) -> Result<(), AllocError>
-    requires { IsTable encoding text.now table.now }
-    ensures { OnOk result (out.new.items ≡ out.old.items ++ listed (diagnostic_text encoding takes_related uri.now text.now) [] list.now) }
+    requires { IsTable client.encoding text.now table.now }
+    ensures { OnOk result (out.new.items ≡ out.old.items ++ listed (diagnostic_text client uri.now text.now) [] list.now) }
 {
     let mut lead: &[u8] = b"";
     for diagnostic in list {
         out.extend_from_slice(lead)?;
-        add_diagnostic(out, encoding, takes_related, uri, text, table, diagnostic)?;
+        add_diagnostic(out, client, uri, text, table, diagnostic)?;
         lead = b",";
     }
     out.extend_from_slice(b"]")?;
@@ -172,19 +194,18 @@ fn add_all(
 pub(crate) fn add_list(
     alloc: Global,
     out: &mut Vec<u8>,
-    encoding: Encoding,
-    takes_related: bool,
+    client: Client,
     uri: &[u8],
     text: &[u8],
     list: &[Diagnostic],
 ) -> Result<(), AllocError>
     requires { length text.now ≤ MAX_TEXT }
-    ensures { OnOk result (out.new.items ≡ out.old.items ++ list_text (diagnostic_text encoding takes_related uri.now text.now) list.now) }
+    ensures { OnOk result (out.new.items ≡ out.old.items ++ list_text (diagnostic_text client uri.now text.now) list.now) }
 {
     if list.is_empty() {
         return out.extend_from_slice(b"[]");
     }
-    let table = LineTable::new(alloc, encoding, text)?;
+    let table = LineTable::new(alloc, client.encoding, text)?;
     out.extend_from_slice(b"[")?;
-    add_all(out, encoding, takes_related, uri, text, &table, list)
+    add_all(out, client, uri, text, &table, list)
 }

@@ -51,6 +51,10 @@ shown_more word lines added now title line answer i there so_far next =
     let all : map (shown word) (take (i + 1) answer) ≡ map (shown word) (take i answer) ++ shown word line ∷ [] = ap (map (shown word)) more ∙ map-append (shown word) (take i answer) (line ∷ []) in
     next ∙ ap (λ (ls : List Line). ls ++ shown word line ∷ []) so_far ∙ append_assoc added (title ∷ map (shown word) (take i answer)) (shown word line ∷ []) ∙ ap (λ (ls : List Line). added ++ title ∷ ls) (sym all)
 
+-- the block behind i others, by its place
+pub place_there : (bs : List PlainBlock) (i : ℕ) (b : PlainBlock) → at_place bs (i + 1) ≡ Some b → slice_get bs i ≡ Some b
+place_there bs i b there = sym (place-is bs i) ∙ there
+
 -- the machine one directive on
 pub machine_next : (s : PlainScript) (i : ℕ) (b : PlainBlock) (before after : Cluster) → slice_get s.blocks i ≡ Some b → before ≡ state s i → after ≡ (outcome before (directive_of b)).cluster → after ≡ state s (i + 1)
 machine_next s i b before after there here next =

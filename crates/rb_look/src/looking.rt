@@ -10,6 +10,7 @@ use crate::nodes::Nodes;
 use crate::section::add_section;
 use itoa::Buffer;
 use rb_machine::{Count, Machine};
+use rb_replay::Session;
 use rb_script::{Lines, Script};
 use std::alloc::{AllocError, Global};
 
@@ -36,6 +37,27 @@ fn machine_at<M: Machine>(
     let mut machine = M::empty(alloc)?;
     for i in 0..place {
         let block = script.block(i + 1).unwrap();
+        let (next, _lines) = machine.run(block.directive(), meter)?;
+        machine = next;
+    }
+    Ok(machine)
+}
+
+// The machine after so many directives of the session's script: it runs on from the last kept cluster.
+fn machine_from<M: Machine>(
+    session: &Session<M>,
+    place: usize,
+    meter: &mut M::Meter,
+) -> Result<M, AllocError>
+    requires there { place ≤ length session.now.script.blocks }
+    requires few { place ≤ MAX_DIRECTIVES }
+    requires meter { M.Meter.count_of meter.old ≤ 2 ^ 62 }
+    ensures machine { IfOk result (λ m. M.meaning m ≡ state session.now.script place) }
+    ensures counted { M.Meter.count_of meter.new ≤ M.Meter.count_of meter.old + place }
+{
+    let (from, mut machine) = session.last_checkpoint(place)?;
+    for i in from..place {
+        let block = session.block(i + 1).unwrap();
         let (next, _lines) = machine.run(block.directive(), meter)?;
         machine = next;
     }
@@ -157,5 +179,22 @@ pub fn look<M: Nodes>(
     ensures { IfOk result (λ lines. lines ≡ looked script.now place) }
 {
     let machine: M = machine_at(alloc, script, place, meter)?;
+    look_in(alloc, &machine, meter)
+}
+
+/// What [`look`] shows after so many directives of a session's script. It runs at most as many directives as are between two kept clusters.
+#[tactic(auto, unfolding(crate::specs::Looks::looked))]
+pub fn look_in_session<M: Nodes>(
+    alloc: Global,
+    session: &Session<M>,
+    place: usize,
+    meter: &mut M::Meter,
+) -> Result<Lines, AllocError>
+    requires there { place ≤ length session.now.script.blocks }
+    requires few { place ≤ MAX_DIRECTIVES }
+    requires meter { M.Meter.count_of meter.old ≤ 2 ^ 62 }
+    ensures { IfOk result (λ lines. lines ≡ looked session.now.script place) }
+{
+    let machine = machine_from(session, place, meter)?;
     look_in(alloc, &machine, meter)
 }

@@ -8,6 +8,7 @@ use Rattle.rb_server.specs.declared.method.Method.{Method}
 use Rattle.rb_server.specs.declared.method.Method.TheVariants.{Exit}
 use Rattle.rb_server.specs.declared.phase.Phase.{Phase}
 use Rattle.rb_server.specs.declared.phase.Phase.TheVariants.{Running}
+use Rattle.rb_server.specs.Documents.{PlainDocument}
 use Rattle.rb_server.specs.Methods.{is_of_documents}
 use Rattle.rb_server.specs.Meanings.{Meaning}
 use Rattle.rb_server.specs.Notices.{Notice, notice_of, notice_text, with_uri}
@@ -31,21 +32,23 @@ notice_is : (phase : Phase) (method : Method) (params : Option Data) → IsOf ph
 notice_is (Running client) method (Some d) = taken_is (is_of_documents method) client method d (text_below (codes "textDocument") (codes "uri") d)
 notice_is phase method params = tt
 
-one_is : (meaning : Meaning) (no_memory : Bool) (next : PlainServer) (notice : Option Notice) → IsOf next.phase notice → IsPublished meaning no_memory next notice (notice_text meaning no_memory notice next.documents)
-one_is meaning no_memory next None is = refl
-one_is meaning no_memory next (Some n) is = record { running = is; text_is = refl }
+one_is : (meaning : Meaning) (no_memory : Bool) (before : List PlainDocument) (next : PlainServer) (notice : Option Notice) → IsOf next.phase notice
+    → IsPublished meaning no_memory before next notice (notice_text meaning no_memory notice before next.documents)
+one_is meaning no_memory before next None is = refl
+one_is meaning no_memory before next (Some n) is = record { running = is; text_is = refl }
 
 -- a notification that is no `exit`
 after_is : (meaning : Meaning) (no_memory : Bool) (server next : PlainServer) (method : Method) (params : Option Data) → On (with_notice server method params) ≡ On next
-    → IsPublished meaning no_memory next (notice_of server.phase method params) (notice_text meaning no_memory (notice_of server.phase method params) (with_notice server method params).documents)
+    → IsPublished meaning no_memory server.documents next (notice_of server.phase method params)
+    (notice_text meaning no_memory (notice_of server.phase method params) server.documents (with_notice server method params).documents)
 after_is meaning no_memory server next method params e =
     let is : with_notice server method params ≡ next = cc in
     let notice = notice_of server.phase method params in
-    let text = notice_text meaning no_memory notice (with_notice server method params).documents in
-    subst (λ (s : PlainServer). IsPublished meaning no_memory s notice text) is
-    (one_is meaning no_memory (with_notice server method params) notice (notice_is server.phase method params))
+    let text = notice_text meaning no_memory notice server.documents (with_notice server method params).documents in
+    subst (λ (s : PlainServer). IsPublished meaning no_memory server.documents s notice text) is
+    (one_is meaning no_memory server.documents (with_notice server method params) notice (notice_is server.phase method params))
 
 pub diagnosed : (meaning : Meaning) (no_memory : Bool) (server next : PlainServer) (method : Method) (params : Option Data) → noticed_by server method params ≡ On next
-    → IsPublished meaning no_memory next (notice_of server.phase method params) (published meaning no_memory server method params)
+    → IsPublished meaning no_memory server.documents next (notice_of server.phase method params) (published meaning no_memory server method params)
 diagnosed meaning no_memory server next Exit params e = absurd cc
 diagnosed meaning no_memory server next method params e = after_is meaning no_memory server next method params e

@@ -1,5 +1,5 @@
 -- Where memory is refused that is said, and nothing else changes.
-use Rattle.std.proofs.Common.{◌≡◌, ◌⊎◌, inl, inr, ℕ, List, true, false, Option, Some, None, refl}
+use Rattle.std.proofs.Common.{◌≡◌, ◌⊎◌, inl, inr, ℕ, List, Bool, true, false, Option, Some, None, refl}
 use Rattle.std.specs.Prelude.{codes}
 use Rattle.serde_json.specs.Data.{Data}
 use Rattle.rb_document.specs.declared.position.Encoding.{Encoding}
@@ -16,27 +16,29 @@ use Rattle.rb_server.specs.declared.phase.Phase.TheVariants.{Running}
 use Rattle.rb_server.specs.Methods.{method_of}
 use Rattle.rb_server.specs.Documents.{PlainDocument, text_of}
 use Rattle.rb_server.specs.Meanings.{Meaning}
-use Rattle.rb_server.specs.Notices.{Notice, notice_of, notice_text, publication}
+use Rattle.rb_server.specs.Notices.{Notice, is_crowded, notice_of, notice_text, publication}
 use Rattle.rb_server.specs.Questions.{asked_of, of_text, question_body, uri_of, with_asked}
 use Rattle.rb_server.specs.Replies.{PlainServer, body_in, published, sent, told_of, with_notice}
 use Rattle.rb_server.specs.Laws.{TellsRefusal, of_document, of_request}
 
 -- ---- of a document
 
-text_told : (meaning : Meaning) (method : List ℕ) (params : Option Data) (client : Client) (uri : List ℕ) (version : Option ℕ) (text : Option (List ℕ))
-    → (frame (publication meaning true client uri version text) ≡ frame (publication meaning false client uri version text)) ⊎ TellsRefusal (notification method params) (frame (publication meaning true client uri version text))
-text_told meaning method params client uri version None = inl refl
-text_told meaning method params client uri version (Some text) = inr (of_document method params uri version)
+text_told : (meaning : Meaning) (method : List ℕ) (params : Option Data) (client : Client) (uri : List ℕ) (version : Option ℕ) (is_crowded : Bool) (text : Option (List ℕ))
+    → (frame (publication meaning true client uri version is_crowded text) ≡ frame (publication meaning false client uri version is_crowded text))
+    ⊎ TellsRefusal (notification method params) (frame (publication meaning true client uri version is_crowded text))
+text_told meaning method params client uri version is_crowded None = inl refl
+text_told meaning method params client uri version is_crowded (Some text) = inr (of_document method params uri version)
 
-notice_told : (meaning : Meaning) (method : List ℕ) (params : Option Data) (notice : Option Notice) (ds : List PlainDocument)
-    → (notice_text meaning true notice ds ≡ notice_text meaning false notice ds) ⊎ TellsRefusal (notification method params) (notice_text meaning true notice ds)
-notice_told meaning method params None ds = inl refl
-notice_told meaning method params (Some n) ds = text_told meaning method params n.client n.uri (number_below (codes "textDocument") (codes "version") n.given) (text_of n.uri ds)
+notice_told : (meaning : Meaning) (method : List ℕ) (params : Option Data) (notice : Option Notice) (before ds : List PlainDocument)
+    → (notice_text meaning true notice before ds ≡ notice_text meaning false notice before ds) ⊎ TellsRefusal (notification method params) (notice_text meaning true notice before ds)
+notice_told meaning method params None before ds = inl refl
+notice_told meaning method params (Some n) before ds =
+    text_told meaning method params n.client n.uri (number_below (codes "textDocument") (codes "version") n.given) (is_crowded n before) (text_of n.uri ds)
 
 notification_told : (meaning : Meaning) (server : PlainServer) (name : List ℕ) (method : Method) (params : Option Data)
     → (published meaning true server method params ≡ published meaning false server method params) ⊎ TellsRefusal (notification name params) (published meaning true server method params)
 notification_told meaning server name Exit params = inl refl
-notification_told meaning server name method params = notice_told meaning name params (notice_of server.phase method params) (with_notice server method params).documents
+notification_told meaning server name method params = notice_told meaning name params (notice_of server.phase method params) server.documents (with_notice server method params).documents
 
 -- ---- of a request
 

@@ -43,10 +43,18 @@ says_related taken = option_and_then as_bool (get (codes "relatedInformation") t
 abbrev pub takes_related : Data → Bool
 takes_related d = unwrap_or (option_and_then says_related (of_diagnostics d)) false
 
+-- what the client's settings say of the mismatches after the first: they are information (this project's)
+abbrev pub says_softens : Data → Option Bool
+says_softens settings = option_and_then as_bool (get (codes "softenLaterMismatches") settings)
+
+-- they are, unless the settings say otherwise
+abbrev pub softens_later : Data → Bool
+softens_later d = unwrap_or (option_and_then says_softens (get (codes "initializationOptions") d)) true
+
 -- the client that begins so: none, where what is given is no object
 abbrev pub client_of : Option Data → Option Client
 client_of None = None
-client_of (Some d) = if is_some (as_object d) then Some (record { encoding = chosen_encoding d; takes_related = takes_related d }) else None
+client_of (Some d) = if is_some (as_object d) then Some (record { encoding = chosen_encoding d; takes_related = takes_related d; softens_later = softens_later d }) else None
 
 abbrev pub encoding_name : Encoding → List ℕ
 encoding_name Utf8 = codes "utf-8"

@@ -1,5 +1,5 @@
 -- The documents that an editor has open: the text of each, by its URI. (LSP 3.17, "Text Document Synchronization".)
-use Rattle.std.specs.Prelude.{ℕ, suc, ◌+◌, nat_lt, if◌then◌else◌, List, [], ◌∷◌, ◌++◌, length, take, drop, slice_get, Option, Some, None, option_map}
+use Rattle.std.specs.Prelude.{ℕ, suc, ◌+◌, Bool, nat_lt, if◌then◌else◌, List, [], ◌∷◌, ◌++◌, length, take, drop, slice_get, Option, Some, None, option_map}
 use Rattle.std.specs.Str.{bytes_eq}
 use Rattle.rb_server.specs.declared.limits.TheConstants.{MAX_DOCUMENTS}
 
@@ -20,7 +20,11 @@ text_of uri ds = option_map (λ d. d.text) (slice_get ds (place_of uri ds))
 abbrev pub closed : List ℕ → List PlainDocument → List PlainDocument
 closed uri ds = take (place_of uri ds) ds ++ drop (place_of uri ds + 1) ds
 
+-- there is room for one more
+abbrev pub has_room : List PlainDocument → Bool
+has_room ds = nat_lt (length ds) MAX_DOCUMENTS
+
 -- those with this text, if there is one, and room for it
 abbrev pub kept : List ℕ → Option (List ℕ) → List PlainDocument → List PlainDocument
 kept uri None ds = ds
-kept uri (Some text) ds = if nat_lt (length ds) MAX_DOCUMENTS then ds ++ record { uri = uri; text = text } ∷ [] else ds
+kept uri (Some text) ds = if has_room ds then ds ++ record { uri = uri; text = text } ∷ [] else ds

@@ -15,11 +15,11 @@ use Rattle.rb_server.specs.declared.method.Method.TheVariants.{Asks}
 use Rattle.rb_server.specs.declared.method.Question.{Question}
 use Rattle.rb_server.specs.declared.query.Query.{Query}
 use Rattle.rb_server.specs.declared.client.Client.{Client}
-use Rattle.rb_server.specs.Documents.{text_of}
+use Rattle.rb_server.specs.Documents.{PlainDocument, text_of}
 use Rattle.rb_server.specs.Meanings.{Meaning}
 use Rattle.rb_server.specs.Methods.{method_of}
 use Rattle.rb_server.specs.Questions.{answer_text, asked_of, body_text, named_text, no_memory_for, uri_of}
-use Rattle.rb_server.specs.Notices.{Notice, list_publication, no_memory_list, notice_of, publication}
+use Rattle.rb_server.specs.Notices.{Notice, is_crowded, list_publication, no_memory_list, notice_of, publication}
 use Rattle.rb_server.specs.Replies.{PlainServer, On, reply, told_of, turned_by}
 use Rattle.rb_server.specs.Talk.{Talks}
 
@@ -54,22 +54,23 @@ abbrev pub ResultsStandInAnswers : Type 0
 ResultsStandInAnswers = (id result : Data) → answer_text id (compact_text result) ≡ body_text (success id result)
 
 -- The diagnostics of a document's text as it stands go out, or the one that says that memory was refused, where it was, and nothing else: of the
--- document that the notification names, with its URI, and with the version that the notification says.
-pub record Publishes (meaning : Meaning) (no_memory : Bool) (server : PlainServer) (notice : Notice) (text : List ℕ) : Type 0 where
+-- document that the notification names, with its URI, and with the version that the notification says. Of one for which there is no room beside
+-- those that were open before it, the one that says so.
+pub record Publishes (meaning : Meaning) (no_memory : Bool) (before : List PlainDocument) (server : PlainServer) (notice : Notice) (text : List ℕ) : Type 0 where
   pub running : server.phase ≡ Running notice.client
   pub text_is : text
-      ≡ frame (publication meaning no_memory notice.client notice.uri (number_below (codes "textDocument") (codes "version") notice.given) (text_of notice.uri server.documents))
+      ≡ frame (publication meaning no_memory notice.client notice.uri (number_below (codes "textDocument") (codes "version") notice.given) (is_crowded notice before) (text_of notice.uri server.documents))
 
 -- what goes out where the server stands here after a notification: nothing alone where that tells of no document
-abbrev pub IsPublished : Meaning → Bool → PlainServer → Option Notice → List ℕ → Type 0
-IsPublished meaning no_memory server None text = text ≡ []
-IsPublished meaning no_memory server (Some notice) text = Publishes meaning no_memory server notice text
+abbrev pub IsPublished : Meaning → Bool → List PlainDocument → PlainServer → Option Notice → List ℕ → Type 0
+IsPublished meaning no_memory before server None text = text ≡ []
+IsPublished meaning no_memory before server (Some notice) text = Publishes meaning no_memory before server notice text
 
 -- whatever was sent before: what goes out for a notification are the diagnostics of its document's text as it then stands
 abbrev pub TextsAreDiagnosed : Type 0
 TextsAreDiagnosed = (meaning : Meaning) (no_memory : Bool) (server next : PlainServer) (method : List ℕ) (params : Option Data)
     → turned_by server (notification method params) ≡ On next
-    → IsPublished meaning no_memory next (notice_of server.phase (method_of method) params) (told_of meaning no_memory server (notification method params))
+    → IsPublished meaning no_memory server.documents next (notice_of server.phase (method_of method) params) (told_of meaning no_memory server (notification method params))
 
 -- What goes out says that memory was refused: for a notification the one diagnostic of a document, and for a request an error with its id.
 pub data TellsRefusal : Said → List ℕ → Type 0 where

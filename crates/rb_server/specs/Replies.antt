@@ -130,7 +130,7 @@ turned_by server invalid = On server
 abbrev pub published : Meaning → Bool → PlainServer → Method → Option Data → List ℕ
 published meaning no_memory server Exit params = []
 published meaning no_memory server method params =
-    notice_text meaning no_memory (notice_of server.phase method params) (with_notice server method params).documents
+    notice_text meaning no_memory (notice_of server.phase method params) server.documents (with_notice server method params).documents
 
 -- Of any message, where memory is refused for what it asks of a text, or isn't. Where the server stands then is the same.
 abbrev pub told_of : Meaning → Bool → PlainServer → Said → List ℕ

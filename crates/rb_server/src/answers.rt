@@ -91,7 +91,7 @@ fn answer_to(
 pub(crate) fn answer_told<V: Service>(
     alloc: Global,
     service: &mut V,
-    documents: &Documents,
+    documents: &Documents<V::Kept>,
     phase: Phase,
     method: Method,
     params: Option<&Value>,

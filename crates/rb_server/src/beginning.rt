@@ -2,7 +2,7 @@
 
 ghost use Rattle.std.specs.Prelude.{◌≡◌, false, IfOk, option_map};
 ghost use Rattle.serde_json.specs.View.{view};
-ghost use Rattle.rb_server.specs.Beginnings.{capabilities, chosen_encoding, client_of, completes, encoding_name, initialized, names_bytes, of_diagnostics, offered, offers_bytes, says_related, synchronizes, takes_related};
+ghost use Rattle.rb_server.specs.Beginnings.{capabilities, chosen_encoding, client_of, completes, encoding_name, initialized, names_bytes, of_diagnostics, offered, offers_bytes, says_related, says_softens, softens_later, synchronizes, takes_related};
 
 use crate::client::Client;
 use rb_document::Encoding;
@@ -20,6 +20,7 @@ pub(crate) fn client_of(params: Option<&Value>) -> Option<Client>
     Some(Client {
         encoding: chosen_encoding(params),
         takes_related: takes_related(params),
+        softens_later: softens_later(params),
     })
 }
 
@@ -76,6 +77,25 @@ fn says_related(taken: &Value) -> Option<bool>
     ensures { result ≡ says_related (view taken.now) }
 {
     taken.get("relatedInformation").and_then(Value::as_bool)
+}
+
+// Whether the mismatches after the first are information: unless the client's settings say that they aren't.
+fn softens_later(params: &Value) -> bool
+    ensures { result ≡ softens_later (view params.now) }
+{
+    params
+        .get("initializationOptions")
+        .and_then(says_softens)
+        .unwrap_or(true)
+}
+
+// What the settings say of that.
+fn says_softens(settings: &Value) -> Option<bool>
+    ensures { result ≡ says_softens (view settings.now) }
+{
+    settings
+        .get("softenLaterMismatches")
+        .and_then(Value::as_bool)
 }
 
 // Whether the name at a place is that of bytes.

@@ -9,4 +9,6 @@ pub struct Client {
     pub encoding: Encoding,
     /// Whether it takes related information with a diagnostic.
     pub takes_related: bool,
+    /// Whether the mismatches after the first of a document are to be information, and not errors.
+    pub softens_later: bool,
 }

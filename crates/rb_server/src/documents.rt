@@ -8,14 +8,15 @@ use rb_document::Document;
 use std::alloc::{AllocError, Global};
 use std::marker::Model;
 
-// A document with its URI.
+/// A document with its URI, and what the service keeps of it.
 #[derive(Drop)]
-struct OpenDocument {
+pub(crate) struct OpenDocument<K> {
     uri: Vec<u8>,
     document: Document,
+    kept: K,
 }
 
-impl Model for OpenDocument {
+impl<K> Model for OpenDocument<K> {
     ghost use Rattle.rb_server.specs.Documents.{PlainDocument};
 
     ghost Value = { PlainDocument };
@@ -23,9 +24,23 @@ impl Model for OpenDocument {
     ghost view = { λ d. record { uri = d.uri.items; text = d.document } };
 }
 
-impl OpenDocument {
-    ghost use Rattle.std.specs.Prelude.{◌≡◌};
+impl<K> OpenDocument<K> {
+    ghost use Rattle.std.specs.Prelude.{◌≡◌, ◌≤◌, length};
     ghost use Rattle.std.specs.Str.{bytes_eq};
+    ghost use Rattle.rb_document.specs.declared.limits.TheConstants.{MAX_TEXT};
+
+    /// Its text.
+    pub(crate) fn text(&self) -> &[u8]
+        ensures text { result.now ≡ self.now.text }
+        ensures bounded { length result.now ≤ MAX_TEXT }
+    {
+        self.document.text()
+    }
+
+    /// What the service keeps of it.
+    pub(crate) fn kept(&self) -> &K {
+        &self.kept
+    }
 
     // Whether it has this URI.
     fn is_of(&self, uri: &[u8]) -> bool
@@ -36,7 +51,7 @@ impl OpenDocument {
 }
 
 // The index of the document with this URI; behind the last, where there is none.
-fn place_in(documents: &[OpenDocument], uri: &[u8]) -> usize
+fn place_in<K>(documents: &[OpenDocument<K>], uri: &[u8]) -> usize
     ensures place { result ≡ place_of uri.now documents.now }
     ensures within { result ≤ length documents.now }
 {
@@ -50,31 +65,31 @@ fn place_in(documents: &[OpenDocument], uri: &[u8]) -> usize
 
 /// The documents that an editor has open: each is known by its URI. There are [`MAX_DOCUMENTS`] at most.
 #[derive(Drop)]
-pub(crate) struct Documents {
+pub(crate) struct Documents<K> {
     alloc: Global,
-    kept: Vec<OpenDocument>,
+    open: Vec<OpenDocument<K>>,
 }
 
-impl Model for Documents {
+impl<K> Model for Documents<K> {
     ghost use Rattle.std.specs.Prelude.{List};
     ghost use Rattle.rb_server.specs.Documents.{PlainDocument};
 
     ghost Value = { List PlainDocument };
 
-    ghost view = { λ d. d.kept.items };
+    ghost view = { λ d. d.open.items };
 }
 
-impl Documents {
+impl<K: Drop> Documents<K> {
     ghost use Rattle.std.specs.Prelude.{◌≡◌, ◌≤◌, [], length, IfSome, OnOk, option_map};
     ghost use Rattle.rb_document.specs.declared.limits.TheConstants.{MAX_TEXT};
-    ghost use Rattle.rb_server.specs.Documents.{closed, kept, place_of, text_of};
+    ghost use Rattle.rb_server.specs.Documents.{closed, has_room, kept, place_of, text_of};
 
-    pub(crate) fn new(alloc: Global) -> Documents
+    pub(crate) fn new(alloc: Global) -> Documents<K>
         ensures { result ≡ [] }
     {
         Documents {
             alloc,
-            kept: Vec::new(alloc),
+            open: Vec::new(alloc),
         }
     }
 
@@ -83,7 +98,19 @@ impl Documents {
         ensures place { result ≡ place_of uri.now self.now }
         ensures within { result ≤ length self.now }
     {
-        place_in(self.kept.as_slice(), uri)
+        place_in(self.open.as_slice(), uri)
+    }
+
+    /// The text of the document with this URI, and what the service keeps of it.
+    pub(crate) fn get(&self, uri: &[u8]) -> Option<(&[u8], &K)>
+        ensures text { option_map (λ found. found.0.now) result ≡ text_of uri.now self.now }
+        ensures bounded { IfSome result (λ found. length found.0.now ≤ MAX_TEXT) }
+    {
+        let place = self.place_of(uri);
+        match self.open.get(place) {
+            Some(found) => Some((found.text(), found.kept())),
+            None => None,
+        }
     }
 
     /// The text of the document with this URI.
@@ -91,39 +118,64 @@ impl Documents {
         ensures text { option_map (λ text. text.now) result ≡ text_of uri.now self.now }
         ensures bounded { IfSome result (λ text. length text.now ≤ MAX_TEXT) }
     {
-        let place = self.place_of(uri);
-        match self.kept.get(place) {
-            Some(found) => Some(found.document.text()),
+        match self.get(uri) {
+            Some((text, _kept)) => Some(text),
             None => None,
         }
     }
 
-    /// Takes the document with this URI out.
-    pub(crate) fn take(&mut self, uri: &[u8]) -> Option<Document>
-        ensures text { result ≡ text_of uri.now self.old }
+    /// Takes the document with this URI out: its text, and what is kept of it.
+    pub(crate) fn take(&mut self, uri: &[u8]) -> Option<(Document, K)>
+        ensures text { option_map (λ taken. taken.0) result ≡ text_of uri.now self.old }
         ensures rest { self.new ≡ closed uri.now self.old }
     {
         let place = self.place_of(uri);
-        if place < self.kept.len() {
-            let found = self.kept.remove(place);
-            Some(found.document)
+        if place < self.open.len() {
+            let found = self.open.remove(place);
+            Some((found.document, found.kept))
         } else {
             None
         }
     }
 
+    /// Whether there is room for one more.
+    pub(crate) fn has_room(&self) -> bool
+        ensures { result ≡ has_room self.now }
+    {
+        self.open.len() < MAX_DOCUMENTS
+    }
+
     /// Keeps the document under this URI, if there is one, and room for it.
-    pub(crate) fn keep(&mut self, uri: &[u8], document: Option<Document>) -> Result<(), AllocError>
+    pub(crate) fn keep(
+        &mut self,
+        uri: &[u8],
+        document: Option<Document>,
+        beside: K,
+    ) -> Result<(), AllocError>
         ensures { OnOk result (self.new ≡ kept uri.now document self.old) }
     {
         let Some(document) = document else {
             return Ok(());
         };
-        if self.kept.len() >= MAX_DOCUMENTS {
+        if !self.has_room() {
             return Ok(());
         }
         let uri = Vec::from_slice(self.alloc, uri)?;
-        self.kept.push(OpenDocument { uri, document })?;
+        self.open.push(OpenDocument {
+            uri,
+            document,
+            kept: beside,
+        })?;
         Ok(())
+    }
+
+    /// Keeps this of the document with this URI, if it is open.
+    pub(crate) fn set_kept(&mut self, uri: &[u8], beside: K)
+        ensures { self.new ≡ self.old }
+    {
+        let place = self.place_of(uri);
+        if let Some(found) = self.open.get_mut(place) {
+            found.kept = beside;
+        }
     }
 }

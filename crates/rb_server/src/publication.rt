@@ -3,7 +3,7 @@
 ghost use Rattle.std.specs.Prelude.{◌≡◌, ◌≤◌, ◌++◌, IfOk, IfSome, OnOk, length, option_map};
 ghost use Rattle.rb_document.specs.declared.limits.TheConstants.{MAX_TEXT};
 ghost use Rattle.rb_rpc.specs.Messages.{frame};
-ghost use Rattle.rb_server.specs.Notices.{head_text, list_publication, middle_text, no_memory_list, publication};
+ghost use Rattle.rb_server.specs.Notices.{closed_list, crowded_list, head_text, list_publication, middle_text, no_memory_list, publication};
 
 use crate::client::Client;
 use crate::service::Service;
@@ -72,6 +72,7 @@ fn diagnosed<V: Service>(
     uri: &[u8],
     version: Option<u64>,
     text: &[u8],
+    kept: &mut V::Kept,
 ) -> Result<Vec<u8>, AllocError>
     requires { length text.now ≤ MAX_TEXT }
     ensures { IfOk result (λ out. out.items ≡ frame (list_publication uri.now version ((V.meaning).diagnose client uri.now text.now))) }
@@ -79,7 +80,7 @@ fn diagnosed<V: Service>(
     let mut body = Vec::new(alloc);
     add_head(&mut body, uri)?;
     add_middle(&mut body, version)?;
-    service.add_diagnostics(client, uri, text, &mut body)?;
+    service.add_diagnostics(client, uri, text, kept, &mut body)?;
     body.extend_from_slice(b"}}")?;
     framed(alloc, body.as_slice())
 }
@@ -92,30 +93,46 @@ fn no_memory_list() -> &'static [u8]
     b"[{\"range\":{\"start\":{\"line\":0,\"character\":0},\"end\":{\"line\":1,\"character\":0}},\"severity\":1,\"code\":\"no-memory\",\"source\":\"raftbench\",\"message\":\"no memory for a run of this script\"}]"
 }
 
-/// What is published of the document with this URI: the diagnostics of its text, or that there was no memory for them; none, where it isn't
-/// open. Where memory was refused the service forgets the document first, so that what it kept of it is there for what is said.
+// One diagnostic, of the whole first line.
+#[tactic(auto, unfolding(crate::specs::Notices::crowded_list))]
+fn crowded_list() -> &'static [u8]
+    ensures { result.now ≡ crowded_list }
+{
+    b"[{\"range\":{\"start\":{\"line\":0,\"character\":0},\"end\":{\"line\":1,\"character\":0}},\"severity\":2,\"code\":\"not-checked\",\"source\":\"raftbench\",\"message\":\"this script is not checked: 1,000 others are open\"}]"
+}
+
+// The list of a document that isn't open.
+fn closed_list(is_crowded: bool) -> &'static [u8]
+    ensures { result.now ≡ closed_list is_crowded }
+{
+    if is_crowded { crowded_list() } else { b"[]" }
+}
+
+/// What is published of the document with this URI: the diagnostics of its text, or that there was no memory for them. If it isn't open, none,
+/// or that there is no room for it. If memory was refused, what the service kept of the document goes first, so that there is memory to say so.
 pub(crate) fn publication<V: Service>(
     alloc: Global,
     service: &mut V,
     client: Client,
     uri: &[u8],
     version: Option<u64>,
+    is_crowded: bool,
     text: Option<&[u8]>,
+    kept: &mut V::Kept,
 ) -> Result<ToldText, AllocError>
     requires { IfSome text (λ text. length text.now ≤ MAX_TEXT) }
-    ensures { IfOk result (λ told. told.out.items ≡ frame (publication V.meaning told.has_no_memory client uri.now version (option_map (λ text. text.now) text.entry))) }
+    ensures { IfOk result (λ told. told.out.items ≡ frame (publication V.meaning told.has_no_memory client uri.now version is_crowded (option_map (λ text. text.now) text.entry))) }
 {
     let Some(text) = text else {
-        service.forget(uri);
-        return Ok(ToldText::whole(with_list(alloc, uri, version, b"[]")?));
+        return Ok(ToldText::whole(with_list(alloc, uri, version, closed_list(is_crowded))?));
     };
-    match diagnosed(alloc, service, client, uri, version, text) {
+    match diagnosed(alloc, service, client, uri, version, text, kept) {
         Ok(out) => Ok(ToldText {
             out,
             has_no_memory: false,
         }),
         Err(AllocError) => {
-            service.forget(uri);
+            *kept = service.nothing();
             Ok(ToldText {
                 out: with_list(alloc, uri, version, no_memory_list())?,
                 has_no_memory: true,

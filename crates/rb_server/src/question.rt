@@ -83,6 +83,7 @@ fn answered<V: Service>(
     asked: Query,
     uri: &[u8],
     text: &[u8],
+    kept: &V::Kept,
     id: &Value,
 ) -> Result<Vec<u8>, AllocError>
     requires plain { has_float (view id.now) ≡ false }
@@ -93,12 +94,12 @@ fn answered<V: Service>(
     body.extend_from_slice(b"{\"id\":")?;
     add_id(alloc, &mut body, id)?;
     body.extend_from_slice(b",\"jsonrpc\":\"2.0\",\"result\":")?;
-    service.add_answer(encoding, asked, uri, text, &mut body)?;
+    service.add_answer(encoding, asked, uri, text, kept, &mut body)?;
     body.extend_from_slice(b"}")?;
     framed(alloc, body.as_slice())
 }
 
-// The answer to what is asked of the text of a document that is open, or that there was no memory for it.
+// The answer to what is asked of a document that is open, or that there was no memory for it.
 fn of_text<V: Service>(
     alloc: Global,
     service: &mut V,
@@ -106,13 +107,14 @@ fn of_text<V: Service>(
     asked: Query,
     uri: &[u8],
     text: &[u8],
+    kept: &V::Kept,
     id: &Value,
 ) -> Result<ToldText, AllocError>
     requires plain { has_float (view id.now) ≡ false }
     requires bounded { length text.now ≤ MAX_TEXT }
     ensures { IfOk result (λ told. told.out.items ≡ frame (of_text V.meaning told.has_no_memory encoding asked uri.now (view id.now) (Some text.now))) }
 {
-    match answered(alloc, service, encoding, asked, uri, text, id) {
+    match answered(alloc, service, encoding, asked, uri, text, kept, id) {
         Ok(out) => Ok(ToldText {
             out,
             has_no_memory: false,
@@ -128,7 +130,7 @@ fn of_text<V: Service>(
 fn of_document<V: Service>(
     alloc: Global,
     service: &mut V,
-    documents: &Documents,
+    documents: &Documents<V::Kept>,
     encoding: Encoding,
     asked: Query,
     uri: &[u8],
@@ -137,8 +139,8 @@ fn of_document<V: Service>(
     requires { has_float (view id.now) ≡ false }
     ensures { IfOk result (λ told. told.out.items ≡ frame (of_text V.meaning told.has_no_memory encoding asked uri.now (view id.now) (text_of uri.now documents.now))) }
 {
-    match documents.text(uri) {
-        Some(text) => of_text(alloc, service, encoding, asked, uri, text, id),
+    match documents.get(uri) {
+        Some((text, kept)) => of_text(alloc, service, encoding, asked, uri, text, kept, id),
         None => not_open(alloc, id),
     }
 }
@@ -147,7 +149,7 @@ fn of_document<V: Service>(
 pub(crate) fn question_told<V: Service>(
     alloc: Global,
     service: &mut V,
-    documents: &Documents,
+    documents: &Documents<V::Kept>,
     encoding: Encoding,
     question: Question,
     params: Option<&Value>,

@@ -1,14 +1,10 @@
 //! A server, and what it hears.
 
-ghost use Rattle.std.specs.Prelude.{◌≡◌, [], false, Some, None, IfOk, OnOk, codes, option_map};
+ghost use Rattle.std.specs.Prelude.{◌≡◌, [], false, Some, None, IfOk, OnOk, option_map};
 ghost use Rattle.serde_json.specs.View.{view};
 ghost use Rattle.serde_json.specs.Written.{has_float};
-ghost use Rattle.rb_rpc.specs.Messages.{frame};
-ghost use Rattle.rb_rpc.specs.Params.{number_below};
 ghost use Rattle.rb_rpc.specs.Said.{said};
-ghost use Rattle.rb_server.specs.Changes.{text_after};
-ghost use Rattle.rb_server.specs.Documents.{closed, kept, text_of};
-ghost use Rattle.rb_server.specs.Notices.{documents_after, notice_of, notice_text, publication};
+ghost use Rattle.rb_server.specs.Notices.{documents_after, notice_of, notice_text};
 ghost use Rattle.rb_server.specs.Questions.{body_text};
 ghost use Rattle.rb_server.specs.Replies.{after, answer_body, no_json, noticed_by, published, sent, told_of, turned_by, with_phase};
 ghost use Rattle.rb_server.specs.Serves.{turned_of};
@@ -29,12 +25,12 @@ use std::marker::Model;
 
 /// A server: where it stands, and the documents that are open.
 #[derive(Drop)]
-pub(crate) struct Server {
+pub(crate) struct Server<K> {
     phase: Phase,
-    documents: Documents,
+    documents: Documents<K>,
 }
 
-impl Model for Server {
+impl<K> Model for Server<K> {
     ghost use Rattle.rb_server.specs.Replies.{PlainServer};
 
     ghost Value = { PlainServer };
@@ -42,12 +38,12 @@ impl Model for Server {
     ghost view = { λ s. record { phase = s.phase; documents = s.documents } };
 }
 
-impl Server {
+impl<K: Drop> Server<K> {
     ghost use Rattle.std.specs.Prelude.{◌≡◌};
     ghost use Rattle.rb_server.specs.Replies.{fresh};
 
     /// As it begins.
-    pub(crate) fn new(alloc: Global) -> Server
+    pub(crate) fn new(alloc: Global) -> Server<K>
         ensures { result ≡ fresh }
     {
         Server {
@@ -82,7 +78,7 @@ fn silent(alloc: Global, over: Option<ExitStatus>) -> ServerReply
 fn hear_request<V: Service>(
     alloc: Global,
     service: &mut V,
-    server: &mut Server,
+    server: &mut Server<V::Kept>,
     id: &Value,
     method: Method,
     params: Option<&Value>,
@@ -113,33 +109,42 @@ fn hear_request<V: Service>(
 fn notice<V: Service>(
     alloc: Global,
     service: &mut V,
-    documents: &mut Documents,
+    documents: &mut Documents<V::Kept>,
     client: Client,
     method: Method,
     params: &Value,
     uri: &[u8],
 ) -> Result<ToldText, AllocError>
-    ensures documents { OnOk result (documents.new ≡ kept uri.now (text_after client.encoding method (view params.now) (text_of uri.now documents.old)) (closed uri.now documents.old)) }
-    ensures out { IfOk result (λ told. told.out.items ≡ frame (publication V.meaning told.has_no_memory client uri.now (number_below (codes "textDocument") (codes "version") (view params.now)) (text_of uri.now documents.new))) }
+    ensures documents { OnOk result (documents.new ≡ documents_after (Some (record { client = client; method = method; uri = uri.now; given = view params.now })) documents.old) }
+    ensures out { IfOk result (λ told. told.out.items ≡ notice_text V.meaning told.has_no_memory (Some (record { client = client; method = method; uri = uri.now; given = view params.now })) documents.old documents.new) }
 {
-    let old = documents.take(uri);
+    let (old, mut kept) = match documents.take(uri) {
+        Some((document, kept)) => (Some(document), kept),
+        None => (None, service.nothing()),
+    };
     let new = document_after(alloc, client.encoding, method, params, old)?;
-    documents.keep(uri, new)?;
+    let is_crowded = new.is_some() && !documents.has_room();
+    documents.keep(uri, new, service.nothing())?;
     let version = number_below(params, "textDocument", "version");
-    publication(alloc, service, client, uri, version, documents.text(uri))
+    let text = documents.text(uri);
+    let told = publication(
+        alloc, service, client, uri, version, is_crowded, text, &mut kept,
+    )?;
+    documents.set_kept(uri, kept);
+    Ok(told)
 }
 
 // Takes a notification.
 fn take_notice<V: Service>(
     alloc: Global,
     service: &mut V,
-    server: &mut Server,
+    server: &mut Server<V::Kept>,
     method: Method,
     params: Option<&Value>,
 ) -> Result<ToldText, AllocError>
     ensures phase { server.new.phase ≡ server.old.phase }
     ensures documents { OnOk result (server.new.documents ≡ documents_after (notice_of server.old.phase method (option_map (λ v. view v.now) params.entry)) server.old.documents) }
-    ensures out { IfOk result (λ told. told.out.items ≡ notice_text V.meaning told.has_no_memory (notice_of server.old.phase method (option_map (λ v. view v.now) params.entry)) server.new.documents) }
+    ensures out { IfOk result (λ told. told.out.items ≡ notice_text V.meaning told.has_no_memory (notice_of server.old.phase method (option_map (λ v. view v.now) params.entry)) server.old.documents server.new.documents) }
 {
     let Phase::Running(client) = server.phase else {
         return Ok(ToldText::whole(Vec::new(alloc)));
@@ -168,7 +173,7 @@ fn take_notice<V: Service>(
 fn hear_notification<V: Service>(
     alloc: Global,
     service: &mut V,
-    server: &mut Server,
+    server: &mut Server<V::Kept>,
     method: Method,
     params: Option<&Value>,
 ) -> Result<ServerReply, AllocError>
@@ -191,7 +196,7 @@ fn hear_notification<V: Service>(
 pub(crate) fn hear<V: Service>(
     alloc: Global,
     service: &mut V,
-    server: &mut Server,
+    server: &mut Server<V::Kept>,
     message: &Value,
 ) -> Result<ServerReply, AllocError>
     ensures out { IfOk result (λ heard. heard.out.items ≡ told_of V.meaning heard.has_no_memory server.old (said (view message.now))) }

@@ -52,7 +52,7 @@ pub fn serve<V: Service, S: Source, W: Sink>(
 fn turn<V: Service, S: Source, W: Sink>(
     alloc: Global,
     service: &mut V,
-    server: &mut Server,
+    server: &mut Server<V::Kept>,
     reader: &mut MessageReader,
     source: &mut S,
     sink: &mut W,
@@ -72,7 +72,7 @@ fn turn<V: Service, S: Source, W: Sink>(
 fn respond<V: Service, W: Sink>(
     alloc: Global,
     service: &mut V,
-    server: &mut Server,
+    server: &mut Server<V::Kept>,
     body: &[u8],
     sink: &mut W,
 ) -> Result<Option<ExitStatus>, ServeFault>
@@ -90,7 +90,7 @@ fn respond<V: Service, W: Sink>(
 fn respond_to<V: Service, W: Sink>(
     alloc: Global,
     service: &mut V,
-    server: &mut Server,
+    server: &mut Server<V::Kept>,
     message: &Value,
     sink: &mut W,
 ) -> Result<Option<ExitStatus>, ServeFault>
@@ -106,7 +106,7 @@ fn respond_to<V: Service, W: Sink>(
 // Answers what is no JSON.
 fn refuse<V: Service, W: Sink>(
     alloc: Global,
-    server: &mut Server,
+    server: &mut Server<V::Kept>,
     sink: &mut W,
 ) -> Result<Option<ExitStatus>, ServeFault>
     ensures turned { IfOk result (λ over. turned_of over server.new ≡ goes server.old None) }

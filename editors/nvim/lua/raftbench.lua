@@ -19,13 +19,18 @@ local function set_keys(buffer)
   end
 end
 
+-- The server's settings are vim.g.raftbench_settings, as { softenLaterMismatches = false }.
+local function server()
+  return { name = 'raftbench', cmd = command(), root_dir = vim.fn.getcwd(), init_options = vim.g.raftbench_settings }
+end
+
 function M.start(buffer)
   set_keys(buffer)
   if vim.lsp.start then
-    return vim.lsp.start({ name = 'raftbench', cmd = command(), root_dir = vim.fn.getcwd() }, { bufnr = buffer })
+    return vim.lsp.start(server(), { bufnr = buffer })
   end
   if not client or vim.lsp.client_is_stopped(client) then
-    client = vim.lsp.start_client({ name = 'raftbench', cmd = command(), root_dir = vim.fn.getcwd() })
+    client = vim.lsp.start_client(server())
   end
   if client then
     vim.lsp.buf_attach_client(buffer, client)

@@ -4,14 +4,14 @@ use Rattle.rb_script.specs.Script.{PlainBlock}
 use Rattle.rb_replay.specs.Run.{outputs}
 use Rattle.rb_checked.proofs.EachLaws.{each_more, each_all}
 use Rattle.rb_actions.specs.Diagnostics.{PlainDiagnostic}
-use Rattle.rb_actions.specs.Findings.{before, finding}
+use Rattle.rb_actions.specs.Findings.{before, finding, findings, first_head}
 use Rattle.rb_actions.proofs.FindingLaws.{stands_there}
 use Rattle.rb_actions.proofs.MismatchLaws.{differs_there, left_behind}
 use Rattle.rb_actions.proofs.findings.each_finding.Goals as goal
 
 -- what is said of a directive of these lines
-abbrev said_of : List Line → ℕ → PlainBlock → List Line → List PlainDiagnostic
-said_of ls line b output = before (finding ls line b output) []
+abbrev said_of : ℕ → List Line → ℕ → PlainBlock → List Line → List PlainDiagnostic
+said_of first ls line b output = before (finding first ls line b output) []
 
 pub finding-requires : goal.finding-requires
 finding-requires g c =
@@ -27,7 +27,7 @@ loop-i-preserved g c =
     let differs = differs_there c.mismatches-mismatches.result.now c.loop-i.next c.loop-i.i s.blocks (outputs s) c.block_at-block.result.now c.output_at-output.result.now c.block_at-block.ensures c.output_at-output.ensures c.loop-i.invariant.left
     c.is_next-differs.result c.is_next-differs.ensures in
     record {
-      said = each_more (said_of c.args.text.now) c.args.heads.now s.blocks (outputs s) c.loop-i.i c.number_at-line.result c.block_at-block.result.now
+      said = each_more (said_of c.first_head-first.result c.args.text.now) c.args.heads.now s.blocks (outputs s) c.loop-i.i c.number_at-line.result c.block_at-block.result.now
           c.output_at-output.result.now c.loop-i.list.items c.keep.new.list.items _ c.number_at-line.ensures c.block_at-block.ensures c.output_at-output.ensures
           (c.in_ok-keep.ensures ∙ ap (λ (d : Option PlainDiagnostic). c.loop-i.list.items ++ before d []) c.in_ok-found.ensures) c.loop-i.invariant.said;
       left = left_behind c.mismatches-mismatches.result.now c.loop-i.next c.loop-i.i s.blocks (outputs s) c.block_at-block.result.now c.output_at-output.result.now c.block_at-block.ensures c.output_at-output.ensures c.loop-i.invariant.left
@@ -37,5 +37,7 @@ loop-i-preserved g c =
 
 pub returns : goal.returns
 returns g c =
-    each_all (said_of c.args.text.now) c.args.heads.now c.args.session.now.script.blocks (outputs c.args.session.now.script) c.loop-i.i c.loop-i.list.items _
-    (omega (arith, c.loop-i-test.false, c.len-i-end.ensures.len)) c.loop-i.invariant.said
+    let s = c.args.session.now.script in
+    let heads = c.args.heads.now in
+    each_all (said_of c.first_head-first.result c.args.text.now) heads s.blocks (outputs s) c.loop-i.i c.loop-i.list.items _ (omega (arith, c.loop-i-test.false, c.len-i-end.ensures.len)) c.loop-i.invariant.said
+    ∙ ap (λ (n : ℕ). findings n c.args.text.now heads s.blocks (outputs s)) (c.first_head-first.ensures ∙ ap (first_head heads) c.mismatches-mismatches.ensures)

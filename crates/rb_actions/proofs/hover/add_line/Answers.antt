@@ -1,10 +1,7 @@
 use Rattle.std.proofs.Common.{◌∙◌, ℕ, ◌+◌, List, length, ap, sym, subst, arith}
 use Rattle.std.specs.Prelude.{◌≡◌, slice_get, Some}
-use Rattle.rb_script.specs.Script.{PlainScript}
 use Rattle.rb_replay.specs.Run.{outputs}
-use Rattle.rb_look.specs.Looks.{looked}
 use Rattle.rb_offers.specs.Heads.{heads_of}
-use Rattle.rb_actions.specs.Hovers.{shown}
 use Rattle.rb_actions.proofs.FindingLaws.{stands_by}
 use Rattle.rb_actions.proofs.HoverLaws.{hover_next, hover_none, hover_went}
 use Rattle.rb_actions.proofs.hover.add_line.Goals as goal
@@ -31,7 +28,7 @@ returns-then-has_line g c =
     (subst (λ (ns : List ℕ). slice_get ns c.loop-i.i ≡ Some c.number_at-head.result) (c.as_slice.ensures.value ∙ c.requires.layout.heads_are) c.number_at-head.ensures)
     c.block_at-block.ensures c.output_at-output.ensures c.requires.layout.lines_are c.extent_of-extent.ensures c.has_line.ensures c.if-has_line.true c.loop-i.invariant.left
     c.in_ok-add_hover_text.ensures c.loop-i.invariant.out
-    (c.as_slice-then-has_line.ensures.value ∙ c.in_ok-shown.ensures ∙ ap (λ (s : PlainScript). shown c.output_at-output.result.now (looked s (c.loop-i.i + 1))) c.requires.layout.script_is)
+    (c.as_slice-then-has_line.ensures.value ∙ c.in_ok-shown.ensures)
 
 pub returns : goal.returns
 returns g c =

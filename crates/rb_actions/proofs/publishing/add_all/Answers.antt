@@ -7,7 +7,7 @@ use Rattle.rb_actions.proofs.publishing.add_all.Goals as goal
 
 pub loop-diagnostic-preserved : goal.loop-diagnostic-preserved
 loop-diagnostic-preserved c =
-    let text = diagnostic_text c.args.encoding c.args.takes_related c.args.uri.now c.args.text.now in
+    let text = diagnostic_text c.args.client c.args.uri.now c.args.text.now in
     let ds = c.args.list.now in
     let i = c.loop-diagnostic.diagnostic-index in
     let d = c.diagnostic-item.result in
@@ -18,6 +18,6 @@ loop-diagnostic-preserved c =
 
 pub returns : goal.returns
 returns c =
-    let text = diagnostic_text c.args.encoding c.args.takes_related c.args.uri.now c.args.text.now in
+    let text = diagnostic_text c.args.client c.args.uri.now c.args.text.now in
     let none = no_more text c.loop-diagnostic.lead.now c.args.list.now c.loop-diagnostic.diagnostic-index c.loop-diagnostic-test.false in
     c.in_ok-extend_from_slice-2.ensures.items ∙ ap (λ (l : List ℕ). c.loop-diagnostic.out.items ++ l) (sym none) ∙ c.loop-diagnostic.invariant

@@ -6,4 +6,4 @@ use Rattle.rb_actions.proofs.publishing.add_all.Given as goal
 
 abbrev pub invariant-loop-diagnostic : goal.invariant-loop-diagnostic
 invariant-loop-diagnostic l =
-    l.out.items ++ listed (diagnostic_text l.encoding l.takes_related l.uri l.text) l.lead (drop l.diagnostic-index l.list) ≡ l.initial.out.items ++ listed (diagnostic_text l.encoding l.takes_related l.uri l.text) [] l.list
+    l.out.items ++ listed (diagnostic_text l.client l.uri l.text) l.lead (drop l.diagnostic-index l.list) ≡ l.initial.out.items ++ listed (diagnostic_text l.client l.uri l.text) [] l.list

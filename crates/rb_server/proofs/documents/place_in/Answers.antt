@@ -4,15 +4,15 @@ use Rattle.rb_server.proofs.DocumentLaws.{drop_next, place_here, place_next, pla
 use Rattle.rb_server.proofs.documents.place_in.Goals as goal
 
 pub returns-then-is_of-clause-place : goal.returns-then-is_of-clause-place
-returns-then-is_of-clause-place c =
+returns-then-is_of-clause-place g c =
     let next = drop_next c.args.documents.now c.loop-i.i c.index-documents-i.result c.loop-i-test.true c.index-documents-i.is in
     omega (arith, c.loop-i.invariant, place_here c.args.uri.now c.args.documents.now c.loop-i.i c.index-documents-i.result next (sym c.is_of.ensures ∙ c.if-is_of.true))
 
 pub loop-i-preserved : goal.loop-i-preserved
-loop-i-preserved c =
+loop-i-preserved g c =
     let next = drop_next c.args.documents.now c.loop-i.i c.index-documents-i.result c.loop-i-test.true c.index-documents-i.is in
     omega (arith, c.loop-i.invariant, place_next c.args.uri.now c.args.documents.now c.loop-i.i c.index-documents-i.result next (sym c.is_of.ensures ∙ c.if-is_of.false))
 
 pub returns-clause-place : goal.returns-clause-place
-returns-clause-place c =
+returns-clause-place g c =
     omega (arith, c.loop-i.invariant, c.loop-i-test.false, place_past c.args.uri.now _ (drop_all c.loop-i.i c.args.documents.now (omega (arith, c.loop-i-test.false))))

@@ -4,4 +4,4 @@ use Rattle.rb_server.specs.Documents.{place_of}
 use Rattle.rb_server.proofs.documents.place_in.Given as goal
 
 abbrev pub invariant-loop-i : goal.invariant-loop-i
-invariant-loop-i l = l.i + place_of l.uri (drop l.i l.documents) ≡ place_of l.uri l.documents
+invariant-loop-i g l = l.i + place_of l.uri (drop l.i l.documents) ≡ place_of l.uri l.documents
