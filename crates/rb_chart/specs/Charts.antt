@@ -4,6 +4,10 @@ use Rattle.std.specs.Prelude.{ℕ, codes, decimal, List, ◌++◌}
 use Rattle.std.specs.List.{flat_map}
 use Rattle.rb_chart.specs.declared.shape.Shape.{Shape}
 use Rattle.rb_chart.specs.Escapes.{escaped}
+use Rattle.rb_chart.specs.declared.path.DrawnArrow.{DrawnArrow}
+use Rattle.rb_chart.specs.declared.writing.ChartLayer.{ChartLayer}
+use Rattle.rb_chart.specs.declared.writing.ChartLayer.TheVariants as layers
+use Rattle.rb_chart.specs.Paths.{drawn_text}
 use Rattle.rb_chart.specs.Shapes.{shapes_text}
 
 -- a picture: its size in pixels, its title, what it tells who can't see, and its shapes from the lowest layer up, with their words
@@ -13,7 +17,7 @@ pub record PlainChart : Type 0 where
   pub title : List ℕ
   pub told : List ℕ
   pub under : List Shape
-  pub over : List Shape
+  pub arrows : List DrawnArrow
   pub texts : List Shape
   pub words : List ℕ
 
@@ -22,14 +26,18 @@ abbrev pub front_text : List ℕ → ℕ → ℕ → List ℕ → List ℕ → L
 front_text style width height title told =
     codes "<svg xmlns=\"http://www.w3.org/2000/svg\" role=\"img\" aria-labelledby=\"title\" aria-describedby=\"what\" viewBox=\"0 0 "
     ++ (decimal width ++ (codes " " ++ (decimal height ++ (codes "\" width=\"" ++ (decimal width ++ (codes "\" height=\"" ++ (decimal height
-    ++ (codes "\">\n<title id=\"title\">" ++ (title ++ (codes "</title>\n<desc id=\"what\">" ++ (told
+    ++ (codes "\">\n<title id=\"title\">" ++ (flat_map escaped title ++ (codes "</title>\n<desc id=\"what\">" ++ (flat_map escaped told
     ++ (codes "</desc>\n" ++ (style ++ codes "<rect class=\"background\" width=\"100%\" height=\"100%\"/>\n")))))))))))))
 
--- the shapes, layer by layer
-abbrev pub layers_text : List ℕ → List Shape → List Shape → List Shape → List ℕ
-layers_text words under over texts = shapes_text words under ++ (shapes_text words over ++ shapes_text words texts)
+-- a part of a document
+abbrev pub layer_text : ChartLayer → List ℕ
+layer_text (layers.Front style width height title told) = front_text style.now width height title.now told.now
+layer_text (layers.Shapes words shapes) = shapes_text words.now shapes.now
+layer_text (layers.Arrows arrows) = flat_map drawn_text arrows.now
+layer_text layers.End = codes "</svg>\n"
 
--- a picture, where this is how it looks
+-- a picture, where this is how it looks: what lies below, the arrows, and the texts
 abbrev pub chart_text : List ℕ → PlainChart → List ℕ
 chart_text style c =
-    front_text style c.width c.height (flat_map escaped c.title) (flat_map escaped c.told) ++ (layers_text c.words c.under c.over c.texts ++ codes "</svg>\n")
+    front_text style c.width c.height c.title c.told
+    ++ (shapes_text c.words c.under ++ (flat_map drawn_text c.arrows ++ (shapes_text c.words c.texts ++ codes "</svg>\n")))

@@ -1,4 +1,10 @@
 pub mod Escapes
+pub mod Pieces
 pub mod Shapes
+pub mod Paths
 pub mod Charts
 pub mod Titles
+pub mod InFlight
+pub mod Arrows
+pub mod Drawn
+pub mod Promises

@@ -3,8 +3,8 @@ use Rattle.std.specs.Prelude.{ℕ, ◌-◌, ◌&&◌, nat_le, if◌then◌else�
 use Rattle.std.specs.List.{flat_map}
 use Rattle.rb_message.specs.declared.role.Role.{Role}
 use Rattle.rb_texts.specs.States.{role_text}
-use Rattle.rb_chart.specs.declared.look.Fate.{Fate}
-use Rattle.rb_chart.specs.declared.look.Fate.TheVariants as fates
+use Rattle.rb_chart.specs.declared.look.DeliveryState.{DeliveryState}
+use Rattle.rb_chart.specs.declared.look.DeliveryState.TheVariants as states
 use Rattle.rb_chart.specs.declared.look.MessageLook.{MessageLook}
 use Rattle.rb_chart.specs.declared.look.MessageLook.TheVariants as kinds
 use Rattle.rb_chart.specs.declared.look.Look.{Look}
@@ -22,10 +22,10 @@ kind_text kinds.Heartbeat = codes "heartbeat"
 kind_text kinds.Snapshot = codes "snapshot"
 kind_text kinds.Proposal = codes "proposal"
 
-abbrev pub fate_text : Fate → List ℕ
-fate_text fates.Waiting = codes "waiting"
-fate_text fates.Delivered = codes "delivered"
-fate_text fates.Lost = codes "lost"
+abbrev pub delivery_state_text : DeliveryState → List ℕ
+delivery_state_text states.Waiting = codes "waiting"
+delivery_state_text states.Delivered = codes "delivered"
+delivery_state_text states.Lost = codes "lost"
 
 -- where words end at their place, ` end` follows their class
 abbrev pub look_text : Look → List ℕ
@@ -55,15 +55,15 @@ band_text role x y width height =
     ++ (codes "\" width=\"" ++ (decimal width ++ (codes "\" height=\"" ++ (decimal height ++ codes "\"/>\n")))))))))
 
 -- a message's line: along its label to where it bends, and from there to where it ends
-abbrev pub arrow_text : MessageLook → Fate → ℕ → ℕ → ℕ → ℕ → ℕ → List ℕ
-arrow_text kind fate x y bend to_x to_y =
-    codes "<path class=\"arrow " ++ (kind_text kind ++ (codes " " ++ (fate_text fate ++ (codes "\" d=\"M" ++ (decimal x ++ (codes " " ++ (decimal y
+abbrev pub arrow_text : MessageLook → DeliveryState → ℕ → ℕ → ℕ → ℕ → ℕ → List ℕ
+arrow_text kind state x y bend to_x to_y =
+    codes "<path class=\"arrow " ++ (kind_text kind ++ (codes " " ++ (delivery_state_text state ++ (codes "\" d=\"M" ++ (decimal x ++ (codes " " ++ (decimal y
     ++ (codes "H" ++ (decimal bend ++ (codes "L" ++ (decimal to_x ++ (codes " " ++ (decimal to_y ++ codes "\"/>\n")))))))))))))
 
 -- the line of a message to the node that sends it
-abbrev pub loop_text : MessageLook → Fate → ℕ → ℕ → ℕ → ℕ → List ℕ
-loop_text kind fate x y out to_y =
-    codes "<path class=\"arrow " ++ (kind_text kind ++ (codes " " ++ (fate_text fate ++ (codes "\" d=\"M" ++ (decimal x ++ (codes " " ++ (decimal y
+abbrev pub loop_text : MessageLook → DeliveryState → ℕ → ℕ → ℕ → ℕ → List ℕ
+loop_text kind state x y out to_y =
+    codes "<path class=\"arrow " ++ (kind_text kind ++ (codes " " ++ (delivery_state_text state ++ (codes "\" d=\"M" ++ (decimal x ++ (codes " " ++ (decimal y
     ++ (codes "C" ++ (decimal out ++ (codes " " ++ (decimal y ++ (codes " " ++ (decimal out ++ (codes " " ++ (decimal to_y
     ++ (codes " " ++ (decimal x ++ (codes " " ++ (decimal to_y ++ codes "\"/>\n")))))))))))))))))))
 
@@ -73,9 +73,9 @@ cross_text x y = codes "<path class=\"cross\" d=\"M" ++ (decimal x ++ (codes " "
 
 -- words, as they stand in a text of XML
 abbrev pub words_text : Look → ℕ → ℕ → List ℕ → List ℕ
-words_text look x y shown =
+words_text look x y words =
     codes "<text class=\"" ++ (look_text look ++ (codes "\" x=\"" ++ (decimal x ++ (codes "\" y=\"" ++ (decimal y
-    ++ (codes "\">" ++ (shown ++ codes "</text>\n")))))))
+    ++ (codes "\">" ++ (flat_map escaped words ++ codes "</text>\n")))))))
 
 -- the words from one position up to another; none where these are none
 abbrev pub part_of : ℕ → ℕ → List ℕ → List ℕ
@@ -85,10 +85,7 @@ part_of from to words = if nat_le from to && nat_le to (length words) then take 
 abbrev pub shape_text : List ℕ → Shape → List ℕ
 shape_text words (shapes.Edge y) = edge_text y
 shape_text words (shapes.Band role x y width height) = band_text role x y width height
-shape_text words (shapes.Arrow kind fate x y bend to_x to_y) = arrow_text kind fate x y bend to_x to_y
-shape_text words (shapes.Loop kind fate x y out to_y) = loop_text kind fate x y out to_y
-shape_text words (shapes.Cross x y) = cross_text x y
-shape_text words (shapes.Words look x y from to) = words_text look x y (flat_map escaped (part_of from to words))
+shape_text words (shapes.Words look x y from to) = words_text look x y (part_of from to words)
 
 abbrev pub shapes_text : List ℕ → List Shape → List ℕ
 shapes_text words ss = flat_map (shape_text words) ss

@@ -5,11 +5,16 @@ use Rattle.std.specs.Prelude.{ℕ, Bool, ◌&&◌, nat_le, codes, decimal, List,
 abbrev pub is_printable : ℕ → Bool
 is_printable b = nat_le 32 b && nat_le b 126
 
--- what a title says of the line up to which the picture goes
+-- what a title says of the line from which the picture goes on
+abbrev pub from_text : Option ℕ → List ℕ
+from_text None = []
+from_text (Some line) = codes ", from line " ++ decimal line
+
+-- what it says of the line up to which it goes
 abbrev pub until_text : Option ℕ → List ℕ
 until_text None = []
 until_text (Some line) = codes ", up to line " ++ decimal line
 
 -- of a script with a name of printable ASCII
-abbrev pub title_text : List ℕ → Option ℕ → List ℕ
-title_text name until = name ++ until_text until
+abbrev pub title_text : List ℕ → Option ℕ → Option ℕ → List ℕ
+title_text name from until = name ++ (from_text from ++ until_text until)

@@ -1,5 +1,6 @@
 //! A picture.
 
+use crate::path::DrawnArrow;
 use crate::shape::Shape;
 use crate::sizes::HEADING;
 use std::alloc::Global;
@@ -13,9 +14,9 @@ pub struct Chart {
     pub(crate) title: Vec<u8>,
     // what it tells who can't see
     pub(crate) told: Vec<u8>,
-    // the shapes, from the lowest layer up
+    // from the lowest layer up
     pub(crate) under: Vec<Shape>,
-    pub(crate) over: Vec<Shape>,
+    pub(crate) arrows: Vec<DrawnArrow>,
     pub(crate) texts: Vec<Shape>,
     // the words of all shapes, one behind the other
     pub(crate) words: Vec<u8>,
@@ -26,7 +27,7 @@ impl Model for Chart {
 
     ghost Value = { PlainChart };
 
-    ghost view = { λ c. record { width = c.width; height = c.height; title = c.title.items; told = c.told.items; under = c.under.items; over = c.over.items; texts = c.texts.items; words = c.words.items } };
+    ghost view = { λ c. record { width = c.width; height = c.height; title = c.title.items; told = c.told.items; under = c.under.items; arrows = c.arrows.items; texts = c.texts.items; words = c.words.items } };
 }
 
 impl Chart {
@@ -40,18 +41,19 @@ impl Chart {
             title: Vec::new(alloc),
             told: Vec::new(alloc),
             under: Vec::new(alloc),
-            over: Vec::new(alloc),
+            arrows: Vec::new(alloc),
             texts: Vec::new(alloc),
             words: Vec::new(alloc),
         }
     }
 
-    /// The picture with a title.
-    pub(crate) fn titled(self, title: Vec<u8>) -> Chart
-        ensures { result ≡ record self { title = title.items } }
+    /// The picture with a title, and these arrows.
+    pub(crate) fn with(self, title: Vec<u8>, arrows: Vec<DrawnArrow>) -> Chart
+        ensures { result ≡ record self { title = title.items; arrows = arrows.items } }
     {
         let mut chart = self;
         chart.title = title;
+        chart.arrows = arrows;
         chart
     }
 }

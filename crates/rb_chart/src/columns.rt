@@ -81,6 +81,23 @@ impl Columns {
         Ok(())
     }
 
+    /// Adds the next node, of which so much is known.
+    pub(crate) fn come_in(
+        &mut self,
+        role: Role,
+        top: u64,
+        commit: u64,
+        base: u64,
+    ) -> Result<(), AllocError> {
+        self.columns.push(Column {
+            role,
+            top,
+            commit: Some(commit),
+            base: Some(base),
+        })?;
+        Ok(())
+    }
+
     /// The band that ends where a node has another role; the next begins there.
     pub(crate) fn turn(&mut self, id: u64, role: Role, y: u64) -> Option<Shape> {
         let Some(column) = self.columns.get_mut(position(id)) else {

@@ -1,15 +1,14 @@
 //! Bytes as they stand in a text of XML.
 
-ghost use Rattle.std.specs.Prelude.{◌≡◌, IfOk};
-ghost use Rattle.std.specs.List.{flat_map};
+ghost use Rattle.std.specs.Prelude.{◌≡◌};
 ghost use Rattle.rb_chart.specs.Escapes.{escaped};
 
-use rb_script::{Sink, Through, WriteFault};
-use rb_text::{Escape, put_escaped};
-use std::alloc::{AllocError, Global};
+use rb_script::{Sink, WriteFault};
+use rb_text::Escape;
 
+/// Texts of XML.
 #[derive(Clone, Copy)]
-struct Xml;
+pub(crate) struct Xml;
 
 impl Escape for Xml {
     ghost text = { λ _. escaped };
@@ -24,16 +23,5 @@ impl Escape for Xml {
         } else {
             sink.put(&[b])
         }
-    }
-}
-
-/// The bytes, each as it stands in a text of XML.
-pub(crate) fn escaped(alloc: Global, bytes: &[u8]) -> Result<Vec<u8>, AllocError>
-    ensures { IfOk result (λ text. text.items ≡ flat_map escaped bytes.now) }
-{
-    let mut sink = Through(Vec::with_capacity(alloc, bytes.len())?);
-    match put_escaped(&mut sink, &Xml, bytes) {
-        Ok(()) => Ok(sink.0),
-        Err(_) => Err(AllocError),
     }
 }

@@ -1,11 +1,11 @@
-//! Labels of messages: along the level part of a line, and before them to whom the message is until an arrow tells it.
+//! Labels of messages: along the level part of an arrow, and before them to whom the message is until an arrow tells it.
 
 use crate::chart::Chart;
-use crate::event::RowMessage;
 use crate::look::Look;
-use crate::names::kind_of;
+use crate::path::kind_of;
 use crate::shape::{Shape, words_at};
 use crate::sizes::{ASIDE, beside, middle};
+use rb_message::Message;
 use std::alloc::{AllocError, Global};
 
 const LABEL_UP: u64 = 5;
@@ -18,8 +18,8 @@ pub(crate) struct Label {
     to: usize,
 }
 
-fn label_look(message: &RowMessage<'_>, is_left: bool) -> Look {
-    let kind = kind_of(message.message_type);
+fn label_look(message: &Message, is_left: bool) -> Look {
+    let kind = kind_of(message.kind.message_type());
     if is_left {
         Look::LeftLabel(kind)
     } else {
@@ -31,7 +31,7 @@ impl Label {
     /// Adds the label of a message that is sent at `y`.
     pub(crate) fn add(
         chart: &mut Chart,
-        message: &RowMessage<'_>,
+        message: &Message,
         y: u64,
         aim: &[u8],
         words: &[u8],

@@ -1,8 +1,23 @@
-//! Laws of the texts of pictures.
+//! Laws of pictures: of their arrows, and of their texts.
 
-ghost use Rattle.std.specs.Prelude.{◌≡◌, ℕ, List, true};
+ghost use Rattle.std.specs.Prelude.{◌≡◌, ◌++◌, ℕ, List, fold, map, true};
 ghost use Rattle.std.specs.List.{flat_map, list_all};
+ghost use Rattle.rb_texts.specs.Items.{PlainItem};
+ghost use Rattle.rb_chart.specs.Arrows.{PlainArrows, drawing};
 ghost use Rattle.rb_chart.specs.Escapes.{ReadsAs, escaped, is_no_bracket};
+ghost use Rattle.rb_chart.specs.Promises.{all_sent, arrow_address, message_address, waiting_from};
+
+/// Whatever happens, the arrows are of the messages that were sent, in that order, and of no others: by a ready, or by hand. What happens to
+/// a message later changes its arrow alone.
+pub fn arrows_are_of_what_is_sent()
+    ensures { (d : PlainArrows) (items : List PlainItem) → map arrow_address (fold drawing d items).arrows ≡ map arrow_address d.arrows ++ map message_address (all_sent d.in_flight.is_ready items) }
+{}
+
+/// The arrows that are drawn as on their way are those of the messages that are: one that was delivered, dropped or given up has an arrow that
+/// says so.
+pub fn what_is_on_its_way_waits()
+    ensures { (d : PlainArrows) (items : List PlainItem) → d.positions ≡ waiting_from 0 d.arrows → (fold drawing d items).positions ≡ waiting_from 0 (fold drawing d items).arrows }
+{}
 
 /// Whatever words are, no byte of what stands for them in an element is `<` or `>`: they begin no element and end none.
 pub fn words_have_no_brackets()

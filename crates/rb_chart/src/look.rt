@@ -1,7 +1,7 @@
 //! How things look: the classes of elements, of which assets/style.svg says what they are.
 
 ghost use Rattle.std.specs.Prelude.{◌≡◌, codes, ◌++◌};
-ghost use Rattle.rb_chart.specs.Shapes.{fate_text, kind_text, look_text};
+ghost use Rattle.rb_chart.specs.Shapes.{delivery_state_text, kind_text, look_text};
 
 /// What kind of message it is.
 #[derive(Clone, Copy)]
@@ -46,7 +46,7 @@ impl MessageLook {
 
 /// What became of a message.
 #[derive(Clone, Copy)]
-pub enum Fate {
+pub enum DeliveryState {
     /// It is on its way.
     Waiting,
     Delivered,
@@ -54,15 +54,15 @@ pub enum Fate {
     Lost,
 }
 
-impl Fate {
+impl DeliveryState {
     /// The class.
     pub(crate) fn name(self) -> &'static [u8]
-        ensures { result.now ≡ fate_text self }
+        ensures { result.now ≡ delivery_state_text self }
     {
         match self {
-            Fate::Waiting => b"waiting",
-            Fate::Delivered => b"delivered",
-            Fate::Lost => b"lost",
+            DeliveryState::Waiting => b"waiting",
+            DeliveryState::Delivered => b"delivered",
+            DeliveryState::Lost => b"lost",
         }
     }
 }

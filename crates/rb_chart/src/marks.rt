@@ -1,12 +1,15 @@
 //! What nodes tell and what is said of directives, in few words, and how that looks (docs/USING.md, "Pages and pictures").
 
-use crate::event::{Mark, Note};
 use crate::look::Look;
-use crate::names::short_name;
-use crate::sentence::{sentence, with_one, with_two};
-use rb_message::Role;
+use crate::messages::short_name;
+use crate::sentence::{sentence, with_line, with_one, with_two};
+use rb_message::{Event, Role};
 use rb_text::Piece;
+use rb_texts::Item;
 use std::alloc::{AllocError, Global};
+
+// Behind which a line has why, or what came of it.
+const WHY: &[u8] = b": ";
 
 fn became_words(alloc: Global, role: Role, term: u64) -> Result<Vec<u8>, AllocError> {
     let name = match role {
@@ -21,13 +24,14 @@ fn became_words(alloc: Global, role: Role, term: u64) -> Result<Vec<u8>, AllocEr
 // Whose vote node `id` counts, and what it makes of the election.
 fn counted_words(
     alloc: Global,
+    event: &Event,
     id: u64,
     is_granted: bool,
     from: u64,
-    result_name: &[u8],
 ) -> Result<Vec<u8>, AllocError> {
+    let item = Item::Event(event);
     if from == id {
-        return sentence(alloc, &[Piece::Bytes(b"own vote: ")], result_name);
+        return with_line(alloc, &[Piece::Bytes(b"own vote: ")], &item, WHY);
     }
     let whose: &[u8] = if is_granted {
         b"vote of "
@@ -39,125 +43,145 @@ fn counted_words(
         Piece::Number(from),
         Piece::Bytes(b": "),
     ];
-    sentence(alloc, &pieces, result_name)
+    with_line(alloc, &pieces, &item, WHY)
 }
 
 // What became of a change, and why.
 fn change_words(
     alloc: Global,
+    event: &Event,
     index: u64,
     became: &[u8],
-    why: &[u8],
 ) -> Result<Vec<u8>, AllocError> {
     let pieces = [
         Piece::Bytes(b"! change "),
         Piece::Number(index),
         Piece::Bytes(became),
     ];
-    sentence(alloc, &pieces, why)
+    with_line(alloc, &pieces, &Item::Event(event), WHY)
 }
 
-fn saved_words(alloc: Global, first: u64, last: u64) -> Result<Vec<u8>, AllocError> {
+fn hand_over_words(alloc: Global, to: u64) -> Result<Vec<u8>, AllocError> {
+    let pieces = [
+        Piece::Bytes(b"hand-over to "),
+        Piece::Number(to),
+        Piece::Bytes(b" ends"),
+    ];
+    sentence(alloc, &pieces)
+}
+
+/// The entries that a node saves.
+pub(crate) fn saved_words(alloc: Global, first: u64, last: u64) -> Result<Vec<u8>, AllocError> {
     if first == last {
         return with_one(alloc, &[], b"saves ", first);
     }
     with_two(alloc, &[], b"saves ", first, "–".as_bytes(), last)
 }
 
-/// What node `id` tells, or what is seen of it.
-pub(crate) fn mark_words(alloc: Global, id: u64, mark: Mark<'_>) -> Result<Vec<u8>, AllocError> {
-    match mark {
-        Mark::Became { role, term } => became_words(alloc, role, term),
-        Mark::CannotCampaign { why } => {
-            sentence(alloc, &[Piece::Bytes(b"! can't campaign: ")], why)
-        }
-        Mark::Vote {
-            is_granted,
+/// The index up to which a node knows entries to be committed.
+pub(crate) fn committed_words(alloc: Global, index: u64) -> Result<Vec<u8>, AllocError> {
+    with_one(alloc, &[], "✓ commit ".as_bytes(), index)
+}
+
+/// The index behind which a node's log begins.
+pub(crate) fn compacted_words(alloc: Global, index: u64) -> Result<Vec<u8>, AllocError> {
+    with_one(alloc, &[], "▣ compacted to ".as_bytes(), index)
+}
+
+/// What a node tells.
+pub(crate) fn event_words(alloc: Global, event: &Event) -> Result<Vec<u8>, AllocError> {
+    let item = Item::Event(event);
+    let words: &[u8] = match event {
+        Event::Became { role, term, .. } => return became_words(alloc, *role, *term),
+        Event::VoteCounted {
+            id,
+            granted,
             from,
-            result_name,
-        } => counted_words(alloc, id, is_granted, from, result_name),
-        Mark::Ignored { type_name } => {
-            sentence(alloc, &[Piece::Bytes(b"ignores ")], short_name(type_name))
+            ..
+        } => return counted_words(alloc, event, *id, *granted, *from),
+        Event::CannotCampaign { .. } => {
+            return with_line(alloc, &[Piece::Bytes(b"! can't campaign: ")], &item, WHY);
         }
-        Mark::DroppedProposal => sentence(alloc, &[Piece::Bytes(b"! proposal dropped")], &[]),
-        Mark::Conflict { index, commit } => {
-            with_two(alloc, &[], b"! conflict at ", index, b", commit ", commit)
+        Event::Ignored { message_type, .. } => {
+            let name = short_name(*message_type);
+            return sentence(alloc, &[Piece::Bytes(b"ignores "), Piece::Bytes(name)]);
         }
-        Mark::AppendsNothing => {
-            sentence(
-                alloc,
-                &[Piece::Bytes(b"! appends nothing: index limit")],
-                &[],
-            )
+        Event::Conflict { index, commit, .. } => {
+            return with_two(alloc, &[], b"! conflict at ", *index, b", commit ", *commit);
         }
-        Mark::ReplacedChange { index, why } => change_words(alloc, index, b" made empty: ", why),
-        Mark::Switched { config } => sentence(alloc, &[Piece::Bytes("◆ ".as_bytes())], config),
-        Mark::RefusedChange { index, fault } => change_words(alloc, index, b" refused: ", fault),
-        Mark::Restored { term, index } => {
-            with_two(alloc, &[], "▣ snapshot ".as_bytes(), term, b"/", index)
+        Event::ReplacedChange { index, .. } => {
+            return change_words(alloc, event, *index, b" made empty: ");
         }
-        Mark::TransferStarts { to } => with_one(alloc, &[], b"hands over to ", to),
-        Mark::TransferEnds { to } => {
-            sentence(
-                alloc,
-                &[
-                    Piece::Bytes(b"hand-over to "),
-                    Piece::Number(to),
-                    Piece::Bytes(b" ends"),
-                ],
-                &[],
-            )
+        Event::RefusedChange { index, .. } => {
+            return change_words(alloc, event, *index, b" refused: ");
         }
-        Mark::LostQuorum => sentence(alloc, &[Piece::Bytes(b"! lost its quorum")], &[]),
-        Mark::Committed { index } => with_one(alloc, &[], "✓ commit ".as_bytes(), index),
-        Mark::Compacted { index } => with_one(alloc, &[], "▣ compacted to ".as_bytes(), index),
-        Mark::Saved { first, last } => saved_words(alloc, first, last),
-    }
+        Event::Switched { .. } => {
+            let front = [Piece::Bytes("◆ ".as_bytes())];
+            return with_line(alloc, &front, &item, b" switched to ");
+        }
+        Event::Restored { term, index, .. } => {
+            return with_two(alloc, &[], "▣ snapshot ".as_bytes(), *term, b"/", *index);
+        }
+        Event::TransferStarts { to, .. } => return with_one(alloc, &[], b"hands over to ", *to),
+        Event::TransferEnds { to, .. } => return hand_over_words(alloc, *to),
+        Event::DroppedProposal { .. } => b"! proposal dropped",
+        Event::AppendsNothing { .. } => b"! appends nothing: index limit",
+        Event::LostQuorum { .. } => b"! lost its quorum",
+        Event::Started { .. } | Event::RefusedVote { .. } => b"",
+    };
+    Vec::from_slice(alloc, words)
 }
 
 /// How that looks.
-pub(crate) fn mark_look(mark: Mark<'_>) -> Look {
-    match mark {
-        Mark::Became {
+pub(crate) fn event_look(event: &Event) -> Look {
+    match event {
+        Event::Became {
             role: Role::Leader,
             ..
         } => Look::Won,
-        Mark::Became { .. } => Look::Turn,
-        Mark::Switched { .. } | Mark::TransferStarts { .. } => Look::Change,
-        Mark::Restored { .. } | Mark::Compacted { .. } => Look::Installed,
-        Mark::Committed { .. } => Look::Moved,
-        Mark::Vote { .. } | Mark::Ignored { .. } | Mark::TransferEnds { .. } | Mark::Saved { .. } =>
-            { Look::Quiet }
-        Mark::CannotCampaign { .. }
-        | Mark::DroppedProposal
-        | Mark::Conflict { .. }
-        | Mark::AppendsNothing
-        | Mark::ReplacedChange { .. }
-        | Mark::RefusedChange { .. }
-        | Mark::LostQuorum => Look::Bad,
-    }
-}
-
-/// What is said of a directive.
-pub(crate) fn note_words(alloc: Global, note: Note<'_>) -> Result<Vec<u8>, AllocError> {
-    match note {
-        Note::NoMessages => sentence(alloc, &[Piece::Bytes(b"no messages")], &[]),
-        Note::Stopped { rounds } => {
-            let pieces = [
-                Piece::Bytes(b"stopped after "),
-                Piece::Number(rounds),
-                Piece::Bytes(b" rounds"),
-            ];
-            sentence(alloc, &pieces, &[])
+        Event::Became { .. } => Look::Turn,
+        Event::Switched { .. } | Event::TransferStarts { .. } => Look::Change,
+        Event::Restored { .. } => Look::Installed,
+        Event::VoteCounted { .. } | Event::Ignored { .. } | Event::TransferEnds { .. } => {
+            Look::Quiet
         }
-        Note::Error { text } => sentence(alloc, &[Piece::Bytes(b"error: ")], text),
+        Event::CannotCampaign { .. }
+        | Event::DroppedProposal { .. }
+        | Event::Conflict { .. }
+        | Event::AppendsNothing { .. }
+        | Event::ReplacedChange { .. }
+        | Event::RefusedChange { .. }
+        | Event::LostQuorum { .. } => Look::Bad,
+        Event::Started { .. } | Event::RefusedVote { .. } => Look::Quiet,
     }
 }
 
-/// How that looks.
-pub(crate) fn note_look(note: Note<'_>) -> Look {
-    match note {
-        Note::NoMessages | Note::Stopped { .. } => Look::Quiet,
-        Note::Error { .. } => Look::Bad,
+/// Which node an event is of.
+pub(crate) fn node_of(event: &Event) -> u64 {
+    match event {
+        Event::Started { id, .. }
+        | Event::Became { id, .. }
+        | Event::CannotCampaign { id, .. }
+        | Event::VoteCounted { id, .. }
+        | Event::Ignored { id, .. }
+        | Event::RefusedVote { id, .. }
+        | Event::DroppedProposal { id }
+        | Event::Conflict { id, .. }
+        | Event::AppendsNothing { id }
+        | Event::ReplacedChange { id, .. }
+        | Event::Switched { id, .. }
+        | Event::RefusedChange { id, .. }
+        | Event::Restored { id, .. }
+        | Event::TransferStarts { id, .. }
+        | Event::TransferEnds { id, .. }
+        | Event::LostQuorum { id } => *id,
+    }
+}
+
+/// How what is said of a directive looks.
+pub(crate) fn note_look(item: &Item<'_>) -> Look {
+    match item {
+        Item::Error(_) => Look::Bad,
+        _ => Look::Quiet,
     }
 }

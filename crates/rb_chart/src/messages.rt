@@ -1,90 +1,103 @@
 //! Messages in few words: the type, the term, and what matters of what it says.
 
-use crate::event::RowMessage;
 use crate::measure::cut;
-use crate::names::short_name;
 use crate::painting::fitted;
-use crate::sentence::{sentence, with_one, with_two};
+use crate::sentence::{sentence, with_line, with_one, with_two};
 use crate::sizes::MOST_LABEL;
+use rb_message::{Append, Message, MessageKind};
 use rb_text::Piece;
+use rb_texts::Item;
 use rb_vocab::MessageType;
 use std::alloc::{AllocError, Global};
 
-fn vote_words(alloc: Global, name: &[u8], said: [u64; 4]) -> Result<Vec<u8>, AllocError> {
-    let transfer: &[u8] = if said[2] == 1 { b" transfer" } else { b"" };
+/// The name of a type, without what all of them begin with.
+pub(crate) fn short_name(message_type: MessageType) -> &'static [u8] {
+    let name = message_type.text();
+    name.strip_prefix(b"Msg".as_slice()).unwrap_or(name)
+}
+
+fn vote_words(
+    alloc: Global,
+    name: &[u8],
+    last_term: u64,
+    last_index: u64,
+    transfer: bool,
+) -> Result<Vec<u8>, AllocError> {
+    let transfer: &[u8] = if transfer { b" transfer" } else { b"" };
     let pieces = [
         Piece::Bytes(name),
         Piece::Bytes(b" last "),
-        Piece::Number(said[0]),
+        Piece::Number(last_term),
         Piece::Bytes(b"/"),
-        Piece::Number(said[1]),
+        Piece::Number(last_index),
         Piece::Bytes(transfer),
     ];
-    sentence(alloc, &pieces, &[])
+    sentence(alloc, &pieces)
 }
 
 fn answer_words(alloc: Global, name: &[u8], is_granted: bool) -> Result<Vec<u8>, AllocError> {
     let answer: &[u8] = if is_granted { b" granted" } else { b" refused" };
-    sentence(alloc, &[Piece::Bytes(name), Piece::Bytes(answer)], &[])
+    sentence(alloc, &[Piece::Bytes(name), Piece::Bytes(answer)])
 }
 
-fn append_words(alloc: Global, name: &[u8], said: [u64; 4]) -> Result<Vec<u8>, AllocError> {
-    if said[3] == 0 {
-        return with_one(alloc, name, b" commit ", said[2]);
+fn append_words(alloc: Global, name: &[u8], append: &Append) -> Result<Vec<u8>, AllocError> {
+    let count = append.entries().len();
+    if count == 0 {
+        return with_one(alloc, name, b" commit ", append.commit());
     }
     let pieces = [
         Piece::Bytes(name),
         Piece::Bytes(b" +"),
-        Piece::Number(said[3]),
+        Piece::Number(count as u64),
         Piece::Bytes(b" after "),
-        Piece::Number(said[0]),
+        Piece::Number(append.prev_term()),
         Piece::Bytes(b"/"),
-        Piece::Number(said[1]),
+        Piece::Number(append.prev()),
     ];
-    sentence(alloc, &pieces, &[])
-}
-
-fn append_answer_words(alloc: Global, name: &[u8], said: [u64; 4]) -> Result<Vec<u8>, AllocError> {
-    if said[0] == 0 {
-        return with_one(alloc, name, b" match ", said[1]);
-    }
-    with_two(alloc, name, b" refused ", said[1], b", hint ", said[2])
+    sentence(alloc, &pieces)
 }
 
 // What matters of what a message says, behind its name.
-fn words_behind(
-    alloc: Global,
-    message: &RowMessage<'_>,
-    name: &[u8],
-) -> Result<Vec<u8>, AllocError> {
-    let said = message.said;
-    match message.message_type {
-        MessageType::Vote | MessageType::PreVote => vote_words(alloc, name, said),
-        MessageType::VoteResponse | MessageType::PreVoteResponse => {
-            answer_words(alloc, name, said[0] == 1)
+fn words_behind(alloc: Global, message: &Message, name: &[u8]) -> Result<Vec<u8>, AllocError> {
+    match &message.kind {
+        MessageKind::Vote {
+            last_term,
+            last_index,
+            transfer,
+        } => vote_words(alloc, name, *last_term, *last_index, *transfer),
+        MessageKind::PreVote {
+            last_term,
+            last_index,
+        } => vote_words(alloc, name, *last_term, *last_index, false),
+        MessageKind::VoteResponse { granted } | MessageKind::PreVoteResponse { granted } => {
+            answer_words(alloc, name, *granted)
         }
-        MessageType::Append => append_words(alloc, name, said),
-        MessageType::AppendResponse => append_answer_words(alloc, name, said),
-        MessageType::Heartbeat => with_one(alloc, name, b" commit ", said[0]),
-        MessageType::Snapshot => with_two(alloc, name, b" ", said[0], b"/", said[1]),
-        MessageType::Proposal => sentence(
+        MessageKind::Append(append) => append_words(alloc, name, append),
+        MessageKind::AppendResponse { matched } => with_one(alloc, name, b" match ", *matched),
+        MessageKind::AppendRefusal { refused, hint } => {
+            with_two(alloc, name, b" refused ", *refused, b", hint ", *hint)
+        }
+        MessageKind::Heartbeat { commit } => with_one(alloc, name, b" commit ", *commit),
+        MessageKind::Snapshot(install) => {
+            let snapshot = install.snapshot();
+            with_two(alloc, name, b" ", snapshot.term, b"/", snapshot.index)
+        }
+        MessageKind::Proposal(_) => with_line(
             alloc,
             &[Piece::Bytes(name), Piece::Bytes(b" ")],
-            message.body,
+            &Item::Send(message),
+            b"MsgProp ",
         ),
-        MessageType::TransferLeader => with_one(alloc, name, b" to ", said[0]),
-        MessageType::HeartbeatResponse | MessageType::TimeoutNow | MessageType::Unreachable => {
-            sentence(alloc, &[Piece::Bytes(name)], &[])
+        MessageKind::TransferLeader { target } => with_one(alloc, name, b" to ", *target),
+        MessageKind::HeartbeatResponse | MessageKind::TimeoutNow => {
+            sentence(alloc, &[Piece::Bytes(name)])
         }
     }
 }
 
 /// A message's type, its term where it is of one, and what matters of what it says.
-pub(crate) fn message_words(
-    alloc: Global,
-    message: &RowMessage<'_>,
-) -> Result<Vec<u8>, AllocError> {
-    let name = short_name(message.name);
+pub(crate) fn message_words(alloc: Global, message: &Message) -> Result<Vec<u8>, AllocError> {
+    let name = short_name(message.kind.message_type());
     if message.term == 0 {
         return words_behind(alloc, message, name);
     }
@@ -92,22 +105,25 @@ pub(crate) fn message_words(
     words_behind(alloc, message, name.as_slice())
 }
 
-/// What of that stands at its line: where there is no room for the term, the rest.
-pub(crate) fn label_words(alloc: Global, message: &RowMessage<'_>) -> Result<Vec<u8>, AllocError> {
-    let words = message_words(alloc, message)?;
-    if cut(words.as_slice(), MOST_LABEL).is_none() {
-        return Ok(words);
+/// What of these words stands at its arrow: where there is no room for the term, the rest.
+pub(crate) fn label_words(
+    alloc: Global,
+    message: &Message,
+    words: &[u8],
+) -> Result<Vec<u8>, AllocError> {
+    if cut(words, MOST_LABEL).is_none() {
+        return Vec::from_slice(alloc, words);
     }
-    let words = words_behind(alloc, message, short_name(message.name))?;
+    let words = words_behind(alloc, message, short_name(message.kind.message_type()))?;
     fitted(alloc, words.as_slice(), MOST_LABEL)
 }
 
 /// To whom a message is, as it stands before its label.
-pub(crate) fn aim_words(alloc: Global, message: &RowMessage<'_>) -> Result<Vec<u8>, AllocError> {
+pub(crate) fn aim_words(alloc: Global, message: &Message) -> Result<Vec<u8>, AllocError> {
     let pieces = [
         Piece::Bytes("→".as_bytes()),
         Piece::Number(message.to),
         Piece::Bytes(b" "),
     ];
-    sentence(alloc, &pieces, &[])
+    sentence(alloc, &pieces)
 }

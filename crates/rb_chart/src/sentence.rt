@@ -1,53 +1,15 @@
-//! Words that are put together of pieces and of a row's texts.
+//! Words that are put together of pieces, and what a line says of an item.
 
+use rb_script::Lines;
 use rb_text::{Piece, add_pieces};
+use rb_texts::{Item, put};
+use rb_vocab::Level;
 use std::alloc::{AllocError, Global};
 
-// What a hexadecimal digit of a row stands for.
-fn digit_of(b: u8) -> u8 {
-    match b {
-        b'0'..=b'9' => b.wrapping_sub(b'0'),
-        b'a'..=b'f' => b.wrapping_sub(b'a').wrapping_add(10),
-        _ => 0,
-    }
-}
-
-// The byte that is written by its number, as `\u00NN`.
-fn numbered(text: &[u8]) -> u8 {
-    match text {
-        [_, _, _, _, high, low, ..] => digit_of(*high)
-            .wrapping_mul(16)
-            .wrapping_add(digit_of(*low)),
-        _ => b'?',
-    }
-}
-
-// Adds the text that stands so between the quotes of a row.
-fn add_quoted(text: &mut Vec<u8>, inside: &[u8]) -> Result<(), AllocError> {
-    // how many bytes are left of one that is written by its number
-    let mut left = 0u8;
-    for (i, b) in inside.iter().enumerate() {
-        if left > 0 {
-            left -= 1;
-        } else if *b == b'\\' {
-            text.push(numbered(&inside[i..]))?;
-            left = 5;
-        } else {
-            text.push(*b)?;
-        }
-    }
-    Ok(())
-}
-
-/// The pieces, and a text of a row behind them.
-pub(crate) fn sentence(
-    alloc: Global,
-    pieces: &[Piece<'_>],
-    inside: &[u8],
-) -> Result<Vec<u8>, AllocError> {
+/// The pieces.
+pub(crate) fn sentence(alloc: Global, pieces: &[Piece<'_>]) -> Result<Vec<u8>, AllocError> {
     let mut text = Vec::new(alloc);
     add_pieces(&mut text, pieces)?;
-    add_quoted(&mut text, inside)?;
     Ok(text)
 }
 
@@ -67,7 +29,7 @@ pub(crate) fn with_two<'a>(
         Piece::Bytes(between),
         Piece::Number(second),
     ];
-    sentence(alloc, &pieces, &[])
+    sentence(alloc, &pieces)
 }
 
 /// A name, and a number with what stands before it.
@@ -77,6 +39,49 @@ pub(crate) fn with_one<'a>(
     before: &'a [u8],
     n: u64,
 ) -> Result<Vec<u8>, AllocError> {
-    let pieces = [Piece::Bytes(name), Piece::Bytes(before), Piece::Number(n)];
-    sentence(alloc, &pieces, &[])
+    sentence(
+        alloc,
+        &[Piece::Bytes(name), Piece::Bytes(before), Piece::Number(n)],
+    )
+}
+
+// The first bytes of a text from a position on are these.
+fn begins_at(text: &[u8], at: usize, mark: &[u8]) -> bool {
+    match text.get(at..) {
+        Some(rest) => rest.starts_with(mark),
+        None => false,
+    }
+}
+
+// What stands behind the first place in a text where a mark is; nothing where there is none.
+fn behind<'a>(text: &'a [u8], mark: &[u8]) -> &'a [u8] {
+    for at in 0..text.len() {
+        if begins_at(text, at, mark) {
+            return text.get(at.saturating_add(mark.len())..).unwrap_or(&[]);
+        }
+    }
+    &[]
+}
+
+/// The line of an item, as a directive prints it.
+pub(crate) fn line_of(alloc: Global, item: &Item<'_>) -> Result<Vec<u8>, AllocError> {
+    let mut lines = Lines::new(alloc);
+    put(&mut lines, Level::Debug, item)?;
+    if lines.is_empty() {
+        return Ok(Vec::new(alloc));
+    }
+    Vec::from_slice(alloc, lines.line(0))
+}
+
+/// The pieces, and what the line of an item says behind a mark.
+pub(crate) fn with_line(
+    alloc: Global,
+    pieces: &[Piece<'_>],
+    item: &Item<'_>,
+    mark: &[u8],
+) -> Result<Vec<u8>, AllocError> {
+    let mut text = sentence(alloc, pieces)?;
+    let line = line_of(alloc, item)?;
+    text.extend_from_slice(behind(line.as_slice(), mark))?;
+    Ok(text)
 }

@@ -1,5 +1,8 @@
 //! Sizes, in pixels. Sums stop at the largest number: no script's picture comes near it.
 
+ghost use Rattle.std.specs.Prelude.{◌≡◌};
+ghost use Rattle.rb_chart.specs.Paths.{beside, middle};
+
 /// What one thing that happens takes of the height.
 pub(crate) const SLOT: u64 = 18;
 /// What the head of a directive takes, and the room below its row.
@@ -34,7 +37,9 @@ pub(crate) const MOST_LABEL: usize = 30;
 pub(crate) const MOST_MARK: usize = 29;
 
 /// Where the middle of a node's band is.
-pub(crate) fn middle(id: u64) -> u64 {
+pub(crate) fn middle(id: u64) -> u64
+    ensures { result ≡ middle id }
+{
     FIRST.saturating_add(GAP.saturating_mul(id.saturating_sub(1)))
 }
 
@@ -44,10 +49,24 @@ pub(crate) fn least_right(nodes: usize) -> u64 {
 }
 
 /// A place so far from another, to the left or to the right.
-pub(crate) fn beside(x: u64, is_left: bool, far: u64) -> u64 {
+pub(crate) fn beside(x: u64, is_left: bool, far: u64) -> u64
+    ensures { result ≡ beside x is_left far }
+{
     if is_left {
         x.saturating_sub(far)
     } else {
         x.saturating_add(far)
+    }
+}
+
+/// How far to the right the arrow of a message goes that doesn't arrive.
+pub(crate) fn right_edge(from: u64, to: u64) -> u64 {
+    let x = middle(from);
+    if to == from {
+        x.saturating_add(HALF_BAND + 1).saturating_add(OUT)
+    } else if to < from {
+        beside(x, true, LEAD)
+    } else {
+        x.saturating_add(LEAD).saturating_add(26)
     }
 }

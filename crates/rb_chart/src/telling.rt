@@ -1,9 +1,31 @@
 //! What a picture tells readers who can't see: the notes of the script, its directives, and a sentence for each thing that happens.
 
 use crate::chart::Chart;
-use crate::flight::Ending;
 use rb_text::{Piece, add_pieces};
 use std::alloc::AllocError;
+
+/// How a message ends.
+#[derive(Clone, Copy)]
+pub(crate) enum Ending {
+    /// It is on its way.
+    Waiting,
+    Delivered,
+    Dropped,
+    /// There was no room for it.
+    GivenUp,
+}
+
+impl Ending {
+    /// What is told of the message.
+    fn words(self) -> &'static [u8] {
+        match self {
+            Ending::Waiting => b" is on its way",
+            Ending::Delivered => b" is delivered",
+            Ending::Dropped => b" is dropped",
+            Ending::GivenUp => b" is given up",
+        }
+    }
+}
 
 impl Chart {
     /// Tells something of the directive at a line.

@@ -1,105 +1,105 @@
 //! The text of a picture.
 
-ghost use Rattle.std.specs.Prelude.{◌≡◌, ◌++◌, IfOk, OnOk};
-ghost use Rattle.std.specs.List.{flat_map};
+ghost use Rattle.std.specs.Prelude.{IsOk};
+ghost use Rattle.rb_script.specs.Writes.{Writes};
 ghost use Rattle.rb_chart.specs.declared.style.TheConstants.{STYLE};
-ghost use Rattle.rb_chart.specs.Escapes.{escaped};
-ghost use Rattle.rb_chart.specs.Charts.{chart_text, front_text, layers_text};
+ghost use Rattle.rb_chart.specs.Charts.{chart_text, front_text};
 
 use crate::chart::Chart;
-use crate::escape::escaped;
-use crate::shape::{Shape, add_shapes};
+use crate::path::DrawnArrow;
+use crate::piece::SvgPiece;
+use crate::shape::{Shape, put_shapes};
 use crate::style::STYLE;
-use rb_text::{Piece, add_pieces};
-use std::alloc::{AllocError, Global};
+use rb_script::{Sink, WriteFault};
+use rb_text::{WrittenPiece, put_pieces};
 
-// Adds what stands before the shapes, where the title and what is told are as they stand in texts of XML.
-fn add_front<'a>(
-    svg: &mut Vec<u8>,
+// Writes what stands before the shapes.
+fn put_front<'a, S: Sink>(
+    sink: &mut S,
     style: &'a [u8],
     width: u64,
     height: u64,
     title: &'a [u8],
     told: &'a [u8],
-) -> Result<(), AllocError>
-    ensures { OnOk result (svg.new.items ≡ svg.old.items ++ front_text style.now width height title.now told.now) }
+) -> Result<(), WriteFault>
+    ensures wrote { Writes result (S.held sink.old) (S.held sink.new) (front_text style.now width height title.now told.now) }
+    ensures all { S.takes_all sink.old → IsOk result × S.takes_all sink.new }
 {
-    add_pieces(
-        svg,
+    put_pieces(
+        sink,
         &[
-            Piece::Bytes(
+            SvgPiece::Bytes(
                 b"<svg xmlns=\"http://www.w3.org/2000/svg\" role=\"img\" aria-labelledby=\"title\" aria-describedby=\"what\" viewBox=\"0 0 ",
             ),
-            Piece::Number(width),
-            Piece::Bytes(b" "),
-            Piece::Number(height),
-            Piece::Bytes(b"\" width=\""),
-            Piece::Number(width),
-            Piece::Bytes(b"\" height=\""),
-            Piece::Number(height),
-            Piece::Bytes(b"\">\n<title id=\"title\">"),
-            Piece::Bytes(title),
-            Piece::Bytes(b"</title>\n<desc id=\"what\">"),
-            Piece::Bytes(told),
-            Piece::Bytes(b"</desc>\n"),
-            Piece::Bytes(style),
-            Piece::Bytes(b"<rect class=\"background\" width=\"100%\" height=\"100%\"/>\n"),
+            SvgPiece::Number(width),
+            SvgPiece::Bytes(b" "),
+            SvgPiece::Number(height),
+            SvgPiece::Bytes(b"\" width=\""),
+            SvgPiece::Number(width),
+            SvgPiece::Bytes(b"\" height=\""),
+            SvgPiece::Number(height),
+            SvgPiece::Bytes(b"\">\n<title id=\"title\">"),
+            SvgPiece::Words(title),
+            SvgPiece::Bytes(b"</title>\n<desc id=\"what\">"),
+            SvgPiece::Words(told),
+            SvgPiece::Bytes(b"</desc>\n"),
+            SvgPiece::Bytes(style),
+            SvgPiece::Bytes(b"<rect class=\"background\" width=\"100%\" height=\"100%\"/>\n"),
         ],
     )
 }
 
-fn add_head(
-    svg: &mut Vec<u8>,
-    style: &[u8],
-    width: u64,
-    height: u64,
-    title: &[u8],
-    told: &[u8],
-) -> Result<(), AllocError>
-    ensures { OnOk result (svg.new.items ≡ svg.old.items ++ front_text style.now width height (flat_map escaped title.now) (flat_map escaped told.now)) }
-{
-    let alloc = *svg.allocator();
-    let title = escaped(alloc, title)?;
-    let told = escaped(alloc, told)?;
-    add_front(svg, style, width, height, title.as_slice(), told.as_slice())
+/// A part of a document.
+#[derive(Clone, Copy)]
+pub(crate) enum ChartLayer<'a> {
+    /// What stands before the shapes: how all looks, the size, the title and what is told.
+    Front(&'a [u8], u64, u64, &'a [u8], &'a [u8]),
+    /// Shapes, where these are the words of all.
+    Shapes(&'a [u8], &'a [Shape]),
+    Arrows(&'a [DrawnArrow]),
+    End,
 }
 
-// Adds the shapes, layer by layer.
-fn add_layers(
-    svg: &mut Vec<u8>,
-    words: &[u8],
-    under: &[Shape],
-    over: &[Shape],
-    texts: &[Shape],
-) -> Result<(), AllocError>
-    ensures { OnOk result (svg.new.items ≡ svg.old.items ++ layers_text words.now under.now over.now texts.now) }
-{
-    add_shapes(svg, words, under)?;
-    add_shapes(svg, words, over)?;
-    add_shapes(svg, words, texts)
+impl WrittenPiece for ChartLayer<'_> {
+    ghost use Rattle.rb_chart.specs.Charts.{layer_text};
+
+    ghost text = { layer_text };
+
+    fn put<S: Sink>(&self, sink: &mut S) -> Result<(), WriteFault> {
+        match *self {
+            ChartLayer::Front(style, width, height, title, told) => {
+                put_front(sink, style, width, height, title, told)
+            }
+            ChartLayer::Shapes(words, shapes) => put_shapes(sink, words, shapes),
+            ChartLayer::Arrows(arrows) => put_pieces(sink, arrows),
+            ChartLayer::End => sink.put(b"</svg>\n"),
+        }
+    }
 }
 
-// Adds a picture that looks so.
-fn add_chart(svg: &mut Vec<u8>, style: &[u8], chart: &Chart) -> Result<(), AllocError>
-    ensures { OnOk result (svg.new.items ≡ svg.old.items ++ chart_text style.now chart.now) }
+// Writes a picture that looks so.
+fn put_styled<S: Sink>(sink: &mut S, style: &[u8], chart: &Chart) -> Result<(), WriteFault>
+    ensures wrote { Writes result (S.held sink.old) (S.held sink.new) (chart_text style.now chart.now) }
+    ensures all { S.takes_all sink.old → IsOk result × S.takes_all sink.new }
 {
     let words = chart.words.as_slice();
     let title = chart.title.as_slice();
     let told = chart.told.as_slice();
-    let under = chart.under.as_slice();
-    let over = chart.over.as_slice();
-    let texts = chart.texts.as_slice();
-    add_head(svg, style, chart.width, chart.height, title, told)?;
-    add_layers(svg, words, under, over, texts)?;
-    svg.extend_from_slice(b"</svg>\n")?;
-    Ok(())
+    let layers = [
+        ChartLayer::Front(style, chart.width, chart.height, title, told),
+        ChartLayer::Shapes(words, chart.under.as_slice()),
+        ChartLayer::Arrows(chart.arrows.as_slice()),
+        ChartLayer::Shapes(words, chart.texts.as_slice()),
+        ChartLayer::End,
+    ];
+    put_pieces(sink, &layers)
 }
 
-/// A picture as a document of SVG, which stands without scripts and fetches nothing.
-pub fn svg_of(alloc: Global, chart: &Chart) -> Result<Vec<u8>, AllocError>
-    ensures { IfOk result (λ svg. svg.items ≡ chart_text STYLE.now chart.now) }
+/// Writes a picture as a document of SVG, which stands without scripts and fetches nothing. Takes no memory. On a failure what went out is a
+/// beginning of the document.
+pub fn put_chart<S: Sink>(sink: &mut S, chart: &Chart) -> Result<(), WriteFault>
+    ensures wrote { Writes result (S.held sink.old) (S.held sink.new) (chart_text STYLE.now chart.now) }
+    ensures all { S.takes_all sink.old → IsOk result × S.takes_all sink.new }
 {
-    let mut svg = Vec::new(alloc);
-    add_chart(&mut svg, STYLE, chart)?;
-    Ok(svg)
+    put_styled(sink, STYLE, chart)
 }

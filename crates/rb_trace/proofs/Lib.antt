@@ -1,0 +1,2 @@
+pub mod MailLaws
+pub mod TraceLaws

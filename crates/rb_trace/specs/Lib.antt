@@ -1,0 +1,3 @@
+pub mod Mail
+pub mod Objects
+pub mod Traces
