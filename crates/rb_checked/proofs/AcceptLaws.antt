@@ -1,14 +1,18 @@
 -- What is accepted and what is left.
-use Rattle.std.proofs.Common.{◌≡◌, ◌∙◌, ℕ, zero, suc, Bool, true, false, List, [], ◌∷◌, length, Some, Result, Ok, Err, refl, ap, sym, subst, arith}
-use Rattle.std.specs.Prelude.{slice_get, ◌&&◌, ◌||◌, not, if◌then◌else◌, IfOk}
+use Rattle.std.proofs.Common.{◌≡◌, ◌∙◌, ℕ, zero, suc, ◌+◌, Bool, true, false, List, [], ◌∷◌, length, drop, Some, Result, Ok, Err, refl, ap, sym, subst, arith}
+use Rattle.std.specs.Prelude.{slice_get, nat_lt, ◌<◌, ◌&&◌, ◌||◌, not, if◌then◌else◌, IfOk, IfErr}
+use Rattle.std.specs.List.{list_all}
+use Rattle.std.proofs.lemmas.Bool.{ltb-true}
 use Rattle.std.proofs.lemmas.Option.{slice_get_within}
 use Rattle.rb_script.specs.declared.edit.Edit.TheVariants.{Accept}
 use Rattle.rb_script.specs.declared.fault.EditFault.{EditFault}
+use Rattle.rb_script.specs.declared.fault.EditFault.TheVariants.{BadExpectation, TooLong}
+use Rattle.rb_script.specs.declared.limits.TheConstants.{MAX_SCRIPT}
 use Rattle.rb_script.specs.Lines.{Line}
 use Rattle.rb_script.specs.Script.{PlainBlock, PlainScript, text, expecting, all_expecting, with_outputs}
 use Rattle.rb_script.specs.Valid.{IsScript}
 use Rattle.rb_script.specs.Reads.{Reads}
-use Rattle.rb_script.specs.Edits.{edited, Makes}
+use Rattle.rb_script.specs.Edits.{edited, is_expectation, unless, Makes, EditFails}
 use Rattle.rb_script.proofs.ScriptLaws.{reads_once}
 use Rattle.rb_script.proofs.TextLaws.{text_reads}
 use Rattle.rb_replay.specs.Report.{same_lines}
@@ -18,7 +22,9 @@ use Rattle.rb_checked.specs.declared.wanted.Picked.{Picked}
 use Rattle.rb_checked.specs.declared.wanted.Picked.TheVariants as picks
 use Rattle.rb_checked.specs.declared.wanted.Wanted.{Wanted}
 use Rattle.rb_checked.specs.Errors.{is_unexpected}
+use Rattle.rb_text.proofs.SentLaws.{drop-get}
 use Rattle.rb_checked.specs.Accepting.{is_picked, is_left, accepted_of}
+use Rattle.rb_checked.specs.Refusing.{has_long_line, bad_head}
 
 -- ---- the script with what is accepted
 
@@ -52,6 +58,31 @@ accepted_len wanted ls (n ∷ heads) (b ∷ bs) (o ∷ os) h e = let rest = acce
 pub made_of : (r : Result PlainScript EditFault) (s : PlainScript) (os : List (List Line)) → Makes r (edited s Accept os) → IfOk r (λ new. new ≡ with_outputs s os)
 made_of (Ok new) s os made = sym (accepted s new os made)
 made_of (Err e) s os made = tt
+
+-- and where it refused, for that fault
+pub fails_of : (r : Result PlainScript EditFault) (s : PlainScript) (os : List (List Line)) → Makes r (edited s Accept os) → IfErr r (λ fault. EditFails fault (edited s Accept os))
+fails_of (Ok new) s os made = tt
+fails_of (Err e) s os made = made
+
+-- ---- where it does not fit
+
+second_test : (t u : Bool) (s : PlainScript) → unless t BadExpectation (unless u TooLong (Ok s)) ≡ Err TooLong → u ≡ true
+second_test true u s e = absurd cc
+second_test false true s e = refl
+second_test false false s e = absurd cc
+
+-- the edit is refused as too long only where the text is
+pub too_long : (s : PlainScript) (os : List (List Line)) → edited s Accept os ≡ Err TooLong → MAX_SCRIPT < length (text (with_outputs s os))
+unfolding edited
+too_long s os e = ltb-true MAX_SCRIPT (length (text (with_outputs s os))) (second_test (not (list_all is_expectation os)) (nat_lt MAX_SCRIPT (length (text (with_outputs s os)))) (with_outputs s os) e)
+
+-- one head more is looked at
+pub bad-step : (heads : List ℕ) (os : List (List Line)) (i line : ℕ) (o : List Line) (t : Bool) → slice_get heads i ≡ Some line → slice_get os i ≡ Some o → has_long_line o ≡ t
+    → bad_head (drop i heads) (drop i os) ≡ (if t then line else bad_head (drop (i + 1) heads) (drop (i + 1) os))
+bad-step heads os i line o t head output is =
+    ap (λ (ns : List ℕ). bad_head ns (drop i os)) (drop-get heads i line head)
+    ∙ ap (λ (outs : List (List Line)). bad_head (line ∷ drop (i + 1) heads) outs) (drop-get os i o output)
+    ∙ ap (λ (x : Bool). if x then line else bad_head (drop (i + 1) heads) (drop (i + 1) os)) is
 
 -- ---- reading back
 

@@ -1,11 +1,9 @@
 -- Directives one after another: what they gave so far, and what is still to come.
-use Rattle.std.proofs.Common.{◌≡◌, ◌∙◌, ℕ, ◌+◌, ◌≤◌, List, [], ◌∷◌, ◌++◌, length, drop, Some, refl, ap, sym, subst, append_assoc, append-nil}
+use Rattle.std.proofs.Common.{◌≡◌, ◌∙◌, ℕ, ◌+◌, ◌≤◌, List, [], ◌∷◌, ◌++◌, length, drop, Some, refl, ap, sym, append_assoc, append-nil}
 use Rattle.std.specs.Prelude.{slice_get}
 use Rattle.std.proofs.lemmas.List.{drop_all}
 use Rattle.rb_script.specs.Lines.{Line}
 use Rattle.rb_script.specs.Script.{PlainBlock}
-use Rattle.rb_script.specs.HeadLines.{AreHeadLines}
-use Rattle.rb_script.proofs.HeadLineLaws.{heads_once}
 use Rattle.rb_text.proofs.SentLaws.{drop-get}
 use Rattle.rb_checked.specs.Checked.{of_each}
 
@@ -46,9 +44,3 @@ each_more one heads bs os i line b o had has all head block output is so_far =
 pub each_all : {A : Type 0} (one : ℕ → PlainBlock → List Line → List A) (heads : List ℕ) (bs : List PlainBlock) (os : List (List Line)) (i : ℕ) (has all : List A) → length bs ≤ i
     → has ++ of_each one (drop i heads) (drop i bs) (drop i os) ≡ all → has ≡ all
 each_all one heads bs os i has all past so_far = done has (of_each one (drop i heads) (drop i bs) (drop i os)) all (each_done one heads bs os i past) so_far
-
--- ---- of the lines of a script
-
--- what holds of its layout holds of its lines, wherever its heads are said to begin
-pub of_layout : (P : List Line → List ℕ → Type 0) (ls text : List Line) (bs : List PlainBlock) (own heads : List ℕ) → text ≡ ls → AreHeadLines 1 ls bs own → AreHeadLines 1 ls bs heads → P text own → P ls heads
-of_layout P ls text bs own heads same mine other holds = subst (λ (hs : List ℕ). P ls hs) (heads_once ls bs own heads mine other) (subst (λ (t : List Line). P t own) same holds)

@@ -4,3 +4,5 @@ pub mod Shows
 pub mod Accepting
 pub mod Doubts
 pub mod Whys
+pub mod Layouts
+pub mod Refusing

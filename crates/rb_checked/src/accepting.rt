@@ -148,8 +148,9 @@ fn put_if_left<S: Sink>(
     put_left(sink, place, &block.directive(), first_line(output))
 }
 
-/// Writes which outputs are not accepted.
-pub(crate) fn put_all_left<M: Machine, S: Sink>(
+/// Writes which outputs of the session's script, which has this layout, are picked and not accepted. On a failure of the writer what went out is
+/// a beginning of the text.
+pub fn put_left_errors<M: Machine, S: Sink>(
     sink: &mut S,
     session: &Session<M>,
     layout: &Layout,

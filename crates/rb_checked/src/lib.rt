@@ -25,6 +25,7 @@ mod wanted;
 mod warning;
 mod written;
 
+pub use accepting::put_left_errors;
 pub use answers::{block_at, number_at, output_at};
 pub use errors::{first_line, has_errors, is_unexpected};
 pub use fault::ShowFault;
@@ -33,8 +34,8 @@ pub use laws::{
     matching_scripts_show_nothing, mismatches_are_shown, new_errors_are_left,
     nothing_is_told_unasked, others_stay, reasons_stand_between_outputs, shown_lines_are_of_heads,
 };
-pub use layout::{Layout, layout_of};
-pub use put::{is_quiet, is_same, put_checked, put_left_errors, put_one_mismatch};
+pub use layout::Layout;
+pub use put::{is_quiet, is_same, put_checked, put_one_mismatch, told_of};
 pub use reasons::LineReasons;
 pub use told::Told;
 pub use view::{Shown, View};

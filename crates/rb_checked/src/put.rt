@@ -1,28 +1,22 @@
 //! Writing what is shown of a script.
 
-ghost use Rattle.std.specs.Prelude.{◌≡◌, ◌≢◌, ◌+◌, ◌<◌, ◌≤◌, ℕ, List, [], Option, Err, IfOk, IfSome, IfNone, IsOk, IsTrue, length};
+ghost use Rattle.std.specs.Prelude.{◌≡◌, ◌≢◌, ◌+◌, ◌<◌, ◌≤◌, ℕ, List, [], Option, Err, IfSome, IfNone, IsOk, IsTrue, length};
 ghost use Rattle.rb_script.specs.declared.limits.TheConstants.{MAX_DIRECTIVES};
-ghost use Rattle.rb_script.specs.Lines.{lines};
-ghost use Rattle.rb_script.specs.Reads.{Reads};
-ghost use Rattle.rb_script.specs.HeadLines.{AreHeadLines};
 ghost use Rattle.rb_script.specs.Writes.{Writes};
 ghost use Rattle.rb_replay.specs.Run.{outputs};
 ghost use Rattle.rb_replay.specs.Report.{same_lines, mismatches};
 ghost use Rattle.rb_checked.specs.Checked.{of_first, brief_at, IsFirst};
 ghost use Rattle.rb_checked.specs.Whys.{all_told, told_at, told_text};
-ghost use Rattle.rb_checked.specs.Accepting.{all_left};
 ghost use Rattle.rb_checked.specs.Shows.{Shows, told_of, IsQuiet};
 
-use crate::accepting::put_all_left;
 use crate::answers::{block_at, number_at, output_at};
 use crate::errors::{count_errors, first_line, has_errors, is_unexpected};
 use crate::fault::ShowFault;
 use crate::hint::hint_of;
-use crate::layout::{Layout, layout_of};
+use crate::layout::Layout;
 use crate::reasons::why_at;
 use crate::told::Told;
 use crate::view::{Shown, View};
-use crate::wanted::Wanted;
 use rb_check::{FileLine, Table, put_brief, put_note, put_told_mismatch, put_told_run};
 use rb_machine::Machine;
 use rb_replay::Session;
@@ -165,8 +159,8 @@ fn put_in_brief<M: Machine, S: Sink>(
     }
 }
 
-// What was found of a script.
-fn told<M: Machine>(session: &Session<M>, layout: &Layout) -> Told
+/// What was found of a script.
+pub fn told_of<M: Machine>(session: &Session<M>, layout: &Layout) -> Told
     requires { length layout.now.heads.items ≡ length session.now.script.blocks }
     ensures { result ≡ told_of layout.now.text layout.now.heads.items session.now.script }
 {
@@ -186,91 +180,64 @@ pub fn is_quiet<M: Machine>(session: &Session<M>, shown: Shown) -> bool
     shown != Shown::All && session.mismatches().is_empty() && !has_errors(session)
 }
 
-// What was found of what is shown, once it was written.
-fn shown<F: Copy>(written: Result<(), WriteFault>, found: F) -> Result<F, ShowFault>
+// How it is told that something could not be written.
+fn shown(written: Result<(), WriteFault>) -> Result<(), ShowFault>
     ensures shows { (old new : Option (List ℕ)) (text : List ℕ) → Writes written old new text → Shows result old new text }
-    ensures found { IfOk result (λ was. was ≡ found) }
     ensures all { IsOk written → result ≢ Err ShowFault.Writing }
 {
     match written {
-        Ok(()) => Ok(found),
+        Ok(()) => Ok(()),
         Err(_) => Err(ShowFault::Writing),
     }
 }
 
-/// Writes what is shown of the script of the bytes, and answers what was found: below the lines of each directive's output the reasons that
-/// belong to them, where some are given. Where [`is_quiet`] says so that is nothing, and the call can be spared. On a failure of the writer
-/// what went out is a beginning of the text.
+/// Writes what is shown of the session's script, which has this layout: below the lines of each directive's output the reasons that belong to
+/// them, where some are given. Where [`is_quiet`] says so that is nothing, and the call can be spared. On a failure of
+/// the writer what went out is a beginning of the text.
 pub fn put_checked<M: Machine, S: Sink>(
     alloc: Global,
     sink: &mut S,
     session: &Session<M>,
-    bytes: &[u8],
+    layout: &Layout,
     view: View<'_>,
     whys: &[Lines],
-) -> Result<Told, ShowFault>
-    requires { Reads bytes.now session.now.script }
-    ensures wrote { (heads : List ℕ) → AreHeadLines 1 (lines bytes.now) session.now.script.blocks heads → Shows result (S.held sink.old) (S.held sink.new) (told_text view.entry.shown view.entry.colors (lines bytes.now) view.entry.path.now whys.now heads session.now.script) }
-    ensures told { (heads : List ℕ) → AreHeadLines 1 (lines bytes.now) session.now.script.blocks heads → IfOk result (λ told. told ≡ told_of (lines bytes.now) heads session.now.script) }
+) -> Result<(), ShowFault>
+    requires { length layout.now.heads.items ≡ length session.now.script.blocks }
+    ensures wrote { Shows result (S.held sink.old) (S.held sink.new) (told_text view.entry.shown view.entry.colors layout.now.text view.entry.path.now whys.now layout.now.heads.items session.now.script) }
     ensures all { S.takes_all sink.old → (result ≢ Err ShowFault.Writing) × S.takes_all sink.new }
 {
-    let Ok(layout) = layout_of(alloc, bytes) else {
-        return Err(ShowFault::OutOfMemory);
-    };
     // Before anything is written, so that want of memory leaves no half of a report.
     let Ok(mut table) = Table::new(alloc) else {
         return Err(ShowFault::OutOfMemory);
     };
     let written = match view.shown {
-        Shown::Differing => put_directives(sink, session, &layout, view, false, whys, &mut table),
-        Shown::All => put_directives(sink, session, &layout, view, true, whys, &mut table),
-        Shown::First => put_first(sink, session, &layout, view, whys, &mut table),
-        Shown::Brief => put_in_brief(sink, session, &layout, view.path),
+        Shown::Differing => put_directives(sink, session, layout, view, false, whys, &mut table),
+        Shown::All => put_directives(sink, session, layout, view, true, whys, &mut table),
+        Shown::First => put_first(sink, session, layout, view, whys, &mut table),
+        Shown::Brief => put_in_brief(sink, session, layout, view.path),
     };
-    shown(written, told(session, &layout))
+    shown(written)
 }
 
-/// Writes the directive at an index, which counts from 0, of the script of the bytes as a mismatch, with its reasons, where some are given: how
+/// Writes the directive at an index, which counts from 0, of the session's script as a mismatch, with its reasons, where some are given: how
 /// much is shown of others changes nothing. On a failure of the writer what went out is a beginning of the text.
 pub fn put_one_mismatch<M: Machine, S: Sink>(
     alloc: Global,
     sink: &mut S,
     session: &Session<M>,
-    bytes: &[u8],
+    layout: &Layout,
     view: View<'_>,
     whys: &[Lines],
     index: usize,
 ) -> Result<(), ShowFault>
-    requires reads { Reads bytes.now session.now.script }
+    requires count { length layout.now.heads.items ≡ length session.now.script.blocks }
     requires within { index < length session.now.script.blocks }
-    ensures wrote { (heads : List ℕ) → AreHeadLines 1 (lines bytes.now) session.now.script.blocks heads → Shows result (S.held sink.old) (S.held sink.new) (told_at view.entry.colors view.entry.path.now whys.now heads session.now.script (index + 1)) }
+    ensures wrote { Shows result (S.held sink.old) (S.held sink.new) (told_at view.entry.colors view.entry.path.now whys.now layout.now.heads.items session.now.script (index + 1)) }
     ensures all { S.takes_all sink.old → (result ≢ Err ShowFault.Writing) × S.takes_all sink.new }
 {
-    let Ok(layout) = layout_of(alloc, bytes) else {
-        return Err(ShowFault::OutOfMemory);
-    };
     let Ok(mut table) = Table::new(alloc) else {
         return Err(ShowFault::OutOfMemory);
     };
-    let written = put_mismatch_at(sink, session, &layout, view, whys, index, &mut table);
-    shown(written, ())
-}
-
-/// Writes which outputs of the script of the bytes are picked and not accepted. On a failure of the writer what went out is a beginning of the text.
-pub fn put_left_errors<M: Machine, S: Sink>(
-    alloc: Global,
-    sink: &mut S,
-    session: &Session<M>,
-    bytes: &[u8],
-    path: &[u8],
-    wanted: Wanted<'_>,
-) -> Result<(), ShowFault>
-    requires { Reads bytes.now session.now.script }
-    ensures wrote { (heads : List ℕ) → AreHeadLines 1 (lines bytes.now) session.now.script.blocks heads → Shows result (S.held sink.old) (S.held sink.new) (all_left wanted.entry (lines bytes.now) path.now heads session.now.script.blocks (outputs session.now.script)) }
-    ensures all { S.takes_all sink.old → (result ≢ Err ShowFault.Writing) × S.takes_all sink.new }
-{
-    let Ok(layout) = layout_of(alloc, bytes) else {
-        return Err(ShowFault::OutOfMemory);
-    };
-    shown(put_all_left(sink, session, &layout, path, wanted), ())
+    let written = put_mismatch_at(sink, session, layout, view, whys, index, &mut table);
+    shown(written)
 }

@@ -3,18 +3,15 @@
 //! Where an empty line is missing, the next directive is expected output, and accepting would take it away; where a line `----` is missing,
 //! it is input that nobody reads.
 
-ghost use Rattle.std.specs.Prelude.{◌≡◌, ◌++◌, [], ◌+◌, ◌^◌, ◌<◌, ◌==◌, ℕ, List, IfOk, length, drop, slice_index_or};
+ghost use Rattle.std.specs.Prelude.{◌≡◌, ◌++◌, [], ◌+◌, ◌^◌, ◌<◌, ◌==◌, IfOk, length, drop, slice_index_or};
 ghost use Rattle.std.specs.List.{list_any};
 ghost use Rattle.std.specs.Str.{bytes_eq};
-ghost use Rattle.rb_script.specs.Lines.{lines};
-ghost use Rattle.rb_script.specs.Reads.{Reads};
-ghost use Rattle.rb_script.specs.HeadLines.{AreHeadLines};
 ghost use Rattle.rb_replay.specs.Run.{outputs};
 ghost use Rattle.rb_checked.specs.Doubts.{reads_alone, looks_like_directive, input_doubt, expected_doubt, doubt_of, one_warning, warnings_from, takes_input, block_warnings, last_line, all_warnings};
 
 use crate::answers::{block_at, number_at, output_at};
 use crate::errors::is_lead;
-use crate::layout::{Layout, layout_of};
+use crate::layout::Layout;
 use crate::names::begins_with_name;
 use crate::part::BlockPart;
 use crate::put::is_same;
@@ -209,20 +206,8 @@ fn last_line(text: &Lines, heads: &[usize], index: usize) -> usize
     }
 }
 
-/// The lines that look like a slip, of the session's script, whose bytes these are, in order.
+/// The lines that look like a slip, of the session's script, which has this layout, in order.
 pub fn warnings<M: Machine>(
-    alloc: Global,
-    session: &Session<M>,
-    bytes: &[u8],
-) -> Result<Vec<Warning>, AllocError>
-    requires { Reads bytes.now session.now.script }
-    ensures { (heads : List ℕ) → AreHeadLines 1 (lines bytes.now) session.now.script.blocks heads → IfOk result (λ found. found.items ≡ all_warnings (lines bytes.now) heads session.now.script.blocks (outputs session.now.script)) }
-{
-    let layout = layout_of(alloc, bytes)?;
-    all_warnings(alloc, session, &layout)
-}
-
-fn all_warnings<M: Machine>(
     alloc: Global,
     session: &Session<M>,
     layout: &Layout,

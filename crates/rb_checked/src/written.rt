@@ -1,17 +1,21 @@
 //! The text that accepting writes.
 
-ghost use Rattle.std.specs.Prelude.{◌≡◌, ℕ, List, IfOk, IsTrue, length};
-ghost use Rattle.rb_script.specs.Lines.{lines};
+ghost use Rattle.std.specs.Prelude.{◌≡◌, IfOk, IfErr, IsTrue, length, nat_lt};
+ghost use Rattle.rb_script.specs.declared.limits.TheConstants.{MAX_LINE};
 ghost use Rattle.rb_script.specs.Script.{PlainScript, text, with_outputs};
+ghost use Rattle.rb_script.specs.declared.edit.Edit.TheVariants.{Accept};
+ghost use Rattle.rb_script.specs.Edits.{edited, EditFails};
 ghost use Rattle.rb_script.specs.Reads.{Reads};
 ghost use Rattle.rb_script.specs.Valid.{IsScript};
-ghost use Rattle.rb_script.specs.HeadLines.{AreHeadLines};
 ghost use Rattle.rb_replay.specs.Run.{outputs};
 ghost use Rattle.rb_checked.specs.declared.written.AcceptFault.TheVariants.{OutOfMemory};
-ghost use Rattle.rb_checked.specs.Accepting.{accepted, left_heads};
+ghost use Rattle.rb_checked.specs.Accepting.{accepted, accepted_of, left_heads};
+ghost use Rattle.rb_checked.specs.Layouts.{IsLayout};
+ghost use Rattle.rb_checked.specs.Refusing.{has_long_line, bad_head, TellsAcceptFault};
 
 use crate::accepting::{accepted_of, left_heads};
-use crate::layout::{Layout, layout_of};
+use crate::answers::number_at;
+use crate::layout::Layout;
 use crate::splice::spliced;
 use crate::text::is_same_text;
 use crate::wanted::Wanted;
@@ -99,6 +103,8 @@ fn expecting(
     requires { (s : PlainScript) → Reads bytes.now s → length expected.now ≡ length s.blocks }
     ensures made { (s : PlainScript) → Reads bytes.now s → IfOk result (λ new. new ≡ with_outputs s expected.now) }
     ensures valid { IfOk result (λ new. IsScript new) }
+    // Memory apart, the edit itself is refused.
+    ensures refused { (s : PlainScript) → Reads bytes.now s → IfErr result (λ fault. EditFails fault (edited s Accept expected.now)) }
 {
     match Script::read(alloc, bytes) {
         Ok(script) => script.edited(&Edit::Accept, expected),
@@ -106,24 +112,48 @@ fn expecting(
     }
 }
 
+fn is_long(line: &[u8]) -> bool
+    ensures { result ≡ nat_lt MAX_LINE (length line.now) }
+{
+    line.len() > MAX_LINE
+}
+
 // Whether a line is longer than one of a script may be.
-fn has_long_line(lines: &Lines) -> bool {
+fn has_long_line(lines: &Lines) -> bool
+    ensures { result ≡ has_long_line lines.now }
+{
     for i in 0..lines.len() {
-        if lines.line(i).len() > MAX_LINE {
+        if is_long(lines.line(i)) {
             return true;
         }
     }
     false
 }
 
-// Which of the lists can't be expected, by the line of its head.
-fn bad_output(expected: &ChunkedList<Lines>, heads: &[usize]) -> AcceptFault {
+// The line of the first head whose expectation has such a line; 0 where none has.
+fn bad_head(expected: &ChunkedList<Lines>, heads: &[usize]) -> usize
+    requires { length heads.now ≡ length expected.now }
+    ensures { result ≡ bad_head heads.now expected.now }
+{
     for i in 0..expected.len() {
+        let line = number_at(heads, i);
         if has_long_line(expected.at(i)) {
-            return AcceptFault::BadOutput(heads.get(i).copied().unwrap_or(0));
+            return line;
         }
     }
-    AcceptFault::BadOutput(0)
+    0
+}
+
+// Why an edit that was refused accepts nothing.
+fn refusal(fault: EditFault, expected: &ChunkedList<Lines>, heads: &[usize]) -> AcceptFault
+    requires { length heads.now ≡ length expected.now }
+    ensures { (s : PlainScript) → EditFails fault (edited s Accept expected.now) → TellsAcceptFault result heads.now s expected.now }
+{
+    match fault {
+        EditFault::BadExpectation => AcceptFault::BadOutput(bad_head(expected, heads)),
+        EditFault::TooLong => AcceptFault::TooLong,
+        _ => AcceptFault::OutOfMemory,
+    }
 }
 
 // The text, where the script's layout is known.
@@ -136,34 +166,35 @@ fn accepted_text<M: Machine>(
 ) -> Result<Vec<u8>, AcceptFault>
     requires reads { Reads bytes.now session.now.script }
     requires count { length layout.now.heads.items ≡ length session.now.script.blocks }
-    ensures { IfOk result (λ made. Reads made.items (accepted wanted.entry layout.now.text layout.now.heads.items session.now.script)) }
+    ensures reads { IfOk result (λ made. Reads made.items (accepted wanted.entry layout.now.text layout.now.heads.items session.now.script)) }
+    ensures refused { IfErr result (λ fault. TellsAcceptFault fault layout.now.heads.items session.now.script (accepted_of wanted.entry layout.now.text layout.now.heads.items session.now.script.blocks (outputs session.now.script))) }
 {
     let heads = layout.heads.as_slice();
     let expected = accepted_of(alloc, session, heads, &layout.text, wanted)?;
     let own = spliced(alloc, session, bytes, heads, &expected)?;
     match expecting(alloc, bytes, &expected) {
         Ok(script) => Ok(chosen(alloc, own, &script)?),
-        Err(EditFault::BadExpectation) => Err(bad_output(&expected, heads)),
-        Err(EditFault::TooLong) => Err(AcceptFault::TooLong),
-        Err(_) => Err(AcceptFault::OutOfMemory),
+        Err(fault) => Err(refusal(fault, &expected, heads)),
     }
 }
 
-/// Accepts outputs of the session's script, whose bytes these are: of the directives that are picked all but new errors, or these too. The text is the script's own
-/// bytes, but for the lines of the expectations that change; where that would not read as the script, it is the canonical text.
+/// Accepts outputs of the session's script, which has this layout in its bytes: of the directives that are picked all but new errors, or these too. The text is
+/// the script's own bytes, but for the lines of the expectations that change; where that would not read as the script, it is the canonical text.
 pub fn accept<M: Machine>(
     alloc: Global,
     session: &Session<M>,
     bytes: &[u8],
+    layout: &Layout,
     wanted: Wanted<'_>,
 ) -> Result<Accepted, AcceptFault>
-    requires { Reads bytes.now session.now.script }
+    requires { IsLayout bytes.now session.now.script layout.now }
     // The text reads as the script with what is accepted.
-    ensures reads { (heads : List ℕ) → AreHeadLines 1 (lines bytes.now) session.now.script.blocks heads → IfOk result (λ made. Reads made.text.items (accepted wanted.entry (lines bytes.now) heads session.now.script)) }
+    ensures reads { IfOk result (λ made. Reads made.text.items (accepted wanted.entry layout.now.text layout.now.heads.items session.now.script)) }
     // The others are named.
-    ensures left { (heads : List ℕ) → AreHeadLines 1 (lines bytes.now) session.now.script.blocks heads → IfOk result (λ made. made.left.items ≡ left_heads wanted.entry (lines bytes.now) heads session.now.script.blocks (outputs session.now.script)) }
+    ensures left { IfOk result (λ made. made.left.items ≡ left_heads wanted.entry layout.now.text layout.now.heads.items session.now.script.blocks (outputs session.now.script)) }
+    // A script is refused only where what is accepted does not fit into it.
+    ensures refused { IfErr result (λ fault. TellsAcceptFault fault layout.now.heads.items session.now.script (accepted_of wanted.entry layout.now.text layout.now.heads.items session.now.script.blocks (outputs session.now.script))) }
 {
-    let layout = layout_of(alloc, bytes)?;
     let left = left_heads(
         alloc,
         session,
@@ -171,6 +202,6 @@ pub fn accept<M: Machine>(
         &layout.text,
         wanted,
     )?;
-    let text = accepted_text(alloc, session, bytes, &layout, wanted)?;
+    let text = accepted_text(alloc, session, bytes, layout, wanted)?;
     Ok(Accepted { text, left })
 }

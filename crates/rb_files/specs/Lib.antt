@@ -2,3 +2,4 @@ pub mod Finds
 pub mod Ignored
 pub mod Places
 pub mod PathErrors
+pub mod Names

@@ -1,9 +1,10 @@
 //! The place of a real file.
 
-ghost use Rattle.std.specs.Prelude.{◌≡◌, None, MatchResult, option_map, string_bytes};
+ghost use Rattle.std.specs.Prelude.{◌≡◌, ◌↔◌, None, IsOk, MatchResult, option_map, string_bytes};
 ghost use Rattle.rb_files.specs.PathErrors.{IsOfReading};
 
 use crate::entry::{folder_of, followed};
+use crate::file_look::FileLook;
 use crate::file_place::FilePlace;
 use crate::path_error::PathError;
 use std::fs::{Metadata, OpenFile, OpenOptions};
@@ -100,20 +101,19 @@ impl<'a, R: Files + AllocGlobal> Beside<'a, R> {
     // Whether what stands in the place is still what was read.
     fn check_unchanged(&self) -> io::Result<()> {
         let now = fs::symlink_metadata(self.rt, self.target.as_str())?;
-        if is_same(&now, &self.seen) {
-            Ok(())
-        } else {
-            Err(io::Error::other("the file has changed since it was read"))
-        }
+        unchanged(&FileLook::of(&now), &FileLook::of(&self.seen))
     }
 }
 
-fn is_same(now: &Metadata, seen: &Metadata) -> bool {
-    now.dev() == seen.dev()
-        && now.ino() == seen.ino()
-        && now.len() == seen.len()
-        && now.mtime() == seen.mtime()
-        && now.mtime_nsec() == seen.mtime_nsec()
+// Says where a file isn't what it was.
+fn unchanged(now: &FileLook, seen: &FileLook) -> io::Result<()>
+    ensures { IsOk result ↔ now.now ≡ seen.now }
+{
+    if now.is_same(seen) {
+        Ok(())
+    } else {
+        Err(io::Error::other("the file has changed since it was read"))
+    }
 }
 
 impl<F: Write + OpenFile + Drop> NewFile<F> {

@@ -3,14 +3,16 @@
 //! A script is known by the folder that it stands in and its name there, and a folder by its number in the file system: so each is found
 //! once, whatever paths and links lead to it. Two names of one file by hard links are two scripts, since each may be given a text of its own.
 
-ghost use Rattle.std.specs.Prelude.{IfErr};
+ghost use Rattle.std.specs.Prelude.{◌≡◌, IfErr};
+ghost use Rattle.rb_files.specs.Names.{folder_id, folder_of, name_of};
 ghost use Rattle.rb_files.specs.PathErrors.{IsOfReading};
 
+use crate::file_look::FileLook;
 use crate::path_error::PathError;
 use rb_check::Failure;
 use std::fs;
 use std::fs::Metadata;
-use std::os::unix::fs::{FileTypeExt, MetadataExt};
+use std::os::unix::fs::FileTypeExt;
 use std::path::Path;
 use std::rt::Files;
 
@@ -25,10 +27,12 @@ pub(crate) struct FolderId {
 }
 
 impl FolderId {
-    fn of(metadata: &Metadata) -> FolderId {
+    fn of(look: &FileLook) -> FolderId
+        ensures { result ≡ folder_id look.now }
+    {
         FolderId {
-            device: metadata.dev(),
-            number: metadata.ino(),
+            device: look.device,
+            number: look.number,
         }
     }
 }
@@ -59,7 +63,7 @@ pub(crate) fn entry_at<R: Files + AllocGlobal>(rt: &R, path: &str) -> Result<Pat
     let target = followed(rt, path)?;
     let metadata = looked_at(rt, target.as_str())?;
     if metadata.is_dir() {
-        Ok(PathEntry::Folder(FolderId::of(&metadata)))
+        Ok(PathEntry::Folder(FolderId::of(&FileLook::of(&metadata))))
     } else if metadata.is_file() {
         Ok(PathEntry::File(file_id(rt, target.as_str())?))
     } else {
@@ -88,7 +92,8 @@ fn no_file_at<R: Files>(rt: &R, path: &str) -> Option<Failure> {
 fn file_id<R: Files + AllocGlobal>(rt: &R, target: &str) -> Result<FileId, PathError>
     ensures { IfErr result IsOfReading }
 {
-    let folder = FolderId::of(&looked_at(rt, folder_of(target))?);
+    let folder = looked_at(rt, folder_of(target))?;
+    let folder = FolderId::of(&FileLook::of(&folder));
     let name = String::from_str(rt.alloc(), name_of(target))?;
     Ok(FileId { folder, name })
 }
@@ -132,15 +137,19 @@ fn next_link<R: Files + AllocGlobal>(rt: &R, link: &str) -> Result<String, PathE
 }
 
 /// The folder that the path's last name stands in.
-pub(crate) fn folder_of(path: &str) -> &str {
+pub(crate) fn folder_of(path: &str) -> &str
+    ensures { result.now ≡ folder_of path.now }
+{
     match Path::new(path).parent() {
         Some(folder) if !folder.as_str().is_empty() => folder.as_str(),
         _ => ".",
     }
 }
 
-// The path's last name.
-fn name_of(path: &str) -> &str {
+/// The last name of a path, or all of it if it has none.
+pub fn name_of(path: &str) -> &str
+    ensures { result.now ≡ name_of path.now }
+{
     match Path::new(path).file_name() {
         Some(name) => name,
         None => path,

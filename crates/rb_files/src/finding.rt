@@ -9,6 +9,7 @@ ghost use Rattle.std.specs.List.{list_any};
 ghost use Rattle.std.specs.Str.{bytes_eq};
 ghost use Rattle.rb_files.specs.Finds.{AreTold, IsFound, losses, paths_of};
 ghost use Rattle.rb_files.specs.Ignored.{ignored_by};
+ghost use Rattle.rb_files.specs.Names.{is_script_name};
 ghost use Rattle.rb_files.specs.PathErrors.{IsOfReading};
 
 use crate::entry::{FileId, FolderId, PathEntry, entry_at};
@@ -308,8 +309,11 @@ fn ignored_path(alloc: Global, folder: &str) -> Result<String, AllocError> {
 }
 
 // Whether a file of this name in a folder is a script.
-fn is_script_name(name: &str) -> bool {
-    name.ends_with(".txt")
+fn is_script_name(name: &str) -> bool
+    ensures { result ≡ is_script_name name.now }
+{
+    let bytes = name.as_bytes();
+    &bytes[bytes.len().saturating_sub(4)..] == b".txt".as_slice()
 }
 
 // What vanishes until its turn comes is known to have been a folder.

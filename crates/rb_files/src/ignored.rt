@@ -1,6 +1,6 @@
 //! The file in a folder that names what isn't looked at.
 
-ghost use Rattle.std.specs.Prelude.{◌≡◌, IfErr, IfOk, map, option_map, string_bytes};
+ghost use Rattle.std.specs.Prelude.{◌≡◌, ◌↔◌, ◌≤◌, IfErr, IfOk, IsOk, map, option_map, string_bytes};
 ghost use Rattle.std.specs.Io.BufRead.{strip_last};
 ghost use Rattle.std.specs.Str.Lines.{lines};
 ghost use Rattle.rb_files.specs.Ignored.{ignored_by, named_by, slash};
@@ -17,6 +17,9 @@ use std::{fs, io};
 
 /// Its name.
 pub(crate) const IGNORED: &str = ".raftbenchignore";
+
+/// How many bytes it may have.
+pub const MAX_IGNORED: u64 = 1_048_576;
 
 /// The text of the folder's file; none, where it has no such file, or lets nobody see whether it has.
 pub(crate) fn ignored_in<R: Files + AllocGlobal>(
@@ -40,15 +43,27 @@ fn is_unseen(error: io::Error) -> bool {
 fn text_of<R: Files + AllocGlobal>(rt: &R, path: &str) -> Result<Option<String>, PathError>
     ensures { IfErr result IsOfReading }
 {
-    let file = match opened(rt, path) {
-        Ok((file, _)) => file,
+    let (file, metadata) = match opened(rt, path) {
+        Ok(opened) => opened,
         Err(error) if error.failure == Failure::NotFound => return Ok(None),
         Err(error) => return Err(error),
     };
+    within_limit(metadata.len())?;
     match io::read_to_string(rt.alloc(), file) {
         Ok(text) => Ok(Some(text)),
         Err(error) => Err(PathError::of_reading(error)),
     }
+}
+
+// Whether so many bytes are read of it. It is opened with this length, and no more is read.
+fn within_limit(len: u64) -> Result<(), PathError>
+    ensures limit { IsOk result ↔ len ≤ MAX_IGNORED }
+    ensures why { IfErr result IsOfReading }
+{
+    if len <= MAX_IGNORED {
+        return Ok(());
+    }
+    Err(PathError::of_reading(io::Error::other("it has more than 1,048,576 bytes")))
 }
 
 /// The paths that the text of the folder's file names.

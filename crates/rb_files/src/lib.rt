@@ -6,6 +6,7 @@
 
 mod beside;
 mod entry;
+mod file_look;
 mod file_place;
 mod filter;
 mod finding;
@@ -15,6 +16,7 @@ mod opening;
 mod path_error;
 
 pub use beside::Beside;
+pub use entry::name_of;
 pub use file_place::{FilePlace, Unreplaced, replace};
 pub use finding::{Found, Lost, find};
 pub use opening::opened;

@@ -1,6 +1,7 @@
 //! The names in a folder.
 
-ghost use Rattle.std.specs.Prelude.{IfErr};
+ghost use Rattle.std.specs.Prelude.{◌≡◌, ◌++◌, ◌∷◌, [], true, false, IfErr, IfOk, IsUtf8, map, string_bytes};
+ghost use Rattle.rb_files.specs.Names.{is_hidden};
 ghost use Rattle.rb_files.specs.PathErrors.{IsOfReading};
 
 use crate::path_error::PathError;
@@ -39,9 +40,13 @@ pub(crate) fn listed<R: Files + AllocGlobal>(rt: &R, folder: &str) -> Result<Lis
 }
 
 impl Listing {
-    // Names that begin with a dot are hidden, as they are from `*`; the empty one is what follows the last name.
-    fn add(&mut self, alloc: Global, name: &[u8]) -> Result<(), AllocError> {
-        if name.is_empty() || name.starts_with(b".") {
+    // Adds a name that isn't hidden. The empty one is what follows the last name.
+    fn add(&mut self, alloc: Global, name: &[u8]) -> Result<(), AllocError>
+        ensures hidden { is_hidden name.now ≡ true → IfOk result (λ _. self.new ≡ self.old) }
+        ensures text { is_hidden name.now ≡ false → IsUtf8 name.now → IfOk result (λ _. map string_bytes self.new.names.items ≡ map string_bytes self.old.names.items ++ name.now ∷ []) }
+        ensures strange { is_hidden name.now ≡ false → (IsUtf8 name.now → ⊥) → IfOk result (λ _. map (λ v. v.items) self.new.strange.items ≡ map (λ v. v.items) self.old.strange.items ++ name.now ∷ []) }
+    {
+        if is_hidden(name) {
             return Ok(());
         }
         match str::from_utf8(name) {
@@ -49,6 +54,15 @@ impl Listing {
             Err(_) => self.strange.push(Vec::from_slice(alloc, name)?)?,
         }
         Ok(())
+    }
+}
+
+fn is_hidden(name: &[u8]) -> bool
+    ensures { result ≡ is_hidden name.now }
+{
+    match name {
+        [first, ..] => *first == b'.',
+        [] => true,
     }
 }
 

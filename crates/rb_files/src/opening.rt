@@ -1,25 +1,28 @@
 //! Opening a script.
 
-ghost use Rattle.std.specs.Prelude.{MatchResult};
-ghost use Rattle.std.specs.Fs.{IsFile, file_type};
+ghost use Rattle.std.specs.Prelude.{◌≡◌, IfOk, MatchResult};
+ghost use Rattle.std.specs.Fs.{IsFile, file_type, metadata_len};
+ghost use Rattle.std.specs.Io.Take.{take_limit};
 ghost use Rattle.rb_files.specs.PathErrors.{IsOfOpening};
 
 use crate::path_error::PathError;
 use rb_check::Failure;
 use std::fs;
 use std::fs::{File, Metadata, OpenFile};
+use std::io::{Read, Take};
 use std::rt::Files;
 
 /// The file at the path, opened for reading, and what the system says of it.
 ///
 /// A pipe would be waited for, and a device may give bytes without end: so it is looked at before it is opened, and the file that was
-/// opened once more.
+/// opened once more. No more is read than the bytes that it has then: files of /proc say that they have none, and some of them are waited for.
 ///
 /// # Errors
 ///
 /// `NoFile` where it is no regular file; else why it couldn't be looked at or opened.
-pub fn opened<R: Files>(rt: &R, path: &str) -> Result<(R::File, Metadata), PathError>
-    ensures { MatchResult result (λ opened. IsFile (file_type opened.1)) IsOfOpening }
+pub fn opened<R: Files>(rt: &R, path: &str) -> Result<(Take<R::File>, Metadata), PathError>
+    ensures file { MatchResult result (λ opened. IsFile (file_type opened.1)) IsOfOpening }
+    ensures limit { IfOk result (λ opened. take_limit opened.0 ≡ metadata_len opened.1) }
 {
     match fs::metadata(rt, path) {
         Ok(metadata) if metadata.is_file() => {}
@@ -31,7 +34,7 @@ pub fn opened<R: Files>(rt: &R, path: &str) -> Result<(R::File, Metadata), PathE
         Err(error) => return Err(PathError::of_reading(error)),
     };
     match file.metadata() {
-        Ok(metadata) if metadata.is_file() => Ok((file, metadata)),
+        Ok(metadata) if metadata.is_file() => Ok((file.take(metadata.len()), metadata)),
         Ok(_) => Err(PathError::alone(Failure::NoFile)),
         Err(error) => Err(PathError::of_reading(error)),
     }

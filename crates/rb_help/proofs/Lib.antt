@@ -1,2 +1,3 @@
 pub mod DistanceLaws
 pub mod NearLaws
+pub mod FormLaws

@@ -3,3 +3,4 @@ pub mod Distance
 pub mod Manual
 pub mod Nearest
 pub mod Suggestions
+pub mod Forms

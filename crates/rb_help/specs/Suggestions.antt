@@ -1,4 +1,4 @@
--- Which word was probably meant in a directive that is refused. (This project's.)
+-- What was probably meant by a directive that is refused. (This project's.)
 use Rattle.std.specs.Prelude.{Bool, if◌then◌else◌, List, [], ◌∷◌, ◌++◌, codes, Option, None, Result, Ok, Err}
 use Rattle.std.specs.List.{list_any}
 use Rattle.std.specs.Str.{bytes_eq}
@@ -10,7 +10,8 @@ use Rattle.rb_directive.specs.Requests.{request}
 use Rattle.rb_help.specs.Manual.{pages, keys}
 use Rattle.rb_help.specs.Choices.{levels, choices_of}
 use Rattle.rb_help.specs.Distance.{Word}
-use Rattle.rb_help.specs.Nearest.{names_of, keys_of, nearest}
+use Rattle.rb_help.specs.Forms.{form_of_fault, lacking}
+use Rattle.rb_help.specs.Nearest.{names_of, keys_of, nearest, or_else}
 
 -- the word is one of these
 abbrev pub is_among : Word → List Word → Bool
@@ -37,9 +38,18 @@ of_fault d (errors.UnsupportedOption key) = nearest key (keys_of d.name keys ++ 
 of_fault d (errors.BadArgument key) = of_arguments key d.args
 of_fault d other = None
 
+-- the word that stands in the place of one that is wrong
+abbrev pub word_of_reading : PlainDirective → Result Asked DirectiveError → Option Word
+word_of_reading d (Ok asked) = None
+word_of_reading d (Err fault) = of_fault d fault
+
+unfoldable pub suggested_word : PlainDirective → Option Word
+suggested_word d = word_of_reading d (request d)
+
+-- that word; where none is near, how the directive is written
 abbrev pub of_reading : PlainDirective → Result Asked DirectiveError → Option Word
-of_reading d (Ok asked) = None
-of_reading d (Err fault) = of_fault d fault
+of_reading d (Ok asked) = lacking d
+of_reading d (Err fault) = or_else (of_fault d fault) (form_of_fault d fault)
 
 unfoldable pub suggested : PlainDirective → Option Word
 suggested d = of_reading d (request d)

@@ -5,12 +5,13 @@
 //!
 //! A name is near another where a letter or two make the one from the other, and not all letters are others. [`suggested`] looks at what is
 //! wrong with a directive: its name, the key of an option, or a value of which there are only some,
-//! those of [`choices_of`]. It takes no memory.
+//! those of [`choices_of`]. Where no word is near, it says how the directive is written, if that is often written otherwise. It takes no memory.
 #![tactic(auto)]
 
 mod argument;
 mod choices;
 mod distance;
+mod forms;
 mod keys;
 mod laws;
 mod nearest;
@@ -26,4 +27,4 @@ pub use laws::{
 pub use nearest::{Known, nearest_name};
 pub use page::{page_of, put_manual};
 pub use pages::PAGES;
-pub use suggest::suggested;
+pub use suggest::{suggested, suggested_word};

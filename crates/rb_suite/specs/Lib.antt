@@ -6,3 +6,6 @@ pub mod Counts
 pub mod Endings
 pub mod Place
 pub mod Reasons
+pub mod Came
+pub mod Reviews
+pub mod Visible

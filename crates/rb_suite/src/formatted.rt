@@ -1,9 +1,6 @@
 //! What programs are told of a script that ran.
 
-ghost use Rattle.std.specs.Prelude.{◌≡◌, ◌++◌, ℕ, List, OnOk, IfOk, length};
-ghost use Rattle.rb_script.specs.Lines.{lines};
-ghost use Rattle.rb_script.specs.Reads.{Reads};
-ghost use Rattle.rb_script.specs.HeadLines.{AreHeadLines};
+ghost use Rattle.std.specs.Prelude.{◌≡◌, ◌++◌, OnOk, IfOk, length};
 ghost use Rattle.rb_script.specs.Tokens.{plain};
 ghost use Rattle.rb_check.specs.Heads.{head_text};
 ghost use Rattle.rb_suite.specs.Formats.{differing_text, directive_text, error_text, script_text};
@@ -13,9 +10,7 @@ use crate::format::Format;
 use crate::object::add_object;
 use crate::piece::CommandPiece;
 use rb_check::{FileLine, Table, put_head};
-use rb_checked::{
-    Layout, block_at, first_line, is_same, is_unexpected, layout_of, number_at, output_at,
-};
+use rb_checked::{Layout, block_at, first_line, is_same, is_unexpected, number_at, output_at};
 use rb_machine::Machine;
 use rb_replay::Session;
 use rb_script::{Block, DirectiveRef, Lines, Through};
@@ -132,7 +127,13 @@ fn add_directives<M: Machine>(
     Ok(())
 }
 
-fn formatted_of<M: Machine>(
+/// What is told of the session's script, which has this layout: each directive whose output is not the expected one, and each that expects
+/// an error which no comment says is meant, in their order. Where there are none it is empty.
+///
+/// # Errors
+///
+/// Where memory was refused.
+pub(crate) fn formatted<M: Machine>(
     alloc: Global,
     format: Format,
     session: &Session<M>,
@@ -156,24 +157,4 @@ fn formatted_of<M: Machine>(
         &mut table,
     )?;
     Ok(text)
-}
-
-/// What is told of the session's script, whose bytes these are: each directive whose output is not the expected one, and each that expects
-/// an error which no comment says is meant, in their order. Where there are none it is empty.
-///
-/// # Errors
-///
-/// Where memory was refused.
-pub(crate) fn formatted<M: Machine>(
-    alloc: Global,
-    format: Format,
-    session: &Session<M>,
-    bytes: &[u8],
-    path: &[u8],
-) -> Result<Vec<u8>, AllocError>
-    requires { Reads bytes.now session.now.script }
-    ensures { (heads : List ℕ) → AreHeadLines 1 (lines bytes.now) session.now.script.blocks heads → IfOk result (λ made. made.items ≡ script_text format (lines bytes.now) path.now heads session.now.script) }
-{
-    let layout = layout_of(alloc, bytes)?;
-    formatted_of(alloc, format, session, &layout, path)
 }

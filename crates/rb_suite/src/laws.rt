@@ -1,9 +1,11 @@
 //! Laws of what programs are told.
 
-ghost use Rattle.std.specs.Prelude.{◌≡◌, ◌==◌, ◌&&◌, ℕ, true, not, nat_le, nat_lt, List};
+ghost use Rattle.std.specs.Prelude.{◌≡◌, ◌==◌, ◌&&◌, ◌||◌, ℕ, true, not, nat_le, nat_lt, List};
 ghost use Rattle.std.specs.List.{flat_map, list_all};
 ghost use Rattle.rb_text.specs.Json.{ascii};
+ghost use Rattle.rb_suite.specs.declared.visible.Showing.TheVariants.{Visible};
 ghost use Rattle.rb_suite.specs.Escapes.{in_message, in_property};
+ghost use Rattle.rb_suite.specs.Visible.{acts, text_shown};
 
 /// What stands between quotes is of ASCII, without control characters: so an object is a line, whatever bytes a script has.
 pub fn objects_are_ascii()
@@ -15,4 +17,9 @@ pub fn objects_are_ascii()
 pub fn commands_are_lines()
     ensures messages { (bytes : List ℕ) → list_all (λ (b : ℕ). not (b == 10) && not (b == 13)) (flat_map in_message bytes) ≡ true }
     ensures properties { (bytes : List ℕ) → list_all (λ (b : ℕ). not (b == 10) && not (b == 13) && not (b == 58) && not (b == 44)) (flat_map in_property bytes) ≡ true }
+{}
+
+/// What goes out by numbers has printable ASCII, tabs and ends of lines, and nothing else.
+pub fn visible_texts_act_in_nothing()
+    ensures { (bytes : List ℕ) → list_all (λ (b : ℕ). (b == 10) || not (acts b)) (text_shown Visible bytes) ≡ true }
 {}

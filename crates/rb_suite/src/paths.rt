@@ -64,6 +64,7 @@ pub fn check<T: Runner, R: Files + Input + Print + Clock + AllocGlobal, E: Write
 // Tells of what was not found.
 fn tell_lost<W: Write + Drop, E: Write + Drop>(found: &Found, report: &mut Report<W, E>) {
     for lost in &found.lost {
+        report.heed(&lost.path, None);
         report.fail(&lost.path, lost.error);
     }
     if found.is_cut {

@@ -1,13 +1,14 @@
 //! Which directives of a script are to be accepted, where lines are named.
 
-ghost use Rattle.rb_script.specs.Reads.{Reads};
+ghost use Rattle.std.specs.Prelude.{◌≡◌};
 
 use crate::check_request::CheckRequest;
 use crate::place::place_at;
 use crate::report::Report;
 use crate::subject::Subject;
+use crate::system::System;
 use crate::target::Target;
-use rb_checked::{Picked, layout_of};
+use rb_checked::Picked;
 use rb_files::PathError;
 use rb_machine::Machine;
 use std::alloc::{AllocError, Global};
@@ -16,21 +17,23 @@ use std::io::Write;
 
 /// The lines of the heads of the script's directives that are named to be accepted, in the order in which they are; none where all of it is,
 /// or nothing is accepted. A directive whose output is the expected one already is told.
-pub(crate) fn named_heads<M: Machine, W: Write + Drop, E: Write + Drop>(
-    alloc: Global,
+pub(crate) fn named_heads<M: Machine, S: System, W: Write + Drop, E: Write + Drop>(
+    system: &S,
     asked: &CheckRequest<'_>,
     subject: &Subject<'_, M>,
     report: &mut Report<W, E>,
 ) -> Result<Option<Vec<usize>>, PathError>
-    requires { Reads subject.now.text.now.bytes.items subject.now.session.now.script }
+    ensures { report.new.told ≡ report.old.told }
 {
     if !asked.accepts {
         return Ok(None);
     }
-    let Some(lines) = named_lines(alloc, asked.targets, subject.path)? else {
+    let alloc = system.alloc();
+    let Some(lines) = named_lines(system, asked.targets, subject.path)? else {
         return Ok(None);
     };
-    Ok(Some(heads_of(alloc, &lines, subject, report)?))
+    let heads = subject.layout.heads.as_slice();
+    Ok(Some(heads_at(alloc, &lines, heads, subject, report)?))
 }
 
 /// The directives of these heads; all of them, where there are none.
@@ -41,26 +44,15 @@ pub(crate) fn picked_of(heads: &Option<Vec<usize>>) -> Picked<'_> {
     }
 }
 
-// The heads that the lines name.
-fn heads_of<M: Machine, W: Write + Drop, E: Write + Drop>(
-    alloc: Global,
-    lines: &[usize],
-    subject: &Subject<'_, M>,
-    report: &mut Report<W, E>,
-) -> Result<Vec<usize>, PathError> {
-    let layout = layout_of(alloc, &subject.text.bytes)?;
-    heads_at(alloc, lines, &layout.heads, subject, report)
-}
-
-// The lines that are named of the script; none where all of it is.
-fn named_lines(
-    alloc: Global,
+// The lines that are named of the script, by whatever spelling of its path; none where all of it is.
+fn named_lines<S: System>(
+    system: &S,
     targets: &[Target],
     path: &str,
 ) -> Result<Option<Vec<usize>>, AllocError> {
-    let mut lines = Vec::new(alloc);
+    let mut lines = Vec::new(system.alloc());
     for target in targets {
-        if target.path.as_str() != path {
+        if !names(system, target, path) {
             continue;
         }
         let Some(line) = target.line else {
@@ -75,6 +67,11 @@ fn named_lines(
     }
 }
 
+// Whether the target is the script at the path.
+fn names<S: System>(system: &S, target: &Target, path: &str) -> bool {
+    target.path.as_str() == path || system.is_one_script(target.path.as_str(), path)
+}
+
 // The last of the heads at each of the lines or above it.
 fn heads_at<M: Machine, W: Write + Drop, E: Write + Drop>(
     alloc: Global,
@@ -82,7 +79,9 @@ fn heads_at<M: Machine, W: Write + Drop, E: Write + Drop>(
     heads: &[usize],
     subject: &Subject<'_, M>,
     report: &mut Report<W, E>,
-) -> Result<Vec<usize>, PathError> {
+) -> Result<Vec<usize>, PathError>
+    ensures { report.new.told ≡ report.old.told }
+{
     let mut picked = Vec::new(alloc);
     for line in lines {
         let Some((place, head)) = place_at(heads, *line) else {

@@ -7,61 +7,68 @@ ghost use Rattle.rb_script.specs.Reads.{Reads};
 ghost use Rattle.rb_script.specs.Reading.{read_of};
 ghost use Rattle.rb_replay.specs.Run.{outputs};
 ghost use Rattle.rb_replay.specs.Start.{TellsStartFault};
+ghost use Rattle.rb_checked.specs.Layouts.{IsLayout};
 ghost use Rattle.rb_checked.specs.Whys.{whys_of};
 ghost use Rattle.rb_suite.specs.Reasons.{asked_reasons};
 
 use crate::runner::Runner;
+use rb_checked::Layout;
 use rb_machine::Machine;
 use rb_replay::{Outputs, Session, StartFault};
-use rb_script::{Block, Lines, Script};
+use rb_script::{Block, Lines, Script, ScriptWithLines};
 use std::alloc::{AllocError, Global};
 
-/// A script that ran, with the reasons of each directive's output, where they are asked for.
+/// A script that ran, with its layout, and with the reasons of each directive's output, where they are asked for.
 #[derive(Drop)]
 pub(crate) struct ScriptRun<M: Machine> {
     pub(crate) session: Session<M>,
+    pub(crate) layout: Layout,
     pub(crate) whys: Vec<Lines>,
 }
 
-/// Reads the script of the bytes and runs it, each directive once.
+/// Reads the script of the bytes, once, and runs it, each directive once.
 pub(crate) fn run_script<T: Runner>(
     alloc: Global,
     runner: &mut T,
     explains: bool,
     bytes: &[u8],
 ) -> Result<ScriptRun<T::Machine>, StartFault>
-    ensures script { IfOk result (λ run. Reads bytes.now run.session.script) }
+    ensures script { IfOk result (λ run. IsLayout bytes.now run.session.script run.layout) }
     ensures whys { IfOk result (λ run. run.whys.items ≡ asked_reasons explains run.session.script) }
     ensures only { (s : PlainScript) → Reads bytes.now s → IfErr result (λ fault. fault ≡ StartFault.OutOfMemory) }
     ensures refused { IfErr result (λ fault. TellsStartFault fault (read_of bytes.now)) }
     ensures spaced { result ≢ Err StartFault.BadSpacing }
 {
-    if explains {
-        return run_explained(alloc, runner, bytes);
-    }
-    let session = runner.run(alloc, bytes)?;
+    let read = ScriptWithLines::read(alloc, bytes)?;
+    let layout = Layout {
+        text: read.lines,
+        heads: read.heads,
+    };
+    let (session, whys) = run_read(alloc, runner, explains, read.script)?;
     Ok(ScriptRun {
         session,
-        whys: Vec::new(alloc),
+        layout,
+        whys,
     })
 }
 
-// The same, with the reasons.
-fn run_explained<T: Runner>(
+// Runs a script, and gives the reasons of its outputs where they are asked for.
+fn run_read<T: Runner>(
     alloc: Global,
     runner: &mut T,
-    bytes: &[u8],
-) -> Result<ScriptRun<T::Machine>, StartFault>
-    ensures script { IfOk result (λ run. Reads bytes.now run.session.script) }
-    ensures whys { IfOk result (λ run. run.whys.items ≡ whys_of run.session.script) }
-    ensures only { (s : PlainScript) → Reads bytes.now s → IfErr result (λ fault. fault ≡ StartFault.OutOfMemory) }
-    ensures refused { IfErr result (λ fault. TellsStartFault fault (read_of bytes.now)) }
-    ensures spaced { result ≢ Err StartFault.BadSpacing }
+    explains: bool,
+    script: Script,
+) -> Result<(Session<T::Machine>, Vec<Lines>), AllocError>
+    requires { length script.blocks ≤ MAX_DIRECTIVES }
+    ensures script { IfOk result (λ ran. ran.0.script ≡ script) }
+    ensures whys { IfOk result (λ ran. ran.1.items ≡ asked_reasons explains script) }
 {
-    let script = Script::read(alloc, bytes)?;
-    let (printed, whys) = run_directives(alloc, runner, &script)?;
-    let session = Session::from_outputs(alloc, script, printed)?;
-    Ok(ScriptRun { session, whys })
+    let (printed, whys) = if explains {
+        run_directives(alloc, runner, &script)?
+    } else {
+        (run_plainly(alloc, runner, &script)?, Vec::new(alloc))
+    };
+    Ok((Session::from_outputs(alloc, script, printed)?, whys))
 }
 
 // The block of the directive at an index, which counts from 0.
@@ -94,4 +101,24 @@ fn run_directives<T: Runner>(
         machine = ran.machine;
     }
     Ok((printed, whys))
+}
+
+// Runs the directives, and gives what they printed.
+fn run_plainly<T: Runner>(
+    alloc: Global,
+    runner: &mut T,
+    script: &Script,
+) -> Result<Outputs, AllocError>
+    requires { length script.now.blocks ≤ MAX_DIRECTIVES }
+    ensures { IfOk result (λ printed. printed ≡ outputs script.now) }
+{
+    let mut printed = Outputs::new(alloc);
+    let mut machine: T::Machine = Machine::empty(alloc)?;
+    for i in 0..script.len() {
+        let block = block_of(script, i);
+        let (after, output) = runner.run(machine, block.directive())?;
+        printed.push(output)?;
+        machine = after;
+    }
+    Ok(printed)
 }

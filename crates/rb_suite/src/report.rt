@@ -3,21 +3,27 @@
 //! What is found out about scripts goes to standard output, failures and how far the work is to standard error. Where standard output fails,
 //! that is told once, and the work goes on without it.
 
-ghost use Rattle.std.specs.Prelude.{◌≡◌, ◌≢◌, IfErr};
+ghost use Rattle.std.specs.Prelude.{◌≡◌, ◌≢◌, IfErr, IfOk};
 ghost use Rattle.std.specs.IoError.{error_kind};
-ghost use Rattle.rb_suite.specs.Counts.{counted_as};
+ghost use Rattle.rb_check.specs.declared.outcome.Outcome.TheVariants.{Refused, Failed};
+ghost use Rattle.rb_check.specs.Counts.{nothing, of_outcome, status_of, together};
+ghost use Rattle.rb_suite.specs.Counts.{counted_as, left_as};
 
 use crate::check_request::CheckRequest;
 use crate::format::Format;
 use crate::kind::NoticeKind;
+use crate::notes::{put_left_file, put_note};
 use crate::notices::notice;
+use crate::ran::{Ran, counted_as, together};
+use crate::visible::{Screen, Showing, are_harmful, is_harmful};
 use rb_check::{
-    Failure, Outcome, Status, Totals, doubt_sentence, failure_sentence, fault_line, put_accepted,
-    put_brief, put_failure, put_refusal, put_totals, put_unaccepted, put_warning, sentence,
+    Colors, Failure, Outcome, Status, Totals, doubt_sentence, failure_sentence, fault_line,
+    put_accepted, put_brief, put_failure, put_refusal, put_totals, put_unaccepted, put_warning,
+    sentence,
 };
 use rb_checked::{Picked, ShowFault, Told, Warning, is_picked};
 use rb_files::PathError;
-use rb_script::{ScriptFault, Sink, Through, WriteFault};
+use rb_script::{Lines, ScriptFault, Sink, Through, WriteFault};
 use rb_text::put_number;
 use std::alloc::{AllocError, Global};
 use std::io;
@@ -25,15 +31,6 @@ use std::io::{BufWriter, ErrorKind, Write};
 
 // Takes the cursor back to the line's first column, and clears the line (ECMA-48).
 const CLEARED: &[u8] = b"\r\x1b[K";
-
-/// A script that ran.
-#[derive(Clone, Copy)]
-pub(crate) struct Ran<'a> {
-    pub(crate) path: &'a str,
-    pub(crate) directives: usize,
-    pub(crate) mismatches: usize,
-    pub(crate) told: Told,
-}
 
 // A script that differs, for the list at the end.
 #[derive(Drop)]
@@ -48,11 +45,14 @@ struct Differing {
 #[derive(Drop)]
 pub(crate) struct Report<W: Write + Drop, E: Write + Drop> {
     alloc: Global,
-    output: Through<BufWriter<W>>,
-    errors: Through<BufWriter<E>>,
+    pub(crate) output: Screen<Through<BufWriter<W>>>,
+    errors: Screen<Through<BufWriter<E>>>,
     // the format for programs, where one is asked for
     format: Option<Format>,
-    totals: Totals,
+    // what it was told of paths
+    told: Totals,
+    // what failed of itself: its output, and memory for what it was to show
+    own: Totals,
     differing: Vec<Differing>,
     // Nothing goes to standard output: it has failed, or nothing is wanted there.
     is_lost: bool,
@@ -68,25 +68,66 @@ impl<W: Write + Drop, E: Write + Drop> Report<W, E> {
         errors: E,
         asked: &CheckRequest<'_>,
     ) -> io::Result<Report<W, E>>
-        ensures { IfErr result (λ error. error_kind error ≡ ErrorKind.OutOfMemory) }
+        ensures begins { IfErr result (λ error. error_kind error ≡ ErrorKind.OutOfMemory) }
+        // It was told nothing.
+        ensures empty { IfOk result (λ report. report.told ≡ nothing) }
     {
         Ok(Report {
             alloc,
-            output: Through(BufWriter::new(alloc, output)?),
-            errors: Through(BufWriter::new(alloc, errors)?),
+            output: Screen {
+                sink: Through(BufWriter::new(alloc, output)?),
+                showing: Showing::AsIs,
+            },
+            errors: Screen {
+                sink: Through(BufWriter::new(alloc, errors)?),
+                showing: Showing::AsIs,
+            },
             format: asked.format,
-            totals: Totals::new(),
+            told: Totals::new(),
+            own: Totals::new(),
             differing: Vec::new(alloc),
             is_lost: asked.is_quiet,
             shows_progress: false,
         })
     }
 
+    /// From here on what is told is of the script at the path, of these lines where they are known: it acts in no terminal.
+    pub(crate) fn heed(&mut self, path: &[u8], lines: Option<&Lines>)
+        ensures { self.new.told ≡ self.old.told }
+    {
+        let showing = match lines {
+            Some(lines) if are_harmful(lines) => Showing::Visible,
+            _ => showing_of(path),
+        };
+        self.errors.showing = showing;
+        self.output.showing = match self.format {
+            Some(Format::Json) => Showing::Json,
+            Some(Format::Github) | None => showing,
+        };
+    }
+
+    /// The colours that are wanted, where bytes go out as they are.
+    pub(crate) fn colors(&self, wanted: Colors) -> Colors {
+        match self.output.showing {
+            Showing::AsIs => wanted,
+            Showing::Visible | Showing::Json => Colors::Off,
+        }
+    }
+
+    // What came of all paths, and what failed of the report itself.
+    fn totals(&self) -> Totals
+        ensures { result ≡ together self.now.told self.now.own }
+    {
+        together(self.told, self.own)
+    }
+
     /// The program's status.
     pub(crate) fn status(&self) -> Status
-        ensures { result ≢ Status.BadUsage }
+        ensures right { result ≢ Status.BadUsage }
+        // It is that of all that was told.
+        ensures told { result ≡ status_of (together self.now.told self.now.own) }
     {
-        self.totals.status()
+        self.totals().status()
     }
 
     /// Whether programs are told.
@@ -94,17 +135,10 @@ impl<W: Write + Drop, E: Write + Drop> Report<W, E> {
         self.format.is_some()
     }
 
-    /// Where the report of a script is written; None where nothing goes to standard output.
-    pub(crate) fn sink(&mut self) -> Option<&mut Through<BufWriter<W>>> {
-        if self.is_open() {
-            Some(&mut self.output)
-        } else {
-            None
-        }
-    }
-
-    // Whether something can be written on standard output. How far the work is stands there no more then.
-    fn is_open(&mut self) -> bool {
+    /// Whether something can be written on standard output. How far the work is stands there no more then.
+    pub(crate) fn is_open(&mut self) -> bool
+        ensures { self.new.told ≡ self.old.told }
+    {
         if self.is_lost {
             return false;
         }
@@ -113,48 +147,50 @@ impl<W: Write + Drop, E: Write + Drop> Report<W, E> {
     }
 
     /// Hands on what was written, and takes note of what came of it.
-    pub(crate) fn wrote(&mut self, written: Result<(), WriteFault>) {
-        let handed_on = self.output.0.flush();
+    pub(crate) fn wrote(&mut self, written: Result<(), WriteFault>)
+        ensures { self.new.told ≡ self.old.told }
+    {
+        let handed_on = self.output.sink.0.flush();
         if (written.is_err() || handed_on.is_err()) && !self.is_lost {
             self.lose_output(&handed_on);
         }
     }
 
-    /// The same, of what is shown of a script; nothing was found of it, where it could not be written.
+    /// The same, of what is shown of a script.
     ///
     /// # Errors
     ///
     /// Where memory was refused for it.
-    pub(crate) fn showed<F: Copy>(
-        &mut self,
-        shown: Result<F, ShowFault>,
-    ) -> Result<Option<F>, PathError> {
+    pub(crate) fn showed(&mut self, shown: Result<(), ShowFault>) -> Result<(), PathError>
+        ensures { self.new.told ≡ self.old.told }
+    {
         match shown {
-            Ok(found) => {
-                self.wrote(Ok(()));
-                Ok(Some(found))
+            Ok(()) => self.wrote(Ok(())),
+            Err(ShowFault::Writing) => self.wrote(Err(WriteFault)),
+            Err(ShowFault::OutOfMemory) => {
+                return Err(PathError::alone(Failure::OutOfMemory));
             }
-            Err(ShowFault::Writing) => {
-                self.wrote(Err(WriteFault));
-                Ok(None)
-            }
-            Err(ShowFault::OutOfMemory) => Err(PathError::alone(Failure::OutOfMemory)),
         }
+        Ok(())
     }
 
     // Nothing more goes to standard output.
-    fn lose_output(&mut self, handed_on: &io::Result<()>) {
+    fn lose_output(&mut self, handed_on: &io::Result<()>)
+        ensures { self.new.told ≡ self.old.told }
+    {
         self.is_lost = true;
-        self.totals.add(Outcome::Failed(Failure::NotShown));
+        self.own.add(Outcome::Failed(Failure::NotShown));
         if !is_reader_gone(handed_on) {
             self.clear();
             let _ = put_failure(&mut self.errors, b"raftbench", Failure::NotShown);
-            let _ = self.errors.0.flush();
+            let _ = self.errors.sink.0.flush();
         }
     }
 
     // Tells programs something of a script beside its directives.
-    fn notify(&mut self, path: &[u8], line: Option<usize>, kind: NoticeKind, message: &[u8]) {
+    fn notify(&mut self, path: &[u8], line: Option<usize>, kind: NoticeKind, message: &[u8])
+        ensures { self.new.told ≡ self.old.told }
+    {
         let Some(format) = self.format else {
             return;
         };
@@ -165,7 +201,9 @@ impl<W: Write + Drop, E: Write + Drop> Report<W, E> {
     }
 
     /// Writes the text on standard output.
-    pub(crate) fn put(&mut self, text: &[u8]) {
+    pub(crate) fn put(&mut self, text: &[u8])
+        ensures { self.new.told ≡ self.old.told }
+    {
         if self.is_open() {
             let written = self.output.put(text);
             self.wrote(written);
@@ -173,23 +211,29 @@ impl<W: Write + Drop, E: Write + Drop> Report<W, E> {
     }
 
     // No memory was found for what was to be told.
-    fn fail_for_memory(&mut self, path: &[u8]) {
-        self.totals.add(Outcome::Failed(Failure::OutOfMemory));
+    fn fail_for_memory(&mut self, path: &[u8])
+        ensures { self.new.told ≡ self.old.told }
+    {
+        self.own.add(Outcome::Failed(Failure::OutOfMemory));
         self.clear();
         let _ = put_failure(&mut self.errors, path, Failure::OutOfMemory);
-        let _ = self.errors.0.flush();
+        let _ = self.errors.sink.0.flush();
     }
 
     /// A script that ran, and in which nothing was written.
-    pub(crate) fn ran(&mut self, alloc: Global, ran: Ran<'_>) {
-        self.totals.add(counted_as(ran, ran.mismatches));
+    pub(crate) fn ran(&mut self, alloc: Global, ran: Ran<'_>)
+        ensures { self.new.told ≡ together self.old.told (of_outcome (counted_as ran.entry ran.entry.mismatches)) }
+    {
+        self.told.add(counted_as(ran, ran.mismatches));
         if self.keep(alloc, ran).is_err() {
-            self.fail(ran.path.as_bytes(), PathError::alone(Failure::OutOfMemory));
+            self.fail_for_memory(ran.path.as_bytes());
         }
     }
 
     // Keeps it for the list of those that differ.
-    fn keep(&mut self, alloc: Global, ran: Ran<'_>) -> Result<(), AllocError> {
+    fn keep(&mut self, alloc: Global, ran: Ran<'_>) -> Result<(), AllocError>
+        ensures { self.new.told ≡ self.old.told }
+    {
         let Some(line) = ran.told.first else {
             return Ok(());
         };
@@ -203,9 +247,11 @@ impl<W: Write + Drop, E: Write + Drop> Report<W, E> {
     }
 
     /// A script that ran, and whose outputs were written into it, but those of the heads on these lines.
-    pub(crate) fn accepted(&mut self, alloc: Global, ran: Ran<'_>, left: &[usize]) {
+    pub(crate) fn accepted(&mut self, alloc: Global, ran: Ran<'_>, left: &[usize])
+        ensures { self.new.told ≡ together self.old.told (of_outcome (left_as ran.entry left.now)) }
+    {
         let accepted = ran.mismatches.saturating_sub(left.len());
-        self.totals.add(counted_as(ran, left.len()));
+        self.told.add(counted_as(ran, left.len()));
         let now = Ran {
             mismatches: left.len(),
             told: Told {
@@ -215,12 +261,14 @@ impl<W: Write + Drop, E: Write + Drop> Report<W, E> {
             ..ran
         };
         if self.keep(alloc, now).is_err() {
-            self.fail(ran.path.as_bytes(), PathError::alone(Failure::OutOfMemory));
+            self.fail_for_memory(ran.path.as_bytes());
         }
         self.tell_accepted(ran.path, accepted);
     }
 
-    fn tell_accepted(&mut self, path: &str, accepted: usize) {
+    fn tell_accepted(&mut self, path: &str, accepted: usize)
+        ensures { self.new.told ≡ self.old.told }
+    {
         if self.is_for_programs() {
             let noun = if accepted == 1 { "output" } else { "outputs" };
             match format!(in self.alloc; "accepted {accepted} {noun}") {
@@ -241,7 +289,9 @@ impl<W: Write + Drop, E: Write + Drop> Report<W, E> {
     }
 
     /// Tells programs of the new errors that are not accepted: of the heads on these lines those that are picked.
-    pub(crate) fn leave(&mut self, path: &str, picked: Picked<'_>, left: &[usize]) {
+    pub(crate) fn leave(&mut self, path: &str, picked: Picked<'_>, left: &[usize])
+        ensures { self.new.told ≡ self.old.told }
+    {
         for line in left {
             if is_picked(picked, *line) {
                 let message = b"this new error was not accepted; --accept-errors accepts it too";
@@ -251,13 +301,17 @@ impl<W: Write + Drop, E: Write + Drop> Report<W, E> {
     }
 
     /// Says something on standard output, and whether it went out.
-    pub(crate) fn say(&mut self, text: &[u8]) -> bool {
+    pub(crate) fn say(&mut self, text: &[u8]) -> bool
+        ensures { self.new.told ≡ self.old.told }
+    {
         self.put(text);
         !self.is_lost
     }
 
     /// A directive that was to be accepted, and whose output is the expected one.
-    pub(crate) fn tell_expected(&mut self, path: &str, line: usize) {
+    pub(crate) fn tell_expected(&mut self, path: &str, line: usize)
+        ensures { self.new.told ≡ self.old.told }
+    {
         let message = b"there is nothing to accept: the output is the expected one";
         if self.is_for_programs() {
             return self.notify(path.as_bytes(), Some(line), NoticeKind::Left, message);
@@ -269,13 +323,17 @@ impl<W: Write + Drop, E: Write + Drop> Report<W, E> {
     }
 
     /// Lines of a script that look like a slip.
-    pub(crate) fn warn(&mut self, path: &str, warnings: &[Warning]) {
+    pub(crate) fn warn(&mut self, path: &str, warnings: &[Warning])
+        ensures { self.new.told ≡ self.old.told }
+    {
         for warning in warnings {
             self.warn_of(path.as_bytes(), *warning);
         }
     }
 
-    fn warn_of(&mut self, path: &[u8], warning: Warning) {
+    fn warn_of(&mut self, path: &[u8], warning: Warning)
+        ensures { self.new.told ≡ self.old.told }
+    {
         if self.is_for_programs() {
             let message = doubt_sentence(warning.doubt);
             return self.notify(path, Some(warning.line), NoticeKind::Warning, message);
@@ -287,12 +345,16 @@ impl<W: Write + Drop, E: Write + Drop> Report<W, E> {
     }
 
     /// A script that ran, and into which nothing is written, since it has such lines.
-    pub(crate) fn refuse_to_accept(&mut self, alloc: Global, ran: Ran<'_>) {
+    pub(crate) fn refuse_to_accept(&mut self, alloc: Global, ran: Ran<'_>)
+        ensures { self.new.told ≡ together self.old.told (of_outcome (counted_as ran.entry ran.entry.mismatches)) }
+    {
         self.ran(alloc, ran);
         self.tell_unaccepted(ran.path);
     }
 
-    fn tell_unaccepted(&mut self, path: &str) {
+    fn tell_unaccepted(&mut self, path: &str)
+        ensures { self.new.told ≡ self.old.told }
+    {
         if self.is_for_programs() {
             let message =
                 b"nothing was accepted, since it has warnings; --force accepts all the same";
@@ -305,7 +367,9 @@ impl<W: Write + Drop, E: Write + Drop> Report<W, E> {
     }
 
     // The scripts that differ, a line each, and an empty line; nothing, where none does.
-    fn list_differing(&mut self) {
+    fn list_differing(&mut self)
+        ensures { self.new.told ≡ self.old.told }
+    {
         if self.is_lost || self.is_for_programs() || self.differing.is_empty() {
             return;
         }
@@ -314,22 +378,18 @@ impl<W: Write + Drop, E: Write + Drop> Report<W, E> {
         self.wrote(written);
     }
 
-    fn put_differing(&mut self) -> Result<(), WriteFault> {
-        for script in &self.differing {
-            put_brief(
-                &mut self.output,
-                script.path.as_bytes(),
-                script.mismatches,
-                script.directives,
-                script.line,
-            )?;
-        }
+    fn put_differing(&mut self) -> Result<(), WriteFault>
+        ensures { self.new.told ≡ self.old.told }
+    {
+        put_each_differing(&mut self.output, self.differing.as_slice())?;
         self.output.put(b"\n")
     }
 
     /// Bytes that are no script.
-    pub(crate) fn refused(&mut self, path: &str, fault: ScriptFault) {
-        self.totals.add(Outcome::Refused(fault));
+    pub(crate) fn refused(&mut self, path: &str, fault: ScriptFault)
+        ensures { self.new.told ≡ together self.old.told (of_outcome (Refused fault)) }
+    {
+        self.told.add(Outcome::Refused(fault));
         if self.is_for_programs() {
             return self.notify(
                 path.as_bytes(),
@@ -345,11 +405,13 @@ impl<W: Write + Drop, E: Write + Drop> Report<W, E> {
     }
 
     /// A path of which nothing came. That standard error fails too can be told nowhere; the status tells of the path.
-    pub(crate) fn fail(&mut self, path: &[u8], error: PathError) {
-        self.totals.add(Outcome::Failed(error.failure));
+    pub(crate) fn fail(&mut self, path: &[u8], error: PathError)
+        ensures { self.new.told ≡ together self.old.told (of_outcome (Failed error.failure)) }
+    {
+        self.told.add(Outcome::Failed(error.failure));
         self.clear();
         let _ = self.tell(path, error);
-        let _ = self.errors.0.flush();
+        let _ = self.errors.sink.0.flush();
         self.notify(
             path,
             None,
@@ -358,12 +420,14 @@ impl<W: Write + Drop, E: Write + Drop> Report<W, E> {
         );
     }
 
-    fn tell(&mut self, path: &[u8], error: PathError) -> Result<(), WriteFault> {
+    fn tell(&mut self, path: &[u8], error: PathError) -> Result<(), WriteFault>
+        ensures { self.new.told ≡ self.old.told }
+    {
         put_failure(&mut self.errors, path, error.failure)?;
         match error.cause {
             Some(cause) if tells_too_little(error.failure) => {
                 self.errors.put(path)?;
-                match writeln!(self.errors.0, ": {cause}") {
+                match writeln!(self.errors.sink.0, ": {cause}") {
                     Ok(()) => Ok(()),
                     Err(_) => Err(WriteFault),
                 }
@@ -373,29 +437,37 @@ impl<W: Write + Drop, E: Write + Drop> Report<W, E> {
     }
 
     /// A new file that could be neither used nor removed. That it came to this is counted where it is told why.
-    pub(crate) fn tell_left(&mut self, path: &str) {
+    pub(crate) fn tell_left(&mut self, path: &str)
+        ensures { self.new.told ≡ self.old.told }
+    {
         self.clear();
         let _ = put_left_file(&mut self.errors, path.as_bytes());
-        let _ = self.errors.0.flush();
+        let _ = self.errors.sink.0.flush();
     }
 
     /// Where the output is that no script can expect.
-    pub(crate) fn tell_bad_output(&mut self, path: &str, line: usize) {
+    pub(crate) fn tell_bad_output(&mut self, path: &str, line: usize)
+        ensures { self.new.told ≡ self.old.told }
+    {
         self.clear();
         let note = b"this output has a line of more than 65,536 bytes, which no script can expect";
         let _ = put_note(&mut self.errors, path.as_bytes(), line, note);
-        let _ = self.errors.0.flush();
+        let _ = self.errors.sink.0.flush();
     }
 
     /// Shows how far the work is.
-    pub(crate) fn show_progress(&mut self, done: usize, all: usize) {
+    pub(crate) fn show_progress(&mut self, done: usize, all: usize)
+        ensures { self.new.told ≡ self.old.told }
+    {
         let _ = self.put_progress(done, all);
-        let _ = self.errors.0.flush();
+        let _ = self.errors.sink.0.flush();
         self.shows_progress = true;
     }
 
-    fn put_progress(&mut self, done: usize, all: usize) -> Result<(), WriteFault> {
-        self.errors.put(CLEARED)?;
+    fn put_progress(&mut self, done: usize, all: usize) -> Result<(), WriteFault>
+        ensures { self.new.told ≡ self.old.told }
+    {
+        self.errors.sink.put(CLEARED)?;
         put_number(&mut self.errors, done as u64)?;
         self.errors.put(b" of ")?;
         put_number(&mut self.errors, all as u64)?;
@@ -403,20 +475,24 @@ impl<W: Write + Drop, E: Write + Drop> Report<W, E> {
     }
 
     // Takes away what is shown of how far the work is.
-    fn clear(&mut self) {
+    fn clear(&mut self)
+        ensures { self.new.told ≡ self.old.told }
+    {
         if self.shows_progress {
-            let _ = self.errors.put(CLEARED);
-            let _ = self.errors.0.flush();
+            let _ = self.errors.sink.put(CLEARED);
+            let _ = self.errors.sink.0.flush();
             self.shows_progress = false;
         }
     }
 
     /// The end: the scripts that differ, where they are to be listed, and the last line.
-    pub(crate) fn end(&mut self, lists_differing: bool, milliseconds: u64) {
+    pub(crate) fn end(&mut self, lists_differing: bool, milliseconds: u64)
+        ensures { self.new.told ≡ self.old.told }
+    {
         if lists_differing {
             self.list_differing();
         }
-        let totals = self.totals;
+        let totals = self.totals();
         if self.is_for_programs() {
             return self.clear();
         }
@@ -428,35 +504,32 @@ impl<W: Write + Drop, E: Write + Drop> Report<W, E> {
     }
 }
 
-// What the script is counted as, where so many outputs that differ are left, and the others accepted.
-fn counted_as(ran: Ran<'_>, left: usize) -> Outcome
-    ensures { result ≡ counted_as ran.entry left }
-{
-    Outcome::Ran {
-        directives: ran.directives,
-        mismatches: left,
-        accepted: ran.mismatches.saturating_sub(left),
-        errors: ran.told.errors,
-    }
-}
-
-fn put_note<S: Sink>(
-    sink: &mut S,
-    path: &[u8],
-    line: usize,
-    note: &[u8],
+// How a path goes out.
+// Writes a line for each script that differs.
+fn put_each_differing<W: Write + Drop>(
+    output: &mut Screen<Through<BufWriter<W>>>,
+    scripts: &[Differing],
 ) -> Result<(), WriteFault> {
-    sink.put(path)?;
-    sink.put(b":")?;
-    put_number(sink, line as u64)?;
-    sink.put(b": ")?;
-    sink.put(note)?;
-    sink.put(b"\n")
+    for script in scripts {
+        let path = script.path.as_bytes();
+        output.showing = showing_of(path);
+        put_brief(
+            output,
+            path,
+            script.mismatches,
+            script.directives,
+            script.line,
+        )?;
+    }
+    Ok(())
 }
 
-fn put_left_file<S: Sink>(sink: &mut S, path: &[u8]) -> Result<(), WriteFault> {
-    sink.put(path)?;
-    sink.put(b": this new file could not be removed\n")
+fn showing_of(path: &[u8]) -> Showing {
+    if is_harmful(path) {
+        Showing::Visible
+    } else {
+        Showing::AsIs
+    }
 }
 
 // Whether nobody reads any more: who has read enough need not be told.

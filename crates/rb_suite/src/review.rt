@@ -1,15 +1,14 @@
 //! Asking about each output that differs.
 
-ghost use Rattle.std.specs.Prelude.{◌<◌, length};
-ghost use Rattle.rb_script.specs.Reads.{Reads};
+ghost use Rattle.std.specs.Prelude.{◌≡◌, ◌++◌, ◌∷◌, [], ◌<◌, IfOk, length};
+ghost use Rattle.rb_checked.specs.Layouts.{IsLayout};
+ghost use Rattle.rb_suite.specs.Reviews.{answer_to, answer_of, next_review, said_by, said_unasked, review_behind};
 
 use crate::check_request::CheckRequest;
 use crate::report::Report;
 use crate::subject::Subject;
 use crate::system::System;
-use rb_checked::{
-    Layout, Picked, Shown, View, is_picked, is_unexpected, layout_of, put_one_mismatch,
-};
+use rb_checked::{Layout, Picked, Shown, View, is_picked, is_unexpected, put_one_mismatch};
 use rb_files::PathError;
 use rb_machine::Machine;
 use rb_replay::Session;
@@ -51,13 +50,24 @@ pub(crate) enum HeardAnswer {
     End,
 }
 
-/// What is answered by the line.
-pub(crate) fn answer_of(line: &str) -> Option<Answer> {
-    match line.trim() {
-        word if word == "y" => Some(Answer::Yes),
-        word if word == "n" => Some(Answer::No),
-        word if word == "a" => Some(Answer::All),
-        word if word == "q" => Some(Answer::Quit),
+/// What the word means.
+pub(crate) fn answer_to(word: &[u8]) -> Option<Answer>
+    ensures { result ≡ answer_to word.now }
+{
+    match word {
+        [letter] => answer_of(*letter),
+        _ => None,
+    }
+}
+
+fn answer_of(letter: u8) -> Option<Answer>
+    ensures { result ≡ answer_of letter }
+{
+    match letter {
+        b'y' => Some(Answer::Yes),
+        b'n' => Some(Answer::No),
+        b'a' => Some(Answer::All),
+        b'q' => Some(Answer::Quit),
         _ => None,
     }
 }
@@ -71,31 +81,37 @@ pub(crate) fn reviewed<M: Machine, S: System, W: Write + Drop, E: Write + Drop>(
     review: &mut Review,
     report: &mut Report<W, E>,
 ) -> Result<Vec<usize>, PathError>
-    requires { Reads subject.now.text.now.bytes.items subject.now.session.now.script }
+    requires { IsLayout subject.now.text.now.bytes.items subject.now.session.now.script subject.now.layout.now }
+    ensures { report.new.told ≡ report.old.told }
 {
-    let layout = layout_of(system.alloc(), &subject.text.bytes)?;
-    let said = said_of(system, asked, subject, &layout, picked, review, report);
-    if *review == Review::Rest {
-        *review = Review::Each;
-    }
+    let said = said_of(system, asked, subject, picked, review, report);
+    *review = review_behind(*review);
     said
+}
+
+// What is asked of the next script.
+fn review_behind(review: Review) -> Review
+    ensures { result ≡ review_behind review }
+{
+    match review {
+        Review::Rest => Review::Each,
+        other => other,
+    }
 }
 
 fn said_of<M: Machine, S: System, W: Write + Drop, E: Write + Drop>(
     system: &S,
     asked: &CheckRequest<'_>,
     subject: &Subject<'_, M>,
-    layout: &Layout,
     picked: Picked<'_>,
     review: &mut Review,
     report: &mut Report<W, E>,
 ) -> Result<Vec<usize>, PathError>
-    requires { Reads subject.now.text.now.bytes.items subject.now.session.now.script }
+    requires { IsLayout subject.now.text.now.bytes.items subject.now.session.now.script subject.now.layout.now }
+    ensures { report.new.told ≡ report.old.told }
 {
     let mut said = Vec::new(system.alloc());
-    go_over(
-        system, asked, subject, layout, picked, &mut said, review, report,
-    )?;
+    go_over(system, asked, subject, picked, &mut said, review, report)?;
     Ok(said)
 }
 
@@ -104,23 +120,25 @@ fn go_over<M: Machine, S: System, W: Write + Drop, E: Write + Drop>(
     system: &S,
     asked: &CheckRequest<'_>,
     subject: &Subject<'_, M>,
-    layout: &Layout,
     picked: Picked<'_>,
     said: &mut Vec<usize>,
     review: &mut Review,
     report: &mut Report<W, E>,
 ) -> Result<(), PathError>
-    requires { Reads subject.now.text.now.bytes.items subject.now.session.now.script }
+    requires { IsLayout subject.now.text.now.bytes.items subject.now.session.now.script subject.now.layout.now }
+    ensures { report.new.told ≡ report.old.told }
 {
     for index in 0..subject.session.len() {
-        let Some(head) = differing_head(subject.session, layout, picked, index) else {
+        let Some(head) = differing_head(subject.session, subject.layout, picked, index) else {
             continue;
         };
         if *review == Review::Each {
             show(system.alloc(), asked, subject, index, report)?;
-            *review = answered(system, said, head, report)?;
-        } else if *review == Review::Rest && takes(asked, subject.session, layout, index, head) {
-            push(said, head)?;
+            let answer = ask(system, report);
+            *review = take(said, head, answer)?;
+        } else {
+            let takes = takes(asked, subject.session, subject.layout, index, head);
+            take_unasked(said, head, *review, takes)?;
         }
     }
     Ok(())
@@ -159,51 +177,19 @@ fn takes<M: Machine>(
     }
 }
 
-fn push(said: &mut Vec<usize>, head: usize) -> Result<(), AllocError> {
+fn push(said: &mut Vec<usize>, head: usize) -> Result<(), AllocError>
+    ensures { IfOk result (λ _. said.new.items ≡ said.old.items ++ head ∷ []) }
+{
     said.push(head)?;
     Ok(())
 }
 
-fn show<M: Machine, W: Write + Drop, E: Write + Drop>(
-    alloc: Global,
-    asked: &CheckRequest<'_>,
-    subject: &Subject<'_, M>,
-    index: usize,
-    report: &mut Report<W, E>,
-) -> Result<(), PathError>
-    requires reads { Reads subject.now.text.now.bytes.items subject.now.session.now.script }
-    requires within { index < length subject.now.session.now.script.blocks }
+// Does what is answered for the head, and gives what is still to be asked.
+fn take(said: &mut Vec<usize>, head: usize, answer: Answer) -> Result<Review, AllocError>
+    ensures next { IfOk result (λ review. review ≡ next_review answer) }
+    ensures said { IfOk result (λ _. said.new.items ≡ said.old.items ++ said_by answer head) }
 {
-    let view = View {
-        path: subject.path.as_bytes(),
-        colors: asked.colors,
-        shown: Shown::Differing,
-    };
-    let Some(sink) = report.sink() else {
-        return Ok(());
-    };
-    let bytes = subject.text.bytes.as_slice();
-    let shown = put_one_mismatch(
-        alloc,
-        sink,
-        subject.session,
-        bytes,
-        view,
-        subject.whys,
-        index,
-    );
-    report.showed(shown)?;
-    Ok(())
-}
-
-// Asks about what was shown, and keeps the line of its head where it is accepted. What is still to be asked follows.
-fn answered<S: System, W: Write + Drop, E: Write + Drop>(
-    system: &S,
-    said: &mut Vec<usize>,
-    head: usize,
-    report: &mut Report<W, E>,
-) -> Result<Review, AllocError> {
-    match ask(system, report) {
+    match answer {
         Answer::Yes => {
             push(said, head)?;
             Ok(Review::Each)
@@ -217,11 +203,57 @@ fn answered<S: System, W: Write + Drop, E: Write + Drop>(
     }
 }
 
-// Asks until one of the answers comes. The end of the input, and a terminal that takes nothing more, end the review.
-fn ask<S: System, W: Write + Drop, E: Write + Drop>(
-    system: &S,
+// Accepts unasked, where that was said, what accepting takes.
+fn take_unasked(
+    said: &mut Vec<usize>,
+    head: usize,
+    review: Review,
+    takes: bool,
+) -> Result<(), AllocError>
+    ensures { IfOk result (λ _. said.new.items ≡ said.old.items ++ said_unasked review takes head) }
+{
+    if review == Review::Rest && takes {
+        push(said, head)?;
+    }
+    Ok(())
+}
+
+fn show<M: Machine, W: Write + Drop, E: Write + Drop>(
+    alloc: Global,
+    asked: &CheckRequest<'_>,
+    subject: &Subject<'_, M>,
+    index: usize,
     report: &mut Report<W, E>,
-) -> Answer {
+) -> Result<(), PathError>
+    requires layout { IsLayout subject.now.text.now.bytes.items subject.now.session.now.script subject.now.layout.now }
+    requires within { index < length subject.now.session.now.script.blocks }
+    ensures { report.new.told ≡ report.old.told }
+{
+    if !report.is_open() {
+        return Ok(());
+    }
+    let view = View {
+        path: subject.path.as_bytes(),
+        colors: report.colors(asked.colors),
+        shown: Shown::Differing,
+    };
+    let sink = &mut report.output;
+    let shown = put_one_mismatch(
+        alloc,
+        sink,
+        subject.session,
+        subject.layout,
+        view,
+        subject.whys,
+        index,
+    );
+    report.showed(shown)
+}
+
+// Asks until one of the answers comes. The end of the input, and a terminal that takes nothing more, end the review.
+fn ask<S: System, W: Write + Drop, E: Write + Drop>(system: &S, report: &mut Report<W, E>) -> Answer
+    ensures { report.new.told ≡ report.old.told }
+{
     for _ in 0..u64::MAX {
         if !report.say(QUESTION) {
             break;

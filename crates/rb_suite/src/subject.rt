@@ -1,6 +1,7 @@
 //! What a check looks at.
 
 use crate::system::Text;
+use rb_checked::Layout;
 use rb_machine::Machine;
 use rb_replay::Session;
 use rb_script::Lines;
@@ -11,5 +12,6 @@ pub(crate) struct Subject<'a, M: Machine> {
     pub(crate) path: &'a str,
     pub(crate) text: &'a Text,
     pub(crate) session: &'a Session<M>,
+    pub(crate) layout: &'a Layout,
     pub(crate) whys: &'a [Lines],
 }

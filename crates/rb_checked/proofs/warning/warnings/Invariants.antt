@@ -2,7 +2,7 @@
 use Rattle.std.proofs.Common.{◌≡◌, ◌++◌, drop}
 use Rattle.rb_replay.specs.Run.{outputs}
 use Rattle.rb_checked.specs.Doubts.{all_warnings}
-use Rattle.rb_checked.proofs.warning.all_warnings.Given as goal
+use Rattle.rb_checked.proofs.warning.warnings.Given as goal
 
 abbrev pub invariant-loop-i : goal.invariant-loop-i
 invariant-loop-i g l =

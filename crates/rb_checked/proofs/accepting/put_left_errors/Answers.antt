@@ -7,7 +7,7 @@ use Rattle.rb_text.proofs.SentLaws.{sent_all}
 use Rattle.rb_check.proofs.PutLaws.{next_sent, next_exit}
 use Rattle.rb_checked.specs.Accepting.{left_shown}
 use Rattle.rb_checked.proofs.EachLaws.{each_step, each_done}
-use Rattle.rb_checked.proofs.accepting.put_all_left.Goals as goal
+use Rattle.rb_checked.proofs.accepting.put_left_errors.Goals as goal
 
 pub returns-in_err-put_if_left-clause-wrote : goal.returns-in_err-put_if_left-clause-wrote
 returns-in_err-put_if_left-clause-wrote g c =

@@ -3,7 +3,7 @@ use Rattle.std.proofs.Common.{drop}
 use Rattle.rb_replay.specs.Run.{outputs}
 use Rattle.rb_text.proofs.SentLaws.{Sent}
 use Rattle.rb_checked.specs.Accepting.{all_left}
-use Rattle.rb_checked.proofs.accepting.put_all_left.Given as goal
+use Rattle.rb_checked.proofs.accepting.put_left_errors.Given as goal
 
 abbrev pub invariant-loop-i : goal.invariant-loop-i
 invariant-loop-i g l =
