@@ -34,13 +34,12 @@ fn answered<R: Files + Input + Print + Env + Clock + AllocGlobal, E: Write + Dro
 ) -> Result<u8, Refusal> {
     let choice = choose(rt)?;
     match choice.subcommand {
-        Some(Subcommand::Check) => {
-            let every = choice.every.as_deref();
-            coded(check_all(rt, &choice.check, every, errors, terminals))
-        }
+        Some(Subcommand::Check) => coded(check_all(rt, &choice.check, errors, terminals)),
         Some(Subcommand::Directives) => coded(show_directives(rt, choice.name.as_deref())),
         Some(Subcommand::Lsp) => serve_editor(rt),
-        Some(Subcommand::Script(command)) => coded(carry_out(rt, command, &choice)),
+        Some(Subcommand::Script(command)) => coded(carry_out(
+            rt, command, &choice, errors, terminals,
+        )),
         None => Err(Refusal::Usage(Misuse::NoCommand)),
     }
 }

@@ -1,5 +1,5 @@
 -- What a call of an argument's builder does to what clap reads of the argument.
-use Rattle.std.proofs.Common.{◌≡◌, ◌∙◌, Some, Bor, ap}
+use Rattle.std.proofs.Common.{◌≡◌, ◌∙◌, Bool, Some, Bor, ap}
 use Rattle.clap.specs.Words.{Rule, Text, rule_of}
 use Rattle.clap.specs.declared.builder.arg.Arg.{Arg}
 use Rattle.clap.specs.declared.builder.action.ArgAction.{ArgAction}
@@ -17,3 +17,7 @@ rule_of-value_name a b name r made before = ap rule_of made ∙ ap (λ (r : Rule
 -- its help isn't read
 pub rule_of-help : (a b : Arg) (text : Bor Text) (r : Rule) → b ≡ record a { help = Some text } → rule_of a ≡ r → rule_of b ≡ r
 rule_of-help a b text r made before = ap rule_of made ∙ before
+
+-- nor whether help has it
+pub rule_of-hide : (a b : Arg) (is_hidden : Bool) (r : Rule) → b ≡ record a { hide = is_hidden } → rule_of a ≡ r → rule_of b ≡ r
+rule_of-hide a b is_hidden r made before = ap rule_of made ∙ before

@@ -7,7 +7,7 @@ use Rattle.clap.specs.declared.error.kind.ErrorKind.TheVariants as kind
 use Rattle.rb_args.specs.declared.choice.Subcommand.{Subcommand}
 use Rattle.rb_args.specs.declared.choice.Subcommand.TheVariants.{Check, Directives, Lsp, Script}
 use Rattle.rb_args.specs.declared.choice.ScriptCommand.{ScriptCommand}
-use Rattle.rb_args.specs.declared.choice.ScriptCommand.TheVariants.{Run, Rewrite, Session, Look, Page, Chart}
+use Rattle.rb_args.specs.declared.choice.ScriptCommand.TheVariants.{Run, Rewrite, Session, Look, Page, Chart, Trace}
 use Rattle.rb_args.specs.declared.choice.CommandChoice.{CommandChoice}
 use Rattle.rb_args.specs.declared.choice.CheckChoice.{CheckChoice}
 use Rattle.rb_args.specs.declared.choice.ChoiceFault.{ChoiceFault}
@@ -19,6 +19,7 @@ of_one_view name =
     if bytes_eq name (codes "look") then Some Look
     else if bytes_eq name (codes "page") then Some Page
     else if bytes_eq name (codes "chart") then Some Chart
+    else if bytes_eq name (codes "trace") then Some Trace
     else None
 
 -- what it does with one script
@@ -58,13 +59,15 @@ pub record IsCheckOf (rows : Option (List Row)) (check : CheckChoice) : Type 0 w
   pub quiet : check.is_quiet ≡ is_set (option_and_then (first_of (codes "quiet")) rows)
   pub explains : check.explains ≡ is_set (option_and_then (first_of (codes "why")) rows)
 
--- the subcommand that was met, and the values of its FILE, its NAME, its --every and its --until; and what is said to `check`
+-- the subcommand that was met, and the values of its FILE, its NAME, its --every, its --from and its --until; its --warn; and what is said to `check`
 pub record IsChoiceOf (met : Option (Text × List Row)) (choice : CommandChoice) : Type 0 where
   pub subcommand : choice.subcommand ≡ option_and_then (λ p. named_by p.0) met
   pub file : option_map string_bytes choice.file ≡ option_and_then (λ p. first_of (codes "file") p.1) met
   pub name : option_map string_bytes choice.name ≡ option_and_then (λ p. first_of (codes "name") p.1) met
   pub every : option_map string_bytes choice.every ≡ option_and_then (λ p. first_of (codes "every") p.1) met
+  pub from : option_map string_bytes choice.from ≡ option_and_then (λ p. first_of (codes "from") p.1) met
   pub until : option_map string_bytes choice.until ≡ option_and_then (λ p. first_of (codes "until") p.1) met
+  pub warns : choice.warns ≡ is_set (option_and_then (λ p. first_of (codes "warn") p.1) met)
   pub check : IsCheckOf (option_map (λ p. p.1) met) choice.check
 
 -- an error of one of these kinds, or that memory was refused, which no error tells

@@ -99,19 +99,23 @@ check_line = with_choices (with_reasons (with_amounts (with_rule (with_accepting
 abbrev pub with_version : App → App
 with_version line = record line { top = record line.top { has_version = true } }
 
+-- rewrite FILE [--every K] [--warn]
+abbrev pub rewrite_line : App
+rewrite_line = with_rule (with_option (codes "every") (file_line (codes "rewrite"))) (flag_rule (codes "warn"))
+
 -- .. run|rewrite|session FILE [--every K]
 abbrev pub with_files : App → App
 with_files line =
-    with_subcommand (with_subcommand (with_subcommand line (with_option (codes "every") (file_line (codes "run"))).top) (with_option (codes "every") (file_line (codes "rewrite"))).top) (with_option (codes "every") (file_line (codes "session"))).top
+    with_subcommand (with_subcommand (with_subcommand line (with_option (codes "every") (file_line (codes "run"))).top) rewrite_line.top) (with_option (codes "every") (file_line (codes "session"))).top
 
 -- directives [NAME]
 abbrev pub directives_line : App
 directives_line = with_rule (new_app (codes "directives")) name_rule
 
--- .. look FILE:LINE, page FILE [--every K], chart FILE [--until LINE]
+-- .. look FILE:LINE, page FILE [--every K], chart FILE [--from LINE] [--until LINE], trace FILE
 abbrev pub with_views : App → App
 with_views line =
-    with_subcommand (with_subcommand (with_subcommand line (file_line (codes "look")).top) (with_option (codes "every") (file_line (codes "page"))).top) (with_option (codes "until") (file_line (codes "chart"))).top
+    with_subcommand (with_subcommand (with_subcommand (with_subcommand line (file_line (codes "look")).top) (with_option (codes "every") (file_line (codes "page"))).top) (with_option (codes "until") (with_option (codes "from") (file_line (codes "chart")))).top) (file_line (codes "trace")).top
 
 -- lsp
 abbrev pub server_line : App
@@ -121,7 +125,7 @@ server_line = new_app (codes "lsp")
 abbrev pub with_help : App → App
 with_help line = with_subcommand (with_subcommand line directives_line.top) server_line.top
 
--- raftbench [check|run|rewrite|session|look|page|chart|directives|lsp ..]
+-- raftbench [check|run|rewrite|session|look|page|chart|trace|directives|lsp ..]
 abbrev pub command_line : App
 command_line = with_help (with_views (with_files (with_subcommand (with_version (new_app (codes "raftbench"))) check_line.top)))
 

@@ -30,6 +30,8 @@ pub enum ScriptCommand {
     Page,
     /// `chart`: write its picture.
     Chart,
+    /// `trace`: write its trace.
+    Trace,
 }
 
 /// What the arguments choose. What they don't give is `None`.
@@ -42,8 +44,12 @@ pub struct CommandChoice {
     pub name: Option<String>,
     /// The text of its `--every`, as it was given.
     pub every: Option<String>,
+    /// The text of its `--from`, as it was given.
+    pub from: Option<String>,
     /// The text of its `--until`, as it was given.
     pub until: Option<String>,
+    /// Whether `--warn` is given.
+    pub warns: bool,
     /// What is said to `check` alone.
     pub check: CheckChoice,
 }
@@ -56,7 +62,9 @@ impl Drop for CommandChoice {
             file: _,
             name: _,
             every: _,
+            from: _,
             until: _,
+            warns: _,
             check: _,
         } = self;
     }
@@ -74,7 +82,9 @@ impl CommandChoice {
             file,
             name: _,
             every,
+            from: _,
             until: _,
+            warns: _,
             check: _,
         } = self;
         (subcommand, file, every)

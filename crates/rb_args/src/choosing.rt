@@ -82,7 +82,9 @@ fn no_choice(alloc: Global) -> CommandChoice
         file: None,
         name: None,
         every: None,
+        from: None,
         until: None,
+        warns: false,
         check,
     }
 }
@@ -97,12 +99,15 @@ fn given(alloc: Global, name: &str, inner: &ArgMatches<'_>) -> Result<CommandCho
         file: None,
         name: None,
         every: None,
+        from: None,
         until: None,
+        warns: is_given(inner, "warn"),
         check,
     };
     choice.file = text_of(alloc, inner, "file")?;
     choice.name = text_of(alloc, inner, "name")?;
     choice.every = text_of(alloc, inner, "every")?;
+    choice.from = text_of(alloc, inner, "from")?;
     choice.until = text_of(alloc, inner, "until")?;
     Ok(choice)
 }
@@ -172,6 +177,8 @@ fn of_one_view(name: &str) -> Option<ScriptCommand>
         Some(ScriptCommand::Page)
     } else if name == "chart" {
         Some(ScriptCommand::Chart)
+    } else if name == "trace" {
+        Some(ScriptCommand::Trace)
     } else {
         None
     }

@@ -149,6 +149,7 @@ fn option_argument<'a>(alloc: Global, row: ArgumentRow, value: &'a str) -> Arg<'
     value_argument(alloc, row.name, value)
         .long(row.name)
         .help(row.help)
+        .hide(row.help.is_empty())
 }
 
 // --NAME

@@ -26,6 +26,7 @@ pub(crate) enum ArgumentForm {
 pub(crate) struct ArgumentRow {
     pub(crate) form: ArgumentForm,
     pub(crate) name: &'static str,
+    /// What help says of it; an option of which it says nothing isn't shown there.
     pub(crate) help: &'static str,
 }
 
@@ -50,6 +51,13 @@ const FILE: ArgumentRow = ArgumentRow {
 #[rattlefmt::skip]
 const EVERY: ArgumentRow = ArgumentRow { form: ArgumentForm::Value("K"), name: "every", help: "Directives from one checkpoint to the next, 1 to 64 [default: 16]" };
 
+// It changes nothing where it is taken, so help doesn't have it.
+const EVERY_UNSEEN: ArgumentRow = ArgumentRow {
+    form: ArgumentForm::Value("K"),
+    name: "every",
+    help: "",
+};
+
 #[rattlefmt::skip]
 const CHECK: [ArgumentRow; 14] = [
     ArgumentRow { form: ArgumentForm::Paths, name: "path", help: "Script, or folder whose *.txt and those of its folders are the scripts" },
@@ -63,7 +71,7 @@ const CHECK: [ArgumentRow; 14] = [
     ArgumentRow { form: ArgumentForm::Flag, name: "brief", help: "Shows one line for each script that differs" },
     ArgumentRow { form: ArgumentForm::Letter('q'), name: "quiet", help: "Shows nothing: the status tells whether all match" },
     ArgumentRow { form: ArgumentForm::Flag, name: "why", help: "Tells why nothing came of a message, below the output that is shown" },
-    EVERY,
+    EVERY_UNSEEN,
     ArgumentRow { form: ArgumentForm::Value("WHEN"), name: "color", help: "Shows colours: auto (on a terminal), always or never [default: auto]" },
     ArgumentRow { form: ArgumentForm::Value("FORMAT"), name: "format", help: "Writes what differs as text, json or github (workflow commands) [default: text]" },
 ];
@@ -72,9 +80,19 @@ const FILE_ALONE: [ArgumentRow; 1] = [FILE];
 
 const FILE_AND_EVERY: [ArgumentRow; 2] = [FILE, EVERY];
 
+const PAGE: [ArgumentRow; 2] = [FILE, EVERY_UNSEEN];
+
 #[rattlefmt::skip]
-const FILE_AND_UNTIL: [ArgumentRow; 2] = [
+const REWRITE: [ArgumentRow; 3] = [
     FILE,
+    EVERY,
+    ArgumentRow { form: ArgumentForm::Flag, name: "warn", help: "Names new errors and probable mistakes on standard error, as it does on a terminal" },
+];
+
+#[rattlefmt::skip]
+const FILE_AND_LINES: [ArgumentRow; 3] = [
+    FILE,
+    ArgumentRow { form: ArgumentForm::Value("LINE"), name: "from", help: "Shows the directives from the one at this line on" },
     ArgumentRow { form: ArgumentForm::Value("LINE"), name: "until", help: "Shows the directives up to the one at this line" },
 ];
 
@@ -84,7 +102,7 @@ const NAME: [ArgumentRow; 1] = [ArgumentRow { form: ArgumentForm::Name, name: "n
 const FILE_OR_INPUT: &str = "FILE is a script's file; - is standard input";
 
 /// The subcommands, in the order in which help has them.
-pub(crate) static LINES: [Line; 9] = [
+pub(crate) static LINES: [Line; 10] = [
     Line {
         name: "check",
         about: "Checks scripts and folders of scripts, and shows each line that differs",
@@ -104,7 +122,7 @@ pub(crate) static LINES: [Line; 9] = [
         about: "Runs a script and writes it with the output that it gives",
         usage: "raftbench rewrite [OPTIONS] <FILE>",
         after: FILE_OR_INPUT,
-        rows: &FILE_AND_EVERY,
+        rows: &REWRITE,
     },
     Line {
         name: "session",
@@ -123,16 +141,23 @@ pub(crate) static LINES: [Line; 9] = [
     Line {
         name: "page",
         about: "Runs a script and writes a page that shows what it does, step by step",
-        usage: "raftbench page [OPTIONS] <FILE>",
+        usage: "raftbench page <FILE>",
         after: FILE_OR_INPUT,
-        rows: &FILE_AND_EVERY,
+        rows: &PAGE,
     },
     Line {
         name: "chart",
         about: "Runs a script and writes a picture of what it does, as SVG",
         usage: "raftbench chart [OPTIONS] <FILE>",
         after: FILE_OR_INPUT,
-        rows: &FILE_AND_UNTIL,
+        rows: &FILE_AND_LINES,
+    },
+    Line {
+        name: "trace",
+        about: "Runs a script and writes each thing that happens, as a line of JSON",
+        usage: "raftbench trace <FILE>",
+        after: FILE_OR_INPUT,
+        rows: &FILE_ALONE,
     },
     Line {
         name: "directives",

@@ -52,7 +52,7 @@ use Rattle.rb_node.specs.Step.{as_follower, leader_followed, as_precandidate, as
 use Rattle.rb_node.specs.Terms.{became_follower, stepped_later, stepped_later_by, stepped_earlier_by, answers_earlier}
 use Rattle.rb_node.specs.Ticking.{next_count as counted_tick, counters_advanced, heartbeat_sent_to, heartbeat_sent_to_each, due_heartbeats_sent, activity_reset, has_lost_quorum, active_quorum_checked, leader_ticked, is_due, non_leader_ticked, ticked_by}
 use Rattle.rb_node.specs.Transferring.{transfer_ended}
-use Rattle.rb_node.specs.Votes.{grants, decided, pre_decided, next_count, count_of}
+use Rattle.rb_node.specs.Votes.{grants, decided, pre_decided, vote_counted, count_of}
 use Rattle.rb_node.specs.declared.limits.TheConstants.{ELECTION_TICKS, HEARTBEAT_TICKS}
 use Rattle.rb_node_laws.specs.Calling.{Call, Step, Campaign, Propose, Transfer, Tick, Advance, ForgetLeader, ReportUnreachable, SetTimeout, Compact, compacted_unless, after, run}
 use Rattle.rb_node_laws.specs.Rules.{NoChangePast, LeadsKnowing}
@@ -250,14 +250,14 @@ given_knows : (t : NodeStep) (m : Message) → LeadsKnowing (leader_followed t m
 given_knows t m = follower_knows m.kind (became_follower t t.node.term m.from) m follower_never
 
 precandidate_knows : (k : MessageKind) (t : NodeStep) (m : Message) → LeadsKnowing t.node → LeadsKnowing (as_precandidate k t m).node
-precandidate_knows (kind.PreVoteResponse granted) t m h = pre_decided_knows (count_of t.node m.from granted) (next_count t m granted) h
+precandidate_knows (kind.PreVoteResponse granted) t m h = pre_decided_knows (count_of t.node m.from granted) (vote_counted t m granted) h
 precandidate_knows (kind.Append append) t m h = given_knows t m
 precandidate_knows (kind.Heartbeat commit) t m h = given_knows t m
 precandidate_knows (kind.Snapshot snapshot) t m h = given_knows t m
 precandidate_knows _ t m h = h
 
 candidate_knows : (k : MessageKind) (t : NodeStep) (m : Message) → LeadsKnowing t.node → LeadsKnowing (as_candidate k t m).node
-candidate_knows (kind.VoteResponse granted) t m h = decided_knows (count_of t.node m.from granted) (next_count t m granted) h
+candidate_knows (kind.VoteResponse granted) t m h = decided_knows (count_of t.node m.from granted) (vote_counted t m granted) h
 candidate_knows (kind.Append append) t m h = given_knows t m
 candidate_knows (kind.Heartbeat commit) t m h = given_knows t m
 candidate_knows (kind.Snapshot snapshot) t m h = given_knows t m

@@ -1,4 +1,4 @@
-//! `raftbench chart FILE [--until LINE]`: the picture of a script.
+//! `raftbench chart FILE [--from LINE] [--until LINE]`: the picture of a script.
 
 use crate::chart_over::chart_over;
 use crate::job::{Job, run_job};
@@ -6,29 +6,38 @@ use crate::misuse::{Misuse, misused};
 use crate::page::name_of;
 use crate::refusal::Refusal;
 use rb_bench::{BenchFault, Outlet};
+use rb_chart::ChartPart;
 use rb_check::Status;
 use rb_text::{Source, number_of};
 use std::alloc::Global;
 use std::rt::Files;
 
-/// Writes the picture of the script in the file, or on standard input, or of its directives up to a line.
+/// Writes the picture of the script in the file, or on standard input, or of its directives from a line on and up to a line.
 pub(crate) fn chart<R: Files + Input + Print + AllocGlobal>(
     rt: &R,
     file: &str,
+    from: Option<&str>,
     until: Option<&str>,
 ) -> Result<Status, Refusal> {
     let charting = Charting {
         name: name_of(file).as_bytes(),
-        last: last_line(rt.alloc(), until)?,
+        part: ChartPart {
+            from: first_line(rt.alloc(), from)?,
+            until: last_line(rt.alloc(), until)?,
+        },
     };
-    run_job(rt, file, &charting)
+    let status = run_job(rt, file, &charting)?;
+    if status == Status::Refused {
+        return Err(Refusal::TooLarge);
+    }
+    Ok(status)
 }
 
-// The picture of a script, under this name.
+// The picture of a part of a script, under this name.
 #[derive(Drop)]
 struct Charting<'a> {
     name: &'a [u8],
-    last: Option<u64>,
+    part: ChartPart,
 }
 
 impl<'a> Job for Charting<'a> {
@@ -38,7 +47,21 @@ impl<'a> Job for Charting<'a> {
         source: &mut S,
         writer: &mut W,
     ) -> Result<Status, BenchFault> {
-        chart_over(alloc, source, writer, self.name, self.last)
+        chart_over(alloc, source, writer, self.name, self.part)
+    }
+}
+
+// The line behind `--from`, where it is given.
+fn first_line(alloc: Global, from: Option<&str>) -> Result<Option<u64>, Refusal> {
+    let Some(word) = from else {
+        return Ok(None);
+    };
+    match number_of(word.as_bytes()) {
+        Some(line) => Ok(Some(line)),
+        None => Err(match misused(alloc, from) {
+            Some(text) => Refusal::OwnUsage(Misuse::From(text)),
+            None => Refusal::OutOfMemory,
+        }),
     }
 }
 

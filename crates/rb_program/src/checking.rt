@@ -1,18 +1,17 @@
 //! `raftbench check PATH..`: scripts and folders of scripts.
 
-ghost use Rattle.std.specs.Prelude.{◌≢◌, IfOk};
+ghost use Rattle.std.specs.Prelude.{◌≡◌, ◌≢◌, IfOk, IsOk, MatchOption, Err};
+ghost use Rattle.rb_program.specs.Choices.{accepts, review_fault, shown_of};
 
 use crate::clusters::Clusters;
 use crate::colors::{ColorChoice, color_choice_of, colors};
-use crate::misuse::{Misuse, misuse_of_every, misused};
+use crate::misuse::{Misuse, misused};
 use crate::refusal::Refusal;
-use crate::spacing::spacing;
 use crate::style::{Style, style_of};
 use crate::target::targets;
 use rb_args::CheckChoice;
 use rb_check::Status;
 use rb_checked::Shown;
-use rb_replay::is_checkpoint_interval;
 use rb_suite::{CheckRequest, check};
 use std::alloc::Global;
 use std::io::Write;
@@ -35,14 +34,13 @@ pub struct Terminals {
 pub fn check_all<R: Files + Input + Print + Env + Clock + AllocGlobal, E: Write + Drop>(
     rt: &R,
     choice: &CheckChoice,
-    every: Option<&str>,
     errors: E,
     terminals: Terminals,
 ) -> Result<Status, Refusal>
     // What is found to be wrong with the arguments is a refusal.
     ensures { IfOk result (λ status. status ≢ Status.BadUsage) }
 {
-    let (color, style) = colors_and_style(rt.alloc(), choice, every, terminals)?;
+    let (color, style) = colors_and_style(rt.alloc(), choice, terminals)?;
     let targets = targets(rt, &choice.paths, accepts(choice))?;
     let asked = CheckRequest {
         targets: &targets,
@@ -52,7 +50,7 @@ pub fn check_all<R: Files + Input + Print + Env + Clock + AllocGlobal, E: Write 
         is_forced: choice.is_forced,
         reviews: choice.reviews,
         is_quiet: choice.is_quiet,
-        explains: choice.explains && !choice.is_quiet && style == Style::Text,
+        explains: choice.explains && !choice.is_quiet && style.is_text(),
         shown: shown(choice, style),
         format: style.format(),
         colors: colors(rt, color, terminals.output),
@@ -61,7 +59,9 @@ pub fn check_all<R: Files + Input + Print + Env + Clock + AllocGlobal, E: Write 
     Ok(check(rt, &mut Clusters, asked, errors)?)
 }
 
-fn accepts(choice: &CheckChoice) -> bool {
+fn accepts(choice: &CheckChoice) -> bool
+    ensures { result ≡ accepts choice.now }
+{
     choice.accepts || choice.accepts_errors || choice.reviews
 }
 
@@ -69,12 +69,8 @@ fn accepts(choice: &CheckChoice) -> bool {
 fn colors_and_style(
     alloc: Global,
     choice: &CheckChoice,
-    every: Option<&str>,
     terminals: Terminals,
 ) -> Result<(ColorChoice, Style), Refusal> {
-    if !is_usual(every) {
-        return Err(Refusal::OwnUsage(misuse_of_every(alloc, every)));
-    }
     let color = color_choice_asked(alloc, choice)?;
     let style = style_asked(alloc, choice)?;
     check_review(choice, style, terminals)?;
@@ -102,10 +98,12 @@ fn style_asked(alloc: Global, choice: &CheckChoice) -> Result<Style, Refusal> {
 }
 
 // Whether there is somebody to ask, who sees what is asked about.
-fn check_review(choice: &CheckChoice, style: Style, terminals: Terminals) -> Result<(), Refusal> {
+fn check_review(choice: &CheckChoice, style: Style, terminals: Terminals) -> Result<(), Refusal>
+    ensures { MatchOption (review_fault choice.now style terminals) (IsOk result) (λ misuse. result ≡ Err (Refusal.OwnUsage misuse)) }
+{
     if !choice.reviews {
         Ok(())
-    } else if choice.is_quiet || style != Style::Text {
+    } else if choice.is_quiet || !style.is_text() {
         Err(Refusal::OwnUsage(Misuse::Unseen))
     } else if terminals.input && terminals.output {
         Ok(())
@@ -114,18 +112,12 @@ fn check_review(choice: &CheckChoice, style: Style, terminals: Terminals) -> Res
     }
 }
 
-// Whether the text of `--every` is a number that a session takes.
-fn is_usual(every: Option<&str>) -> bool {
-    match spacing(every) {
-        Some(every) => is_checkpoint_interval(every),
-        None => false,
-    }
-}
-
 // How much of each script is shown; the least of what is asked for. Programs are told what differs, and no less;
 // where each mismatch is shown to be asked about, a line stands before those of a script.
-fn shown(choice: &CheckChoice, style: Style) -> Shown {
-    if style != Style::Text {
+fn shown(choice: &CheckChoice, style: Style) -> Shown
+    ensures { result ≡ shown_of choice.now style }
+{
+    if !style.is_text() {
         Shown::Differing
     } else if choice.is_brief || choice.reviews {
         Shown::Brief

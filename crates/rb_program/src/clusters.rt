@@ -2,14 +2,13 @@
 
 use rb_checked::LineReasons;
 use rb_cluster::{Cluster, Meter};
-use rb_machine::{Both, PrintedLines};
+use rb_machine::{Both, Machine, PrintedLines};
 use rb_raftlog::SplitLog;
-use rb_replay::{Session, StartFault};
-use rb_script::DirectiveRef;
+use rb_script::{DirectiveRef, Lines};
 use rb_suite::{ExplainedRun, Runner};
 use std::alloc::{AllocError, Global};
 
-/// Clusters of nodes with split logs. No edit runs a directive again, so as few are kept as there may be.
+/// Clusters of nodes with split logs.
 #[derive(Clone, Copy)]
 pub(crate) struct Clusters;
 
@@ -18,11 +17,11 @@ impl Runner for Clusters {
 
     fn run(
         &mut self,
-        alloc: Global,
-        bytes: &[u8],
-    ) -> Result<Session<Cluster<SplitLog>>, StartFault> {
+        machine: Cluster<SplitLog>,
+        directive: DirectiveRef<'_>,
+    ) -> Result<(Cluster<SplitLog>, Lines), AllocError> {
         let mut meter = Meter::new();
-        Session::run_once(alloc, bytes, &mut meter)
+        machine.run(directive, &mut meter)
     }
 
     #[tactic(auto, unfolding(rb_machine::specs::Outcome::outcome))]

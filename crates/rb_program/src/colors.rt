@@ -1,9 +1,10 @@
 //! Whether colours are shown.
 
-ghost use Rattle.std.specs.Prelude.{◌≡◌};
+ghost use Rattle.std.specs.Prelude.{◌≡◌, option_map};
+ghost use Rattle.rb_program.specs.Choices.{color_choice_of, colors_of};
 
+use crate::environment::has_text;
 use rb_check::Colors;
-use std::env;
 use std::rt::Env;
 
 /// What `--color` asks for.
@@ -15,7 +16,9 @@ pub(crate) enum ColorChoice {
 }
 
 /// What the value of `--color` asks for; none is `auto`.
-pub(crate) fn color_choice_of(word: Option<&str>) -> Option<ColorChoice> {
+pub(crate) fn color_choice_of(word: Option<&str>) -> Option<ColorChoice>
+    ensures { result ≡ color_choice_of (option_map (λ word. word.now) word.entry) }
+{
     match word {
         None => Some(ColorChoice::Auto),
         Some(word) if word == "auto" => Some(ColorChoice::Auto),
@@ -32,16 +35,21 @@ pub(crate) fn colors<R: Env + AllocGlobal>(
     color: ColorChoice,
     is_terminal: bool,
 ) -> Colors {
-    match color {
-        ColorChoice::Always => Colors::On,
-        ColorChoice::Auto if is_terminal && !refuses_colors(rt) => Colors::On,
-        _ => Colors::Off,
-    }
+    colors_of(color, is_terminal, has_text(rt, "NO_COLOR"))
 }
 
-fn refuses_colors<R: Env + AllocGlobal>(rt: &R) -> bool {
-    match env::var(rt, "NO_COLOR") {
-        Ok(text) => !text.is_empty(),
-        Err(_) => false,
+fn colors_of(color: ColorChoice, is_terminal: bool, refuses: bool) -> Colors
+    ensures { result ≡ colors_of color is_terminal refuses }
+{
+    match color {
+        ColorChoice::Always => Colors::On,
+        ColorChoice::Never => Colors::Off,
+        ColorChoice::Auto => {
+            if is_terminal && !refuses {
+                Colors::On
+            } else {
+                Colors::Off
+            }
+        }
     }
 }

@@ -1,7 +1,7 @@
 //! What is done with one script, from where it is read to where what comes of it is written.
 
 use crate::refusal::Refusal;
-use crate::running::{ended, opened};
+use crate::running::{ended, explained, opened};
 use rb_bench::{BenchFault, Outlet};
 use rb_check::Status;
 use rb_script::Through;
@@ -31,7 +31,19 @@ pub(crate) fn run_job<R: Files + Input + Print + AllocGlobal, J: Job>(
     if file == "-" {
         run_from(rt, &mut ReadSource(rt.reader()), job)
     } else {
-        run_from(rt, &mut ReadSource(opened(rt, file)?), job)
+        run_opened(rt, file, job)
+    }
+}
+
+fn run_opened<R: Files + Print + AllocGlobal, J: Job>(
+    rt: &R,
+    file: &str,
+    job: &J,
+) -> Result<Status, Refusal> {
+    let ended = run_from(rt, &mut ReadSource(opened(rt, file)?), job);
+    match ended {
+        Ok(status) => Ok(status),
+        Err(refusal) => Err(explained(rt, file, refusal)),
     }
 }
 

@@ -26,6 +26,8 @@ pub enum Misuse {
     NoTerminal,
     /// What `--review` asks about isn't to be shown.
     Unseen,
+    /// What stands behind `--from` is no line.
+    From(String),
     /// What stands behind `--until` is no line.
     Until(String),
     /// What stands behind `look` names no directive of a file.
@@ -48,6 +50,7 @@ impl Drop for Misuse {
             Misuse::Every(_)
             | Misuse::Color(_)
             | Misuse::Format(_)
+            | Misuse::From(_)
             | Misuse::Until(_)
             | Misuse::Place(_)
             | Misuse::Directive(_, _) => {}
@@ -92,6 +95,7 @@ impl Misuse {
                 "",
                 ": it shows what it asks about, so it goes with neither --quiet nor --format",
             ),
+            Misuse::From(text) => ("--from ", text.as_str(), ": the line of a directive"),
             Misuse::Until(text) => ("--until ", text.as_str(), ": the line of a directive"),
             Misuse::Place(text) => (
                 "",

@@ -1,5 +1,8 @@
 //! `raftbench page FILE`: the page of a script.
 
+ghost use Rattle.std.specs.Prelude.{◌≡◌};
+ghost use Rattle.rb_program.specs.Choices.{shown_name};
+
 use crate::job::{Job, run_job};
 use crate::page_over::page_over;
 use crate::refusal::Refusal;
@@ -9,23 +12,22 @@ use rb_frame::{back, front};
 use rb_steps::Frame;
 use rb_text::Source;
 use std::alloc::Global;
+use std::path::Path;
 use std::rt::Files;
 
 /// Writes the page of the script in the file, or on standard input.
 pub(crate) fn page<R: Files + Input + Print + AllocGlobal>(
     rt: &R,
     file: &str,
-    every: u64,
 ) -> Result<Status, Refusal> {
     let name = name_of(file).as_bytes();
-    run_job(rt, file, &Paging { name, every })
+    run_job(rt, file, &Paging { name })
 }
 
 // The page of a script, under this name.
 #[derive(Drop)]
 struct Paging<'a> {
     name: &'a [u8],
-    every: u64,
 }
 
 impl<'a> Job for Paging<'a> {
@@ -40,17 +42,19 @@ impl<'a> Job for Paging<'a> {
             front: &front,
             back: &back,
         };
-        page_over(alloc, source, writer, frame, self.name, self.every)
+        page_over(alloc, source, writer, frame, self.name)
     }
 }
 
 /// What a script is called where it is shown: the last part of its path.
-pub(crate) fn name_of(file: &str) -> &str {
+pub(crate) fn name_of(file: &str) -> &str
+    ensures { result.now ≡ shown_name file.now }
+{
     if file == "-" {
         return "standard input";
     }
-    match file.rsplit_once('/') {
-        Some((_folders, name)) => name,
+    match Path::new(file).file_name() {
+        Some(name) => name,
         None => file,
     }
 }

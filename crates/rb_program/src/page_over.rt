@@ -1,11 +1,10 @@
 //! The page of a script, from bytes to bytes.
 
-ghost use Rattle.std.specs.Prelude.{◌≡◌, ◌≢◌, ◌↔◌, ◌⊎◌, ◌≤◌, true, false, ℕ, List, length, Err, IsErrOf, IsOk, IfSome, OnOk};
+ghost use Rattle.std.specs.Prelude.{◌≡◌, ◌≢◌, ◌≤◌, ℕ, List, length, Err, IsOk, IfSome, OnOk};
 ghost use Rattle.std.specs.Io.KnownBytes.{Consumes};
 ghost use Rattle.rb_text.specs.Asked.{AsksFor, Fails};
 ghost use Rattle.rb_script.specs.Reading.{early_fault};
 ghost use Rattle.rb_script.specs.Writes.{Writes};
-ghost use Rattle.rb_replay.specs.Start.{is_checkpoint_interval};
 ghost use Rattle.rb_bench.specs.Handed.{IsHandedOn};
 ghost use Rattle.rb_bench.specs.Runs.{most_read};
 ghost use Rattle.rb_steps.specs.Pages.{page_joined};
@@ -14,18 +13,16 @@ ghost use Rattle.rb_program.specs.Written.{Tells, TellsOver};
 use crate::script_steps::read_steps;
 use rb_bench::{BenchFault, Outlet};
 use rb_check::Status;
-use rb_replay::is_checkpoint_interval;
 use rb_script::{Lines, MAX_SCRIPT, WriteFault};
 use rb_steps::{Frame, put_page};
 use rb_text::{Source, read_up_to};
 use std::alloc::Global;
 
 /// Reads a script, runs it and writes its page, under this name. The answer is the program's status: `Matched`, or `Mismatched` where there are mismatches.
-/// `every` is how many directives a session would have from one checkpoint to the next, 1 to 64; it changes no page.
 ///
 /// # Errors
 ///
-/// `Spacing` before anything is read. `Io` where a call of the source failed, or of the writer, which is called only for a script whose rows
+/// `Io` where a call of the source failed, or of the writer, which is called only for a script whose rows
 /// are all there. `OutOfMemory`, and `Script` where what was read is no script, as [`page_bytes`] answers.
 pub(crate) fn page_over<S: Source, W: Outlet>(
     alloc: Global,
@@ -33,26 +30,19 @@ pub(crate) fn page_over<S: Source, W: Outlet>(
     writer: &mut W,
     frame: Frame<'_>,
     name: &[u8],
-    every: u64,
 ) -> Result<Status, BenchFault>
-    // Found before anything is read.
-    ensures spacing { IsErrOf result BenchFault.Spacing ↔ (is_checkpoint_interval every ≡ false) }
-    ensures unread { IsErrOf result BenchFault.Spacing → (source.new ≡ source.old) × (writer.new ≡ writer.old) }
     // No more is taken of the source than is wanted, whatever comes of it, and it is asked no more often than for that.
     ensures consumed { (taken : List ℕ) × (length taken ≤ most_read) × Consumes (S.left source.old) (S.left source.new) taken }
-    ensures asked { IsErrOf result BenchFault.Spacing ⊎ AsksFor (S.left source.old) (S.asked source.old) (S.asked source.new) most_read }
+    ensures asked { AsksFor (S.left source.old) (S.asked source.old) (S.asked source.new) most_read }
     // Where the source's bytes are known.
     // A call of the source that failed is a failure of the whole.
     ensures unfailed { OnOk result (Fails (S.asked source.old) (S.asked source.new) 0) }
-    ensures answered { is_checkpoint_interval every ≡ true → IfSome (S.left source.old) (λ all. TellsOver (page_joined frame.entry.front.now frame.entry.back.now name.now) all (S.left source.new) result (W.held writer.old) (W.held writer.new)) }
+    ensures answered { IfSome (S.left source.old) (λ all. TellsOver (page_joined frame.entry.front.now frame.entry.back.now name.now) all (S.left source.new) result (W.held writer.old) (W.held writer.new)) }
     // What was written was handed on.
     ensures handed { OnOk result (IsHandedOn (W.handed writer.new) (W.held writer.new)) }
     // No failure is answered where no call failed.
     ensures io { S.gives_all source.old → W.takes_all writer.old → result ≢ Err BenchFault.Io }
 {
-    if !is_checkpoint_interval(every) {
-        return Err(BenchFault::Spacing);
-    }
     let bytes = read_up_to(alloc, source, MAX_SCRIPT + 1)?;
     page_bytes(alloc, bytes.as_slice(), writer, frame, name)
 }

@@ -7,6 +7,7 @@ use rb_check::Status;
 use rb_script::MAX_SCRIPT;
 use rb_text::{ReadSource, Source, read_up_to};
 use std::alloc::Global;
+use std::fs;
 use std::fs::File;
 use std::rt::Files;
 
@@ -81,8 +82,24 @@ pub(crate) fn script<R: Files + AllocGlobal>(rt: &R, file: &str) -> Result<Vec<u
     let mut source = ReadSource(opened(rt, file)?);
     match read_up_to(rt.alloc(), &mut source, MAX_SCRIPT + 1) {
         Ok(bytes) => Ok(bytes),
-        Err(fault) => Err(Refusal::from(fault)),
+        Err(fault) => Err(explained(rt, file, Refusal::from(fault))),
     }
+}
+
+/// The refusal, with the reason where input failed because the path is a folder's: such a path is opened, and isn't read.
+pub(crate) fn explained<R: Files + AllocGlobal>(rt: &R, file: &str, refusal: Refusal) -> Refusal {
+    let is_folder = matches!(&refusal, Refusal::Io) && is_folder(rt, file);
+    if !is_folder {
+        return refusal;
+    }
+    match String::from_str(rt.alloc(), file) {
+        Ok(path) => Refusal::Folder(path),
+        Err(_) => refusal,
+    }
+}
+
+fn is_folder<R: Files>(rt: &R, path: &str) -> bool {
+    matches!(fs::metadata(rt, path), Ok(metadata) if metadata.is_dir())
 }
 
 /// A file that can't be opened has failed as input, whatever the system says was wanting.

@@ -1,6 +1,8 @@
 //! The steps of the script that some bytes are.
 
 ghost use Rattle.std.specs.Prelude.{◌≡◌, ◌≢◌, Err, IfErr, IfOk, IfSome};
+ghost use Rattle.rb_script.specs.HeadLines.{AreHeadLines};
+ghost use Rattle.rb_script.specs.Lines.{lines};
 ghost use Rattle.rb_script.specs.Script.{PlainScript};
 ghost use Rattle.rb_script.specs.Reads.{Reads};
 ghost use Rattle.rb_script.specs.Reading.{early_fault, read_of};
@@ -12,12 +14,11 @@ ghost use Rattle.rb_program.specs.Written.{AreRowsOf, AreStepsOf};
 
 use rb_bench::BenchFault;
 use rb_check::Status;
-use rb_checked::layout_of;
 use rb_cluster::Cluster;
 use rb_machine::Machine;
 use rb_raftlog::SplitLog;
 use rb_replay::{Session, StartFault};
-use rb_script::{Lines, Script};
+use rb_script::{Lines, ScriptWithLines};
 use rb_steps::{StepMachine, steps_of};
 use std::alloc::{AllocError, Global};
 
@@ -28,23 +29,23 @@ pub(crate) struct ScriptSteps {
     pub(crate) status: Status,
 }
 
-// Runs a script, which the bytes are, each directive once, and gives a session on it and its rows.
+// Runs a script, which was read of the bytes, each directive once, and gives a session on it and its rows.
 fn rows<M: StepMachine>(
     alloc: Global,
-    script: Script,
+    read: ScriptWithLines,
     bytes: &[u8],
 ) -> Result<(Session<M>, Lines), AllocError>
-    requires { Reads bytes.now script }
-    ensures script { IfOk result (λ ran. ran.0.script ≡ script) }
-    ensures rows { IfOk result (λ ran. AreRowsOf bytes.now script ran.1) }
+    requires reads { Reads bytes.now read.script }
+    requires heads { AreHeadLines 1 (lines bytes.now) read.script.blocks read.heads.items }
+    ensures script { IfOk result (λ ran. ran.0.script ≡ read.script) }
+    ensures rows { IfOk result (λ ran. AreRowsOf bytes.now read.script ran.1) }
 {
-    let layout = layout_of(alloc, bytes)?;
-    let ran = steps_of(alloc, script, bytes, layout.heads.as_slice())?;
+    let ran = steps_of(alloc, read.script, bytes, read.heads.as_slice())?;
     Ok(ran)
 }
 
-// The status of the mismatches.
-fn status<M: Machine>(session: &Session<M>) -> Status
+/// The status of the mismatches.
+pub(crate) fn status<M: Machine>(session: &Session<M>) -> Status
     ensures { result ≡ status_of (mismatches session.now.script) }
 {
     if session.mismatches().is_empty() {
@@ -62,8 +63,8 @@ fn steps_on<M: StepMachine>(alloc: Global, bytes: &[u8]) -> Result<ScriptSteps, 
     ensures early { IfSome (early_fault bytes.now) (λ fault. result ≡ Err (StartFault.Script fault)) }
     ensures spaced { result ≢ Err StartFault.BadSpacing }
 {
-    let script = Script::read(alloc, bytes)?;
-    let (session, texts) = rows::<M>(alloc, script, bytes)?;
+    let read = ScriptWithLines::read(alloc, bytes)?;
+    let (session, texts) = rows::<M>(alloc, read, bytes)?;
     Ok(ScriptSteps {
         texts,
         status: status(&session),

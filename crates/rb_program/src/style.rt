@@ -1,5 +1,8 @@
 //! How what differs is written.
 
+ghost use Rattle.std.specs.Prelude.{◌≡◌, option_map};
+ghost use Rattle.rb_program.specs.Choices.{is_text, style_of};
+
 use rb_suite::Format;
 
 /// What `--format` asks for.
@@ -12,6 +15,16 @@ pub(crate) enum Style {
 }
 
 impl Style {
+    /// Whether people read it.
+    pub(crate) fn is_text(self) -> bool
+        ensures { result ≡ is_text self }
+    {
+        match self {
+            Style::Text => true,
+            Style::Program(_) => false,
+        }
+    }
+
     /// The format for programs, where it is one.
     pub(crate) fn format(self) -> Option<Format> {
         match self {
@@ -22,7 +35,9 @@ impl Style {
 }
 
 /// What the value of `--format` asks for; none is no style.
-pub(crate) fn style_of(word: Option<&str>) -> Option<Style> {
+pub(crate) fn style_of(word: Option<&str>) -> Option<Style>
+    ensures { result ≡ style_of (option_map (λ word. word.now) word.entry) }
+{
     match word {
         None => Some(Style::Text),
         Some(word) if word == "text" => Some(Style::Text),

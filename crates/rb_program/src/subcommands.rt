@@ -3,26 +3,33 @@
 ghost use Rattle.std.specs.Prelude.{◌≡◌, None, Err};
 
 use crate::chart::chart;
+use crate::checking::Terminals;
 use crate::look::look_at;
 use crate::misuse::{Misuse, misuse_of_every};
 use crate::page::page;
 use crate::refusal::Refusal;
+use crate::rewriting::rewrite;
 use crate::running::{run, session};
-use crate::spacing::spacing;
+use crate::trace::trace;
+use crate::work::{Work, work_of};
 use rb_args::{CommandChoice, ScriptCommand};
 use rb_bench::Mode;
 use rb_check::Status;
+use std::io::Write;
 use std::rt::Files;
 
-/// Does with the script in FILE what is asked for, and gives how it ended.
+/// Does with the script in FILE what is asked for, and gives how it ended. `rewrite` names what looks like a mistake on `errors`, where that is a
+/// terminal or `--warn` is given.
 ///
 /// # Errors
 ///
 /// Why it was not done. What is wrong with `--every` is told with its text.
-pub fn carry_out<R: Files + Input + Print + AllocGlobal>(
+pub fn carry_out<R: Files + Input + Print + AllocGlobal, E: Write + Drop>(
     rt: &R,
     command: ScriptCommand,
     choice: &CommandChoice,
+    errors: E,
+    terminals: Terminals,
 ) -> Result<Status, Refusal>
     ensures { choice.now.file ≡ None → result ≡ Err (Refusal.Usage Misuse.NoFile) }
 {
@@ -32,9 +39,15 @@ pub fn carry_out<R: Files + Input + Print + AllocGlobal>(
     if command == ScriptCommand::Session && file == "-" {
         return Err(Refusal::Usage(Misuse::Input));
     }
-    let ended = done(rt, command, file, choice);
+    let every = choice.every.as_deref();
+    let ended = match work_of(command, every) {
+        Some(Work::Rewriting(every)) if terminals.errors || choice.warns => {
+            rewrite(rt, file, every, errors)
+        }
+        Some(work) => done(rt, work, file, choice),
+        None => Err(Refusal::Usage(Misuse::Spacing)),
+    };
     if let Err(Refusal::Usage(Misuse::Spacing)) = &ended {
-        let every = choice.every.as_deref();
         return Err(Refusal::Usage(misuse_of_every(rt.alloc(), every)));
     }
     ended
@@ -42,19 +55,17 @@ pub fn carry_out<R: Files + Input + Print + AllocGlobal>(
 
 fn done<R: Files + Input + Print + AllocGlobal>(
     rt: &R,
-    command: ScriptCommand,
+    work: Work,
     file: &str,
     choice: &CommandChoice,
 ) -> Result<Status, Refusal> {
-    let Some(every) = spacing(choice.every.as_deref()) else {
-        return Err(Refusal::Usage(Misuse::Spacing));
-    };
-    match command {
-        ScriptCommand::Run => run(rt, file, Mode::Run, every),
-        ScriptCommand::Rewrite => run(rt, file, Mode::Rewrite, every),
-        ScriptCommand::Session => session(rt, file, every),
-        ScriptCommand::Look => look_at(rt, file),
-        ScriptCommand::Page => page(rt, file, every),
-        ScriptCommand::Chart => chart(rt, file, choice.until.as_deref()),
+    match work {
+        Work::Report(every) => run(rt, file, Mode::Run, every),
+        Work::Rewriting(every) => run(rt, file, Mode::Rewrite, every),
+        Work::Session(every) => session(rt, file, every),
+        Work::Look => look_at(rt, file),
+        Work::Page => page(rt, file),
+        Work::Chart => chart(rt, file, choice.from.as_deref(), choice.until.as_deref()),
+        Work::Trace => trace(rt, file),
     }
 }

@@ -1,0 +1,70 @@
+-- What the words of the command line ask for. (This project's.)
+use Rattle.std.specs.Prelude.{ℕ, ◌||◌, ◌&&◌, not, Bool, true, false, if◌then◌else◌, List, Option, Some, None, codes, unwrap_or}
+use Rattle.std.specs.Path.{path_file_name}
+use Rattle.std.specs.Str.{bytes_eq}
+use Rattle.rb_args.specs.declared.choice.CheckChoice.{CheckChoice}
+use Rattle.rb_check.specs.declared.colors.Colors.{Colors}
+use Rattle.rb_check.specs.declared.colors.Colors.TheVariants as shades
+use Rattle.rb_checked.specs.declared.view.Shown.{Shown}
+use Rattle.rb_checked.specs.declared.view.Shown.TheVariants as shown
+use Rattle.rb_suite.specs.declared.format.Format.TheVariants as formats
+use Rattle.rb_program.specs.declared.checking.Terminals.{Terminals}
+use Rattle.rb_program.specs.declared.colors.ColorChoice.{ColorChoice}
+use Rattle.rb_program.specs.declared.colors.ColorChoice.TheVariants as colors
+use Rattle.rb_program.specs.declared.misuse.Misuse.{Misuse}
+use Rattle.rb_program.specs.declared.misuse.Misuse.TheVariants as misuses
+use Rattle.rb_program.specs.declared.style.Style.{Style}
+use Rattle.rb_program.specs.declared.style.Style.TheVariants as styles
+
+-- what `--color` asks for
+abbrev pub color_choice_of : Option (List ℕ) → Option ColorChoice
+color_choice_of None = Some colors.Auto
+color_choice_of (Some word) =
+    if bytes_eq word (codes "auto") then Some colors.Auto
+    else (if bytes_eq word (codes "always") then Some colors.Always
+    else (if bytes_eq word (codes "never") then Some colors.Never
+    else None))
+
+-- whether colours are shown, on a terminal or not, where the environment refuses them or doesn't
+abbrev pub colors_of : ColorChoice → Bool → Bool → Colors
+colors_of colors.Always is_terminal refuses = shades.On
+colors_of colors.Never is_terminal refuses = shades.Off
+colors_of colors.Auto is_terminal refuses = if is_terminal && not refuses then shades.On else shades.Off
+
+-- what `--format` asks for
+abbrev pub style_of : Option (List ℕ) → Option Style
+style_of None = Some styles.Text
+style_of (Some word) =
+    if bytes_eq word (codes "text") then Some styles.Text
+    else (if bytes_eq word (codes "json") then Some (styles.Program formats.Json)
+    else (if bytes_eq word (codes "github") then Some (styles.Program formats.Github)
+    else None))
+
+-- outputs are accepted where one of the three options asks for it, and nowhere else
+abbrev pub accepts : CheckChoice → Bool
+accepts choice = choice.accepts || choice.accepts_errors || choice.reviews
+
+-- how much is shown: the least of what is asked for; programs are told all that differs
+abbrev pub shown_of : CheckChoice → Style → Shown
+shown_of choice (styles.Program format) = shown.Differing
+shown_of choice styles.Text =
+    if choice.is_brief || choice.reviews then shown.Brief
+    else (if choice.is_first then shown.First
+    else (if choice.is_verbose then shown.All
+    else shown.Differing))
+
+abbrev pub is_text : Style → Bool
+is_text styles.Text = true
+is_text (styles.Program format) = false
+
+-- what is wrong with a review: what it asks about isn't shown, or it can't ask
+abbrev pub review_fault : CheckChoice → Style → Terminals → Option Misuse
+review_fault choice style terminals =
+    if not choice.reviews then None
+    else (if choice.is_quiet || not (is_text style) then Some misuses.Unseen
+    else (if terminals.input && terminals.output then None
+    else Some misuses.NoTerminal))
+
+-- what a script is called where it is shown: the last name of its path
+abbrev pub shown_name : List ℕ → List ℕ
+shown_name file = if bytes_eq file (codes "-") then codes "standard input" else unwrap_or (path_file_name file) file

@@ -1,0 +1,17 @@
+//! What the environment asks for.
+
+use std::env;
+use std::rt::Env;
+
+/// Whether the environment gives this name a text.
+pub(crate) fn has_text<R: Env + AllocGlobal>(rt: &R, name: &str) -> bool {
+    match env::var(rt, name) {
+        Ok(text) => !text.is_empty(),
+        Err(_) => false,
+    }
+}
+
+/// Whether errors are explained by a second line where standard error is no terminal: RAFTBENCH_EXPLAIN has a text.
+pub(crate) fn asks_for_explanations<R: Env + AllocGlobal>(rt: &R) -> bool {
+    has_text(rt, "RAFTBENCH_EXPLAIN")
+}

@@ -1,0 +1,104 @@
+//! What is said of a script that was written with its outputs: the lines that look like a mistake, and the outputs that are new errors.
+
+ghost use Rattle.std.specs.Prelude.{◌≡◌, IsOk, length};
+ghost use Rattle.rb_script.specs.Writes.{Writes};
+ghost use Rattle.rb_replay.specs.Run.{outputs};
+ghost use Rattle.rb_program.specs.Notes.{error_noted, errors_noted, meant_by, warnings_noted};
+
+use rb_check::{FileLine, put_note, put_warning};
+use rb_checked::{
+    Layout, Warning, block_at, first_line, is_unexpected, number_at, output_at, warnings,
+};
+use rb_cluster::{Cluster, Meter};
+use rb_help::suggested;
+use rb_machine::Machine;
+use rb_raftlog::SplitLog;
+use rb_replay::Session;
+use rb_script::{Block, Lines, ScriptWithLines, Sink, Through, WriteFault};
+use std::alloc::Global;
+
+/// What is said of the script of the bytes; nothing, where they are none or memory was refused.
+pub(crate) fn notes_of(alloc: Global, path: &[u8], bytes: &[u8]) -> Option<Vec<u8>> {
+    let mut meter = Meter::new();
+    let Ok(session) = Session::<Cluster<SplitLog>>::run_once(alloc, bytes, &mut meter) else {
+        return None;
+    };
+    let Ok(read) = ScriptWithLines::read(alloc, bytes) else {
+        return None;
+    };
+    let layout = Layout {
+        text: read.lines,
+        heads: read.heads,
+    };
+    let Ok(doubts) = warnings(alloc, &session, &layout) else {
+        return None;
+    };
+    let mut sink = Through(Vec::new(alloc));
+    let is_whole = put_warnings(&mut sink, path, &doubts).is_ok()
+        && put_errors(&mut sink, path, &session, &layout).is_ok();
+    if is_whole { Some(sink.0) } else { None }
+}
+
+// Writes the lines that look like a slip.
+fn put_warnings<S: Sink>(sink: &mut S, path: &[u8], doubts: &[Warning]) -> Result<(), WriteFault>
+    ensures wrote { Writes result (S.held sink.old) (S.held sink.new) (warnings_noted path.now doubts.now) }
+    ensures all { S.takes_all sink.old → IsOk result × S.takes_all sink.new }
+{
+    for warning in doubts {
+        put_warning(sink, path, warning.line, warning.doubt)?;
+    }
+    Ok(())
+}
+
+// Writes the outputs that are new errors.
+fn put_errors<M: Machine, S: Sink>(
+    sink: &mut S,
+    path: &[u8],
+    session: &Session<M>,
+    layout: &Layout,
+) -> Result<(), WriteFault>
+    requires { length layout.now.heads.items ≡ length session.now.script.blocks }
+    ensures wrote { Writes result (S.held sink.old) (S.held sink.new) (errors_noted layout.now.text path.now layout.now.heads.items session.now.script.blocks (outputs session.now.script)) }
+    ensures all { S.takes_all sink.old → IsOk result × S.takes_all sink.new }
+{
+    let heads = layout.heads.as_slice();
+    for i in 0..session.len() {
+        let line = number_at(heads, i);
+        let block = block_at(session, i);
+        let output = output_at(session, i);
+        put_error(sink, &layout.text, FileLine { path, line }, block, output)?;
+    }
+    Ok(())
+}
+
+// Writes the output of a directive, if it is a new error.
+fn put_error<S: Sink>(
+    sink: &mut S,
+    text: &Lines,
+    place: FileLine<'_>,
+    block: &Block,
+    output: &Lines,
+) -> Result<(), WriteFault>
+    ensures wrote { Writes result (S.held sink.old) (S.held sink.new) (error_noted text.now place.entry.path.now place.entry.line block.now output.now) }
+    ensures all { S.takes_all sink.old → IsOk result × S.takes_all sink.new }
+{
+    if !is_unexpected(text, place.line, output) {
+        return Ok(());
+    }
+    put_note(
+        sink,
+        place,
+        &block.directive(),
+        first_line(output),
+        meant_by(block),
+    )
+}
+
+fn meant_by(block: &Block) -> &'static [u8]
+    ensures { result.now ≡ meant_by block.now }
+{
+    match suggested(&block.directive()) {
+        Some(meant) => meant,
+        None => b"",
+    }
+}

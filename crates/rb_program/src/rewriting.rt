@@ -1,0 +1,47 @@
+//! `raftbench rewrite FILE` where somebody reads what is said of it.
+
+use crate::noting::notes_of;
+use crate::refusal::Refusal;
+use crate::running::{ended, run, script};
+use rb_bench::{Mode, run_bytes};
+use rb_check::Status;
+use rb_replay::is_checkpoint_interval;
+use rb_script::{MAX_SCRIPT, Through};
+use rb_text::{FailFast, ReadSource, read_up_to};
+use std::io;
+use std::io::{BufWriter, Write};
+use std::rt::Files;
+
+/// Writes the script in the file, or on standard input, with its outputs. Below it `errors` gets what looks like a mistake: that changes neither
+/// what is written nor the status.
+pub(crate) fn rewrite<R: Files + Input + Print + AllocGlobal, E: Write + Drop>(
+    rt: &R,
+    file: &str,
+    every: u64,
+    errors: E,
+) -> Result<Status, Refusal> {
+    if !is_checkpoint_interval(every) {
+        return run(rt, file, Mode::Rewrite, every);
+    }
+    let alloc = rt.alloc();
+    let (path, bytes) = if file == "-" {
+        ("standard input", input(rt)?)
+    } else {
+        (file, script(rt, file)?)
+    };
+    let notes = notes_of(alloc, path.as_bytes(), &bytes);
+    let mut writer = Through(BufWriter::new(alloc, FailFast(io::writer(rt)))?);
+    let status = ended(run_bytes(alloc, bytes, &mut writer, Mode::Rewrite, every))?;
+    if let Some(notes) = notes {
+        let mut errors = errors;
+        let _ = errors.write_all(&notes);
+    }
+    Ok(status)
+}
+
+fn input<R: Input + AllocGlobal>(rt: &R) -> Result<Vec<u8>, Refusal> {
+    match read_up_to(rt.alloc(), &mut ReadSource(rt.reader()), MAX_SCRIPT + 1) {
+        Ok(bytes) => Ok(bytes),
+        Err(fault) => Err(Refusal::from(fault)),
+    }
+}

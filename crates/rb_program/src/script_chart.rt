@@ -1,0 +1,121 @@
+//! The picture of the script that some bytes are.
+
+ghost use Rattle.std.specs.Prelude.{◌≡◌, ◌≢◌, ◌≤◌, Err, IfErr, IfOk, IfSome, length};
+ghost use Rattle.rb_script.specs.declared.limits.TheConstants.{MAX_DIRECTIVES};
+ghost use Rattle.rb_script.specs.HeadLines.{AreHeadLines};
+ghost use Rattle.rb_script.specs.Lines.{lines};
+ghost use Rattle.rb_script.specs.Script.{PlainScript};
+ghost use Rattle.rb_script.specs.Reads.{Reads};
+ghost use Rattle.rb_script.specs.Reading.{early_fault, read_of};
+ghost use Rattle.rb_replay.specs.Report.{mismatches};
+ghost use Rattle.rb_replay.specs.Run.{outputs};
+ghost use Rattle.rb_replay.specs.Start.{TellsStartFault};
+ghost use Rattle.rb_bench.specs.Faults.{TellsFault};
+ghost use Rattle.rb_bench.specs.Runs.{status_of};
+ghost use Rattle.rb_program.specs.Drawn.{IsPicture, IsPictureOf};
+
+use crate::script_steps::status;
+use rb_bench::BenchFault;
+use rb_chart::{Chart, ChartFault, ChartPart, DrawnRun, chart_of};
+use rb_check::Status;
+use rb_cluster::Cluster;
+use rb_raftlog::SplitLog;
+use rb_replay::{Outputs, Session, StartFault};
+use rb_script::{Script, ScriptWithLines};
+use std::alloc::{AllocError, Global};
+
+/// A picture, and the status that a report of its script would have.
+#[derive(Drop)]
+pub(crate) struct ScriptChart {
+    pub(crate) chart: Chart,
+    pub(crate) status: Status,
+}
+
+// Reads the script of the bytes.
+fn script_of(alloc: Global, bytes: &[u8]) -> Result<ScriptWithLines, StartFault>
+    ensures read { IfOk result (λ read. Reads bytes.now read.script) }
+    ensures heads { IfOk result (λ read. AreHeadLines 1 (lines bytes.now) read.script.blocks read.heads.items) }
+    ensures only { (s : PlainScript) → Reads bytes.now s → IfErr result (λ fault. fault ≡ StartFault.OutOfMemory) }
+    ensures refused { IfErr result (λ fault. TellsStartFault fault (read_of bytes.now)) }
+    ensures early { IfSome (early_fault bytes.now) (λ fault. result ≡ Err (StartFault.Script fault)) }
+    ensures spaced { result ≢ Err StartFault.BadSpacing }
+{
+    let read = ScriptWithLines::read(alloc, bytes)?;
+    Ok(read)
+}
+
+/// Reads the script of the bytes.
+///
+/// # Errors
+///
+/// `Script` where the bytes are no script, and `OutOfMemory`.
+pub(crate) fn read_script(alloc: Global, bytes: &[u8]) -> Result<ScriptWithLines, BenchFault>
+    ensures read { IfOk result (λ read. Reads bytes.now read.script) }
+    ensures heads { IfOk result (λ read. AreHeadLines 1 (lines bytes.now) read.script.blocks read.heads.items) }
+    // What is a script is refused for want of memory alone.
+    ensures only { (s : PlainScript) → Reads bytes.now s → IfErr result (λ fault. fault ≡ BenchFault.OutOfMemory) }
+    ensures refused { IfErr result (λ fault. TellsFault fault (read_of bytes.now)) }
+    // What is too long is found whether or not there is memory.
+    ensures early { IfSome (early_fault bytes.now) (λ fault. result ≡ Err (BenchFault.Script fault)) }
+    // Nothing else is read or written, and no spacing is looked at.
+    ensures own { IfErr result (λ fault. (fault ≢ BenchFault.Io) × (fault ≢ BenchFault.Spacing)) }
+{
+    let read = script_of(alloc, bytes)?;
+    Ok(read)
+}
+
+// The status of a script whose directives printed this.
+fn status_after(alloc: Global, script: Script, printed: Outputs) -> Result<Status, AllocError>
+    requires few { length script.blocks ≤ MAX_DIRECTIVES }
+    requires printed { printed ≡ outputs script }
+    ensures { IfOk result (λ status. status ≡ status_of (mismatches script)) }
+{
+    let session = Session::<Cluster<SplitLog>>::from_outputs(alloc, script, printed)?;
+    Ok(status(&session))
+}
+
+// The picture of the script, or of a part of it; none where more happens than a picture has room for.
+fn drawn(
+    alloc: Global,
+    name: &[u8],
+    bytes: &[u8],
+    script: &Script,
+    heads: &[usize],
+    part: ChartPart,
+) -> Result<Option<DrawnRun>, AllocError>
+    requires reads { Reads bytes.now script.now }
+    requires heads { AreHeadLines 1 (lines bytes.now) script.now.blocks heads.now }
+    ensures { IfOk result (λ picture. IfSome picture (λ run. IsPictureOf bytes.now part script.now run.chart × (run.printed ≡ outputs script.now))) }
+{
+    match chart_of::<SplitLog>(alloc, name, bytes, script, heads, part) {
+        Ok(run) => Ok(Some(run)),
+        Err(ChartFault::TooLarge) => Ok(None),
+        Err(ChartFault::OutOfMemory) => Err(AllocError),
+    }
+}
+
+/// Runs the script, which the bytes are, each directive once, and gives its picture, or that of a part of it; none where more happens than a
+/// picture has room for.
+pub(crate) fn picture_of(
+    alloc: Global,
+    name: &[u8],
+    bytes: &[u8],
+    read: ScriptWithLines,
+    part: ChartPart,
+) -> Result<Option<ScriptChart>, AllocError>
+    requires reads { Reads bytes.now read.script }
+    requires heads { AreHeadLines 1 (lines bytes.now) read.script.blocks read.heads.items }
+    ensures { IfOk result (λ picture. IfSome picture (λ p. IsPicture bytes.now part p.chart p.status)) }
+{
+    let ScriptWithLines {
+        script,
+        lines: _,
+        heads,
+    } = read;
+    let Some(run) = drawn(alloc, name, bytes, &script, heads.as_slice(), part)? else {
+        return Ok(None);
+    };
+    let DrawnRun { chart, printed } = run;
+    let status = status_after(alloc, script, printed)?;
+    Ok(Some(ScriptChart { chart, status }))
+}
