@@ -1,14 +1,10 @@
 package main
 
-import (
-	"fmt"
-	"strings"
-)
+import "fmt"
 
 // events is a raft.Logger that keeps what etcd says in its log. It also notes where etcd draws a timeout: wherever a role begins,
 // which is told in the log and nowhere else. The number itself doesn't show it, since the same may be drawn again.
 type events struct {
-	id          uint64
 	lines       []event
 	drewTimeout bool
 }
@@ -17,26 +13,26 @@ type events struct {
 func (l *events) taken() []event {
 	lines := l.lines
 	l.lines = nil
-	return append([]event{}, lines...)
+	return lines
 }
 
-func (l *events) put(level, line string) {
-	for _, role := range []string{"follower", "candidate", "leader"} {
-		if strings.HasPrefix(line, fmt.Sprintf("%x became %s at term", l.id, role)) {
-			l.drewTimeout = true
-		}
-	}
-	l.lines = append(l.lines, event{level, line})
-}
+func (l *events) put(level, line string) { l.lines = append(l.lines, event{level, line}) }
 
 func (l *events) Debug(v ...interface{})              { l.put("DEBUG", fmt.Sprint(v...)) }
 func (l *events) Debugf(f string, v ...interface{})   { l.put("DEBUG", fmt.Sprintf(f, v...)) }
 func (l *events) Info(v ...interface{})               { l.put("INFO", fmt.Sprint(v...)) }
-func (l *events) Infof(f string, v ...interface{})    { l.put("INFO", fmt.Sprintf(f, v...)) }
 func (l *events) Warning(v ...interface{})            { l.put("WARN", fmt.Sprint(v...)) }
 func (l *events) Warningf(f string, v ...interface{}) { l.put("WARN", fmt.Sprintf(f, v...)) }
 func (l *events) Error(v ...interface{})              { l.put("ERROR", fmt.Sprint(v...)) }
 func (l *events) Errorf(f string, v ...interface{})   { l.put("ERROR", fmt.Sprintf(f, v...)) }
+
+func (l *events) Infof(f string, v ...interface{}) {
+	switch f {
+	case "%x became follower at term %d", "%x became candidate at term %d", "%x became leader at term %d":
+		l.drewTimeout = true
+	}
+	l.put("INFO", fmt.Sprintf(f, v...))
+}
 
 // etcd ends at these; `answered` tells of it.
 

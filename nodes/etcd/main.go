@@ -4,13 +4,17 @@ package main
 
 import (
 	"bufio"
-	"encoding/json"
+	"crypto/sha256"
+	"encoding/hex"
 	"errors"
 	"fmt"
+	"hash"
 	"io"
+	"math"
 	"os"
 	"path/filepath"
 	"runtime"
+	"runtime/debug"
 	"strings"
 
 	"go.etcd.io/etcd/raft/v3"
@@ -32,25 +36,35 @@ type bench struct {
 	nodes map[uint64]*node
 	// What `ready` and `snapshot` gave since `reset`.
 	given []pb.Message
+	// The answers of so many calls are hidden: a digest is shown in their place.
+	hidden int
+	digest hash.Hash
 }
 
 func main() {
+	// One goroutine, and little garbage that lives long.
+	runtime.GOMAXPROCS(1)
+	debug.SetGCPercent(1000)
 	in := bufio.NewReaderSize(os.Stdin, 1<<16)
 	out := bufio.NewWriterSize(os.Stdout, 1<<16)
-	write := json.NewEncoder(out)
-	b := &bench{}
+	b, put := &bench{digest: sha256.New()}, line{}
 	for {
-		line, err := in.ReadBytes('\n')
+		asked, err := in.ReadSlice('\n')
+		if errors.Is(err, bufio.ErrBufferFull) {
+			begun := append([]byte{}, asked...)
+			asked, err = in.ReadBytes('\n')
+			asked = append(begun, asked...)
+		}
 		if errors.Is(err, io.EOF) {
 			return
 		} else if err != nil {
 			fail(err)
 		}
 		var c call
-		if err := json.Unmarshal(line, &c); err != nil {
+		if err := c.read(asked); err != nil {
 			fail(err)
 		}
-		if err := write.Encode(b.answered(c)); err != nil {
+		if _, err := out.Write(b.shownOrHidden(c, &put)); err != nil {
 			fail(err)
 		}
 		// Calls may come in batches: then the answers go out together.
@@ -62,21 +76,40 @@ func main() {
 	}
 }
 
+// shownOrHidden is what is written after a call: its answer; or nothing, and after the last call that `digest` counts, a digest of their
+// answers.
+func (b *bench) shownOrHidden(c call, put *line) []byte {
+	if c.Call == "digest" {
+		b.hidden = c.Calls
+		b.digest.Reset()
+		return nil
+	}
+	*put = append(b.answered(c, append((*put)[:0], '{')), '}', '\n')
+	if b.hidden == 0 {
+		return *put
+	}
+	b.digest.Write(*put)
+	if b.hidden--; b.hidden > 0 {
+		return nil
+	}
+	return append(line{'{'}.word("digest", hex.EncodeToString(b.digest.Sum(nil))), '}', '\n')
+}
+
 func fail(err error) {
 	fmt.Fprintln(os.Stderr, err)
 	os.Exit(1)
 }
 
-// answered is the answer to a call; a panic of etcd's is told as its error.
-func (b *bench) answered(c call) (told answer) {
+// answered adds the answer to a call; a panic of etcd's is told as its error.
+func (b *bench) answered(c call, put line) (told line) {
 	defer func() {
 		if broken := recover(); broken != nil {
-			told = answer{"error": fmt.Sprint("panic: ", broken), "at": placeOfPanic()}
+			told = put.any("error", fmt.Sprint("panic: ", broken)).any("at", placeOfPanic())
 		}
 	}()
-	told, err := b.carriedOut(c)
+	told, err := b.carriedOut(c, put)
 	if err != nil {
-		return answer{"error": err.Error()}
+		return put.any("error", err.Error())
 	}
 	return told
 }
@@ -96,23 +129,21 @@ func placeOfPanic() string {
 	}
 }
 
-func (b *bench) carriedOut(c call) (answer, error) {
+func (b *bench) carriedOut(c call, put line) (line, error) {
 	switch c.Call {
 	case "hello":
-		return answer{
-			"name": "etcd raft " + version, "protocol": protocol, "without": without, "calls": calls, "limits": limits,
-			"open": true, "apart": true, "batch": true,
-		}, nil
+		put = put.word("name", "etcd raft "+version).number("protocol", protocol).any("without", without).any("calls", calls).any("limits", limits)
+		return put.truth("open", true).truth("apart", true).truth("batch", true).truth("digest", true), nil
 	case "reset":
 		b.nodes, b.given = map[uint64]*node{}, nil
-		return answer{}, nil
+		return put, nil
 	case "start":
 		n, err := start(c)
 		if err != nil {
 			return nil, err
 		}
 		b.nodes[c.Node] = n
-		return n.settled(), nil
+		return n.settled(put), nil
 	}
 	n := b.nodes[c.Node]
 	if n == nil {
@@ -122,41 +153,55 @@ func (b *bench) carriedOut(c call) (answer, error) {
 	case "snapshot":
 		m := n.snapshotFor(c.To)
 		b.given = append(b.given, m)
-		return answer{"message": shownMessage(m)}, nil
+		return append(append(put.name("message"), '{').message(shownMessage(m, len(b.given)-1)), '}'), nil
 	case "ready":
-		shown := n.whatIsReady()
+		shown := n.whatIsReady(len(b.given))
 		b.given = append(b.given, n.ready.Messages...)
-		return answer{"ready": shown}, nil
+		return append(append(put.name("ready"), '{').ready(shown), '}'), nil
 	case "step":
-		if c.Message == nil {
-			return b.stepped(n, c)
-		}
+		return b.stepped(n, c, put)
 	case "log":
-		return n.shownLog()
+		return n.shownLog(put)
 	case "status":
-		return answer{"views": n.shownViews()}, nil
+		return put.views(n.shownViews()), nil
 	}
-	return n.changed(c)
+	return n.changed(c, put)
 }
 
-// stepped takes in messages by the numbers that they have among those that were given.
-func (b *bench) stepped(n *node, c call) (answer, error) {
-	states := []state{}
-	for _, at := range c.Numbers {
-		if at < 0 || at >= len(b.given) {
-			return nil, fmt.Errorf("no message %d was given", at)
+// stepped takes in one message, which the bench may have cut, or several, by the numbers that they have among those that were given.
+func (b *bench) stepped(n *node, c call, put line) (line, error) {
+	numbers, most := c.Numbers, math.MaxInt
+	if c.Message != nil {
+		numbers, most = []int{c.Message.Own}, len(c.Message.Entries)
+	}
+	for _, number := range numbers {
+		if number < 0 || number >= len(b.given) {
+			return nil, fmt.Errorf("no message %d was given", number)
 		}
-		if err := n.raw.Step(b.given[at]); err != nil {
+	}
+	take := func(number int) {
+		m := b.given[number]
+		if most < len(m.Entries) {
+			m.Entries = m.Entries[:most:most]
+		}
+		if err := n.raw.Step(m); err != nil {
 			n.log.Warning(err)
 		}
-		n.settle()
-		states = append(states, n.shownState())
 	}
-	return answer{"states": states, "events": n.log.taken()}, nil
+	if c.Message != nil {
+		take(c.Message.Own)
+		return n.settled(put), nil
+	}
+	put = put.list("states", len(numbers), func(l line, at int) line {
+		take(numbers[at])
+		n.settle()
+		return l.state(n.shownState())
+	})
+	return put.events(n.log.taken()), nil
 }
 
 // changed carries a call out that changes the node. What the node itself declines is no fault: it is among the events.
-func (n *node) changed(c call) (answer, error) {
+func (n *node) changed(c call, put line) (line, error) {
 	var declined error
 	switch c.Call {
 	case "campaign":
@@ -168,17 +213,7 @@ func (n *node) changed(c call) (answer, error) {
 	case "tick":
 		n.raw.Tick()
 	case "set_timeout":
-		n.setTimeout(c.Ticks)
-	case "step":
-		var m pb.Message
-		if err := m.Unmarshal(c.Message.Own); err != nil {
-			return nil, err
-		}
-		// The bench may have cut an append short.
-		if len(c.Message.Entries) < len(m.Entries) {
-			m.Entries = m.Entries[:len(c.Message.Entries)]
-		}
-		declined = n.raw.Step(m)
+		*n.private.timeout = c.Ticks
 	case "transfer":
 		n.raw.TransferLeader(c.To)
 	case "report_unreachable":
@@ -210,23 +245,24 @@ func (n *node) changed(c call) (answer, error) {
 	if declined != nil {
 		n.log.Warning(declined)
 	}
-	told := n.settled()
+	put = n.settled(put)
 	if c.Call == "advance" || c.Call == "restart" {
-		told["log"] = n.logEnd()
+		put = put.logEnd(n.logEnd())
 	}
-	return told, nil
+	return put, nil
 }
 
 // settle sets the timeout to what it is in the bench, where etcd has drawn one.
 func (n *node) settle() {
 	if n.log.drewTimeout {
-		n.setTimeout(electionTicks)
+		*n.private.timeout = electionTicks
 		n.log.drewTimeout = false
 	}
 }
 
 // settled is the answer of a call that may have changed the node.
-func (n *node) settled() answer {
+func (n *node) settled(put line) line {
 	n.settle()
-	return answer{"state": n.shownState(), "events": n.log.taken()}
+	put = append(append(put.name("state"), '{').state(n.shownState()), '}')
+	return put.events(n.log.taken())
 }

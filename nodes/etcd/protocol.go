@@ -17,21 +17,20 @@ type call struct {
 	Data   []byte `json:"data"`
 	Change change `json:"change"`
 	V1     bool   `json:"v1"`
-	// Of a message only our own part is read: it holds all of it.
+	// Of a message only its number is read, and how many entries it has: the bench may have cut an append short.
 	Message *struct {
-		Own     []byte     `json:"own"`
+		Own     int        `json:"own"`
 		Entries []struct{} `json:"entries"`
 	} `json:"message"`
 	Numbers []int  `json:"numbers"`
+	Calls   int    `json:"calls"`
 	To      uint64 `json:"to"`
 	Index   uint64 `json:"index"`
-	Ticks   int64  `json:"ticks"`
+	Ticks   int    `json:"ticks"`
 	ID      uint64 `json:"id"`
 	Saved   string `json:"saved"`
 	Failed  bool   `json:"failed"`
 }
-
-type answer map[string]interface{}
 
 type base struct {
 	Index   uint64 `json:"index"`
@@ -80,8 +79,8 @@ type message struct {
 	Transfer   bool    `json:"transfer,omitempty"`
 	Target     uint64  `json:"target,omitempty"`
 	Snapshot   *base   `json:"snapshot,omitempty"`
-	// The message in etcd's own encoding: it comes back in `step`.
-	Own []byte `json:"own"`
+	// The message's number among those that were given: it comes back in `step`.
+	Own int `json:"own"`
 }
 
 type state struct {

@@ -35,21 +35,23 @@ func (n *node) shownState() state {
 	now := n.raw.BasicStatus()
 	return state{
 		Role: roles[now.RaftState], Term: now.Term, Vote: now.Vote, Lead: now.Lead, Commit: now.Commit, Applied: now.Applied,
-		Content: append([]byte{}, n.store.applied.Data...), Config: shownConfig(n.tracker().Config), Ready: n.raw.HasReady(),
+		Content: append([]byte{}, n.store.applied.Data...), Config: shownConfig(&n.private.tracker.Config), Ready: n.raw.HasReady(),
 	}
 }
 
-func (n *node) whatIsReady() ready {
+func (n *node) whatIsReady(given int) ready {
 	n.ready = n.raw.Ready()
-	shown := ready{Entries: shownEntries(n.ready.Entries), Committed: shownEntries(n.ready.CommittedEntries), Messages: []message{}}
+	shown := ready{
+		Entries: shownEntries(n.ready.Entries), Committed: shownEntries(n.ready.CommittedEntries), Messages: make([]message, 0, len(n.ready.Messages)),
+	}
 	if now := n.ready.HardState; !raft.IsEmptyHardState(now) {
 		shown.Hard = &hard{now.Term, now.Vote, now.Commit}
 	}
 	if at := n.ready.Snapshot.Metadata; at.Index > 0 {
 		shown.Snapshot = &stamp{at.Index, at.Term}
 	}
-	for _, m := range n.ready.Messages {
-		shown.Messages = append(shown.Messages, shownMessage(m))
+	for at, m := range n.ready.Messages {
+		shown.Messages = append(shown.Messages, shownMessage(m, given+at))
 	}
 	shown.Sync = n.ready.MustSync
 	for _, r := range n.ready.ReadStates {
@@ -64,7 +66,7 @@ func (n *node) whatIsReady() ready {
 
 // logEnd is where the log ends, with what isn't saved.
 func (n *node) logEnd() logEnd {
-	unsavedFrom, unsaved, snapshot := n.unsaved()
+	unsavedFrom, unsaved, snapshot := *n.private.unsavedFrom, *n.private.unsaved, *n.private.restored
 	if len(unsaved) > 0 {
 		last := unsaved[len(unsaved)-1]
 		return logEnd{last.Index, last.Term, unsavedFrom - 1}
@@ -84,11 +86,11 @@ func (n *node) logEnd() logEnd {
 }
 
 // shownLog has the entries that aren't saved too, which the storage lacks.
-func (n *node) shownLog() (answer, error) {
-	unsavedFrom, unsaved, snapshot := n.unsaved()
+func (n *node) shownLog(put line) (line, error) {
+	unsavedFrom, unsaved, snapshot := *n.private.unsavedFrom, *n.private.unsaved, *n.private.restored
 	if snapshot != nil {
 		at := snapshot.Metadata
-		return answer{"base": stamp{at.Index, at.Term}, "durable": unsavedFrom - 1, "entries": shownEntries(unsaved)}, nil
+		return put.log(stamp{at.Index, at.Term}, unsavedFrom-1, shownEntries(unsaved)), nil
 	}
 	first, err := n.store.FirstIndex()
 	if err != nil {
@@ -105,7 +107,7 @@ func (n *node) shownLog() (answer, error) {
 		}
 	}
 	all := append(shownEntries(saved), shownEntries(unsaved)...)
-	return answer{"base": stamp{first - 1, term}, "durable": unsavedFrom - 1, "entries": all}, nil
+	return put.log(stamp{first - 1, term}, unsavedFrom-1, all), nil
 }
 
 func (n *node) shownViews() []view {
@@ -122,7 +124,7 @@ func (n *node) shownViews() []view {
 	return views
 }
 
-func shownConfig(c tracker.Config) config {
+func shownConfig(c *tracker.Config) config {
 	return config{
 		Voters: ascending(c.Voters[0]), Outgoing: ascending(c.Voters[1]),
 		Learners: ascending(c.Learners), Next: ascending(c.LearnersNext), Auto: c.AutoLeave,
@@ -130,16 +132,19 @@ func shownConfig(c tracker.Config) config {
 }
 
 func ascending(set map[uint64]struct{}) []uint64 {
-	ids := []uint64{}
+	ids := make([]uint64, 0, len(set))
 	for id := range set {
-		ids = append(ids, id)
+		at := len(ids)
+		for ids = append(ids, id); at > 0 && ids[at-1] > id; at-- {
+			ids[at] = ids[at-1]
+		}
+		ids[at] = id
 	}
-	sort.Slice(ids, func(i, j int) bool { return ids[i] < ids[j] })
 	return ids
 }
 
 func shownEntries(all []pb.Entry) []entry {
-	shown := []entry{}
+	shown := make([]entry, 0, len(all))
 	for _, e := range all {
 		shown = append(shown, shownEntry(e))
 	}
@@ -166,11 +171,8 @@ func shownEntry(e pb.Entry) entry {
 	return shown
 }
 
-func shownMessage(m pb.Message) message {
-	own, err := m.Marshal()
-	if err != nil {
-		panic(err)
-	}
+// shownMessage is a message; its `own` is its number, under which this process keeps it.
+func shownMessage(m pb.Message, own int) message {
 	shown := message{
 		Type: m.Type.String(), From: m.From, To: m.To, Term: m.Term, LogTerm: m.LogTerm, Index: m.Index, Commit: m.Commit,
 		Entries: shownEntries(m.Entries), Reject: m.Reject, RejectHint: m.RejectHint, Transfer: bytes.Equal(m.Context, byTransfer),

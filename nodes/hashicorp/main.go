@@ -4,8 +4,6 @@ package main
 
 import (
 	"encoding/json"
-	"fmt"
-	"io"
 	"os"
 	"runtime"
 	"runtime/debug"
@@ -33,6 +31,7 @@ type call struct {
 	Data      []byte
 	Change    struct{ Words []string }
 	Message   struct{ Own int }
+	Number    int // in place of a message
 	Numbers   []int
 	To, Index uint64
 	Ticks     int64
@@ -53,68 +52,60 @@ func main() {
 	in, out, b := json.NewDecoder(os.Stdin), json.NewEncoder(os.Stdout), &bench{}
 	for {
 		var asked call
-		if err := in.Decode(&asked); err == io.EOF {
+		if in.Decode(&asked) != nil {
 			return
-		} else if err != nil {
-			panic(err)
 		}
-		said, err := b.run(asked)
-		if err != nil {
-			said = object{"error": err.Error()}
-		}
-		if err := out.Encode(said); err != nil {
+		if err := out.Encode(b.run(asked)); err != nil {
 			panic(err)
 		}
 	}
 }
 
-func (b *bench) run(c call) (object, error) {
-	switch n := b.nodes[c.Node]; {
-	case c.Call == "hello":
+func (b *bench) run(c call) object {
+	n := b.nodes[c.Node]
+	switch c.Call {
+	case "hello":
 		return object{
 			"name": "hashicorp/raft " + version, "protocol": 1, "without": without, "calls": []string{"restart", "lost"},
 			"ordered": len(os.Args) == 1, "batch": true, "always": []string{"checkquorum", "inflight=1"},
-		}, nil
-	case c.Call == "reset":
+		}
+	case "reset":
 		for _, n := range b.nodes {
 			n.stop()
 		}
-		b.nodes, b.letters = map[uint64]*node{}, nil
+		b.nodes, b.letters, asked = map[uint64]*node{}, nil, map[[2]uint64][]string{}
 		runtime.GC()
-		return object{}, nil
-	case c.Call == "start":
-		started, err := start(c)
-		if err != nil {
-			return nil, err
-		}
-		b.nodes[c.Node] = started
-		return started.settled(), nil
-	case n == nil:
-		return nil, fmt.Errorf("there is no node %d", c.Node)
-	case c.Call == "ready":
-		return object{"ready": object{"messages": b.takeOutbox(n)}}, nil
-	case c.Call == "log":
-		return n.shownLog(), nil
-	case c.Call == "step" && c.Numbers != nil:
-		n.clock.Use()
-		states := []object{}
-		for _, number := range c.Numbers {
-			n.step(b.letters[number])
-			n.settleLeader()
-			states = append(states, n.shownState())
-		}
-		return object{"states": states, "events": n.events()}, nil
+		return object{}
+	case "start":
+		n = start(c)
+		b.nodes[c.Node] = n
+	case "ready":
+		return object{"ready": object{"messages": b.takeOutbox(n)}}
+	case "log":
+		return n.shownLog()
 	default:
 		n.clock.Use()
-		if err := b.change(n, c); err != nil {
-			return nil, err
+		if c.Numbers != nil {
+			return object{"states": b.stepped(n, c.Numbers), "events": n.events()}
 		}
-		return n.settled(), nil
+		b.change(n, c)
 	}
+	n.settleLeader()
+	return object{"state": n.shownState(), "events": n.events()}
+}
+
+// stepped delivers several messages, with a state after each.
+func (b *bench) stepped(n *node, numbers []int) (states []object) {
+	for _, number := range numbers {
+		n.step(b.letters[number])
+		n.settleLeader()
+		states = append(states, n.shownState())
+	}
+	return states
 }
 
 // change carries out a call that may change the node.
-func (b *bench) change(n *node, c call) error {
+func (b *bench) change(n *node, c call) {
 	switch c.Call {
 	case "campaign":
 		n.campaign()
@@ -129,24 +120,15 @@ func (b *bench) change(n *node, c call) error {
 	case "step":
 		n.step(b.letters[c.Message.Own])
 	case "lost":
-		n.transport.end(b.letters[c.Message.Own].rpc, nil, errLost)
+		n.transport.end(b.letters[c.Message.Own+c.Number].rpc, nil, errLost)
 	case "transfer":
 		n.LeadershipTransferToServer(idOf(c.To), raft.ServerAddress(idOf(c.To)))
 	case "compact":
 		n.compact(c.Index)
 	case "restart":
 		n.stop()
-		return n.open(idOf(c.Node))
+		n.open(idOf(c.Node))
 	case "advance":
 		n.takeApplied()
-	default:
-		return fmt.Errorf("unknown call %q", c.Call)
 	}
-	return nil
-}
-
-// settled is the answer of a call that may have changed the node.
-func (n *node) settled() object {
-	n.settleLeader()
-	return object{"state": n.shownState(), "events": n.events()}
 }

@@ -36,7 +36,7 @@ func (b *bench) takeOutbox(n *node) []object {
 	n.transport.outbox = nil
 	sort.SliceStable(sent, func(i, j int) bool { return sent[i].receiver < sent[j].receiver })
 	for _, one := range sent {
-		messages = append(messages, n.shownLetter(one, len(b.letters)))
+		messages = append(messages, shownLetter(one, len(b.letters)))
 		b.letters = append(b.letters, one)
 	}
 	return messages
@@ -57,65 +57,34 @@ func (n *node) shownLog() object {
 	if len(logs) > 0 && logs[0].Index-1 != index {
 		index, term = logs[0].Index-1, 0
 	}
-	return object{"base": object{"index": index, "term": term}, "durable": n.LastIndex(), "entries": n.shownEntries(logs)}
+	return object{"base": object{"index": index, "term": term}, "durable": n.LastIndex(), "entries": shownEntries(logs)}
 }
 
-func (n *node) shownEntries(logs []*raft.Log) []object {
+// asked has the words of each change that was appended, by its term and index: an entry of the library holds the whole configuration.
+var asked = map[[2]uint64][]string{}
+
+func shownEntries(logs []*raft.Log) []object {
 	shown := []object{}
 	for _, log := range logs {
 		entry := object{"index": log.Index, "term": log.Term, "data": log.Data}
 		if log.Type == raft.LogConfiguration {
-			at := [2]uint64{log.Term, log.Index}
-			if n.words[at] == nil {
-				n.words[at] = changedBetween(n.configurationBefore(log.Index), raft.DecodeConfiguration(log.Data))
-			}
-			entry = object{"index": log.Index, "term": log.Term, "change": object{"transition": "auto", "words": n.words[at]}}
+			words := append([]string{}, asked[[2]uint64{log.Term, log.Index}]...)
+			entry = object{"index": log.Index, "term": log.Term, "change": object{"transition": "auto", "words": words}}
 		}
 		shown = append(shown, entry)
 	}
 	return shown
 }
 
-func (n *node) configurationBefore(index uint64) raft.Configuration {
-	log := new(raft.Log)
-	for at := index - 1; n.store.GetLog(at, log) == nil; at-- {
-		if log.Type == raft.LogConfiguration {
-			return raft.DecodeConfiguration(log.Data)
-		}
-	}
-	if metas, _ := n.snapshots.List(); len(metas) > 0 {
-		return metas[0].Configuration
-	}
-	return raft.Configuration{}
-}
-
-// changedBetween is the words of a change: an entry of the library holds the whole configuration.
-func changedBetween(before, after raft.Configuration) []string {
-	words, was := []string{}, map[raft.ServerID]raft.ServerSuffrage{}
-	for _, server := range before.Servers {
-		was[server.ID] = server.Suffrage
-	}
-	for _, server := range after.Servers {
-		if suffrage, is := was[server.ID]; !is || suffrage != server.Suffrage {
-			words = append(words, map[bool]string{true: "v", false: "l"}[server.Suffrage == raft.Voter]+string(server.ID))
-		}
-		delete(was, server.ID)
-	}
-	for id := range was {
-		words = append(words, "r"+string(id))
-	}
-	return words
-}
-
 // shownLetter is a message; its `own` is the number of the letter, which this process keeps.
-func (n *node) shownLetter(given letter, own int) object {
+func shownLetter(given letter, own int) object {
 	shown := object{}
 	switch asked := given.request.(type) {
 	case *raft.RequestVoteRequest:
 		shown = object{"type": "MsgVote", "term": asked.Term, "index": asked.LastLogIndex, "logTerm": asked.LastLogTerm, "transfer": asked.LeadershipTransfer}
 	case *raft.AppendEntriesRequest:
 		shown = object{"type": "MsgApp", "term": asked.Term, "index": asked.PrevLogEntry, "logTerm": asked.PrevLogTerm, "commit": asked.LeaderCommitIndex}
-		shown["entries"] = n.shownEntries(asked.Entries)
+		shown["entries"] = shownEntries(asked.Entries)
 		if isOnlyHeartbeat(asked) {
 			shown["type"] = "MsgHeartbeat"
 		}

@@ -1,11 +1,13 @@
 """The plain node of plain/node.py behind the protocol of docs/OWN-NODES.md: what an adapter is, and what to copy for one of your own."""
 from __future__ import annotations
 
+import hashlib
 from typing import Callable
 
 from plain.node import Node
 from plain.records import Message, Options
 
+from .process import dumps, loads
 from .protocol import (
     LIMITS, OPTIONAL_CALLS, SAVED, VERSION, Json, Parts, Wrong, change_in, config_in, config_out, data_out, entries_out, message_in, message_out, ready_out, view_out,
 )
@@ -18,6 +20,23 @@ class Adapter:
         self.kind = kind
         self.nodes: dict[int, Node] = {}
         self.given: list[Message] = []  # by `ready` and `snapshot` since the last `reset`
+        self.hidden, self.digest = 0, hashlib.sha256()  # how many answers are still to be hidden, and the digest of those that were
+
+    def line(self, line: bytes) -> bytes:
+        """What is written after a call: its answer; or nothing, and after the last call that `digest` counts, a digest of their answers."""
+        call = loads(line)
+        if call["call"] == "digest":
+            self.hidden, self.digest = call["calls"], hashlib.sha256()
+            return b""
+        try:
+            answer = dumps(self.answer(call)) + b"\n"
+        except Wrong as wrong:
+            answer = dumps({"error": str(wrong)}) + b"\n"
+        if not self.hidden:
+            return answer
+        self.digest.update(answer)
+        self.hidden -= 1
+        return b"" if self.hidden else dumps({"digest": self.digest.hexdigest()}) + b"\n"
 
     def answer(self, call: object) -> Json:
         """The answer to a call, both objects as JSON has them; Wrong if it is not a call."""
@@ -26,7 +45,7 @@ class Adapter:
         if name == "hello":
             return {
                 "name": "plain", "protocol": VERSION, "without": [], "calls": list(OPTIONAL_CALLS), "limits": list(LIMITS),
-                "open": True, "apart": True, "batch": True,
+                "open": True, "apart": True, "batch": True, "digest": True,
             }
         if name == "reset":
             self.nodes, self.given = {}, []

@@ -8,12 +8,13 @@ from plain.records import AnyNode
 from plain.script import Block
 
 from .compare import NEVER, Broken, Comparison, Difference, are_joined, failure
+from .likes import Switched
 from .process import Failed, Process
 from .promises import name_of
 from .script import Step, blocks_of
 from .stage import allowed
 from .steps import steps_above
-from .watched import WatchedHosts, Watching
+from .watched import WatchedHosts, WatchedReference, Watching
 from .without import reduced
 
 # How often all clocks tick until the nodes have to be healed.
@@ -163,6 +164,13 @@ def promise_run(blocks: Sequence[Block], process: Process, chosen: Comparison) -
 
 
 def run_alone(blocks: Sequence[Block], process: Process, chosen: Comparison, has_all_reads: bool = True) -> Alone:
+    """One script on somebody's nodes. A promise that the reference with switches breaks too doesn't count."""
     run = promise_run(blocks, process, chosen)
     run.cluster.has_all_reads = has_all_reads
-    return run.result()
+    result = run.result()
+    if not result.broken or not issubclass(chosen.kind, Switched):
+        return result
+    reference = WatchedReference(chosen.kind, chosen.begins_at_0)
+    reference.has_all_reads = has_all_reads
+    excused = {broken.kind() for broken in PromiseRun(blocks, process, chosen, reference).result().broken}
+    return result._replace(broken=[broken for broken in result.broken if broken.kind() not in excused])

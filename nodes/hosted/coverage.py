@@ -1,8 +1,21 @@
 """Where a script takes the reference: each call in its context, as a number. A script that reaches a context that no other reached is worth keeping."""
 from __future__ import annotations
 
+import hashlib
+
 from plain.node import Node
 from plain.records import Message
+
+
+NUMBERS: dict[tuple[object, ...], int] = {}
+
+
+def number_of(context: tuple[object, ...]) -> int:
+    """A context's number, which is the same in each process."""
+    number = NUMBERS.get(context)
+    if number is None:
+        number = NUMBERS[context] = int.from_bytes(hashlib.blake2b(repr(context).encode(), digest_size=7).digest(), "big")
+    return number
 
 
 def sign(number: int) -> int:

@@ -4,6 +4,7 @@ kind of what was found.
 from __future__ import annotations
 
 import collections
+import pathlib
 from typing import Iterable, NamedTuple, Sequence
 
 from plain.script import Block, Script
@@ -13,9 +14,11 @@ from .alone import run_alone
 from .compare import Comparison, Difference, Outcome, run_beside
 from .dice import steps_of
 from .judge import Judge, Unjudged
+from .memory import Known, name_of_script
 from .mutate import Mutator
 from .plan import Plan, asked_at_once, keeps_promises_at_once, plan_of
 from .process import Process
+from .recall import Recall
 from .script import Step, blocks_of
 from .shrink import Shrinker
 from .stage import Reference
@@ -47,19 +50,31 @@ class Chosen(NamedTuple):
     program: str = "explore"
 
 
+class Kept(NamedTuple):
+    """A script that led somewhere new."""
+
+    name: bytes
+    steps: tuple[Step, ...]
+
+
 class Spec(NamedTuple):
     """A script to try: thrown by a seed, or a child of another."""
 
     number: int
     seed: int
     is_alone: bool
-    parent: tuple[Step, ...] = ()
-    mate: tuple[Step, ...] = ()
+    parent: Kept | None = None
+    mate: Kept | None = None
 
     def steps(self, dice: str) -> list[Step]:
-        if self.parent:
-            return Mutator(self.seed).child(self.parent, self.mate)
+        if self.parent and self.mate:
+            return Mutator(self.seed).child(self.parent.steps, self.mate.steps)
         return steps_of(self.seed, dice, self.is_alone)
+
+    def name(self, dice: str, has_all_reads: bool) -> bytes:
+        """What the script and how it is run depend on."""
+        made_from = (self.parent.name.hex(), self.mate.name.hex()) if self.parent and self.mate else ("thrown", dice)
+        return name_of_script(self.seed, *made_from, self.is_alone, has_all_reads)
 
 
 class Shown(NamedTuple):
@@ -73,7 +88,7 @@ class Found(NamedTuple):
     """What a script came to. `steps` are left out where nobody needs them."""
 
     spec: Spec
-    directives: int
+    name: bytes
     compared: int
     agreed: int
     left_out: int
@@ -87,8 +102,9 @@ class Found(NamedTuple):
 class Explorer:
     """Tries scripts; one a worker."""
 
-    def __init__(self, process: Process, judge: Judge, chosen: Chosen) -> None:
+    def __init__(self, process: Process, judge: Judge, chosen: Chosen, remembers_in: pathlib.Path | None = None) -> None:
         self.process, self.judge, self.chosen = process, judge, chosen
+        self.recall = Recall(process, chosen.comparison, remembers_in)
         self.met: set[int] = set()
         self.judged = self.tried = self.agreed = 0
 
@@ -96,33 +112,54 @@ class Explorer:
         return run_beside(blocks_of(steps), self.process, self.chosen.comparison, goes_on)
 
     def explore(self, spec: Spec) -> Found:
-        """Runs a script."""
-        steps = spec.steps(self.chosen.dice)
+        """Runs a script, or finds that the nodes still answer as when they agreed in it."""
         if not self.process.is_started:
             self.process.reset()
-        if spec.is_alone:
-            return self.explore_alone(spec, steps)
+        name = spec.name(self.chosen.dice, self.has_all_reads(spec))
+        known = self.recall.again(name)
+        if known:
+            return self.found_again(spec, name, known)
+        self.recall.listen()
+        steps = spec.steps(self.chosen.dice)
+        return self.explore_alone(spec, name, steps) if spec.is_alone else self.explore_beside(spec, name, steps)
+
+    def explore_beside(self, spec: Spec, name: bytes, steps: list[Step]) -> Found:
+        """Compares the nodes with the reference."""
         plan = plan_of(blocks_of(steps), self.process, self.chosen.comparison)
         new = frozenset(plan.met - self.met)
         self.met |= new
         is_wrong = self.is_wrong(steps)
-        steps, agreed = self.agreed_at_once(steps, plan)
+        less, agreed = self.agreed_at_once(steps, plan)
         if agreed:
-            return Found(spec, len(steps), agreed.directives, agreed.directives, agreed.left_out, (), new, self.kept(steps, (), new), is_wrong, True)
-        steps, outcome = self.beyond_known(steps)
-        kinds = self.unknown(outcome.kinds())
-        return Found(
-            spec, len(steps), outcome.compared, outcome.agreed, outcome.left_out, kinds, new, self.kept(steps, kinds, new), is_wrong, False,
-        )
+            counts, all_kinds = (agreed.directives, agreed.directives, agreed.left_out), list[tuple[str, int]]()
+        else:
+            less, outcome = self.beyond_known(steps)
+            counts, all_kinds = (outcome.compared, outcome.agreed, outcome.left_out), list(outcome.kinds())
+        removed, kinds = missing(steps, less), self.unknown(all_kinds)
+        self.recall.note(name, counts, all_kinds, removed, plan.met)
+        return Found(spec, name_without(name, removed), *counts, kinds, new, self.kept(less, kinds, new), is_wrong, agreed is not None)
 
-    def explore_alone(self, spec: Spec, steps: list[Step]) -> Found:
+    def has_all_reads(self, spec: Spec) -> bool:
+        """Whether a script that is held to promises alone has reads at nodes that don't lead too."""
+        return spec.number // max(1, self.chosen.alone) % READ_EVERYWHERE == 0
+
+    def explore_alone(self, spec: Spec, name: bytes, steps: list[Step]) -> Found:
         """Holds the nodes to the promises alone. Where such scripts lead the reference counts for nothing, since none of them has children."""
-        blocks, has_all_reads = blocks_of(steps), spec.number // max(1, self.chosen.alone) % READ_EVERYWHERE == 0
+        blocks, has_all_reads = blocks_of(steps), self.has_all_reads(spec)
         at_once = keeps_promises_at_once(blocks, self.process, self.chosen.comparison, has_all_reads) if self.may_ask_at_once() else None
         self.note_at_once(at_once is not None)
         alone = at_once or run_alone(blocks, self.process, self.chosen.comparison, has_all_reads)
-        kinds, none = self.unknown(alone.kinds()), frozenset[int]()
-        return Found(spec, len(steps), alone.directives, alone.directives, alone.left_out, kinds, none, self.kept(steps, kinds, none), False, at_once is not None)
+        counts, kinds, none = (alone.directives, alone.directives, alone.left_out), self.unknown(alone.kinds()), frozenset[int]()
+        self.recall.note(name, counts, alone.kinds(), (), none)
+        return Found(spec, name, *counts, kinds, none, self.kept(steps, kinds, none), False, at_once is not None)
+
+    def found_again(self, spec: Spec, name: bytes, known: Known) -> Found:
+        """What a script comes to that the nodes answer as before."""
+        new, kinds = known.met - self.met, self.unknown(known.kinds)
+        self.met |= new
+        steps = spec.steps(self.chosen.dice) if new or kinds else []
+        less = tuple(step for place, step in enumerate(steps) if place not in known.removed)
+        return Found(spec, name_without(name, known.removed), known.compared, known.agreed, known.left_out, kinds, new, less, False, True)
 
     # Asking at once
 
@@ -204,6 +241,22 @@ class Explorer:
         if blocks:
             blocks[-1] = blocks[-1]._replace(lead=(*(f"# {line}".encode() for line in comments), *blocks[-1].lead))
         return Script(tuple(blocks), ()).text([tuple(line.encode() for line in lines) for lines in outputs])
+
+
+def missing(steps: Sequence[Step], less: Sequence[Step]) -> tuple[int, ...]:
+    """The places of steps that aren't in a list of fewer."""
+    places, rest = [], list(less[::-1])
+    for place, step in enumerate(steps):
+        if rest and step == rest[-1]:
+            rest.pop()
+        else:
+            places.append(place)
+    return tuple(places)
+
+
+def name_without(name: bytes, removed: Sequence[int]) -> bytes:
+    """The name of a script without some directives."""
+    return name_of_script(name.hex(), *removed) if removed else name
 
 
 def is_reference_wrong(judge: Judge, blocks: Sequence[Block]) -> bool:

@@ -17,6 +17,7 @@ from .dice import DICE
 from .explorer import Chosen, Explorer, strictest
 from .judge import Judge, Unjudged
 from .likes import Unknown, kind_like
+from .memory import default_folder
 from .process import Failed, Process
 from .results import KindResult, Result, order_of
 from .script import Step, blocks_of
@@ -40,6 +41,7 @@ class Words(NamedTuple):
     compare: str  # "auto", or what is compared
     limits: Limits
     jobs: int
+    remembers_in: pathlib.Path | None
     out: pathlib.Path | None
     json: pathlib.Path | None
     junit: pathlib.Path | None
@@ -89,6 +91,7 @@ def read_words(program: str, description: str) -> Words:
     parser.add_argument("--json", type=pathlib.Path, metavar="FILE", help="where to write the result")
     parser.add_argument("--junit", type=pathlib.Path, metavar="FILE", help="where to write the result")
     parser.add_argument("--jobs", type=int, default=len(os.sched_getaffinity(0)), help="how many processes run at the same time")
+    parser.add_argument("--fresh", action="store_true", help="doesn't remember in which scripts nodes agreed, and what they answered")
     given = parser.parse_args()
     compare = given.compare if program == "explore" else "states"
     aspects = frozenset() if compare == "auto" else aspects_of(compare)
@@ -97,7 +100,8 @@ def read_words(program: str, description: str) -> Words:
     shard, shards = given.shard
     return Words(
         given.command, given.seconds, Chosen(comparison, given.dice, ALONE if program == "explore" else 1, Accepted(given.accepted), program), compare,
-        Limits(given.seed + shard - 1, shards, given.count, time.monotonic() + 60 * minutes), max(1, given.jobs), given.out, given.json, given.junit,
+        Limits(given.seed + shard - 1, shards, given.count, time.monotonic() + 60 * minutes), max(1, given.jobs),
+        None if given.fresh else default_folder(), given.out, given.json, given.junit,
     )
 
 
@@ -193,7 +197,7 @@ def joined(results: Sequence[Shrunk]) -> list[KindResult]:
 
 
 def make_explorer(words: Words) -> Explorer:
-    return Explorer(Process(words.command, words.seconds), Judge(), words.chosen)
+    return Explorer(Process(words.command, words.seconds), Judge(), words.chosen, words.remembers_in)
 
 
 def calibrated(words: Words) -> Words:

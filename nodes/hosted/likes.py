@@ -8,7 +8,7 @@ from __future__ import annotations
 import pathlib
 from typing import Any, Iterable
 
-from plain.config import Change, ChangeFault, Config, enter_joint, vote_result
+from plain.config import Change, ChangeFault, Config, both, enter_joint, vote_result
 from plain.node import Disk, Node, View
 from plain.records import Body, Entry, Message, Numbered, Snapshot
 
@@ -39,6 +39,7 @@ SWITCHES = {
     "transfer-to-itself-ends": "a transfer to the leader itself ends another",
     "transfer-to-passer": "a transfer that a follower forwards goes to that follower",
     "applied-when-saved": "applied and content of a restored snapshot move when it is saved",
+    "full-window-no-snapshot": "no snapshot goes to a member whose window is full",
     "no-snapshot-unheard": "no snapshot goes to a member that wasn't heard from",
     "demoted-leader-stops": "a leader that a change removes or demotes does nothing more about it",
     "change-tells-all": "after a change all members get the new entries",
@@ -57,13 +58,18 @@ SWITCHES = {
     "commit-told-later": "a commit is sent with the next append or heartbeat",
     "proposal-refused": "a follower forwards no proposals",
     "known-leader-refuses": "a node that knows a leader ignores candidates, even if it has heard nothing for long",
+    "known-leader-may-ask": "the leader that a node knows is answered when it asks for votes",
+    "lost-append-goes-again": "an append that is lost goes again at the next tick, and no other before",
+    "earlier-vote-refused": "a request for a vote in an earlier term is refused, with the later term (figure 3.1), and not ignored",
     "own-vote-at-once": "a node's own vote counts before it is saved, and its own new entries don't",
     "lead-is-kept": "a follower that a candidate brings to a later term still knows its old leader",
-    "stale-leader-keeps-term": "a leader that hears of a later term in an append's answer is a follower in its own term",
+    "stale-leader-keeps-term": "a later term in an append's answer makes a leader a follower in its own term, and changes nothing at others",
     "heartbeat-answers-have-no-term": "a later term in a heartbeat's answer changes nothing",
     "last-snapshot-sent": "a snapshot that is sent is where the log begins, and not what is applied",
     "restart-keeps-applied": "applied and content survive a restart",
     "restart-forgets-commit": "commit isn't saved: after a restart it is where the log begins",
+    "saved-at-once": "term, vote, entries and snapshots are saved when they change, so a restart loses none",
+    "quorum-by-last-answers": "a leader steps down at the fourth tick after the last answers of a quorum",
 }
 
 
@@ -104,6 +110,9 @@ class Switched(Node):
     is_own = is_quiet = is_growing = False
     applies = True
     removed: frozenset[int] = frozenset()  # by the change that is applied
+    ticks = led_at = 0
+    lost: frozenset[int] = frozenset()  # members to which an append was lost
+    heard: dict[int, int] = {}
 
     def on(self, name: str) -> bool:
         return name in self.switches
@@ -250,8 +259,10 @@ class Switched(Node):
 
     def sends(self, id: int, mode: str) -> None:
         view = self.views.get(id)
-        if view is None or id == self.id or view.is_paused(self.options.inflight) or view.next - 1 >= self.base:
+        if view is None or id == self.id or view.next - 1 >= self.base:
             return super().sends(id, mode)
+        if view.is_paused(self.options.inflight):
+            return None if self.on("full-window-no-snapshot") and view.state == "replicate" else super().sends(id, mode)
         if self.on("no-snapshot-unheard") and not view.active or self.on("change-tells-all") and mode == "news" and view.next > self.last():
             return None
         was = view.next
@@ -282,6 +293,11 @@ class Switched(Node):
     def why_not_now(self, kind: str) -> str | None:
         return None if self.on("won-question-campaigns") and kind == "elected" else super().why_not_now(kind)
 
+    def answer_older(self, m: Message) -> None:
+        if self.on("earlier-vote-refused") and m.kind == "MsgVote":
+            return self.send("MsgVoteResp", m.sender, refused=True)
+        return super().answer_older(m)
+
     def count_vote(self, m: Message) -> None:
         if self.on("refused-candidate-stays") and m.refused and self.role == "candidate":
             self.votes.setdefault(m.sender, False)
@@ -291,8 +307,9 @@ class Switched(Node):
     def raise_term(self, m: Message) -> None:
         if self.on("heartbeat-answers-have-no-term") and m.kind == "MsgHeartbeatResp":
             return
-        if self.on("stale-leader-keeps-term") and m.kind == "MsgAppResp" and self.role == "leader":
-            self.follow(self.term, 0)
+        if self.on("stale-leader-keeps-term") and m.kind == "MsgAppResp":
+            if self.role == "leader":
+                self.follow(self.term, 0)
             return
         lead = self.lead if self.role == "follower" and self.on("lead-is-kept") and m.kind not in FROM_LEADERS else 0
         super().raise_term(m)
@@ -307,6 +324,8 @@ class Switched(Node):
         self.lead = kept if self.on("lead-is-kept") else self.lead
 
     def is_undisturbed(self, m: Message) -> bool:
+        if self.on("known-leader-may-ask") and m.sender == self.lead:
+            return False
         asks = m.kind in ("MsgVote", "MsgPreVote") and not m.by_transfer and self.lead not in (0, m.sender)
         return self.on("known-leader-refuses") and asks or super().is_undisturbed(m)
 
@@ -327,14 +346,58 @@ class Switched(Node):
             self.timeout = timeout
 
     def tick(self) -> None:
+        self.ticks += 1
         if self.on("unsaved-snapshot-waits") and self.role != "leader" and self.restored:
             self.elapsed += 1
+        elif self.has_lost_quorum():
+            self.follow(self.term, 0)
         else:
             super().tick()
+            again, self.lost = self.lost, frozenset()
+            for id in sorted(again & self.views.keys() if self.role == "leader" else ()):
+                self.views[id].waiting = False
+                self.sends(id, "tell")
+
+    def lose(self, m: Message) -> None:
+        """The bench drops a message of this node. What it has in flight is forgotten, and what the member lacks goes again."""
+        is_mine = m.kind == "MsgApp" and m.term == self.term and self.role == "leader" and m.to in self.views
+        if self.on("lost-append-goes-again") and is_mine:
+            self.report_unreachable(m.to)
+            self.views[m.to].waiting = True
+            self.lost |= {m.to}
+
+    # When a leader last heard of each
+
+    def lead_on(self) -> None:
+        self.led_at, self.heard = self.ticks, {}
+        super().lead_on()
+
+    def hear(self, m: Message) -> None:
+        """Notes an answer of this leadership. A heartbeat's is one whatever its term is, if that isn't looked at."""
+        is_beat = m.kind == "MsgHeartbeatResp" and m.term > self.term and self.on("heartbeat-answers-have-no-term")
+        if self.role == "leader" and (is_beat or m.kind in ("MsgAppResp", "MsgHeartbeatResp") and m.term == self.term):
+            self.heard[m.sender] = self.ticks
+
+    def has_lost_quorum(self) -> bool:
+        looks = self.on("quorum-by-last-answers") and self.role == "leader" and self.options.checkquorum
+        return looks and not both(self.config, lambda id: id == self.id or self.ticks - self.heard.get(id, self.led_at) <= 3)
+
+    def keeps_lead(self) -> bool:
+        if self.on("quorum-by-last-answers"):
+            self.elapsed = 0
+            self.end_transfer()
+        return self.on("quorum-by-last-answers") or super().keeps_lead()
+
+    def restart(self, saved: str = "nothing") -> None:
+        if self.on("saved-at-once"):
+            self.disk = Disk(self.hard_state(), self.base, self.base_term, self.base_content, self.base_config, self.entries, len(self.entries))
+            saved = "nothing"
+        super().restart(saved)
 
     # Messages
 
     def step(self, m: Message) -> None:
+        self.hear(m)
         if self.on("stranger-ignored") and m.kind in ANSWERS and m.sender not in self.config.members():
             return self.ignore(m)
         if m.kind == "MsgTransferLeader" and m.term:

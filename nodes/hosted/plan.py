@@ -13,7 +13,7 @@ from plain.script import Block, Directive
 
 from .alone import Alone, PromiseRun
 from .compare import NEVER, Comparison, Difference, failure
-from .coverage import effect, message_relation, situation, view_relation
+from .coverage import effect, message_relation, number_of, situation, view_relation
 from .likes import Switched
 from .node import options_out
 from .process import Failed, Process
@@ -154,7 +154,7 @@ class Planned(Reference):
         relation = (*message_relation(node, parts[0]), *view_relation(node, parts[0])) if name == "step" else ()
         role, term, commit, last = node.role, node.term, node.commit, node.last()
         super().call(id, name, *parts)
-        self.met.add(hash((self.what, before, relation, effect(node, role, term, commit, last))))
+        self.met.add(number_of((self.what, before, relation, effect(node, role, term, commit, last))))
         if name == "step":
             self.ask_step(id, parts[0])
         else:
@@ -197,7 +197,7 @@ class Planned(Reference):
         node = self.node(id)
         before, role, term, commit, last = situation(node, id in self.restarted, False), node.role, node.term, node.commit, node.last()
         super().finish(id)
-        self.met.add(hash(("advance", before, effect(node, role, term, commit, last))))
+        self.met.add(number_of(("advance", before, effect(node, role, term, commit, last))))
         self.ask(id, "advance")
         self.asked[-1] = self.asked[-1]._replace(end=(node.last(), node.last_term(), node.durable))
         return True
@@ -209,6 +209,7 @@ class Planned(Reference):
         self.queue(message, "queue")
 
     def drop(self, message: Message) -> None:
+        super().drop(message)
         if "lost" not in self.hello.calls or message.sender not in self.nodes:
             return
         assert isinstance(message, Sent)

@@ -15,6 +15,7 @@ import subprocess
 import time
 from typing import IO, Any, Callable, Sequence
 
+from .memory import Transcript
 from .protocol import VERSION, Hello, Json, Parts, Wrong, hello_in, printable, shown
 
 
@@ -23,7 +24,7 @@ def json_functions() -> tuple[Callable[[bytes], Any], Callable[[Any], bytes]]:
     try:
         orjson = importlib.import_module("orjson")
     except ImportError:
-        return json.loads, lambda value: json.dumps(value).encode()
+        return json.loads, lambda value: json.dumps(value, separators=(",", ":")).encode()
 
     def loaded(text: bytes) -> Any:
         """What orjson refuses and JSON allows, as half a pair of surrogates, is read by the standard library."""
@@ -108,6 +109,8 @@ class Process:
         self.hello = Hello()
         self.calls = self.starts = 0
         self.record: list[tuple[Json, Json]] | None = None  # takes each call and its answer
+        self.transcript: Transcript | None = None  # takes calls and answers, until the process is killed
+        self.about = ""  # what it said to `hello`
 
     @property
     def is_started(self) -> bool:
@@ -140,6 +143,7 @@ class Process:
         self.starts += 1
         call = {"call": "hello", "protocol": VERSION}
         answer = self.ask(call)
+        self.about = json.dumps(answer, sort_keys=True)
         try:
             self.hello = hello_in(Parts(answer, ""))
         except Wrong as wrong:
@@ -164,14 +168,14 @@ class Process:
         """No nodes, for the next script, which has its time from now on. A process that doesn't do that any more gives way to a new one."""
         self.until = time.monotonic() + self.script_seconds
         self.errors = b""
-        if self.process is not None:
-            try:
+        try:
+            if self.process is not None:
                 self.ask({"call": "reset"})
-                return
-            except Failed:
-                self.close()
-        self.start()
-        self.ask({"call": "reset"})
+        except Failed:
+            self.close()
+        if self.process is None:
+            self.start()
+            self.ask({"call": "reset"})
 
     def ask(self, call: Json) -> Json:
         """The answer to a call, an object; Failed where there is none. Where it is an error the process stays as it is."""
@@ -183,7 +187,11 @@ class Process:
         if self.rest:
             raise self.failed(calls[0], f"it said what it wasn't asked: {shown(bytes(self.rest[:200]).decode('latin-1'))}")
         answers: list[Json] = []
-        for call, line in zip(calls, self.exchange(calls, b"".join(dumps(call) + b"\n" for call in calls))):
+        given = b"".join([dumps(call) + b"\n" for call in calls])
+        lines = self.exchange(calls, given)
+        if self.transcript is not None:
+            self.transcript.add(given, lines)
+        for call, line in zip(calls, lines):
             try:
                 answer = loads(line)
             except (ValueError, RecursionError):
@@ -199,9 +207,23 @@ class Process:
             answers.append(answer)
         return answers
 
-    def exchange(self, calls: Sequence[Json], given: bytes) -> list[bytes]:
-        """Writes calls and reads a line for each; all within the time, and whichever the process does first."""
-        seconds = max(self.seconds, START_SECONDS) if calls[0]["call"] == "hello" else self.seconds * (1 + len(calls) // CALLS_IN_TIME)
+    def digest_of(self, calls: bytes, count: int) -> bytes:
+        """The digest of the answers to lines with so many calls, by nodes that are reset; Failed where there is none."""
+        if self.process is None:
+            self.reset()
+        self.until = time.monotonic() + self.script_seconds
+        self.calls += count
+        asked: list[Json] = [{"call": "reset"}, {"call": "digest", "calls": count}]
+        *_, line = self.exchange(asked, b"".join([dumps(call) + b"\n" for call in asked]) + calls, count)
+        try:
+            return bytes.fromhex(loads(line)["digest"])
+        except (ValueError, TypeError, KeyError, RecursionError):
+            raise self.failed(asked[1], f"not a digest: {shown(line[:200].decode('latin-1'))}") from None
+
+    def exchange(self, calls: Sequence[Json], given: bytes, count: int = 0) -> list[bytes]:
+        """Writes calls and reads a line for each; all within the time, and whichever the process does first. `count`: of calls, if it isn't theirs."""
+        many = count or len(calls)
+        seconds = max(self.seconds, START_SECONDS) if calls[0]["call"] == "hello" else self.seconds * (1 + many // CALLS_IN_TIME)
         end, looked, written = min(time.monotonic() + seconds, self.until), 0, 0
         given_to, taken, told = self.pipes
         lines: list[bytes] = []
@@ -269,6 +291,7 @@ class Process:
 
     def failed(self, call: Json, why: str) -> Failed:
         """Kills the process; answers the failure."""
+        self.transcript = None
         until = time.monotonic() + 0.2
         told = self.pipes[2]
         while told not in self.ended and time.monotonic() < until and select.select([told], [], [], 0.02)[0]:

@@ -183,7 +183,7 @@ class Promises:
         saved = self.saved.get(node.id)
         if self.shows("sync", "ready", "vote") and not ready.sync:
             if ready.entries or saved and (node.term, node.vote) != (saved.term, saved.vote):
-                self.note(f"unsaved state sets sync: {node.id} has a term, a vote or entries to save")
+                self.note(f"unsaved state sets sync: {node.id} has a term, a vote or entries to save, and `sync` of its ready is false")
         for read in ready.reads:
             if read.index < self.asked.get(read.id, 0):
                 self.note(f"a read is linearizable: {node.id} serves one at {read.index}, and {self.asked[read.id]} was committed before")

@@ -49,6 +49,7 @@ class Hello(NamedTuple):
     is_ordered: bool = False
     is_apart: bool = False
     has_batch: bool = False
+    has_digest: bool = False
 
 
 class State(NamedTuple):
@@ -116,7 +117,7 @@ class Parts:
     def part(self, name: str, kind: type, what: str, default: Any, needed: bool = False) -> Any:
         value = self.value.get(name)
         if value is None:
-            if needed:
+            if needed and name not in self.value:
                 raise Wrong(f"{self.where(name)} is missing")
             return default
         if type(value) is not kind:
@@ -249,6 +250,7 @@ def hello_in(parts: Parts) -> Hello:
         printable(parts.text("name", needed=True)), parts.words("without", CALLS + OPTIONS + CHANGES + STATES + READY, "something that nodes may be without"),
         parts.words("calls", OPTIONAL_CALLS, "an optional call"), parts.words("always", ALWAYS, "something that nodes may always do"),
         parts.words("limits", LIMITS, "a limit that nodes may have"), parts.truth("open"), parts.truth("ordered"), parts.truth("apart"), parts.truth("batch"),
+        parts.truth("batch") and parts.truth("digest"),
     )
 
 

@@ -52,9 +52,10 @@ class Result(NamedTuple):
     def last_line(self) -> str:
         by = " and ".join(filter(None, [", ".join(["states", *self.compared_by[:-1]]) if self.compared_by else "states", *self.compared_by[-1:]]))
         what = f"compared by {by}: " if self.program != "promises" else "held to Raft's promises: "
+        agreed = f"{self.agreed} of {self.compared} directives agree up to each script's first difference" if self.program != "promises" else f"{self.compared} directives"
         return (
             f"{self.name}, {what}{self.scripts} script{'s' * (self.scripts != 1)}, {self.same} without a finding; "
-            f"{self.agreed} of {self.compared} directives agree up to each script's first difference, {self.left_out} left out; {self.seconds:.1f} s"
+            f"{agreed}, {self.left_out} left out; {self.seconds:.1f} s"
         )
 
     def text(self) -> str:

@@ -7,7 +7,7 @@ import random
 import time
 from typing import Callable, Iterator, NamedTuple, Sequence
 
-from .explorer import Explorer, Found, Shown, Spec
+from .explorer import Explorer, Found, Kept, Shown, Spec
 from .script import Step
 from .workers import Fleet
 
@@ -56,7 +56,7 @@ class Search:
 
     def __init__(self, fleet: Fleet, limits: Limits, alone: int, children: int = 5) -> None:
         self.fleet, self.limits, self.alone, self.children = fleet, limits, alone, children
-        self.corpus: list[tuple[Step, ...]] = []
+        self.corpus: list[Kept] = []
         self.met: set[int] = set()
         self.kinds: dict[str, Kind] = {}
         self.thrown = self.numbered = self.rounds = 0
@@ -110,7 +110,7 @@ class Search:
         if found.is_reference_wrong:
             self.wrong.append(found.spec.seed)
         if found.steps and found.met - self.met and not found.spec.is_alone:
-            self.corpus.append(found.steps)
+            self.corpus.append(Kept(found.name, found.steps))
         self.met |= found.met
         for shown in found.kinds:
             self.kinds.setdefault(shown.kind, Kind(shown.kind)).add(found, shown)

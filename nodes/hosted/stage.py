@@ -12,6 +12,7 @@ from plain.node import Node
 from plain.records import AnyNode, Message, Options, Ready
 from plain.script import Argument
 
+from .likes import Switched
 from .node import HostedNode
 from .process import Process
 from .protocol import Wired
@@ -229,6 +230,12 @@ class Reference(Stage):
 
     def make_node(self, id: int, config: Config, index: int, content: bytes, options: Options) -> Node:
         return self.kind(id, config, index, content, options)
+
+    def drop(self, message: Message) -> None:
+        super().drop(message)
+        sender = self.nodes.get(message.sender)
+        if isinstance(sender, Switched):
+            sender.lose(message)
 
 
 class Hosted(Stage):

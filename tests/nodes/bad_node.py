@@ -60,6 +60,11 @@ def owns(answer: Answer) -> None:
     print(json.dumps(answer), flush=True)
 
 
+def nulls(answer: Answer) -> None:
+    """What is empty is null, as Go has it."""
+    print(json.dumps(answer).replace('""', "null").replace("[]", "null"), flush=True)
+
+
 def die(_: Answer) -> None:
     print("out of luck", file=sys.stderr, flush=True)
     sys.exit(7)
@@ -112,7 +117,7 @@ def twice(answer: Answer) -> None:
 
 
 BAD = {
-    "hangs": hang, "late": late, "slow": slow, "owns": owns, "dies": die, "crashes": crash, "closes": close_output, "floods": flood, "long-line": long_line,
+    "hangs": hang, "late": late, "slow": slow, "owns": owns, "nulls": nulls, "dies": die, "crashes": crash, "closes": close_output, "floods": flood, "long-line": long_line,
     "floods-errors": flood_errors, "drips": drip, "leaves-child": leave_child, "babbles": said("INFO 1 became leader"), "list": said("[1, 2]"),
     "nothing": said(""), "nested": said("[" * 100_000), "huge-number": said('{"state": ' + "9" * 5000 + "}"), "not-utf8": lambda _: os.write(1, b'{"a": "\xff"}\n'),
     "twice": twice, "errs": said('{"error": "not today"}'), "odd-error": said('{"error": {"a": "\\u0007\\ud800"}}'), "no-state": said("{}"),
@@ -135,6 +140,8 @@ def main() -> None:
         if kind == "owns" and call["call"] == "step":
             call["message"] = call["message"].get("own", call["message"])
         answer = adapter.answer(call)
+        if call["call"] == "hello":
+            answer["digest"] = False
         if call["call"] == at_call or at_call is None and number >= FIRST:
             BAD[kind](answer)
         else:

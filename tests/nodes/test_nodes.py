@@ -64,10 +64,13 @@ CONVERSATION = TOP / "nodes" / "conversation.txt"
 PROGRAM = Judge().program
 SEEDS = [("weighted", 250), ("plain", 150), ("sane", 100)]
 JOBS = min(4, len(os.sched_getaffinity(0)))
+# What the tools remember, for these tests alone.
+CACHE = tempfile.TemporaryDirectory()
 
 
 def tool(name: str, *words: object, **environment: str) -> tuple[str, str, int]:
     """Runs a tool of nodes/: its output, its standard error and its status."""
+    environment.setdefault("XDG_CACHE_HOME", CACHE.name)
     done = subprocess.run([TOP / "nodes" / name, *map(str, words)], capture_output=True, text=True, errors="replace", timeout=600, env={**os.environ, **environment})
     return done.stdout, done.stderr, done.returncode
 
@@ -195,7 +198,7 @@ LONG = [
     "add-nodes 3 voters=(1,2,3) index=10", "campaign 1", "stabilize", "propose 1 a", "stabilize", "status 1", "send-snapshot 1 2", "tick-heartbeat 1", "stabilize",
 ]
 # A node that floods standard error, and answers well, is no bad one; nor is one whose messages stand in a part that the bench doesn't know.
-FINE = ["floods-errors", "owns"]
+FINE = ["floods-errors", "owns", "nulls"]
 
 
 def part_misbehaving() -> Checks:

@@ -3,8 +3,11 @@ scripts, exceptions. Each part generates pairs of a name and what is wrong, or N
 """
 from __future__ import annotations
 
+import hashlib
+import json
 import pathlib
 import re
+import subprocess
 import tempfile
 from collections.abc import Iterator, Sequence
 from typing import Callable
@@ -240,6 +243,19 @@ def part_alone() -> Checks:
         yield f"nodes/plain {' '.join(bug)}", is_equal(kinds, wanted)
 
 
+def part_excused() -> Checks:
+    """What the reference with switches breaks too isn't counted when nodes are alone: an outgoing voter that ignores its snapshot never catches up."""
+    steps = script("add-nodes 3 voters=(1,2,3) index=10", "campaign 1", "stabilize")
+    steps += [Step("propose-conf-change 1 transition=explicit", ("l1",)), *script("stabilize", "campaign 2", "stabilize 2 3", "propose 2 a", "stabilize 2 3", "compact 2 14")]
+    process = Process([str(TOP / "nodes" / "plain"), "--bug", "keeps-old-vote"])
+    try:
+        for switch, wanted in (("proposal-refused", ["promise broken: heals"]), ("outgoing-snapshot-ignored", [])):
+            kinds = run_alone(blocks_of(steps), process, Comparison(kind_with([switch]))).kinds()
+            yield f"with {switch}", is_equal([kind for kind, _ in kinds], wanted)
+    finally:
+        process.close()
+
+
 def part_exceptions() -> Checks:
     yield "a promise with its reason", is_equal(exceptions_of(["one vote per term: we know"]), frozenset({"one vote per term"}))
     for wrong in ("one vote per term", "no such promise: why", "one vote per term: "):
@@ -282,6 +298,25 @@ def part_other_switches() -> Checks:
         for node in pair:
             node.step(Message(kind, 2, 1, 7))
         yield name, is_equal([(node.role, node.term, node.vote, node.lead) for node in pair], [("follower", 7, 0, 0), wanted])
+    for kind, role in (("MsgAppResp", "follower"), ("MsgHeartbeatResp", "candidate")):
+        node = switched("stale-leader-keeps-term", *changed, "campaign 2" if role == "candidate" else "raft-state").nodes[2]
+        node.step(Message("MsgAppResp", 3, 2, 9))
+        yield f"stale-leader-keeps-term, at a {role}", is_equal((node.role, node.term < 9), (role, True))
+    voted = [("add-nodes 3 voters=(1,2,3) index=10", "campaign 1", "process-ready 1", "deliver-msgs 2", "# node: crash 2 before save / raft-state")]
+    votes = [[cluster.nodes[2].vote, cluster.nodes[2].term] for steps in voted for cluster in (run(Reference(), *steps), switched("saved-at-once", *steps))]
+    yield "saved-at-once", is_equal(votes, [[0, 0], [1, 1]])
+    loses = ("add-nodes 2 voters=(1,2) index=10", "campaign 1", "stabilize", "propose 1 a", "process-ready 1", "deliver-msgs drop=(2)", "propose 1 b", "process-ready 1")
+    again = [[[(m.kind, len(m.entries)) for m in switched(*name, *loses, *more).network.pending] for more in ((), ("tick-heartbeat 1", "process-ready 1"))] for name in (["lost-append-goes-again"],)]
+    yield "lost-append-goes-again", is_equal(again, [[[], [("MsgHeartbeat", 0), ("MsgApp", 2)]]])
+    earlier = ("add-nodes 2 voters=(1,2) index=10", "campaign 2", "campaign 2", "process-ready 2", "deliver-msgs drop=(1)", "campaign 1", "process-ready 1", "deliver-msgs 2", "process-ready 2")
+    refused = [[(m.kind, m.term, m.refused) for m in cluster.network.pending if m.to == 1] for cluster in (run(Reference(), *earlier), switched("earlier-vote-refused", *earlier))]
+    yield "earlier-vote-refused (figure 3.1)", is_equal(refused, [[], [("MsgVoteResp", 2, True)]])
+    lease = ("add-nodes 2 voters=(1,2) index=10 checkquorum=true", "campaign 1", "stabilize", "# node: restart 1 / campaign 1", "process-ready 1", "deliver-msgs 2")
+    terms = [cluster.nodes[2].term for cluster in (run(Reference(), *lease), switched("known-leader-may-ask", *lease))]
+    yield "known-leader-may-ask", is_equal(terms, [1, 2])
+    alone = ("add-nodes 2 voters=(1,2) index=10 checkquorum=true", "campaign 1", "stabilize", *["tick-heartbeat 1"] * 3)
+    roles = [[switched(*name, *alone, *more).nodes[1].role for more in ((), ("tick-heartbeat 1",))] for name in (["quorum-by-last-answers"],)]
+    yield "quorum-by-last-answers", is_equal(roles, [["leader", "follower"]])
     applied = ("propose 1 a", "stabilize", "# node: restart 2 / raft-state")
     yield "restart-keeps-applied", is_equal([run(Reference(), *changed, *applied).nodes[2].content, switched("restart-keeps-applied", *changed, *applied).nodes[2].content], [b"", b"a"])
     snapshots = [cluster.nodes[1].snapshot_for(2).snapshot for cluster in (run(Reference(), *changed), switched("last-snapshot-sent", *changed))]
@@ -331,17 +366,22 @@ def part_children() -> Checks:
 # Asking at once
 
 
-def explored(command: str, numbers: Sequence[int], has_batch: bool) -> list[Found]:
+def explored(command: str, numbers: Sequence[int], has_batch: bool = True, folder: pathlib.Path | None = None, accepted: Accepted = Accepted()) -> list[Found]:
     """What scripts of the default search come to, of which every sixth is held to promises alone."""
     process = Process(command.split(), 60.0, 600.0)
     try:
         process.reset()
         process.hello = process.hello._replace(has_batch=has_batch)
         comparison = Comparison(aspects=frozenset({"views", "messages", "ready"}))
-        explorer = Explorer(process, Judge(is_asked=False), Chosen(comparison, "mixed", 6, Accepted()))
+        explorer = Explorer(process, Judge(is_asked=False), Chosen(comparison, "mixed", 6, accepted), folder)
         return [explorer.explore(Spec(number, number, number % 6 == 5)) for number in numbers]
     finally:
         process.close()
+
+
+def results(all_found: Sequence[Found]) -> list[Found]:
+    """What was found, without whether it was found at once."""
+    return [found._replace(was_quick=False) for found in all_found]
 
 
 def part_at_once() -> Checks:
@@ -367,6 +407,38 @@ def part_at_once() -> Checks:
         process.close()
 
 
+def part_digest() -> Checks:
+    """A digest is the SHA-256 of the lines that would have been written."""
+    calls = [b'{"call":"reset"}', b'{"call":"start","node":1,"base":{"index":0,"term":0,"config":{"voters":[1]}},"options":{"inflight":9}}', b'{"call":"campaign","node":1}', b'{"call":"no","node":1}']
+    whole, hidden = (
+        subprocess.run([TOP / "nodes" / "plain"], input=b"".join(line + b"\n" for line in lines), capture_output=True, timeout=60).stdout
+        for lines in (calls, [calls[0], b'{"call":"digest","calls":3}', *calls[1:], calls[0]])
+    )
+    wanted = hashlib.sha256(b"".join(whole.splitlines(keepends=True)[1:])).hexdigest()
+    yield "four lines", is_equal(len(whole.splitlines()), 4)
+    yield "three lines, of which one is the digest", is_equal([json.loads(line) for line in hidden.splitlines()], [{}, {"digest": wanted}, {}])
+
+
+def part_memory() -> Checks:
+    """What is remembered gives the same result; nodes that answer otherwise are looked at; what is half written or can't be written doesn't matter."""
+    plain, numbers = str(TOP / "nodes" / "plain"), [0, 1, 2, 3, 5, 11, 17]
+    bug, known = f"{plain} --bug votes-twice", Accepted()
+    known.reasons["*", "promise broken: one vote per term"] = "known"
+    with tempfile.TemporaryDirectory() as name:
+        folder = pathlib.Path(name)
+        first, again = explored(plain, numbers, folder=folder), explored(plain, numbers, folder=folder)
+        yield "the same answers give the same result", is_equal(results(again), results(first))
+        files = [file for file in folder.glob("*/*.records") if file.stat().st_size]
+        yield "each script was remembered, and none twice", is_equal(len(files), 1)
+        yield "a bug is found as without a memory", is_equal(results(explored(bug, numbers, folder=folder)), results(explored(bug, numbers)))
+        yield "and with one of it", is_equal(results(explored(bug, numbers, folder=folder)), results(explored(bug, numbers)))
+        yield "a kind that is known by now", is_equal(results(explored(bug, numbers, folder=folder, accepted=known)), results(explored(bug, numbers, accepted=known)))
+        for file in folder.glob("*/*.records"):
+            file.write_bytes(file.read_bytes()[:-9])
+        yield "a record that isn't whole", is_equal(results(explored(plain, numbers, folder=folder)), results(first))
+        yield "a folder that can't be", is_equal(results(explored(plain, numbers, folder=files[0] / "below")), results(first))
+
+
 def part_known_failures() -> Checks:
     """What comes after a call that fails as one knows is asked at once too."""
     failing = [str(TOP / "tests" / "nodes" / "bad_node.py"), "errs", "forget_leader"]
@@ -387,6 +459,6 @@ def part_known_failures() -> Checks:
 
 
 UNITS: list[Callable[[], Checks]] = [
-    part_steps, part_network, part_restarts, part_between, part_reads, part_limits, part_promises_of_restarts, part_alone, part_exceptions, part_other_switches, part_shrinking, part_children,
-    part_at_once, part_known_failures,
+    part_steps, part_network, part_restarts, part_between, part_reads, part_limits, part_promises_of_restarts, part_alone, part_excused, part_exceptions, part_other_switches, part_shrinking, part_children,
+    part_at_once, part_digest, part_memory, part_known_failures,
 ]
