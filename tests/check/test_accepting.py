@@ -78,10 +78,29 @@ def test_accepting_one(room: pathlib.Path) -> Iterator[str]:
                 yield f"{line}: {status} {told!r} {output!r}"
             if (room / "a.txt").read_bytes() != THREE.replace(old, new):
                 yield f"{line}: {(room / 'a.txt').read_bytes()!r}"
-    (room / "a.txt").write_bytes(THREE)
-    came = run(room, "--accept", "a.txt:19", "./a.txt", "a.txt:3")
-    if came[0] != 1 or (room / "a.txt").read_bytes() != THREE.replace(b"----\r\nno\r\n", b"----\r\nok\r\n").replace(b"info\n----\nno", b"info\n----\nok"):
-        yield f"two: {came!r} {(room / 'a.txt').read_bytes()!r}"
+    first, third = THREE.replace(b"----\r\nno\r\n", b"----\r\nok\r\n"), THREE.replace(b"info\n----\nno", b"info\n----\nok")
+    both, every = first.replace(b"info\n----\nno", b"info\n----\nok"), first.replace(b"info\n----\nno", b"info\n----\nok").replace(b"no\n\nno\n", b"ok\n")
+    (room / "link.txt").symlink_to("a.txt")
+    for words, wanted in [(("a.txt:19", "a.txt:3"), both), (("a.txt:3", "./a.txt:19"), both), (("./a.txt:19", "a.txt:3"), both), (("a.txt:3", "link.txt:19"), both),
+                          ((str(room / "a.txt:19"), "a.txt:3"), both), (("a.txt:19", "./a.txt"), every), (("./a.txt:3", "b.txt:19"), first), (("b.txt:3", "a.txt:19"), third)]:
+        (room / "a.txt").write_bytes(THREE)
+        (room / "b.txt").unlink(missing_ok=True)
+        if any(word.startswith("b") for word in words):
+            (room / "b.txt").hardlink_to(room / "a.txt")
+        came = run(room, "--accept", *words)
+        if came[0] != (0 if wanted == every else 1) or came[2] or (room / "a.txt").read_bytes() != wanted:
+            yield f"{words}: {came!r} {(room / 'a.txt').read_bytes()!r}"
+
+
+def test_accepting_many(room: pathlib.Path) -> Iterator[str]:
+    """However many directives a script has, and of more than one script at once."""
+    few, many = 3, 250
+    files(room, a_txt=b"\n".join([BAD] * many), b_txt=b"\n".join([BAD] * few))
+    status, output, told = run(room, "--accept", "a.txt", "b.txt:5")
+    if status != 1 or told or not output.endswith(totals(2, few + many, few - 1, accepted=many + 1)):
+        yield f"{status} {told!r} {output[-200:]!r}"
+    if tree(room) != {"a.txt": b"\n".join([GOOD] * many), "b.txt": b"\n".join([BAD, GOOD, BAD])}:
+        yield f"{tree(room)!r}"
 
 
 def test_accepting_one_that_matches(room: pathlib.Path) -> Iterator[str]:

@@ -73,7 +73,7 @@ def test_what_is_no_file(room: pathlib.Path) -> Iterator[str]:
 def test_names_that_are_no_text(room: pathlib.Path) -> Iterator[str]:
     files(room, z_txt=GOOD)
     (pathlib.Path(os.fsdecode(bytes(room) + b"/caf\xe9.txt"))).write_bytes(BAD)
-    yield from differs("folder", run(room, "."), (4, totals(1, 1, failed=1), b"./caf\xe9.txt: it could not be read\n"))
+    yield from differs("folder", run(room, "."), (4, totals(1, 1, failed=1), b"./caf\\xe9.txt: it could not be read\n"))
     yield from differs("word", run(room, b"caf\xe9.txt"), (2, b"", b"raftbench: bad usage\n"))
 
 
@@ -92,6 +92,23 @@ def test_what_is_ignored_is_no_file(room: pathlib.Path) -> Iterator[str]:
         names.unlink()
     names.symlink_to("nothing")
     yield from differs("a link to nothing", run(room, "."), (0, totals(2, 2), b""))
+
+
+def test_what_is_ignored_has_a_limit(room: pathlib.Path) -> Iterator[str]:
+    """A file .raftbenchignore may have 1,048,576 bytes."""
+    most = 1_048_576
+    files(room, a_txt=GOOD, b__b_txt=GOOD, b___raftbenchignore=b"#" * (most - 1) + b"\n")
+    yield from differs("at the limit", run(room, "."), (0, totals(2, 2), b""))
+    (room / "b" / ".raftbenchignore").write_bytes(b"#" * most + b"\n")
+    told = b"./b/.raftbenchignore: it could not be read\n./b/.raftbenchignore: it has more than 1,048,576 bytes\n"
+    yield from differs("past the limit", run(room, "."), (4, totals(1, 1, failed=1), told))
+
+
+def test_files_without_a_size_are_not_waited_for(room: pathlib.Path) -> Iterator[str]:
+    """Files of /proc have no size. Some are waited for, such as the kernel's messages."""
+    for path in ("/proc/kmsg", "/proc/version"):
+        if os.access(path, os.R_OK):
+            yield from differs(path, run(room, path), (0, totals(1, 0), b""))
 
 
 def test_what_is_ignored_without_permission(room: pathlib.Path) -> Iterator[str]:

@@ -229,7 +229,7 @@ def test_github(room: pathlib.Path) -> Iterator[str]:
             text = shown.split(heading, 1)[1].split(b"\n\n", 1)[0] + b"\n(- expected, + output)"
         else:
             text = due.get("message", due.get("output", [b""])[0])
-        if message != text:
+        if message.replace(b"\r", b"\\x0d") != text:
             yield f"{message!r}, and not {text!r}"
     (room / "x,y:z%.txt").write_bytes(BAD)
     yield from differs("path", run(room, "--format=github", "x,y:z%.txt"),
@@ -254,3 +254,41 @@ def test_accepting_for_programs(room: pathlib.Path) -> Iterator[str]:
 
 def test_format_that_there_is_not(room: pathlib.Path) -> Iterator[str]:
     yield from differs("it", run(room, "--format", "xml", "."), (2, b"", b"raftbench: --format xml: text, json or github\n"))
+
+
+# What acts in a terminal or a log, and what is shown of it: control characters, DEL, a C1 control in UTF-8, marks that turn the direction, ends of
+# lines of others, no UTF-8. A tab acts in nothing, and neither do other characters.
+ACTING = {
+    b"\x1b[2J\x1b]0;title\x07": b"\\x1b[2J\\x1b]0;title\\x07", b"a\x00b": b"a\\x00b", b"a\x7f": b"a\\x7f", b"a\rb.txt:1: forged": b"a\\x0db.txt:1: forged", b"\x08\x08": b"\\x08\\x08",
+    "\x9b31m".encode(): b"\\xc2\\x9b31m", "\x85b".encode(): b"\\xc2\\x85b", "\u202eab\u2066".encode(): b"\\xe2\\x80\\xaeab\\xe2\\x81\\xa6", "\u2028b".encode(): b"\\xe2\\x80\\xa8b",
+    b"\xff\xfe": b"\\xff\\xfe", b"\xc3": b"\\xc3", b"\xed\xa0\x80": b"\\xed\\xa0\\x80",
+}
+STILL = [b"a\tb", "é\u4e2d\U0001f600".encode(), b"a\\x1bb", b"100%"]
+
+
+def test_what_acts_in_a_terminal(room: pathlib.Path) -> Iterator[str]:
+    """It is shown by numbers, on each way out; else bytes are shown as they are."""
+    for acting, seen in ACTING.items():
+        files(room, a_txt=b"log-level info\n----\n" + acting + b"\n")
+        wanted = b"a.txt:1: log-level info\n- " + seen + b"\n+ ok\n\n" + totals(1, 1, 1)
+        for words in [(), ("--color=always",)]:
+            yield from differs(f"{acting!r} {words}", run(room, *words, "a.txt"), (1, wanted, b""))
+        status, output, _ = run(room, "--format", "github", "a.txt")
+        if status != 1 or seen not in output.replace(b"%25", b"%").replace(b"%0D", b"\\x0d") or any(byte != 10 and not 32 <= byte <= 126 for byte in output):
+            yield f"github {acting!r}: {output!r}"
+        status, output, _ = run(room, "--format", "json", "a.txt")
+        if status != 1 or json.loads(output)["expected"] != [acting.decode("latin-1")] or any(byte != 10 and not 32 <= byte <= 126 for byte in output):
+            yield f"json {acting!r}: {output!r}"
+    for still in STILL:
+        files(room, a_txt=b"log-level info\n----\n" + still + b"\n")
+        yield from differs(f"{still!r}", run(room, "a.txt"), (1, b"a.txt:1: log-level info\n- " + still + b"\n+ ok\n\n" + totals(1, 1, 1), b""))
+
+
+def test_names_that_act_in_a_terminal(room: pathlib.Path) -> Iterator[str]:
+    """The names of files too, and on standard error."""
+    (room / "a\x1b[2J.txt").write_bytes(BAD)
+    (room / "c.txt").write_bytes(BAD)
+    status, output, told = run(room, ".", "no\x1bwhere")
+    listed_wanted = b"./a\\x1b[2J.txt: 1 of 1 differ, first at line 1\n./c.txt: 1 of 1 differ, first at line 1\n\n"
+    if status != 4 or b"./a\\x1b[2J.txt:1: log-level info\n" not in output or listed_wanted not in output or told != b"no\\x1bwhere: no such file or folder\n":
+        yield f"{status} {output!r} {told!r}"

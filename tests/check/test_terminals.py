@@ -213,12 +213,18 @@ def test_review_without_a_terminal(room: pathlib.Path) -> Iterator[str]:
 
 
 def test_sentences(room: pathlib.Path) -> Iterator[str]:
-    """Of the calls whose one line is fixed a second line says more where somebody reads, and only there."""
+    """Of the calls whose one line is fixed a second line says more where somebody reads or the environment asks for it, and only there."""
     files(room, a_txt=GOOD)
+    (room / "folder").mkdir()
+    folder = b"folder: it is a folder, and not a script; raftbench check takes folders\n"
     usage, failed = b"raftbench: bad usage\n", b"raftbench: input or output failed\n"
     for words, status, line, more in [
         (("run",), 2, usage, b"FILE is missing: the file of a script\n"),
         (("run", "nothing"), 4, failed, b"nothing: No such file or directory (os error 2)\n"),
+        (("run", "folder"), 4, failed, folder),
+        (("rewrite", "folder"), 4, failed, folder),
+        (("session", "folder"), 4, failed, folder),
+        (("page", "folder"), 4, failed, folder),
         (("rewrite", "a.txt", "--every", "65"), 2, usage, b"--every 65: a number from 1 to 64\n"),
         (("run", "a.txt", "--every", "x"), 2, usage, b"--every x: a number from 1 to 64\n"),
         (("session", "-"), 2, usage, b"-: a session's commands come from standard input, so its script stands in a file\n"),
@@ -230,6 +236,11 @@ def test_sentences(room: pathlib.Path) -> Iterator[str]:
         done = subprocess.run([PROGRAM, *words], cwd=room, stdin=subprocess.DEVNULL, capture_output=True, timeout=MOST_SECONDS)
         if (done.returncode, done.stdout, done.stderr) != (status, b"", line):
             yield f"{words}, without a terminal: {done!r}"
+        for asked in ("1", ""):
+            around = {**os.environ, "RAFTBENCH_EXPLAIN": asked}
+            done = subprocess.run([PROGRAM, *words], cwd=room, env=around, stdin=subprocess.DEVNULL, capture_output=True, timeout=MOST_SECONDS)
+            if (done.returncode, done.stdout, done.stderr) != (status, b"", line + more if asked else line):
+                yield f"{words}, with RAFTBENCH_EXPLAIN={asked}: {done!r}"
 
 
 def long_work(room: pathlib.Path) -> int:

@@ -344,8 +344,7 @@ class Drafter:
         self.tell_end("given up", sender, to, message_words(kind, term, cells))
 
     def draw_anew(self, place: int, drawn: Any) -> None:
-        self.chart.over[place] = drawn[0]
-        self.chart.over += drawn[1:]
+        self.chart.over[place] = "\n".join(drawn)
 
     def tell_end(self, fate: str, sender: int, to: int, words: str) -> None:
         self.tell(f"{words} from node {sender} to node {to} is {fate}")

@@ -19,7 +19,7 @@ import xml.etree.ElementTree
 from collections.abc import Iterable, Iterator, Sequence
 from typing import Any
 
-from plain.script import read_script
+from plain.script import read_script, read_with_lines
 from tests.harness import PROGRAM, TOP, Result, results_of
 from tests.page.browser import Browser, found
 from tests.page.plain_chart import svg_of
@@ -48,6 +48,12 @@ NOTED = b"".join([
 NOTES = [
     (2, " The first"), (None, "and more of it."), (5, "Another <b>."), (11, "A third."), (22, "A fourth,"), (24, "and a fifth: \\xff"), (28, "The tail."),
 ]
+# More events than a picture has room for, and a last directive with none.
+LARGE = b"".join([
+    b"log-level none\n----\nok\n\nadd-nodes 32 voters=(" + b",".join(str(id).encode() for id in range(1, 33)) + b") index=10\n----\nok\n\n",
+    b"campaign 1\n----\nok\n\nstabilize\n----\nok\n\n", 4_200 * b"tick-heartbeat 1\n----\nok\n\nstabilize\n----\nok\n\n",
+    b"tick-heartbeat 1\n----\nok\n\n",
+])
 REFUSED = {"BadLine": b"add-nodes =x\n----\n", "NoSeparator": b"add-nodes 1\n", "LineTooLong": b"raft-state\n----\n" + b"x" * 65_537}
 
 
@@ -168,6 +174,27 @@ def pictures_are_the_plain_ones() -> None:
         same("the picture", answer(["chart", "-"], data), (svg_of(data, "standard input").encode(), b"", status))
         for line in (0, 1, 10**9):
             same(f"up to line {line}", answer(["chart", "-", "--until", str(line)], data)[0].decode(), svg_of(data, "standard input", line))
+            same(f"from line {line}", answer(["chart", "-", "--from", str(line)], data)[0].decode(), svg_of(data, "standard input", None, line))
+
+
+def parts_come_in_from_above() -> None:
+    """A part from each directive on, and one of each directive alone, where messages are lost, sent to nobody, or find no room."""
+    for data in [LOST, SELF, *(path.read_bytes() for path in TOUR[:4])]:
+        _, lines = read_with_lines(data)
+        for line in lines:
+            parts: list[tuple[list[str], int | None]] = [([], None), (["--until", str(line)], line)]
+            for words, until in parts:
+                came = answer(["chart", "-", "--from", str(line), *words], data)[0].decode()
+                same(f"from line {line} {' '.join(words)}", came, svg_of(data, "standard input", until, line))
+
+
+def large_pictures_are_refused() -> None:
+    """Nothing is written of one with more events than there is room for; a part of it is drawn."""
+    said = b"raftbench: a picture has room for 500000 events: choose a part by --from and --until\n"
+    same("a large picture", answer(["chart", "-"], LARGE), (b"", said, 3))
+    last = LARGE.count(b"\n") - 3
+    part, errors, status = answer(["chart", "-", "--from", str(last)], LARGE)
+    same("a part of it", (part.startswith(b"<svg "), part.endswith(b"</svg>\n"), errors, status), (True, True, b"", 0))
 
 
 def refusals_are_those_of_run() -> None:
@@ -181,7 +208,7 @@ def refusals_are_those_of_run() -> None:
             same(f"whether run refuses {words}", (output, status > 1), (b"", True))
             wanted = output, errors.replace(b"Usage: raftbench run ", b"Usage: raftbench chart "), status
             same(f"what is answered to {words}", answer(["chart", *words]), wanted)
-    for few in (["-", "--every", "4"], ["-", "--until"], ["-", "--until", "x"], ["-", "--until", "-1"], ["-", "--until", "1", "--until", "2"]):
+    for few in (["-", "--every", "4"], ["-", "--until"], ["-", "--from"], ["-", "--from", "y"], ["-", "--until", "x"], ["-", "--until", "-1"], ["-", "--until", "1", "--until", "2"]):
         output, errors, status = answer(["chart", *few], b"")
         same(f"what is answered to {few}", (output, errors.startswith((b"error: ", b"raftbench: ")), status), (b"", True, 2))
 
@@ -296,7 +323,7 @@ ALONE = [
     notes_are_told, what_is_on_its_way_is_told,
 ]
 WRITTEN = [
-    election_of_the_documents_is_the_program_s, pictures_are_the_plain_ones, refusals_are_those_of_run, full_devices_are_told,
+    election_of_the_documents_is_the_program_s, pictures_are_the_plain_ones, parts_come_in_from_above, large_pictures_are_refused, refusals_are_those_of_run, full_devices_are_told,
     readers_that_go_away_are_told, closed_outputs_are_told, hostile_texts_are_text, hostile_names_are_text,
 ]
 SEEN = [all_is_within_the_picture, light_and_dark_differ, hostile_texts_act_in_no_browser]

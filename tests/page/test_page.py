@@ -1,5 +1,5 @@
 """The page of a script: its own files, what the program writes (program.py), what a reader does with it in a browser (reader.py), and
-what it shows beside what the script prints (beside.py).
+what it shows beside what the script prints (beside.py); and traces (traces.py).
 
 Its rows come from the plain bench (plain_steps.py). Pages of the tour, of a mismatch, of hostile texts, of lost messages, of a full
 mailbox, of 32 nodes, of long output and of 20,000 directives are opened in a headless browser (Debian's `chromium`): by keys, by clicks,
@@ -32,7 +32,7 @@ from plain.cluster import Cluster
 from plain.script import Fault, read_script, read_with_lines
 from tests.cases.case import scripts_below
 from tests.harness import PROGRAM, TESTS, TOP, Result, results_of
-from tests.page import access, assemble, beside, chart_parts, difference, events, finding, paper, program, stepping, types_of_modules
+from tests.page import access, assemble, beside, chart_parts, difference, events, finding, paper, program, stepping, traces, types_of_modules
 from tests.page.browser import Browser, found
 from tests.page.plain_chart import svg_of
 from tests.page.plain_steps import cell, json_text, rows_of
@@ -229,11 +229,13 @@ def is_charted_as_plainly(path: pathlib.Path) -> bool:
     except Fault:
         return False
     status = int(list(rows_of(data, path.name))[-1][2] > 0)
-    for until in [None, *lines[len(lines) // 2:][:1]]:
-        words = [] if until is None else ["--until", str(until)]
+    middle, last = [*lines[len(lines) // 2:][:1], None][0], [*lines[len(lines) * 3 // 4:][:1], None][0]
+    parts = {(None, None), (middle, None), (None, middle), (last, middle)}
+    for until, start in parts:
+        words = [word for name, line in (("--until", until), ("--from", start)) if line is not None for word in (name, str(line))]
         done = subprocess.run([PROGRAM, "chart", path, *words], stdout=subprocess.PIPE, stderr=subprocess.PIPE)
         same(f"what is told of {path.name}", (done.returncode, done.stderr), (status, b""))
-        same(f"the picture of {path.name} {' '.join(words)}", done.stdout.decode(), svg_of(data, path.name, until))
+        same(f"the picture of {path.name} {' '.join(words)}", done.stdout.decode(), svg_of(data, path.name, until, start))
     return True
 
 
@@ -248,7 +250,7 @@ IN_A_BROWSER = [*SEEN, *beside.BESIDE, *(test for module in MODULES for test in 
 
 def results(word: str) -> Iterator[Result]:
     """What needs nothing, what needs the program, and what needs a browser."""
-    written = [*program.WRITTEN, charts_of_the_program_are_the_plain_ones]
+    written = [*program.WRITTEN, *traces.TRACES, charts_of_the_program_are_the_plain_ones]
     yield from results_of(ALONE, word)
     yield from results_of(written, word, "" if program.found() else "the program")
     path = found()

@@ -16,10 +16,10 @@ from tests.shipping.places import Place, kept
 
 MAN = TOP / "share/man/man1/raftbench.1"
 # What takes a spacing, and what takes none.
-FILED = ["check", "page", "rewrite", "run", "session"]
-COMMANDS = sorted([*FILED, "chart", "directives", "look", "lsp"])
-OPTIONS = ["--accept", "--accept-errors", "--brief", "--color", "--every", "--filter", "--first", "--force", "--format", "--help", "--quiet", "--review", "--until",
-           "--verbose", "--version", "--why"]
+FILED = ["rewrite", "run", "session"]
+COMMANDS = sorted([*FILED, "chart", "check", "directives", "look", "lsp", "page", "trace"])
+OPTIONS = ["--accept", "--accept-errors", "--brief", "--color", "--every", "--filter", "--first", "--force", "--format", "--from", "--help", "--quiet", "--review", "--until",
+           "--verbose", "--version", "--warn", "--why"]
 DIRECTIVES = re.findall(r"^\| `([a-z-]+)` \|", (TOP / "docs/SCRIPTS.md").read_text().split("\n## Directives\n")[1].split("\n\n| What ")[0], re.M)
 SECTIONS = ["NAME", "SYNOPSIS", "DESCRIPTION", "COMMANDS", "OPTIONS", "EXIT STATUS", "ENVIRONMENT", "FILES", "EXAMPLES", "SEE ALSO"]
 # The files of editors that are all put alike.
@@ -418,7 +418,7 @@ def completes(place: Clone, shell: str) -> None:
         return COMPLETED_BY[shell](["raftbench", *words], place)
 
     assert [word for word in offered("") if not word.startswith("-")] == COMMANDS, offered("")
-    for command in [*FILED, "chart", "look"]:
+    for command in [*FILED, "chart", "check", "look", "page", "trace"]:
         assert "script.txt" in offered(command, "scr"), command
         is_there = "--every" in [word.rstrip("=") for word in offered(command, "--e")]
         assert is_there == (command in FILED), command
@@ -429,7 +429,7 @@ def completes(place: Clone, shell: str) -> None:
         ("check script.txt --color al", ["always"]),
     ):
         assert offered(*words.split(" ")) == wanted, (words, offered(*words.split(" ")))
-    for words, one in (("run --every 1", "16"), ("check --a", "--accept"), ("chart --u", "--until")):
+    for words, one in (("run --every 1", "16"), ("check --a", "--accept"), ("chart --u", "--until"), ("rewrite --w", "--warn")):
         assert one in [word.rstrip("=") for word in offered(*words.split(" "))], words
 
 
@@ -437,9 +437,12 @@ def test_bash_completes_after_an_equals_sign(place: Clone) -> None:
     """bash gives `--color=al` as three words, and `--color=` as two."""
     for given, wanted in (
         (["--color", "=", "al"], ["always"]), (["--color", "="], ["always", "auto", "never"]), (["--format", "=", "j"], ["json"]),
-        (["--format", "="], ["github", "json", "text"]), (["--every", "=", "6"], ["64"]), (["--filter", "="], []), (["--filter", "=", "s"], []),
+        (["--format", "="], ["github", "json", "text"]), (["--filter", "="], []), (["--filter", "=", "s"], []),
+        # Where COMP_WORDBREAKS has no =, it is one word.
+        (["--color="], ["--color=always", "--color=auto", "--color=never"]), (["--format=j"], ["--format=json"]), (["--filter=s"], []),
     ):
         assert completed_by_bash(["raftbench", "check", *given], place) == wanted, given
+    assert completed_by_bash(["raftbench", "run", "--every", "=", "6"], place) == ["64"]
 
 
 def test_completes_in_each_shell(place: Clone) -> None:
