@@ -10,6 +10,9 @@ from tests.harness import matched
 
 MOST_SECONDS = 120
 HEADING = re.compile(r"script:(?:(\d+):)? ?(.*)\Z", re.S)
+# What would act in a terminal: control characters but tabs and ends of lines, and marks that turn text or end lines. A report of a script that has one
+# writes all but printable ASCII by numbers.
+ACTING = re.compile("[\\x00-\\x08\\x0b-\\x1f\\x7f-\\x9f\\u061c\\u200e\\u200f\\u2028-\\u202e\\u2066-\\u2069\\ufeff]")
 
 
 def line_starts(text: str) -> list[int]:
@@ -74,11 +77,18 @@ def slips(report: str) -> list[tuple[int, str]]:
     return [(int(it[1]), it[2]) for it in re.finditer(r"^script:(\d+): warning: (.*)$", report, re.M)]
 
 
+def read_back(text: str, report: str) -> str:
+    """The report as it would be if nothing of the script were written by numbers."""
+    if not any(ACTING.search(line.rstrip("\r")) for line in text.split("\n")):
+        return report
+    return re.sub(rb"\\x([0-9a-f]{2})", lambda it: bytes.fromhex(it[1].decode()), report.encode()).decode()
+
+
 def of_report(text: str, report: str, differing: dict[int, Any], encoding: str) -> list[dict[str, Any]]:
     """Those that a report of `check` shows: a heading with a diff below it, up to an empty line, or a heading that ends in an error; below
     either, the word that was probably meant. Mismatches after the first are information. The warnings come last."""
     found: list[dict[str, Any]] = []
-    lines = [it for it in report.split("\n")[:-2] if not re.match(r"script:\d+: warning: ", it)]
+    lines = [read_back(text, it) for it in report.split("\n")[:-2] if not re.match(r"script:\d+: warning: ", it)]
     severity, at = 1, 0
     while at < len(lines):
         heading = matched(HEADING.pattern, lines[at])

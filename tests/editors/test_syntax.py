@@ -79,7 +79,7 @@ AROUND = {"", "Plain", "Double", "Arguments"}
 
 
 def directives() -> list[str]:
-    return sorted(name for file in ("act", "act_with", "name") for name in NAME.findall((TOP / f"crates/rb_directive/src/{file}.rt").read_text()))
+    return sorted(name for file in ("node_command", "node_command_with_arg", "name") for name in NAME.findall((TOP / f"crates/rb_directive/src/{file}.rt").read_text()))
 
 
 def words_in(text: str, known: set[str]) -> list[str]:
