@@ -104,7 +104,7 @@ class Explorer:
 
     def __init__(self, process: Process, judge: Judge, chosen: Chosen, remembers_in: pathlib.Path | None = None) -> None:
         self.process, self.judge, self.chosen = process, judge, chosen
-        self.recall = Recall(process, chosen.comparison, remembers_in)
+        self.recall = Recall(process, chosen.comparison, remembers_in, judge.identity())
         self.met: set[int] = set()
         self.judged = self.tried = self.agreed = 0
 
@@ -136,7 +136,8 @@ class Explorer:
             less, outcome = self.beyond_known(steps)
             counts, all_kinds = (outcome.compared, outcome.agreed, outcome.left_out), list(outcome.kinds())
         removed, kinds = missing(steps, less), self.unknown(all_kinds)
-        self.recall.note(name, counts, all_kinds, removed, plan.met)
+        if not is_wrong:
+            self.recall.note(name, counts, all_kinds, removed, plan.met)
         return Found(spec, name_without(name, removed), *counts, kinds, new, self.kept(less, kinds, new), is_wrong, agreed is not None)
 
     def has_all_reads(self, spec: Spec) -> bool:

@@ -36,6 +36,14 @@ class Judge:
         self.program = found_program()
         self.is_there = is_asked and self.program.exists()
 
+    def identity(self) -> str:
+        """What tells this program from others; nothing if none is asked."""
+        try:
+            found = self.program.stat() if self.is_there else None
+        except OSError:
+            found = None
+        return f"{self.program} {found.st_size} {found.st_mtime_ns}" if found else ""
+
     def outputs(self, blocks: Sequence[Block]) -> list[list[str]]:
         """What each directive prints, in lines of text; Unjudged where the program doesn't say."""
         text = Script(tuple(blocks), ()).text()

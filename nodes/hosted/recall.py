@@ -20,16 +20,16 @@ def rules_of(chosen: Comparison) -> str:
 
 
 class Recall:
-    """A memory of what a process was asked. Without a folder, and with nodes that have no digests, it has nothing."""
+    """A memory of what a process was asked, for one judge of the reference. Without a folder, and with nodes that have no digests, it has nothing."""
 
-    def __init__(self, process: Process, chosen: Comparison, folder: pathlib.Path | None) -> None:
-        self.process, self.chosen, self.folder = process, chosen, folder
+    def __init__(self, process: Process, chosen: Comparison, folder: pathlib.Path | None, judge: str) -> None:
+        self.process, self.chosen, self.folder, self.judge = process, chosen, folder, judge
         self.opened: Memory | None = None
         self.tried = self.same = 0
 
     def memory(self) -> Memory | None:
         if self.opened is None and self.folder and self.process.hello.has_digest:
-            self.opened = Memory(self.folder, f"{self.process.about} {rules_of(self.chosen)}")
+            self.opened = Memory(self.folder, f"{self.process.about} {rules_of(self.chosen)} {self.judge}")
         return self.opened
 
     def again(self, name: bytes) -> Known | None:
