@@ -28,6 +28,7 @@ EDITORS = [name for name in kept(TOP / "editors") if "/" in name]
 SOURCES = {
     "bin/raftbench": "made",
     "bin/raftbench-from-etcd": "editors/from-etcd",
+    "bin/raftbench-to-shiviz": "editors/to-shiviz",
     **{f"share/{name}": f"share/{name}" for name in kept(TOP / "share")},
     **{f"share/raftbench/editors/{name}": f"editors/{name}" for name in ["README.md", *EDITORS]},
 }
