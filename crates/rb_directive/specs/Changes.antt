@@ -9,7 +9,7 @@ use Rattle.rb_vocab.specs.declared.change.Word as change
 use Rattle.rb_vocab.specs.declared.change.WordKind.{WordKind}
 use Rattle.rb_vocab.specs.declared.change.WordKind.TheVariants as kinds
 use Rattle.rb_vocab.specs.declared.change.Transition.{Transition}
-use Rattle.rb_vocab.specs.declared.change.Transition.TheVariants as transitions
+use Rattle.rb_vocab.specs.Transitions.{is_auto}
 use Rattle.rb_directive.specs.Forms.{Word}
 use Rattle.rb_directive.specs.IdLists.{id_of}
 
@@ -51,11 +51,6 @@ abbrev pub is_one : List Word → Bool
 is_one [] = false
 is_one (w ∷ []) = true
 is_one (w ∷ other ∷ some) = false
-
-abbrev pub is_auto : Transition → Bool
-is_auto transitions.Auto = true
-is_auto transitions.Explicit = false
-is_auto transitions.Implicit = false
 
 -- a change of the first version has exactly one word, and no transition
 abbrev pub fits : Bool → Transition → List Word → Bool

@@ -5,7 +5,7 @@
 
 ghost use Rattle.std.specs.Prelude.{◌≡◌, ◌≤◌, ◌<◌, ◌∷◌, [], length, MatchOption, Some, None, slice_index_or, IfSome};
 ghost use Rattle.rb_script.specs.Tokens.{plain};
-ghost use Rattle.rb_directive.specs.Changes.{kind_of, change_of, words_left, input_words, first_bad, is_one, is_auto, fits, change_fault};
+ghost use Rattle.rb_directive.specs.Changes.{kind_of, change_of, words_left, input_words, first_bad, is_one, fits, change_fault};
 
 use crate::form::id_of;
 use rb_script::DirectiveRef;
@@ -131,7 +131,7 @@ pub fn change_of(word: &[u8]) -> Option<rb_vocab::Word>
 fn fits(first_version: bool, transition: Transition, inputs: &Inputs<'_>) -> bool
     ensures { result ≡ fits first_version transition (input_words inputs.now) }
 {
-    !first_version || (is_auto(transition) && inputs.is_one())
+    !first_version || (transition.is_auto() && inputs.is_one())
 }
 
 /// Finds the fault of the words: the first that isn't a change; or, for a change of the first version, several words or a
@@ -153,14 +153,5 @@ pub(crate) fn change_fault<'d>(
                 Some(DirectiveError::FirstVersionTakesOne)
             }
         }
-    }
-}
-
-fn is_auto(transition: Transition) -> bool
-    ensures { result ≡ is_auto transition }
-{
-    match transition {
-        Transition::Auto => true,
-        Transition::Explicit | Transition::Implicit => false,
     }
 }

@@ -1,1 +1,3 @@
+pub mod AppendLaws
+pub mod EqualLaws
 pub mod OutboxLaws

@@ -1,3 +1,4 @@
 pub mod Appends
+pub mod Events
 pub mod Messages
 pub mod Paged

@@ -3,9 +3,9 @@
 //! A leader sends the entries after one that it expects its follower to hold. It names that entry's index and term, so a follower with
 //! another entry there refuses (the consistency check of Ongaro's thesis, section 3.5). The message also has the leader's commit.
 
-ghost use Rattle.std.specs.Prelude.{◌≡◌, ◌-◌, ◌≤◌, ◌↔◌, length, IsTrue};
+ghost use Rattle.std.specs.Prelude.{◌≡◌, ◌-◌, ◌≤◌, length};
 ghost use Rattle.rb_raftlog.specs.declared.limits.TheConstants.{MAX_INDEX};
-ghost use Rattle.rb_message.specs.Appends.{PlainAppend};
+ghost use Rattle.rb_message.specs.Appends.{PlainAppend, same_appends, appends_per};
 
 use rb_raftlog::Entries;
 use std::marker::Model;
@@ -73,14 +73,18 @@ impl Append {
     {
         &self.entries
     }
+}
 
-    /// Whether both are equal. Compares numbers first.
-    pub fn same(&self, other: &Append) -> bool
-        ensures { IsTrue result ↔ (self.now ≡ other.now) }
-    {
+impl PartialEq for Append {
+    ghost eq = { same_appends };
+
+    ghost laws = { appends_per };
+
+    // Compares numbers first.
+    fn eq(&self, other: &Append) -> bool {
         self.prev == other.prev
             && self.prev_term == other.prev_term
             && self.commit == other.commit
-            && self.entries.same(&other.entries)
+            && self.entries == other.entries
     }
 }

@@ -207,3 +207,33 @@ pub enum Event {
         id: u64,
     },
 }
+
+impl Event {
+    ghost use Rattle.std.specs.Prelude.{◌≡◌};
+    ghost use Rattle.rb_message.specs.Events.{event_node};
+
+    /// The node that the event is of.
+    #[tactic(auto, unfolding(crate::specs::Events::event_node))]
+    pub fn node(&self) -> u64
+        ensures { result ≡ event_node self.now }
+    {
+        match self {
+            Event::Started { id, .. } => *id,
+            Event::Became { id, .. } => *id,
+            Event::CannotCampaign { id, .. } => *id,
+            Event::VoteCounted { id, .. } => *id,
+            Event::Ignored { id, .. } => *id,
+            Event::RefusedVote { id, .. } => *id,
+            Event::DroppedProposal { id } => *id,
+            Event::Conflict { id, .. } => *id,
+            Event::AppendsNothing { id } => *id,
+            Event::ReplacedChange { id, .. } => *id,
+            Event::Switched { id, .. } => *id,
+            Event::RefusedChange { id, .. } => *id,
+            Event::Restored { id, .. } => *id,
+            Event::TransferStarts { id, .. } => *id,
+            Event::TransferEnds { id, .. } => *id,
+            Event::LostQuorum { id } => *id,
+        }
+    }
+}

@@ -5,8 +5,9 @@
 //!
 //! Few messages have a snapshot. Each has only a pointer to it, which copies share, so other messages stay small.
 
-ghost use Rattle.std.specs.Prelude.{◌≡◌, ◌≤◌, ◌↔◌, IsTrue, IfOk};
+ghost use Rattle.std.specs.Prelude.{◌≡◌, ◌≤◌, IfOk};
 ghost use Rattle.rb_raftlog.specs.declared.limits.TheConstants.{MAX_INDEX};
+ghost use Rattle.rb_raftlog.specs.Equals.{same_snapshots, snapshots_per};
 
 use rb_raftlog::Snapshot;
 use std::alloc::{AllocError, Global};
@@ -49,12 +50,15 @@ impl Install {
     {
         &self.snapshot
     }
+}
 
-    /// Whether both are equal. Compares numbers first.
-    pub fn same(&self, other: &Install) -> bool
-        ensures { IsTrue result ↔ (self.now ≡ other.now) }
-    {
-        self.snapshot.same(&other.snapshot)
+impl PartialEq for Install {
+    ghost eq = { same_snapshots };
+
+    ghost laws = { snapshots_per };
+
+    fn eq(&self, other: &Install) -> bool {
+        *self.snapshot == *other.snapshot
     }
 }
 

@@ -9,7 +9,7 @@ use rb_raftlog::Body;
 use rb_vocab::MessageType;
 
 /// The kind of a message, with its body. A copy costs pointers.
-#[derive(Clone, Drop)]
+#[derive(Clone, PartialEq, Drop)]
 pub enum MessageKind {
     /// A vote request, with the candidate's last entry. `transfer`: the leader told the candidate to campaign.
     Vote {
@@ -91,86 +91,11 @@ impl MessageKind {
         )
     }
 
-    /// Whether both are equal. Compares numbers before lists.
+    /// Whether both are equal, by the derived `==`, which is proved to be equality.
+    #[tactic(auto, using(crate::proofs::EqualLaws::kinds_decide))]
     pub fn same(&self, other: &MessageKind) -> bool
         ensures { IsTrue result ↔ (self.now ≡ other.now) }
     {
-        match (self, other) {
-            (
-                MessageKind::Vote {
-                    last_term,
-                    last_index,
-                    transfer,
-                },
-                MessageKind::Vote {
-                    last_term: other_term,
-                    last_index: other_index,
-                    transfer: other_transfer,
-                },
-            ) => {
-                *last_term == *other_term
-                    && *last_index == *other_index
-                    && *transfer == *other_transfer
-            }
-            (
-                MessageKind::PreVote {
-                    last_term,
-                    last_index,
-                },
-                MessageKind::PreVote {
-                    last_term: other_term,
-                    last_index: other_index,
-                },
-            ) => *last_term == *other_term && *last_index == *other_index,
-            (
-                MessageKind::VoteResponse { granted },
-                MessageKind::VoteResponse {
-                    granted: other_granted,
-                },
-            ) => *granted == *other_granted,
-            (
-                MessageKind::PreVoteResponse { granted },
-                MessageKind::PreVoteResponse {
-                    granted: other_granted,
-                },
-            ) => *granted == *other_granted,
-            (MessageKind::Append(append), MessageKind::Append(other_append)) => {
-                append.same(other_append)
-            }
-            (
-                MessageKind::AppendResponse { matched },
-                MessageKind::AppendResponse {
-                    matched: other_matched,
-                },
-            ) => *matched == *other_matched,
-            (
-                MessageKind::AppendRefusal { refused, hint },
-                MessageKind::AppendRefusal {
-                    refused: other_refused,
-                    hint: other_hint,
-                },
-            ) => *refused == *other_refused && *hint == *other_hint,
-            (
-                MessageKind::Heartbeat { commit },
-                MessageKind::Heartbeat {
-                    commit: other_commit,
-                },
-            ) => *commit == *other_commit,
-            (MessageKind::HeartbeatResponse, MessageKind::HeartbeatResponse) => true,
-            (MessageKind::Snapshot(install), MessageKind::Snapshot(other_install)) => {
-                install.same(other_install)
-            }
-            (MessageKind::Proposal(body), MessageKind::Proposal(other_body)) => {
-                body.same(other_body)
-            }
-            (
-                MessageKind::TransferLeader { target },
-                MessageKind::TransferLeader {
-                    target: other_target,
-                },
-            ) => *target == *other_target,
-            (MessageKind::TimeoutNow, MessageKind::TimeoutNow) => true,
-            _ => false,
-        }
+        *self == *other
     }
 }

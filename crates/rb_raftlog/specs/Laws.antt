@@ -11,7 +11,7 @@ log_is_up_to_date v w = is_up_to_date v (last w) (last_term w)
 abbrev pub IsTermUpTo : LogValue → ℕ → ℕ → Type 0
 IsTermUpTo v i term = IsTrue (is_term_up_to (term_at v i) term)
 
--- h is the greatest of the indexes up to i whose term is at most the one given; 0 where there is none
+-- h is the greatest of the indexes up to i whose term is at most the one given; 0 if there is none
 pub record IsHint (v : LogValue) (i term h : ℕ) : Type 0 where
   pub greatest : (j : ℕ) → v.base ≤ j → j ≤ i → IsTermUpTo v j term → j ≤ h
   pub held : (h ≡ 0) ⊎ ((v.base ≤ h) × (h ≤ i) × IsTermUpTo v h term)

@@ -1,6 +1,7 @@
 pub mod Bodies
 pub mod Content
 pub mod Cut
+pub mod Equals
 pub mod Held
 pub mod Laws
 pub mod Log

@@ -9,7 +9,9 @@
 //!
 //! A content keeps a sum of all bytes, which usually tells apart contents of one length.
 
-ghost use Rattle.std.specs.Prelude.{◌≡◌, ◌+◌, ◌<◌, ◌≤◌, ◌++◌, ◌↔◌, [], length, take, IsTrue, IfOk, OnOk, OnErr};
+ghost use Rattle.std.specs.Prelude.{◌≡◌, ◌+◌, ◌<◌, ◌≤◌, ◌++◌, ◌↔◌, [], length, take, nat_eq, IsTrue, IfOk, OnOk, OnErr};
+ghost use Rattle.std.specs.Cmp.{nat_eq_equiv, partial_equiv_from_equiv};
+ghost use Rattle.std.specs.Cmp.Lexicographic.{pointwise, lists_equiv};
 ghost use Rattle.rb_raftlog.specs.Content.{content_end, content_sum, sum_with, sum_from};
 ghost use Rattle.rb_raftlog.specs.Cut.{IsCut};
 ghost use Rattle.rb_raftlog.specs.Packed.{joined};
@@ -166,7 +168,6 @@ impl Content {
     pub fn len(&self) -> usize
         ensures { result ≡ length self.now }
     {
-        let _rest = &self.rest;
         self.pieces.len() * PIECE + self.rest.len()
     }
 
@@ -174,7 +175,6 @@ impl Content {
     pub fn end(&self) -> &[u8]
         ensures { result.now ≡ content_end self.now }
     {
-        let _pieces = &self.pieces;
         &self.rest[self.rest.len().saturating_sub(END)..]
     }
 
@@ -217,7 +217,6 @@ impl Content {
     pub fn sum(&self) -> u64
         ensures { result ≡ content_sum self.now }
     {
-        let _rest = &self.rest;
         self.sum
     }
 
@@ -233,6 +232,17 @@ impl Content {
         ensures { IsTrue result ↔ (self.now ≡ other.now) }
     {
         self.sum() == other.sum() && self.has_same_bytes(other)
+    }
+}
+
+impl PartialEq for Content {
+    ghost eq = { pointwise nat_eq };
+
+    ghost laws = { partial_equiv_from_equiv (lists_equiv nat_eq_equiv) };
+
+    #[tactic(auto, using(crate::proofs::EqualLaws::bytes_answer))]
+    fn eq(&self, other: &Content) -> bool {
+        self.same(other)
     }
 }
 

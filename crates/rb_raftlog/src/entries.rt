@@ -5,6 +5,7 @@
 
 ghost use Rattle.std.specs.Prelude.{◌≡◌, ◌-◌, ◌<◌, ◌≤◌, ◌↔◌, [], length, drop, slice_index_or, vec_len, IsTrue, IfOk};
 ghost use Rattle.rb_raftlog.specs.Log.{last_of};
+ghost use Rattle.rb_raftlog.specs.Equals.{same_lists, lists_per_entry};
 
 use crate::entry::Entry;
 use crate::entry_list::{EntryList, EntrySlice, append_from};
@@ -151,6 +152,16 @@ impl Entries {
             }
         }
         true
+    }
+}
+
+impl PartialEq for Entries {
+    ghost eq = { same_lists };
+
+    ghost laws = { lists_per_entry };
+
+    fn eq(&self, other: &Entries) -> bool {
+        self.same(other)
     }
 }
 

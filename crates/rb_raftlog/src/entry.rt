@@ -11,7 +11,7 @@ use rb_vocab::{Shared, Transition, Word};
 use std::alloc::AllocError;
 
 /// The command of an entry.
-#[derive(Clone, Drop)]
+#[derive(Clone, PartialEq, Drop)]
 pub enum Body {
     /// Bytes for the state machine.
     Payload(Shared<u8>),
@@ -38,27 +38,10 @@ impl Body {
     {
         self.clone()
     }
-
-    /// Whether both bodies are equal.
-    pub fn same(&self, other: &Body) -> bool
-        ensures { IsTrue result ↔ (self.now ≡ other.now) }
-    {
-        match (self, other) {
-            (Body::Payload(a), Body::Payload(b)) => a.same(b),
-            (
-                Body::Change { transition, words },
-                Body::Change {
-                    transition: other_transition,
-                    words: other_words,
-                },
-            ) => *transition == *other_transition && words.same(other_words),
-            _ => false,
-        }
-    }
 }
 
 /// An entry: the term in which it was appended, and its command.
-#[derive(Clone, Drop)]
+#[derive(Clone, PartialEq, Drop)]
 pub struct Entry {
     pub term: u64,
     pub body: Body,
@@ -72,10 +55,11 @@ impl Entry {
         self.clone()
     }
 
-    /// Whether both entries are equal. Compares terms first.
+    /// Whether both entries are equal, by the derived `==`, which is proved to be equality. Compares terms first.
+    #[tactic(auto, using(crate::proofs::EqualLaws::entries_decide))]
     pub fn same(&self, other: &Entry) -> bool
         ensures { IsTrue result ↔ (self.now ≡ other.now) }
     {
-        self.term == other.term && self.body.same(&other.body)
+        *self == *other
     }
 }

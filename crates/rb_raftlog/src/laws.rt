@@ -57,7 +57,7 @@ pub fn answers_say_what_is_held()
     ensures below { (v : LogValue) (prev term commit i : ℕ) (es : List Entry) → answer v prev term es commit ≡ BelowCommit i → IsFirstConflict v prev es commit i × (appended v prev term es commit ≡ v) }
 {}
 
-/// Log matching (Ongaro's thesis, section 3.5) is kept: by an append of what another log has behind an entry of the stated term; by an
+/// Log matching (Ongaro's thesis, section 3.5) is kept: by an append of what another log has after an entry of the stated term; by an
 /// entry of one's own where the other has none of its term there; by compacting; and a log that a snapshot brought matches any.
 pub fn logs_keep_matching()
     ensures either { (u v : LogValue) → AreMatching u v → AreMatching v u }

@@ -39,7 +39,7 @@ pub use log::Log;
 pub use pages::Pages;
 pub use pieces::Pieces;
 pub use plain_store::PlainStore;
-pub use raft_log::{Appended, CompactFault, LogFault, RaftLog};
+pub use raft_log::{Appended, CompactFault, LogFault, RaftLog, held_entry};
 pub use snapshot::Snapshot;
 pub use split_store::SplitStore;
 pub use store::Store;

@@ -179,7 +179,6 @@ impl<S: Store> RaftLog for Log<S> {
     }
 
     fn last_index(&self) -> u64 {
-        let _durable_len = self.store.durable_len();
         self.base + self.store.len() as u64
     }
 
@@ -307,7 +306,6 @@ impl<S: Store> RaftLog for Log<S> {
         if index > applied {
             return Err(CompactFault::PastApplied);
         }
-        let _len = self.store.len();
         if let Ok(term) = self.term_at(index) {
             self.store.drop_front((index - self.base) as usize);
             self.base = index;
@@ -323,7 +321,6 @@ impl<S: Store> RaftLog for Log<S> {
     }
 
     fn try_copy(&self) -> Result<Log<S>, AllocError> {
-        let _base = self.base;
         Ok(Log {
             base: self.base,
             base_term: self.base_term,

@@ -83,7 +83,6 @@ impl<T: TryCopy> Page<T> {
     pub(crate) fn try_copy(&self) -> Result<Page<T>, AllocError>
         ensures { IfOk result (λ copy. copy ≡ self.now) }
     {
-        let _items = self.as_slice();
         Ok(Page {
             items: self.items.clone()?,
         })

@@ -46,7 +46,6 @@ impl Store for PlainStore {
     }
 
     fn len(&self) -> usize {
-        let _durable_len = self.durable_len;
         self.entries.len()
     }
 

@@ -7,7 +7,7 @@
 //! Contracts see a log as one plain record: its base, the base's term, the list of entries, and the last durable index. In costs, n is the
 //! number of entries and p the number of pages, about n / 64. A copy of an entry costs a pointer.
 
-ghost use Rattle.std.specs.Prelude.{◌≡◌, ◌≢◌, ◌+◌, ◌<◌, ◌≤◌, ◌↔◌, Ok, Err, length, IsTrue, IfOk, IfErr, OnOk};
+ghost use Rattle.std.specs.Prelude.{◌≡◌, ◌≢◌, ◌+◌, ◌<◌, ◌≤◌, ◌↔◌, Ok, Err, length, IsTrue, IsOk, IfOk, IfErr, OnOk};
 ghost use Rattle.rb_raftlog.specs.Log.{LogValue, IsLog, IsCompacted, fresh, first, last, last_term, is_up_to_date, term_at, entry_at, entries_from, entries_after, has_change, hint, appended, answer, own, not_durable, made_durable, restored};
 
 use crate::entries::Entries;
@@ -84,7 +84,7 @@ pub trait RaftLog: Drop {
         ensures found { IfOk result (λ entry. entry_at (plain self.now) index ≡ Ok entry.now) }
         ensures none { IfErr result (λ fault. entry_at (plain self.now) index ≡ Err fault) };
 
-    /// The term of the last entry, or the base's where there is none. It costs no search.
+    /// The term of the last entry, or the base's if there is none. It costs no search.
     fn last_term(&self) -> u64
         ensures { result ≡ last_term (plain self.now) };
 
@@ -170,4 +170,15 @@ pub trait RaftLog: Drop {
     /// Whether both logs are equal. Compares base, length, durable index and last term first, and then entry by entry.
     fn same(&self, other: &Self) -> bool
         ensures { IsTrue result ↔ (plain self.now ≡ plain other.now) };
+}
+
+/// The entry at an index at which the log has one.
+pub fn held_entry<L: RaftLog>(log: &L, index: u64) -> &Entry
+    requires { IsOk (entry_at (L.plain log.now) index) }
+    ensures { entry_at (L.plain log.now) index ≡ Ok result.now }
+{
+    match log.entry_at(index) {
+        Ok(entry) => entry,
+        Err(_) => unreachable!(),
+    }
 }

@@ -10,7 +10,7 @@ use rb_vocab::ConfState;
 use std::alloc::AllocError;
 
 /// A node's content and configuration after the entry at an index was applied, and that entry's term.
-#[derive(Clone, Drop)]
+#[derive(Clone, PartialEq, Drop)]
 pub struct Snapshot {
     pub index: u64,
     pub term: u64,
@@ -26,13 +26,11 @@ impl Snapshot {
         self.clone()
     }
 
-    /// Whether both are equal. Compares numbers first.
+    /// Whether both are equal, by the derived `==`, which is proved to be equality. Compares numbers first.
+    #[tactic(auto, using(crate::proofs::EqualLaws::snapshots_decide))]
     pub fn same(&self, other: &Snapshot) -> bool
         ensures { IsTrue result ↔ (self.now ≡ other.now) }
     {
-        self.index == other.index
-            && self.term == other.term
-            && self.config.same(&other.config)
-            && self.content.same(&other.content)
+        *self == *other
     }
 }

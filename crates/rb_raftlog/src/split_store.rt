@@ -41,7 +41,6 @@ impl Store for SplitStore {
     }
 
     fn len(&self) -> usize {
-        let _durable_len = self.durable_len;
         self.all.len()
     }
 

@@ -19,12 +19,12 @@ abbrev pub closed_or : ScriptFault → Expectation → Result (List Line × List
 closed_or fault None = Err fault
 closed_or fault (Some found) = Ok found
 
--- what follows the separator line
+-- the lines after the separator line
 abbrev pub after_separator : ScriptFault → List Line → Result (List Line) ScriptFault
 after_separator fault [] = Err fault
 after_separator fault (line ∷ ls) = Ok ls
 
--- what stands below a head at line n: the input, the expected lines, and the lines after them
+-- the lines after a head at line n: the input, the expected lines, and the rest
 unfoldable pub below_head : ℕ → ℕ → List Line → Result (List Line × List Line × List Line) ScriptFault
 below_head end n ls = do
   after ← after_separator (NoSeparator n) (after_while is_input ls)
@@ -48,14 +48,14 @@ lead_of ls = while_of is_lead ls
 abbrev pub from_head : List Line → List Line
 from_head ls = after_while is_lead ls
 
--- these blocks stand before the script
+-- these blocks are before the script
 abbrev pub behind : List PlainBlock → PlainScript → PlainScript
 behind bs s = record { blocks = bs ++ s.blocks; tail = s.tail }
 
 abbrev pub tail_only : List Line → PlainScript
 tail_only ls = record { blocks = []; tail = lead_of ls }
 
--- the blocks and the tail, where there is room for so many blocks
+-- the blocks and the tail, if there are at most n blocks
 unfoldable pub blocks_at : ℕ → ℕ → List Line → Result PlainScript ScriptFault
 blocks_at zero end ls = if is_empty (from_head ls) then Ok (tail_only ls) else Err TooManyDirectives
 blocks_at (suc room) end ls =

@@ -3,11 +3,11 @@ use Rattle.std.specs.Prelude.{◌≡◌, ℕ, ◌+◌, ◌<◌, ◌≤◌, List,
 use Rattle.std.specs.List.{flat_map}
 use Rattle.rb_script.specs.declared.chunk_position.ChunkPosition.{ChunkPosition}
 
--- what the chunks hold, in order
+-- the items of the chunks, in order
 abbrev pub flattened : {X : Type 0} → List (List X) → List X
 flattened gs = flat_map (λ g. g) gs
 
--- how many stand before chunk k
+-- how many are before chunk k
 abbrev pub before : {X : Type 0} → List (List X) → ℕ → ℕ
 before gs k = length (flattened (take k gs))
 
@@ -16,12 +16,12 @@ pub record AreStarts {X : Type 0} (starts : List ℕ) (gs : List (List X)) (n : 
   pub count : length starts ≡ n
   pub each : (k : ℕ) → k < n → slice_index starts k ≡ before gs k
 
--- what is kept of a list in chunks: where each begins, and how long all are together
+-- the offsets of chunks: where each begins, and their total length
 pub record IsChunked {X : Type 0} (starts : List ℕ) (gs : List (List X)) (len : ℕ) : Type 0 where
   pub starts_are : AreStarts starts gs (length gs)
   pub len_is : len ≡ length (flattened gs)
 
--- what has this index stands in one of the chunks from `low` up to before `high`
+-- the item with this index is in one of the chunks from `low` up to before `high`
 pub record IsInChunks {X : Type 0} (gs : List (List X)) (at low high : ℕ) : Type 0 where
   pub order : low < high
   pub within : high ≤ length gs

@@ -24,11 +24,11 @@ is_word b = not (is_space b || b == equals_sign || b == opening || b == closing)
 abbrev pub is_value : ℕ → Bool
 is_value b = not (is_space b)
 
--- what parts the values within parentheses
+-- the separator of values within parentheses
 abbrev pub is_gap : ℕ → Bool
 is_gap b = is_space b || b == comma
 
--- what may stand within parentheses
+-- what may be within parentheses
 abbrev pub is_inside : ℕ → Bool
 is_inside b = not (b == opening || b == closing)
 
@@ -106,10 +106,10 @@ pub record Derives (head name : List ℕ) (args : List PlainArgument) : Type 0 w
 abbrev pub no_argument : PlainArgument
 no_argument = record { key = []; has_equals = false; values = [] }
 
--- argument i, where there is one
+-- argument i, if there is one
 abbrev pub plain_argument : PlainDirective → ℕ → PlainArgument
 plain_argument d i = slice_index_or d.args i no_argument
 
--- value j of an argument, where there is one
+-- value j of an argument, if there is one
 abbrev pub plain_value : PlainArgument → ℕ → List ℕ
 plain_value a j = slice_index_or a.values j []

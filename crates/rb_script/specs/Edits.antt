@@ -16,7 +16,7 @@ ends_in_return [] = false
 ends_in_return (b ∷ []) = b == carriage_return
 ends_in_return (b ∷ c ∷ line) = ends_in_return (c ∷ line)
 
--- a line that can stand in a script: the test of Valid.IsLine
+-- a line that can be in a script: the test of Valid.IsLine
 abbrev pub is_text_line : Line → Bool
 is_text_line line = list_all (λ b. not (b == line_feed)) line && (not (ends_in_return line) && nat_le (length line) MAX_LINE)
 
@@ -24,7 +24,7 @@ is_text_line line = list_all (λ b. not (b == line_feed)) line && (not (ends_in_
 abbrev pub is_expectation : List Line → Bool
 is_expectation ls = is_readable ls && list_all is_text_line ls
 
--- the fault if the test passes, and else what is made
+-- the fault if the test passes, else the result
 abbrev pub unless : Bool → EditFault → Result PlainScript EditFault → Result PlainScript EditFault
 unless test fault made = if test then Err fault else made
 
@@ -58,12 +58,12 @@ abbrev pub EditFails : EditFault → Result PlainScript EditFault → Type 0
 EditFails OutOfMemory made = Unit {0}
 EditFails fault made = made ≡ Err fault
 
--- what a function answered is what the edit makes, unless memory ran out
+-- a function's result is that of the edit, unless memory ran out
 abbrev pub Makes : Result PlainScript EditFault → Result PlainScript EditFault → Type 0
 Makes (Ok s) made = made ≡ Ok s
 Makes (Err e) made = EditFails e made
 
--- what a function answered settles an edit: it is what the edit makes, and a fault of the edit is answered as it is
+-- a function's result settles an edit: it is the edit's result, and a fault of the edit is returned as it is
 pub record Settles (r made : Result PlainScript EditFault) : Type 0 where
   pub exact : Makes r made
   pub early : IfErr made (λ fault. r ≡ Err fault)

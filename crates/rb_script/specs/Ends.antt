@@ -6,7 +6,7 @@ use Rattle.rb_script.specs.Marks.{is_blank}
 use Rattle.rb_script.specs.Script.{PlainBlock}
 use Rattle.rb_script.specs.Reads.{begins_rule}
 
--- what stands above a block's expectation, and these lines
+-- the lines above a block's expectation, and these lines
 abbrev pub above : PlainBlock → Line → List Line → List Line
 above b separator after = b.lead ++ (b.head ++ (b.input ++ separator ∷ after))
 

@@ -34,7 +34,7 @@ pub record HasNoSeparator (end : ℕ) (from : List Line) (n : ℕ) : Type 0 wher
   pub directive : IsDirective (head_of from)
   pub none : list_all (λ line. not (is_separator line)) (after_head from) ≡ true
 
--- It is a directive, and no expectation stands after the first line ---- that follows it.
+-- It is a directive, and no expectation is after the first line ---- that follows it.
 pub record IsNotClosed (end : ℕ) (from : List Line) (n : ℕ) : Type 0 where
   pub input : List Line
   pub separator : Line
@@ -117,7 +117,7 @@ pub record AreShort (bytes : List ℕ) : Type 0 where
   pub short : length bytes ≤ MAX_SCRIPT
   pub short_lines : AllByRecursion (λ line. length line ≤ MAX_LINE) (lines bytes)
 
--- why the bytes are no script, and no one block: what is the same of both
+-- why the bytes are not a script, and not one block: the part that both share
 abbrev pub IsFirstFault : List ℕ → ScriptFault → Type 0
 IsFirstFault bytes TooLong = MAX_SCRIPT < length bytes
 IsFirstFault bytes (LineTooLong n) = (length bytes ≤ MAX_SCRIPT) × HasLongLine (lines bytes) n

@@ -1,4 +1,4 @@
--- What a block is made of. (This project's.)
+-- The parts of a block. (This project's.)
 use Rattle.std.specs.Prelude.{◌≡◌, ℕ, ◌+◌, ◌^◌, ◌<◌, ◌≤◌, List, ◌++◌, length, map, Some}
 use Rattle.rb_script.specs.declared.span.Span.{Span}
 use Rattle.rb_script.specs.declared.argument.ArgumentSpans.{ArgumentSpans}
@@ -13,7 +13,7 @@ use Rattle.rb_script.specs.Tokens.{SpannedArgument, SpannedDirective, token, arg
 use Rattle.rb_script.specs.Parsed.{spanned}
 use Rattle.rb_script.specs.Spans.{IsSpanned}
 
--- what stands above an expectation, and where the tokens of its head stand
+-- the part above an expectation, and where the tokens of its head are
 pub record PlainFront : Type 0 where
   pub lead : List Line
   pub head : List Line
@@ -25,7 +25,7 @@ pub record PlainFront : Type 0 where
 abbrev pub front_of : List Line → ℕ → ℕ → ℕ → ℕ → Span → List ArgumentSpans → PlainFront
 front_of all lead head input end name args = record { lead = between lead head all; head = between head input all; input = between input end all; name = name; args = map spanned args }
 
--- one stands behind the other, and a `u32` counts the lines up to there
+-- one is after the other, and a `u32` counts the lines up to there
 abbrev pub AreInOrder : List Line → ℕ → ℕ → ℕ → ℕ → Type 0
 AreInOrder all lead head input end = (lead ≤ head) × (head ≤ input) × (input ≤ end) × (end ≤ length all) × (end < 2 ^ 32)
 

@@ -20,7 +20,7 @@ pub record AreHeadLines (first : ℕ) (ls : List Line) (blocks : List PlainBlock
   pub count : length ns ≡ length blocks
   pub each : (before later : List PlainBlock) (b : PlainBlock) → blocks ≡ before ++ b ∷ later → IsHeadLine first ls before b (slice_index ns (length before))
 
--- the head stands in the lines, its first line on line n
+-- the head is in the lines, its first line on line n
 pub record StandsOn (ls head : List Line) (n : ℕ) : Type 0 where
   pub above : List Line
   pub below : List Line

@@ -5,7 +5,7 @@ use Rattle.rb_script.specs.Lines.{Line}
 use Rattle.rb_script.specs.Valid.{IsLine}
 use Rattle.rb_script.specs.Tokens.{line_at}
 
--- the lines of the head, and what is left of them, joined
+-- the lines of the head, and the rest of them, joined
 pub record HeadPosition : Type 0 where
   pub head : List Line
   pub left : List ℕ

@@ -11,11 +11,11 @@ use Rattle.rb_script.specs.Runs.{while_of, after_while}
 use Rattle.rb_script.specs.Directive.{PlainArgument, PlainDirective, is_word, is_value, is_inside, pieces, begins, is_some_piece}
 use Rattle.rb_script.specs.Limits.{are_few}
 
--- values and the bytes after them, if they stand there
+-- values and the bytes after them, if they are there
 abbrev pub ValuesThere : Type 0
 ValuesThere = Option (List (List ℕ) × List ℕ)
 
--- an argument and the bytes after it, if one stands there
+-- an argument and the bytes after it, if one is there
 abbrev pub ArgumentThere : Type 0
 ArgumentThere = Option (PlainArgument × List ℕ)
 
@@ -27,7 +27,7 @@ begins_space (b ∷ bytes) = is_space b
 unfoldable pub list_at : List ℕ → ValuesThere
 list_at bytes = if begins closing (after_while is_inside bytes) then Some (pieces (while_of is_inside bytes), drop 1 (after_while is_inside bytes)) else None
 
--- the values behind a `=`: those within parentheses, or the one that stands there
+-- the values after a `=`: those within parentheses, or the one that is there
 unfoldable pub values_at : List ℕ → ValuesThere
 values_at bytes = if begins opening bytes then list_at (drop 1 bytes) else Some (while_of is_value bytes ∷ [], after_while is_value bytes)
 
@@ -44,7 +44,7 @@ argument_at bytes = if is_some_piece (while_of is_word bytes) then after_key (wh
 abbrev pub ArgumentsThere : Type 0
 ArgumentsThere = Option (List PlainArgument)
 
--- the argument stands before the others
+-- the argument is before the others
 abbrev pub before : PlainArgument → ArgumentsThere → ArgumentsThere
 before a None = None
 before a (Some others) = Some (a ∷ others)
@@ -53,7 +53,7 @@ abbrev pub then_arguments : ArgumentThere → (List ℕ → ArgumentsThere) → 
 then_arguments None others = None
 then_arguments (Some found) others = before found.0 (others found.1)
 
--- The arguments, each behind a blank, up to the end. The number bounds how many there can be.
+-- The arguments, each after a blank, up to the end. The number bounds how many there can be.
 unfoldable pub arguments_at : ℕ → List ℕ → ArgumentsThere
 arguments_at zero bytes = if is_blank bytes then Some [] else None
 arguments_at (suc most) bytes =

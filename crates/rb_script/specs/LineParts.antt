@@ -1,4 +1,4 @@
--- What each kind of line is made of, part by part. (This project's profile of the datadriven format.)
+-- The parts of each kind of line. (This project's profile of the datadriven format.)
 use Rattle.std.specs.Prelude.{◌≡◌, ◌≢◌, ℕ, ◌≤◌, ◌⊎◌, false, List, [], ◌∷◌, ◌++◌, length}
 use Rattle.std.specs.List.{AllByRecursion}
 use Rattle.rb_script.specs.declared.limits.TheConstants.{MAX_LINE}

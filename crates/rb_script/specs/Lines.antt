@@ -17,12 +17,12 @@ unfoldable pub without_returns : Line → Line
 without_returns [] = []
 without_returns (b ∷ line) = put_before b (without_returns line)
 
--- the byte stands in the first line
+-- the byte is in the first line
 abbrev pub in_first : ℕ → List Line → List Line
 in_first b [] = (b ∷ []) ∷ []
 in_first b (line ∷ ls) = (b ∷ line) ∷ ls
 
--- cut at each LF; what follows the last LF is a line if it has bytes
+-- cut at each LF; the part after the last LF is a line if it has bytes
 unfoldable pub cut : List ℕ → List Line
 cut [] = []
 cut (b ∷ bytes) = if b == line_feed then [] ∷ cut bytes else in_first b (cut bytes)

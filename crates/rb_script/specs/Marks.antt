@@ -1,4 +1,4 @@
--- What a line is in a script. (This project's profile of the datadriven format.)
+-- The kinds of lines in a script. (This project's profile of the datadriven format.)
 use Rattle.std.specs.Prelude.{ℕ, Bool, true, false, ◌==◌, ◌&&◌, ◌||◌, not, if◌then◌else◌, [], ◌∷◌, take, drop}
 use Rattle.std.specs.List.{list_all}
 use Rattle.std.specs.Str.{bytes_eq}

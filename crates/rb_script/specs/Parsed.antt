@@ -1,4 +1,4 @@
--- What parsing a head answers, against what stands there. (This project's.)
+-- Results of parsing a head, compared with its bytes. (This project's.)
 use Rattle.std.specs.Prelude.{◌≡◌, ℕ, true, false, nat_le, if◌then◌else◌, List, [], ◌∷◌, ◌++◌, length, map, Option, Some, None, Result, Ok, Err}
 use Rattle.std.specs.List.{AllByRecursion}
 use Rattle.rb_script.specs.declared.span.Span.{Span}
@@ -18,7 +18,7 @@ use Rattle.rb_script.specs.Limits.{has_few_values, are_few}
 use Rattle.rb_script.specs.Results.{Fails}
 use Rattle.rb_script.specs.Heads.{ValuesThere, ArgumentThere, ArgumentsThere}
 
--- an item more, or nothing where there are enough
+-- one more item, or nothing if there are enough
 abbrev pub with_one : {T : Type 0} → ℕ → Option (List T) → T → Option (List T)
 with_one most None item = None
 with_one most (Some items) item = if nat_le most (length items) then None else Some (items ++ item ∷ [])
@@ -66,7 +66,7 @@ ParsesArguments head (Err head_faults.OutOfMemory) there = Unit {0}
 
 -- ---- the head
 
--- where the tokens stand, as lists of bytes
+-- where the tokens are, as lists of bytes
 abbrev pub texts : List Line → Tokens → List ℕ × List PlainArgument
 texts head t = (token head t.name, map (λ a. argument_of head (spanned a)) t.args.items)
 

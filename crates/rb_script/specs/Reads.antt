@@ -13,7 +13,7 @@ abbrev pub ends_or_rules : List Line → Bool
 ends_or_rules [] = true
 ends_or_rules (line ∷ ls) = is_rule line
 
--- no line ---- is the last or stands before another
+-- no line ---- is the last or is before another
 abbrev pub is_readable : List Line → Bool
 is_readable [] = true
 is_readable (line ∷ ls) = not (is_rule line && ends_or_rules ls) && is_readable ls

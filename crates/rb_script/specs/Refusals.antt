@@ -17,7 +17,7 @@ use Rattle.rb_script.specs.Edits.{with_blocks, block_at_place}
 abbrev pub IsPlace : ℕ → ℕ → Type 0
 IsPlace k n = (1 ≤ k) × (k ≤ n)
 
--- the edit is at a place that there is; a block can be put behind the last one too
+-- the edit is at a place that there is; a block can be put after the last one too
 abbrev pub HasPlace : PlainScript → Edit → Type 0
 HasPlace s (Insert k block) = IsPlace k (length s.blocks + 1)
 HasPlace s (Replace k block) = IsPlace k (length s.blocks)
@@ -30,7 +30,7 @@ pub record CanBeExpected (ls : List Line) : Type 0 where
   pub no_end : HasNoEnd ls
   pub lines : AllByRecursion IsLine ls
 
--- what the edit expects can be expected
+-- the lines that the edit expects are valid
 abbrev pub HasExpectations : Edit → List (List Line) → Type 0
 HasExpectations (Insert k block) outputs = Unit {0}
 HasExpectations (Replace k block) outputs = Unit {0}
@@ -46,7 +46,7 @@ HasRoom s (Remove k) = Unit {0}
 HasRoom s (Expect k lines) = Unit {0}
 HasRoom s Accept = Unit {0}
 
--- what the edit makes, whether or not it may
+-- the edit's result, whether or not it is allowed
 abbrev pub made_by : PlainScript → Edit → List (List Line) → PlainScript
 made_by s (Insert k block) outputs = with_blocks s (insert s.blocks (k - 1) block)
 made_by s (Replace k block) outputs = with_blocks s (slice_set s.blocks (k - 1) block)

@@ -1,4 +1,4 @@
--- What a function answered, beside what reading gives. (This project's.)
+-- Results of functions, compared with those of reading. (This project's.)
 use Rattle.std.specs.Prelude.{◌≡◌, ◌≢◌, Result, Ok, Err}
 use Rattle.rb_script.specs.declared.fault.ScriptFault.{ScriptFault}
 use Rattle.rb_script.specs.declared.fault.ScriptFault.TheVariants.{OutOfMemory}
@@ -13,11 +13,11 @@ abbrev pub Fails : {Y : Type 0} → ScriptFault → Result Y ScriptFault → Typ
 Fails OutOfMemory read = Unit {0}
 Fails fault read = read ≡ Err fault
 
--- what a function answered, seen by view, is what reading gives, unless memory ran out
+-- a function's result, by its view, is that of reading, unless memory ran out
 abbrev pub Gives : {X Y : Type 0} → (X → Y) → Result X ScriptFault → Result Y ScriptFault → Type 0
 Gives view (Ok x) read = read ≡ Ok (view x)
 Gives view (Err e) read = Fails e read
 
--- what is read is refused for this fault, and not for want of memory
+-- the text is refused for this fault, and not for lack of memory
 abbrev pub Refuses : {Y : Type 0} → ScriptFault → Result Y ScriptFault → Type 0
 Refuses fault read = (read ≡ Err fault) × (fault ≢ OutOfMemory)

@@ -1,4 +1,4 @@
--- Runs: what stands at the front of a list and passes a test, and what follows; and the lines of a head. (This project's profile
+-- Runs: what is at the front of a list and passes a test, and what follows; and the lines of a head. (This project's profile
 -- of the datadriven format.)
 use Rattle.std.specs.Prelude.{Bool, if◌then◌else◌, List, [], ◌∷◌}
 use Rattle.rb_script.specs.Lines.{Line}
@@ -13,7 +13,7 @@ unfoldable pub after_while : {X : Type 0} → (X → Bool) → List X → List X
 after_while p [] = []
 after_while p (x ∷ xs) = if p x then after_while p xs else x ∷ xs
 
--- the first line and those that it asks for, and what follows
+-- the first line and those that continue it, and the rest
 unfoldable pub head_of : List Line → List Line
 head_of [] = []
 head_of (line ∷ ls) = if continues line then line ∷ head_of ls else line ∷ []

@@ -30,7 +30,7 @@ script_lines s = flat_map block_lines s.blocks ++ s.tail
 abbrev pub block_text : PlainBlock → List ℕ
 block_text b = text_of (block_lines b)
 
--- the lines between an input and the expected lines in their form, and those behind these
+-- the lines between an input and the expected lines in their form, and those after these
 abbrev pub opening : Bool → List Line
 opening double = if double then rule ∷ rule ∷ [] else rule ∷ []
 

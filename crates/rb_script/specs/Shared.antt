@@ -6,7 +6,7 @@ use Rattle.rb_script.specs.Script.{PlainScript, text}
 use Rattle.rb_script.specs.Valid.{IsScript}
 use Rattle.rb_script.specs.declared.reading.Parts.{Parts}
 
--- the blocks behind their pointers
+-- the blocks after their pointers
 abbrev pub values : {T : Type 0} → List (Rc T Global) → List T
 values pointers = map (λ p. p.value) pointers
 

@@ -11,11 +11,11 @@ no_span = record { line = 0; start = 0; end = 0 }
 abbrev pub no_spans : SpannedArgument
 no_spans = record { key = no_span; has_equals = false; values = [] }
 
--- argument i, where there is one
+-- argument i, if there is one
 abbrev pub argument_at : SpannedDirective → ℕ → SpannedArgument
 argument_at d i = slice_index_or d.args i no_spans
 
--- where value j of argument i stands
+-- where value j of argument i is
 abbrev pub value_span : SpannedDirective → ℕ → ℕ → Span
 value_span d i j = slice_index_or (argument_at d i).values j no_span
 

@@ -14,7 +14,7 @@ use std::marker::Model;
 
 /// Classes of bytes, which separate the tokens of a head.
 #[derive(Clone, Copy)]
-pub(crate) enum ByteClass {
+pub enum ByteClass {
     /// A space or a tab.
     Space,
     /// A separator of values within parentheses: a blank or a comma.
@@ -25,6 +25,8 @@ pub(crate) enum ByteClass {
     Value,
     /// A byte of a value within parentheses.
     Piece,
+    /// A byte of a list within parentheses.
+    Inside,
 }
 
 impl ByteClass {
@@ -38,6 +40,7 @@ impl ByteClass {
             ByteClass::Word => !(is_space(b) || b == b'=' || b == b'(' || b == b')'),
             ByteClass::Value => !is_space(b),
             ByteClass::Piece => !(is_space(b) || b == b',' || b == b'(' || b == b')'),
+            ByteClass::Inside => !(b == b'(' || b == b')'),
         }
     }
 
@@ -53,6 +56,20 @@ impl ByteClass {
             }
         }
         bytes.len()
+    }
+
+    /// The bytes of the class at the front.
+    pub fn front(self, bytes: &[u8]) -> &[u8]
+        ensures { result.now ≡ while_of (is_of self) bytes.now }
+    {
+        &bytes[..self.run_len(bytes)]
+    }
+
+    /// The bytes after those of the class at the front.
+    pub fn after(self, bytes: &[u8]) -> &[u8]
+        ensures { result.now ≡ after_while (is_of self) bytes.now }
+    {
+        &bytes[self.run_len(bytes)..]
     }
 }
 

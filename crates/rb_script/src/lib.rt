@@ -42,6 +42,7 @@ pub use chunked_list::ChunkedList;
 pub use directive::DirectiveRef;
 pub use edit::Edit;
 pub use fault::{EditFault, ScriptFault};
+pub use head_cursor::ByteClass;
 pub use laws::{
     blanks_are, directive_is_derived, double_expectations_end, expectations_are, faults_are,
     head_lines_are, heads_are_joined, lead_lines_are, plain_expectations_end, read_is_valid,
@@ -49,8 +50,8 @@ pub use laws::{
 };
 pub use limits::{MAX_ARGUMENTS, MAX_DIRECTIVES, MAX_LINE, MAX_SCRIPT, MAX_VALUES, limits_are};
 pub use line_text::LineText;
-pub use lines::{Lines, lines_of, without_returns};
-pub use marks::{continues, is_blank, is_rule, is_separator, is_space, trim_blanks};
+pub use lines::{Lines, lines_of, next_line, without_returns};
+pub use marks::{continues, is_blank, is_lead, is_rule, is_separator, is_space, trim_blanks};
 pub use script::Script;
 pub use sink::{Sink, Through, WriteFault};
 pub use span::Span;

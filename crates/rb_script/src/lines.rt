@@ -289,8 +289,8 @@ pub(crate) fn line_feed(bytes: &[u8]) -> Option<usize>
     feeds.next()
 }
 
-/// Splits off the first line.
-pub(crate) fn next_line(bytes: &[u8]) -> Option<(&[u8], &[u8])>
+/// Splits off the first line of a script's bytes, without its line feed. `None` if there are no bytes.
+pub fn next_line(bytes: &[u8]) -> Option<(&[u8], &[u8])>
     ensures cut { MatchOption result (bytes.now ≡ []) (λ found. lines bytes.now ≡ found.0.now ∷ lines found.1.now) }
     ensures shorter { IfSome result (λ found. length found.1.now < length bytes.now) }
 {

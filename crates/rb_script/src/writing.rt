@@ -11,7 +11,8 @@ use crate::chunked_list::ChunkedList;
 use crate::lines::Lines;
 use crate::marks::{RULE_LINE, is_blank, is_rule};
 use crate::script::Script;
-use crate::sink::{Sink, WriteFault};
+use crate::sink::{Sink, Through, WriteFault};
+use std::alloc::{AllocError, Global};
 
 /// The separator, and the line `----` that opens the double form.
 const RULE_PAIR: &[u8] = b"----\n----\n";
@@ -78,7 +79,7 @@ fn put_block<S: Sink>(sink: &mut S, block: &Block, expected: &Lines) -> Result<(
 }
 
 impl Script {
-    ghost use Rattle.std.specs.Prelude.{◌≡◌, IsOk, length};
+    ghost use Rattle.std.specs.Prelude.{◌≡◌, IsOk, IfOk, length};
     ghost use Rattle.rb_script.specs.Script.{text, with_outputs};
     ghost use Rattle.rb_script.specs.Writes.{Writes};
 
@@ -92,6 +93,18 @@ impl Script {
             put_block(sink, block, block.expected())?;
         }
         sink.put(self.tail.text())
+    }
+
+    /// The canonical text, as a list of bytes.
+    pub fn canonical_text(&self, alloc: Global) -> Result<Vec<u8>, AllocError>
+        ensures { IfOk result (λ made. made.items ≡ text self.now) }
+    {
+        let mut sink = Through(Vec::new(alloc));
+        match self.write_to(&mut sink) {
+            Ok(()) => Ok(sink.0),
+            // A list in memory refuses nothing else.
+            Err(_) => Err(AllocError),
+        }
     }
 
     /// Writes the canonical text with outputs instead of expectations, one for each block. Allocates nothing. After a failure a

@@ -85,11 +85,9 @@ abbrev pub vote_counted_text : ℕ → MessageType → Bool → ℕ → VoteResu
 vote_counted_text id type granted from result =
     decimal id ++ codes " has " ++ type_text type ++ codes " " ++ answer_text granted ++ codes " from " ++ decimal from ++ codes ": " ++ votes_text result
 
-abbrev pub ignored_text : ℕ → MessageType → ℕ → List ℕ
-ignored_text id type from = decimal id ++ codes " ignored " ++ type_text type ++ codes " from " ++ decimal from
-
-abbrev pub refused_vote_text : ℕ → MessageType → ℕ → List ℕ
-refused_vote_text id type from = decimal id ++ codes " refused " ++ type_text type ++ codes " from " ++ decimal from
+-- what a node did with a message that it doesn't use
+abbrev pub turned_down_text : ℕ → List ℕ → MessageType → ℕ → List ℕ
+turned_down_text id verb type from = decimal id ++ verb ++ type_text type ++ codes " from " ++ decimal from
 
 abbrev pub conflict_text : ℕ → ℕ → ℕ → List ℕ
 conflict_text id index commit = decimal id ++ codes " conflict at " ++ decimal index ++ codes ", commit " ++ decimal commit
@@ -106,8 +104,8 @@ happening_text (events.Started id term index config) = started_text id term inde
 happening_text (events.Became id role term) = became_text id role term
 happening_text (events.CannotCampaign id why) = decimal id ++ codes " can't campaign: " ++ no_campaign_text why
 happening_text (events.VoteCounted id type granted from result) = vote_counted_text id type granted from result
-happening_text (events.Ignored id type from why) = ignored_text id type from
-happening_text (events.RefusedVote id type from why) = refused_vote_text id type from
+happening_text (events.Ignored id type from why) = turned_down_text id (codes " ignored ") type from
+happening_text (events.RefusedVote id type from why) = turned_down_text id (codes " refused ") type from
 happening_text (events.DroppedProposal id) = decimal id ++ codes " dropped a proposal"
 happening_text (events.Conflict id index commit) = conflict_text id index commit
 happening_text (events.AppendsNothing id) = decimal id ++ codes " appends nothing: index limit"

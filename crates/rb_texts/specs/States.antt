@@ -38,7 +38,7 @@ progress_state_text states.Probe = codes "probe"
 progress_state_text states.Replicate = codes "replicate"
 progress_state_text states.Snapshot = codes "snapshot"
 
--- what a state alone has: a probe on its way, or the index of the snapshot on its way
+-- what a state alone has: a probe in flight, or the index of the snapshot in flight
 abbrev pub under_way_text : ProgressState → Bool → ℕ → List ℕ
 under_way_text states.Probe waiting pending = if waiting then codes " waiting" else []
 under_way_text states.Replicate waiting pending = []

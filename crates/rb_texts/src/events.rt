@@ -5,7 +5,7 @@
 ghost use Rattle.std.specs.Prelude.{◌≡◌, ◌++◌, codes, decimal, OnOk};
 ghost use Rattle.rb_texts.specs.Configs.{config_text};
 ghost use Rattle.rb_texts.specs.Entries.{place_text};
-ghost use Rattle.rb_texts.specs.Events.{event_level, level_text, no_campaign_text, replaced_text, votes_text, fault_text, started_text, became_text, vote_counted_text, ignored_text, refused_vote_text, conflict_text, replaced_change_text, refused_change_text, happening_text, event_text};
+ghost use Rattle.rb_texts.specs.Events.{event_level, level_text, no_campaign_text, replaced_text, votes_text, fault_text, started_text, became_text, vote_counted_text, turned_down_text, conflict_text, replaced_change_text, refused_change_text, happening_text, event_text};
 
 use crate::configs::add_config;
 use crate::messages::answer_name;
@@ -189,34 +189,19 @@ fn add_vote_counted(
     add_pieces(line, &pieces)
 }
 
-fn add_ignored(
+// Adds what a node did with a message that it doesn't use: ignored it, or refused a vote.
+fn add_turned_down(
     line: &mut LineText,
     id: u64,
+    verb: &[u8],
     message_type: MessageType,
     from: u64,
 ) -> Result<(), AllocError>
-    ensures { OnOk result (line.new ≡ line.old ++ ignored_text id message_type from) }
+    ensures { OnOk result (line.new ≡ line.old ++ turned_down_text id verb.now message_type from) }
 {
     let pieces = [
         LinePiece::Number(id),
-        LinePiece::Bytes(b" ignored "),
-        LinePiece::Bytes(message_type.text()),
-        LinePiece::Field(b" from ", from),
-    ];
-    add_pieces(line, &pieces)
-}
-
-fn add_refused_vote(
-    line: &mut LineText,
-    id: u64,
-    message_type: MessageType,
-    from: u64,
-) -> Result<(), AllocError>
-    ensures { OnOk result (line.new ≡ line.old ++ refused_vote_text id message_type from) }
-{
-    let pieces = [
-        LinePiece::Number(id),
-        LinePiece::Bytes(b" refused "),
+        LinePiece::Bytes(verb),
         LinePiece::Bytes(message_type.text()),
         LinePiece::Field(b" from ", from),
     ];
@@ -315,13 +300,13 @@ fn add_happening(line: &mut LineText, event: &Event) -> Result<(), AllocError>
             message_type,
             from,
             ..
-        } => add_ignored(line, *id, *message_type, *from),
+        } => add_turned_down(line, *id, b" ignored ", *message_type, *from),
         Event::RefusedVote {
             id,
             message_type,
             from,
             ..
-        } => add_refused_vote(line, *id, *message_type, *from),
+        } => add_turned_down(line, *id, b" refused ", *message_type, *from),
         Event::DroppedProposal { id } => add_node_text(line, *id, b" dropped a proposal"),
         Event::Conflict { id, index, commit } => add_conflict(line, *id, *index, *commit),
         Event::AppendsNothing { id } => {

@@ -13,7 +13,7 @@ use rb_vocab::DirectiveError;
 pub enum Verb {
     /// It reaches the node that it is for.
     Deliver,
-    /// It is lost on its way.
+    /// It is lost in flight.
     Drop,
     /// It joins the pending messages.
     Queue,

@@ -5,7 +5,8 @@ use Rattle.std.proofs.lemmas.Bool.Decides.{nat_tests}
 use Rattle.rb_tracker.specs.Sets.{has, with_id, without, union, IsAscending}
 use Rattle.rb_tracker.specs.Configs.{is_joint}
 use Rattle.rb_tracker.specs.Quorum.{IsMajority, IsQuorum, ShareVoter}
-use Rattle.rb_tracker.specs.Changes.{with_voter, with_learner, without_member, word_applied, words_applied, differing, simple, entering, enter_joint, left, leave_joint, is_explicit, is_auto, changed, IsConfig}
+use Rattle.rb_tracker.specs.Changes.{with_voter, with_learner, without_member, word_applied, words_applied, differing, simple, entering, enter_joint, left, leave_joint, is_explicit, changed, IsConfig}
+use Rattle.rb_vocab.specs.Transitions.{is_auto}
 use Rattle.rb_tracker.specs.declared.config.Config.{Config}
 use Rattle.rb_tracker.specs.declared.changes.ChangeFault.{ChangeFault}
 use Rattle.rb_vocab.specs.declared.change.Transition.{Transition}

@@ -8,6 +8,7 @@ use Rattle.rb_tracker.specs.declared.changes.ChangeFault.{ChangeFault}
 use Rattle.rb_tracker.specs.declared.changes.ChangeFault.TheVariants as fault
 use Rattle.rb_vocab.specs.declared.change.Transition.{Transition}
 use Rattle.rb_vocab.specs.declared.change.Transition.TheVariants.{Auto, Explicit, Implicit}
+use Rattle.rb_vocab.specs.Transitions.{is_auto}
 use Rattle.rb_vocab.specs.declared.change.Word.{Word}
 use Rattle.rb_vocab.specs.declared.change.WordKind.{WordKind}
 use Rattle.rb_vocab.specs.declared.change.WordKind.TheVariants as kind
@@ -73,11 +74,6 @@ abbrev pub is_explicit : Transition → Bool
 is_explicit Auto = false
 is_explicit Explicit = true
 is_explicit Implicit = false
-
-abbrev pub is_auto : Transition → Bool
-is_auto Auto = true
-is_auto Explicit = false
-is_auto Implicit = false
 
 -- no words leave; several, or a stated transition, enter a joint configuration; one word is simple
 unfoldable pub changed : Config → Transition → List Word → Result Config ChangeFault

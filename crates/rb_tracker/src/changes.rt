@@ -6,7 +6,7 @@
 //! changes"). Each call returns a new configuration: a refused change keeps the old one.
 ghost use Rattle.std.specs.Prelude.{◌≡◌, IfOk, OnOk};
 ghost use Rattle.rb_tracker.specs.declared.changes.ChangeFault.TheVariants.{OutOfMemory};
-ghost use Rattle.rb_tracker.specs.Changes.{with_voter, as_learner, with_learner, without_member, word_applied, words_applied, differing, checked_simple, simple, entering, checked_joint, enter_joint, left, leave_joint, is_explicit, is_auto, changed, Gives};
+ghost use Rattle.rb_tracker.specs.Changes.{with_voter, as_learner, with_learner, without_member, word_applied, words_applied, differing, checked_simple, simple, entering, checked_joint, enter_joint, left, leave_joint, is_explicit, changed, Gives};
 
 use crate::config::Config;
 use crate::id_set::IdSet;
@@ -52,15 +52,6 @@ fn is_explicit(transition: Transition) -> bool
     match transition {
         Transition::Explicit => true,
         Transition::Auto | Transition::Implicit => false,
-    }
-}
-
-fn is_auto(transition: Transition) -> bool
-    ensures { result ≡ is_auto transition }
-{
-    match transition {
-        Transition::Auto => true,
-        Transition::Explicit | Transition::Implicit => false,
     }
 }
 
@@ -213,7 +204,7 @@ impl Config {
         if words.is_empty() {
             return self.leave_joint();
         }
-        if is_auto(transition) && words.len() == 1 {
+        if transition.is_auto() && words.len() == 1 {
             return self.simple(words);
         }
         self.enter_joint(!is_explicit(transition), words)

@@ -1,7 +1,7 @@
 //! Changes of the configuration, as etcd's raft has them.
 
 ghost use Rattle.std.specs.Prelude.{◌≡◌};
-ghost use Rattle.rb_vocab.specs.Transitions.{transition_text, transition_of};
+ghost use Rattle.rb_vocab.specs.Transitions.{transition_text, transition_of, is_auto};
 
 /// How the cluster gets to a new configuration (`ConfChangeTransition` in etcd's raft).
 #[derive(Clone, Copy, PartialEq, Eq, Debug)]
@@ -24,6 +24,13 @@ impl Transition {
             Transition::Explicit => b"explicit",
             Transition::Implicit => b"implicit",
         }
+    }
+
+    /// Whether it is `Auto`.
+    pub fn is_auto(self) -> bool
+        ensures { result ≡ is_auto self }
+    {
+        matches!(self, Transition::Auto)
     }
 }
 

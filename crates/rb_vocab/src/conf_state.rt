@@ -9,7 +9,7 @@ ghost use Rattle.std.specs.Prelude.{◌≡◌, ◌↔◌, IsTrue};
 use crate::shared::Shared;
 
 /// A configuration: four lists of ids, each ascending, and a flag. A copy costs four pointers.
-#[derive(Clone, Drop)]
+#[derive(Clone, PartialEq, Drop)]
 pub struct ConfState {
     /// The voters.
     pub incoming: Shared<u64>,
@@ -24,14 +24,11 @@ pub struct ConfState {
 }
 
 impl ConfState {
-    /// Compares the lists and the flag.
+    /// Whether both are equal, by the derived `==`, which is proved to be equality.
+    #[tactic(auto, using(crate::proofs::EqualLaws::conf_states_decide))]
     pub fn same(&self, other: &ConfState) -> bool
         ensures { IsTrue result ↔ (self.now ≡ other.now) }
     {
-        self.auto == other.auto
-            && self.incoming.same(&other.incoming)
-            && self.outgoing.same(&other.outgoing)
-            && self.learners.same(&other.learners)
-            && self.next.same(&other.next)
+        *self == *other
     }
 }

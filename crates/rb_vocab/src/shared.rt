@@ -5,6 +5,7 @@
 
 ghost use Rattle.std.specs.Prelude.{◌≡◌, ◌↔◌, length, IsTrue, IfOk};
 ghost use Rattle.std.specs.Bool.{Decides};
+ghost use Rattle.std.specs.Cmp.Lexicographic.{pointwise, lists_per};
 
 use std::alloc::AllocError;
 use std::marker::Model;
@@ -64,15 +65,25 @@ impl<T: Drop> Shared<T> {
         })
     }
 
-    /// Compares two lists: their lengths first, then item by item.
+    /// Whether both lists are equal, where `==` of items is equality.
     pub fn same(&self, other: &Shared<T>) -> bool
     where
         T: PartialEq,
-        // `==` of items is equality.
         requires { (x y : T) → Decides (T.eq x y) (x ≡ y) }
         ensures { IsTrue result ↔ (self.now ≡ other.now) }
     {
         self.as_slice() == other.as_slice()
+    }
+}
+
+impl<T: PartialEq> PartialEq for Shared<T> {
+    ghost eq = { pointwise T.eq };
+
+    ghost laws = { lists_per T.laws };
+
+    // Compares lengths first, then item by item.
+    fn eq(&self, other: &Shared<T>) -> bool {
+        self.items.as_slice() == other.items.as_slice()
     }
 }
 

@@ -1,0 +1,2 @@
+pub mod DeriveLaws
+pub mod EqualLaws
