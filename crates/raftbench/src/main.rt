@@ -5,8 +5,8 @@ mod editing;
 
 use crate::editing::serve_editor;
 use rb_args::{CommandChoice, Subcommand, chosen};
-use rb_check::Status;
-use rb_program::{Misuse, Refusal, Terminals, carry_out, check_all, show_directives};
+use rb_program::{ProgramError, Terminals, UsageError, carry_out, check_all, show_directives};
+use rb_report::check::Status;
 use std::io::{IsTerminal, Write};
 use std::process::ExitCode;
 use std::rt::{Env, Files};
@@ -31,33 +31,33 @@ fn answered<R: Files + Input + Print + Env + Clock + AllocGlobal, E: Write + Dro
     rt: &R,
     errors: E,
     terminals: Terminals,
-) -> Result<u8, Refusal> {
+) -> Result<u8, ProgramError> {
     let choice = choose(rt)?;
     match choice.subcommand {
-        Some(Subcommand::Check) => coded(check_all(rt, &choice.check, errors, terminals)),
-        Some(Subcommand::Directives) => coded(show_directives(rt, choice.name.as_deref())),
+        Some(Subcommand::Check) => exit_code_of(check_all(rt, &choice.check, errors, terminals)),
+        Some(Subcommand::Directives) => exit_code_of(show_directives(rt, choice.name.as_deref())),
         Some(Subcommand::Lsp) => serve_editor(rt),
-        Some(Subcommand::Script(command)) => coded(carry_out(
+        Some(Subcommand::Script(command)) => exit_code_of(carry_out(
             rt, command, &choice, errors, terminals,
         )),
-        None => Err(Refusal::Usage(Misuse::NoCommand)),
+        None => Err(ProgramError::Usage(UsageError::NoCommand)),
     }
 }
 
-fn coded(ended: Result<Status, Refusal>) -> Result<u8, Refusal> {
+fn exit_code_of(ended: Result<Status, ProgramError>) -> Result<u8, ProgramError> {
     match ended {
         Ok(status) => Ok(u8::from(status)),
         Err(refusal) => Err(refusal),
     }
 }
 
-fn choose<R: Env + AllocGlobal>(rt: &R) -> Result<CommandChoice, Refusal> {
+fn choose<R: Env + AllocGlobal>(rt: &R) -> Result<CommandChoice, ProgramError> {
     let words: Vec<String> = match env::args(rt) {
         Ok(args) => args.collect(rt.alloc())?,
         Err(error) if error.kind() == io::ErrorKind::InvalidData => {
-            return Err(Refusal::Usage(Misuse::NoText));
+            return Err(ProgramError::Usage(UsageError::NoText));
         }
-        Err(error) => return Err(Refusal::from(error)),
+        Err(error) => return Err(ProgramError::from(error)),
     };
     Ok(chosen(rt.alloc(), words.as_slice())?)
 }

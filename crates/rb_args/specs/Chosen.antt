@@ -58,6 +58,7 @@ pub record IsCheckOf (rows : Option (List Row)) (check : CheckChoice) : Type 0 w
   pub verbose : check.is_verbose ≡ is_set (option_and_then (first_of (codes "verbose")) rows)
   pub quiet : check.is_quiet ≡ is_set (option_and_then (first_of (codes "quiet")) rows)
   pub explains : check.explains ≡ is_set (option_and_then (first_of (codes "why")) rows)
+  pub strict : check.is_strict ≡ is_set (option_and_then (first_of (codes "strict")) rows)
 
 -- the subcommand that was met, and the values of its FILE, its NAME, its --every, its --from and its --until; its --warn; and what is said to `check`
 pub record IsChoiceOf (met : Option (Text × List Row)) (choice : CommandChoice) : Type 0 where

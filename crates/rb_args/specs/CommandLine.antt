@@ -83,6 +83,10 @@ with_amounts line = with_rule (with_rule (with_rule (with_rule line (letter_rule
 abbrev pub with_reasons : App → App
 with_reasons line = with_rule line (flag_rule (codes "why"))
 
+-- .. [--strict]
+abbrev pub with_strictness : App → App
+with_strictness line = with_rule line (flag_rule (codes "strict"))
+
 -- .. [--every K] [--color WHEN] [--format FORMAT]
 abbrev pub with_choices : App → App
 with_choices line = with_option (codes "format") (with_option (codes "color") (with_option (codes "every") line))
@@ -91,9 +95,9 @@ with_choices line = with_option (codes "format") (with_option (codes "color") (w
 abbrev pub with_accepting : App → App
 with_accepting line = with_rule (with_rule (with_rule (with_rule line (flag_rule (codes "accept"))) (flag_rule (codes "accept-errors"))) (flag_rule (codes "force"))) (flag_rule (codes "review"))
 
--- check PATH.. [--accept] .. [--filter WORD].. [--verbose|-v] .. [--why] [--every K] ..
+-- check PATH.. [--accept] .. [--filter WORD].. [--verbose|-v] .. [--why] [--strict] [--every K] ..
 abbrev pub check_line : App
-check_line = with_choices (with_reasons (with_amounts (with_rule (with_accepting (with_rule (new_app (codes "check")) path_rule)) (many_rule (codes "filter")))))
+check_line = with_choices (with_strictness (with_reasons (with_amounts (with_rule (with_accepting (with_rule (new_app (codes "check")) path_rule)) (many_rule (codes "filter"))))))
 
 -- with --version
 abbrev pub with_version : App → App

@@ -119,6 +119,8 @@ pub struct CheckChoice {
     pub is_quiet: bool,
     /// Whether `--why` is given.
     pub explains: bool,
+    /// Whether `--strict` is given.
+    pub is_strict: bool,
 }
 
 impl Drop for CheckChoice {
@@ -137,6 +139,7 @@ impl Drop for CheckChoice {
             is_brief: _,
             is_quiet: _,
             explains: _,
+            is_strict: _,
         } = self;
     }
 }

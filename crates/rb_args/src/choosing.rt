@@ -76,6 +76,7 @@ fn no_choice(alloc: Global) -> CommandChoice
         is_brief: false,
         is_quiet: false,
         explains: false,
+        is_strict: false,
     };
     CommandChoice {
         subcommand: None,
@@ -129,6 +130,7 @@ fn check_choice(alloc: Global, inner: &ArgMatches<'_>) -> Result<CheckChoice, Al
         is_brief: is_given(inner, "brief"),
         is_quiet: is_given(inner, "quiet"),
         explains: is_given(inner, "why"),
+        is_strict: is_given(inner, "strict"),
     };
     check.paths = texts_of(alloc, inner, "path")?;
     check.filters = texts_of(alloc, inner, "filter")?;

@@ -9,7 +9,7 @@ use crate::table::{ArgumentForm, ArgumentRow, LINES, Line};
 use clap::{Arg, ArgAction, Command};
 use std::alloc::{AllocError, Global};
 
-/// What `--version` shows behind the program's name: its version, and the toolchain that it was proved with.
+/// What `--version` shows after the program's name: its version, and the toolchain that it was proved with.
 pub const VERSION: &str = "0.2.0, proved with rattle-kit-13f logic dac8208d650f15bf";
 
 // A command, where there was memory for it.

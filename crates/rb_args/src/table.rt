@@ -59,9 +59,9 @@ const EVERY_UNSEEN: ArgumentRow = ArgumentRow {
 };
 
 #[rattlefmt::skip]
-const CHECK: [ArgumentRow; 14] = [
+const CHECK: [ArgumentRow; 15] = [
     ArgumentRow { form: ArgumentForm::Paths, name: "path", help: "Script, or folder whose *.txt and those of its folders are the scripts" },
-    ArgumentRow { form: ArgumentForm::Flag, name: "accept", help: "Writes the outputs that came into the scripts, but new errors; of FILE:LINE that of one directive" },
+    ArgumentRow { form: ArgumentForm::Flag, name: "accept", help: "Writes the actual outputs into the scripts, up to the first new error; of FILE:LINE that of one directive" },
     ArgumentRow { form: ArgumentForm::Flag, name: "accept-errors", help: "Accepts new errors too" },
     ArgumentRow { form: ArgumentForm::Flag, name: "force", help: "Accepts outputs of a script that has warnings too" },
     ArgumentRow { form: ArgumentForm::Flag, name: "review", help: "Asks about each output that differs, on a terminal, and accepts those that you say" },
@@ -71,9 +71,10 @@ const CHECK: [ArgumentRow; 14] = [
     ArgumentRow { form: ArgumentForm::Flag, name: "brief", help: "Shows one line for each script that differs" },
     ArgumentRow { form: ArgumentForm::Letter('q'), name: "quiet", help: "Shows nothing: the status tells whether all match" },
     ArgumentRow { form: ArgumentForm::Flag, name: "why", help: "Tells why nothing came of a message, below the output that is shown" },
+    ArgumentRow { form: ArgumentForm::Flag, name: "strict", help: "Ends with 1 also for warnings, and for errors that no comment expects" },
     EVERY_UNSEEN,
     ArgumentRow { form: ArgumentForm::Value("WHEN"), name: "color", help: "Shows colours: auto (on a terminal), always or never [default: auto]" },
-    ArgumentRow { form: ArgumentForm::Value("FORMAT"), name: "format", help: "Writes what differs as text, json or github (workflow commands) [default: text]" },
+    ArgumentRow { form: ArgumentForm::Value("FORMAT"), name: "format", help: "Writes what differs as text, json, github (workflow commands) or junit (XML) [default: text]" },
 ];
 
 const FILE_ALONE: [ArgumentRow; 1] = [FILE];

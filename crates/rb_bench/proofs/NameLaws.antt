@@ -7,7 +7,7 @@ use Rattle.rb_script.specs.declared.fault.ScriptFault.{ScriptFault}
 use Rattle.rb_script.specs.declared.fault.ScriptFault.TheVariants as scripts
 use Rattle.rb_script.specs.declared.fault.EditFault.{EditFault}
 use Rattle.rb_script.specs.declared.fault.EditFault.TheVariants as edits
-use Rattle.rb_check.specs.Refusals.{fault_line}
+use Rattle.rb_report.specs.Refusals.{fault_line}
 use Rattle.rb_bench.specs.Names.{script_name, edit_name}
 
 -- the fault of a name and a line

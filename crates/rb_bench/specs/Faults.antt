@@ -10,7 +10,7 @@ use Rattle.rb_replay.specs.declared.fault.StartFault.TheVariants as starts
 use Rattle.rb_bench.specs.declared.fault.BenchFault.{BenchFault}
 use Rattle.rb_bench.specs.declared.fault.BenchFault.TheVariants as faults
 
--- what the faults of the parts are to the program
+-- the program's faults for those of its parts
 abbrev pub of_reading : ReadFault → BenchFault
 of_reading reads.Io = faults.Io
 of_reading reads.OutOfMemory = faults.OutOfMemory
@@ -20,7 +20,7 @@ of_starting (starts.Script fault) = faults.Script fault
 of_starting starts.BadSpacing = faults.Spacing
 of_starting starts.OutOfMemory = faults.OutOfMemory
 
--- why no script was taken: what is answered of the script is the fault of reading it, and never want of memory
+-- why no script was read: the fault of reading it, and never lack of memory
 abbrev pub TellsFault : BenchFault → Result PlainScript ScriptFault → Type 0
 TellsFault (faults.Script fault) read = Refuses fault read
 TellsFault fault read = ⊤

@@ -12,12 +12,12 @@ use Rattle.rb_bench.specs.declared.hear.HeardCommand.TheVariants as heards
 use Rattle.rb_bench.specs.Talk.{is_long, given_count, wanted, HasLong, IsCut}
 use Rattle.rb_bench.specs.Known.{IfKnown}
 
--- what is held of given lines: how long their text is, and the lines if it may be so long and there was memory
+-- what is kept of given lines: the length of their text, and the lines if it may be so long and there was memory
 pub record IsGiven (given : GivenLines) (ls : List Line) : Type 0 where
   pub len : given.text_len ≡ capped (length (text_of ls))
   pub kept : given.has_no_memory ≡ false → given.text_len ≤ MAX_SCRIPT → given.lines ≡ ls
 
--- so many lines were taken, none of them too long, and the rest is left
+-- n lines were read, none of them too long, and the rest is left
 pub record HasTaken (all rest : List Line) (count : ℕ) (given : GivenLines) : Type 0 where
   pub ls : List Line
   pub lines_are : all ≡ ls ++ rest
@@ -25,14 +25,14 @@ pub record HasTaken (all rest : List Line) (count : ℕ) (given : GivenLines) : 
   pub short : list_any is_long ls ≡ false
   pub is_given : IsGiven given ls
 
--- a command came, and all of its lines
+-- a command was read, and all of its lines
 abbrev pub IsCommand : HeardCommand → Type 0
 IsCommand (heards.Command command given) = ⊤
 IsCommand heards.End = ⊥
 IsCommand heards.LineTooLong = ⊥
 IsCommand heards.CutOff = ⊥
 
--- what is heard behind the line of a command
+-- the command after its first line
 abbrev pub Gathers : Command → HeardCommand → List Line → List Line → Type 0
 Gathers command (heards.Command same given) ls rest = (same ≡ command) × HasTaken ls rest (given_count command) given
 Gathers command heards.End ls rest = ⊥
@@ -53,7 +53,7 @@ pub record HearsCommand (command : Command) (given : GivenLines) (ls rest : List
   pub short : list_any is_long (line ∷ given_lines) ≡ false
   pub is_given : IsGiven given given_lines
 
--- what is heard of lines, after which the rest is left
+-- the command at the beginning of lines, and the rest
 abbrev pub Hears : HeardCommand → List Line → List Line → Type 0
 Hears (heards.Command command given) ls rest = HearsCommand command given ls rest
 Hears heards.End ls rest = ls ≡ []

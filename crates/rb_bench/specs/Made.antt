@@ -42,7 +42,7 @@ pub record RefusesEdit (h : Holding) (asked : Option Edit) (given : List Line) (
 abbrev pub MakesNone : Holding → Option Edit → List Line → Bool → List ℕ → Holding → Type 0
 MakesNone h asked given no_memory answer after = ((asked ≡ None) ⊎ RefusesEdit h asked given no_memory answer) × (after ≡ h)
 
--- The edit that is asked for is made, and what it came to is answered.
+-- The requested edit is made, and its result is the answer.
 pub record Makes (h : Holding) (asked : Option Edit) (edit : Edit) (changed : Changed) (answer : List ℕ) (after : Holding) : Type 0 where
   pub asked_is : asked ≡ Some edit
   pub edited_is : IsEdited h edit changed after

@@ -19,7 +19,7 @@ use Rattle.rb_replay.specs.Run.{outputs, output_at}
 use Rattle.rb_replay.specs.Report.{report, rewritten}
 use Rattle.rb_replay.specs.Holding.{Holding}
 use Rattle.rb_replay.specs.After.{IsEdited}
-use Rattle.rb_check.specs.Refusals.{fault_line}
+use Rattle.rb_report.specs.Refusals.{fault_line}
 use Rattle.rb_bench.specs.Names.{script_name, edit_name}
 
 -- ---- texts
@@ -63,11 +63,11 @@ edit_of Insert place given = block_edit (λ b. edits.Insert place b) (block_of (
 edit_of Replace place given = block_edit (λ b. edits.Replace place b) (block_of (text_of given))
 edit_of Expect place given = Ok (edits.Expect place given)
 
--- this is answered, and the session stays
+-- this is the answer, and the session stays
 abbrev pub Says : List ℕ → Holding → List ℕ → Holding → Type 0
 Says said h answer after = (answer ≡ said) × (after ≡ h)
 
--- the edit is made: what it executed and how many mismatches there are is answered
+-- the edit is made: the answer is what it executed and the number of mismatches
 pub record IsDone (h : Holding) (edit : Edit) (answer : List ℕ) (after : Holding) : Type 0 where
   pub changed : Changed
   pub edited_is : IsEdited h edit changed after

@@ -1,4 +1,4 @@
--- Where reading stops before the end of the input: what had come, and what was answered. (This project's.)
+-- Where reading stops before the end of the input: the bytes so far, and the answers. (This project's.)
 use Rattle.std.specs.Prelude.{◌≡◌, ◌⊎◌, ◌<◌, ◌≤◌, ℕ, false, List, [], ◌++◌, length, Option, Some, None, ⊤}
 use Rattle.std.specs.List.{list_any}
 use Rattle.std.specs.Io.KnownBytes.{Appends}
@@ -11,7 +11,7 @@ use Rattle.rb_text.specs.Left.{left_of}
 use Rattle.rb_text.specs.Taken.{AreWhole, TakesWhole}
 use Rattle.rb_bench.specs.declared.hear.HeardCommand.{HeardCommand}
 use Rattle.rb_bench.specs.declared.hear.HeardCommand.TheVariants as heards
-use Rattle.rb_check.specs.declared.status.Status.{Status}
+use Rattle.rb_report.specs.declared.check.status.Status.{Status}
 use Rattle.rb_bench.specs.Talk.{is_long, IsCut, Begins}
 use Rattle.rb_bench.specs.Serves.{IsStarted}
 
@@ -23,7 +23,7 @@ AreTooFew count ls = (length ls < count) × (list_any is_long ls ≡ false)
 abbrev pub IsUnfinished : List Line → Type 0
 IsUnfinished ls = (ls ≡ []) ⊎ IsCut ls
 
--- whole lines with their ends, of which this holds, and then the beginning of one that isn't too long so far
+-- whole lines with their ends, which satisfy this, and then the beginning of one that isn't too long so far
 pub record Came (holds : List Line → Type 0) (bytes : List ℕ) : Type 0 where
   pub whole : List ℕ
   pub begun : List ℕ
@@ -33,13 +33,13 @@ pub record Came (holds : List Line → Type 0) (bytes : List ℕ) : Type 0 where
   pub short : length (without_returns begun) ≤ MAX_LINE
   pub held : holds (lines whole)
 
--- all that came of known bytes, of which the rest is left
+-- all known bytes, and the rest that is left
 abbrev pub IfCame : Option (List ℕ) → Option (List ℕ) → (List ℕ → Type 0) → Type 0
 IfCame None left holds = ⊤
 IfCame (Some all) None holds = ⊥
 IfCame (Some all) (Some rest) holds = (bytes : List ℕ) × (all ≡ bytes ++ rest) × holds bytes
 
--- reading stopped before the end: whole lines had come of which this holds, and perhaps the beginning of one more
+-- reading stopped before the end: the whole lines so far satisfy this, and perhaps one more had begun
 pub record StopsBehind (holds : List Line → Type 0) (input : LineReader) (left after : Option (List ℕ)) : Type 0 where
   pub going : input.has_ended ≡ false
   pub came : IfCame (left_of input left) after (Came holds)
@@ -56,7 +56,7 @@ abbrev pub TakesTurn : Option Status → LineReader → LineReader → Option (L
 TakesTurn None input later left after = TakesWhole input later left after
 TakesTurn (Some status) input later left after = ⊤
 
--- exactly the answers to the commands that are whole in these lines went out
+-- exactly the answers to the commands that are whole in these lines was written
 pub record AnswersWhole (first : Holding) (old new : Option (List ℕ)) (ls : List Line) : Type 0 where
   pub rest : List Line
   pub last : Holding
@@ -65,10 +65,10 @@ pub record AnswersWhole (first : Holding) (old new : Option (List ℕ)) (ls : Li
   pub unfinished : IsUnfinished rest
   pub went_out : Appends old new text
 
--- the same of all that came
+-- the same for all bytes so far
 abbrev pub AnswersCame : Holding → Option (List ℕ) → Option (List ℕ) → Option (List ℕ) → Option (List ℕ) → Type 0
 AnswersCame first left after old new = IfCame left after (Came (AnswersWhole first old new))
 
--- what serving a script comes to where reading stops
+-- the result of serving a script if reading stops
 abbrev pub ServesCame : List ℕ → ℕ → Option (List ℕ) → Option (List ℕ) → Option (List ℕ) → Option (List ℕ) → Type 0
 ServesCame script every left after old new = (first : Holding) × IsStarted script every first × AnswersCame first left after old new

@@ -1,10 +1,10 @@
--- One serve_one of a conversation. (This project's.)
+-- One exchange of a conversation. (This project's.)
 use Rattle.std.specs.Prelude.{◌≡◌, ℕ, ◌⊎◌, List, [], ◌++◌, Option, Some, None, Result, Ok, Err, IfSome}
 use Rattle.std.specs.Io.KnownBytes.{Appends}
 use Rattle.rb_script.specs.Lines.{Line, lines}
 use Rattle.rb_script.specs.Writes.{AppendsFront}
 use Rattle.rb_replay.specs.Holding.{Holding}
-use Rattle.rb_check.specs.declared.status.Status.{Status}
+use Rattle.rb_report.specs.declared.check.status.Status.{Status}
 use Rattle.rb_bench.specs.declared.fault.BenchFault.{BenchFault}
 use Rattle.rb_bench.specs.Talk.{Exchange, taken, Responds, Ends}
 use Rattle.rb_bench.specs.Known.{IfKnown}
@@ -22,17 +22,17 @@ abbrev pub IsTurn : Holding → List Line → List Line → List ℕ → Holding
 IsTurn h ls rest text after None = IsExchange h ls rest text after
 IsTurn h ls rest text after (Some status) = Ends h ls text status
 
--- a serve_one went out whole
+-- an exchange was written whole
 pub record Turned (h : Holding) (ls rest : List Line) (after : Holding) (status : Option Status) (old new : Option (List ℕ)) : Type 0 where
   pub text : List ℕ
   pub serve_one : IsTurn h ls rest text after status
   pub went_out : Appends old new text
 
--- what was to go out where a call failed: nothing yet, or the text of a serve_one
+-- the text that was to be written when a call failed: nothing yet, or that of an exchange
 abbrev pub IsDue : Holding → List Line → List ℕ → Type 0
 IsDue h ls text = (text ≡ []) ⊎ ((rest : List Line) × (after : Holding) × (status : Option Status) × IsTurn h ls rest text after status)
 
--- a beginning of it went out
+-- a beginning of it was written
 pub record TurnedInPart (h : Holding) (ls : List Line) (old new : Option (List ℕ)) : Type 0 where
   pub text : List ℕ
   pub is_due : IsDue h ls text

@@ -14,11 +14,11 @@ ghost use Rattle.rb_bench.specs.Talk.{Exchange, Converses, Talks, refusals};
 ghost use Rattle.rb_bench.specs.Made.{AreMade};
 ghost use Rattle.rb_bench.specs.Runs.{Answers, IsNoScript, status_for, text_for};
 ghost use Rattle.rb_bench.specs.Serves.{IsStarted};
-ghost use Rattle.rb_check.specs.Refusals.{fault_line};
+ghost use Rattle.rb_report.specs.Refusals.{fault_line};
 ghost use Rattle.rb_bench.specs.Names.{script_name, edit_name};
 ghost use Rattle.rb_bench.specs.declared.running.Mode.{Mode};
 ghost use Rattle.rb_bench.specs.declared.fault.BenchFault.TheVariants as faults;
-ghost use Rattle.rb_check.specs.declared.status.Status.{Status};
+ghost use Rattle.rb_report.specs.declared.check.status.Status.{Status};
 
 use rb_replay::edits_answer_as_one_run;
 

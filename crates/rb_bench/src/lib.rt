@@ -35,6 +35,6 @@ pub use limits::{DEFAULT_CHECKPOINT_INTERVAL, MAX_GIVEN, MAX_READS, limits_are};
 pub use names::{edit_fault_name, script_fault_name};
 pub use outlet::Outlet;
 pub use rb_args::ChoiceFault;
-pub use rb_check::Status;
+pub use rb_report::check::Status;
 pub use running::{Mode, run_bytes, run_over};
 pub use session::serve;

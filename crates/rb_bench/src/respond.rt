@@ -15,8 +15,8 @@ use crate::hear::HeardCommand;
 use crate::reply::Reply;
 use crate::running::{Mode, status};
 use crate::starting::BenchSession;
-use rb_check::Status;
 use rb_cluster::Meter;
+use rb_report::check::Status;
 use rb_script::{Block, Edit, EditFault, Lines, MAX_SCRIPT, ScriptFault};
 use std::alloc::Global;
 

@@ -12,8 +12,8 @@ ghost use Rattle.rb_bench.specs.Runs.{Answers, RunsOver, IsWritten, text_for, st
 use crate::fault::BenchFault;
 use crate::outlet::Outlet;
 use crate::starting::{BenchSession, run_once};
-use rb_check::Status;
 use rb_replay::is_checkpoint_interval;
+use rb_report::check::Status;
 use rb_script::{MAX_SCRIPT, Sink, WriteFault};
 use rb_text::{Source, read_up_to};
 use std::alloc::Global;

@@ -11,8 +11,8 @@ use crate::names::{edit_fault_name, script_fault_name};
 use crate::outlet::Outlet;
 use crate::reply::Reply;
 use crate::starting::BenchSession;
-use rb_check::fault_line;
 use rb_replay::Changed;
+use rb_report::check::fault_line;
 use rb_script::{Lines, ScriptFault, Sink, WriteFault};
 use rb_text::{Piece, put_pieces};
 
@@ -112,7 +112,7 @@ fn put_reply<S: Sink>(sink: &mut S, session: &BenchSession, reply: Reply) -> Res
     }
 }
 
-/// Writes an answer, and hands it on. Where there is none the writer isn't touched.
+/// Writes an answer, and hands it on. If there is none the writer isn't touched.
 pub(crate) fn send<W: Outlet>(
     writer: &mut W,
     session: &BenchSession,

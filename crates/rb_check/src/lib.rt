@@ -1,60 +1,56 @@
-//! What `raftbench check` shows, and the statuses of the program: where outputs are not the expected ones, why a script is refused
-//! or a file failed, what there was of each, and with which status it all ends.
+//! A check of scripts and folders of scripts: they are found, run one after another, shown and accepted.
 //!
-//! It opens no file and runs no script: it writes into any sink what it is given. Its only memory is a [`Table`], which is taken once.
-//! Of a line that is empty, ends in a space, a tab or `$`, or begins as a fold does, a `$` is shown after its end: so blanks are seen,
-//! and no two lines look alike. All other bytes go out as they are.
+//! [`check`] does a [`CheckRequest`] over the files, the terminal and the clock of a runtime, and a [`Runner`] runs the scripts. What is found out about scripts goes to standard output, failures and how far the work
+//! goes to a stream of errors. The texts of a report are in rb_report and rb_script_report, accepting in rb_script_report.
+//!
+//! Programs are told in JSON, an object a line, in the workflow commands that GitHub shows beside the lines of a file, or in JUnit's XML: a [`Format`].
+//! `formatted` gives what is said of a script that ran, and `notice` what is said of one that didn't, or beside. What they give is one
+//! definition, `Formats.script_text` and `Formats.notice_text`; it is made in memory, so that want of memory leaves no half of it.
 #![tactic(auto)]
 
-mod accepted;
-mod brief;
-mod colors;
-mod diff;
-mod doubt;
-mod end;
-mod failure;
-mod file_line;
-mod fold;
-mod head;
-mod highlight;
-mod hint;
+mod accepting;
+mod alone;
+mod answer;
+mod check_request;
+mod checked_script;
+mod checking;
+mod command;
+mod comment;
+mod ending;
+mod escape;
+mod format;
+mod formatted;
+mod junit;
+mod kind;
 mod laws;
-mod left;
-mod line;
-mod line_range;
-mod longest;
-mod mismatch;
-mod outcome;
+mod notes;
+mod notices;
+mod object;
+mod paths;
+mod person;
+mod picking;
 mod piece;
-mod refusal;
-mod side;
-mod status;
-mod steps;
-mod table;
-mod totals;
-mod why;
+mod place;
+mod progress;
+mod question;
+mod ran;
+mod reasons;
+mod report;
+mod review;
+mod runner;
+mod system;
+mod target;
+mod visible;
+mod xml;
 
-pub use accepted::put_accepted;
-pub use brief::put_brief;
-pub use colors::Colors;
-pub use diff::{put_diff, put_told_diff};
-pub use doubt::{Doubt, doubt_sentence, put_unaccepted, put_warning};
-pub use failure::{Failure, failure_sentence, put_failure};
-pub use file_line::FileLine;
-pub use head::put_head;
+pub use check_request::CheckRequest;
+pub use format::Format;
 pub use laws::{
-    colors_go_around, counts_are_sums, diffs_are, diffs_are_longest, diffs_tell_both_sides,
-    highlights_are_least, highlights_need_colors, highlights_take_nothing_away,
-    lines_are_told_apart, reasons_stand_between, same_lines_are_plain, sentences_are_distinct,
-    shown_diffs_tell_both_sides, statuses_are_greatest,
+    commands_are_lines, objects_are_ascii, suites_hold_texts, visible_texts_act_in_nothing,
 };
-pub use left::put_left;
-pub use mismatch::{put_directive, put_mismatch, put_note, put_told_mismatch};
-pub use outcome::Outcome;
-pub use refusal::{fault_line, put_refusal, sentence};
-pub use side::Side;
-pub use status::Status;
-pub use steps::{put_run, put_told_run};
-pub use table::{MAX_CELLS, Table};
-pub use totals::{Totals, put_totals};
-pub use why::Why;
+pub use paths::check;
+pub use place::place_at;
+pub use reasons::{ScriptRun, run_script};
+pub use runner::{ExplainedRun, Runner};
+pub use target::Target;
+pub use visible::{Showing, VisibleSink, visible_name};

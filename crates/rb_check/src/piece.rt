@@ -1,52 +1,45 @@
-//! The pieces that a text is put together of.
+//! The pieces that a workflow command is put together of.
 
-ghost use Rattle.std.specs.Prelude.{◌≡◌, IsOk, decimal};
+ghost use Rattle.std.specs.Prelude.{IsOk};
 ghost use Rattle.rb_script.specs.Writes.{Writes};
-ghost use Rattle.rb_check.specs.Pieces.{count_text, noun, piece_text};
+ghost use Rattle.rb_check.specs.Commands.{line_property, piece_text};
 
+use crate::escape::CommandPart;
 use rb_script::{Sink, WriteFault};
-pub(crate) use rb_text::put_pieces;
-use rb_text::{Piece, WrittenPiece, put_number};
+use rb_text::{Piece, WrittenPiece, put_escaped, put_pieces};
 
-/// A piece of a text.
+/// A piece of a workflow command.
 #[derive(Clone, Copy)]
-pub(crate) enum ReportPiece<'a> {
+pub(crate) enum CommandPiece<'a> {
     /// The bytes as they are.
     Bytes(&'a [u8]),
-    /// A number in decimal digits.
-    Number(u64),
-    /// How many there are of something, after a comma; nothing where there is none.
-    Count(u64, &'a [u8]),
+    /// The bytes as they are in the value of a property.
+    Property(&'a [u8]),
+    /// The bytes as they are in the message.
+    Message(&'a [u8]),
+    /// The property of a line, if there is one.
+    Line(Option<usize>),
 }
 
-/// The word for one, or for several.
-pub(crate) fn noun<'a>(n: u64, one: &'a [u8], many: &'a [u8]) -> &'a [u8]
-    ensures { result.now ≡ noun n one.now many.now }
-{
-    if n == 1 { one } else { many }
-}
-
-impl WrittenPiece for ReportPiece<'_> {
+impl WrittenPiece for CommandPiece<'_> {
     ghost text = { piece_text };
 
     fn put<S: Sink>(&self, sink: &mut S) -> Result<(), WriteFault> {
         match *self {
-            ReportPiece::Bytes(bytes) => sink.put(bytes),
-            ReportPiece::Number(n) => put_number(sink, n),
-            ReportPiece::Count(n, word) => put_count(sink, n, word),
+            CommandPiece::Bytes(bytes) => sink.put(bytes),
+            CommandPiece::Property(bytes) => put_escaped(sink, &CommandPart::Property, bytes),
+            CommandPiece::Message(bytes) => put_escaped(sink, &CommandPart::Message, bytes),
+            CommandPiece::Line(line) => put_line(sink, line),
         }
     }
 }
 
-fn put_count<S: Sink>(sink: &mut S, n: u64, word: &[u8]) -> Result<(), WriteFault>
-    ensures wrote { Writes result (S.held sink.old) (S.held sink.new) (count_text n word.now) }
+fn put_line<S: Sink>(sink: &mut S, line: Option<usize>) -> Result<(), WriteFault>
+    ensures wrote { Writes result (S.held sink.old) (S.held sink.new) (line_property line) }
     ensures all { S.takes_all sink.old → IsOk result × S.takes_all sink.new }
 {
-    if n == 0 {
-        return Ok(());
+    match line {
+        Some(line) => put_pieces(sink, &[Piece::Bytes(b",line="), Piece::Number(line as u64)]),
+        None => Ok(()),
     }
-    put_pieces(
-        sink,
-        &[Piece::Bytes(b", "), Piece::Number(n), Piece::Bytes(word)],
-    )
 }

@@ -32,7 +32,7 @@ use Rattle.rb_texts.proofs.ShownLaws.{all_solid}
 use Rattle.rb_texts.proofs.PrintedLaws.{printed_expected, printed_plain}
 use Rattle.rb_machine.specs.AddNodes.{add_nodes_fault, is_low, start, options, joined, added_each, nodes_added}
 use Rattle.rb_machine.specs.Cluster.{Cluster}
-use Rattle.rb_machine.specs.Outcome.{missing_node, own_fault, fault, refusal_of, refusal, effect, level_set, refused, unless_refused, execution_of, execution, or_ok, lines_at, printed, outcome, is_output}
+use Rattle.rb_machine.specs.Outcome.{missing_node, own_fault, fault, refusal_of, refusal, effect, level_set, refused, unless_refused, execution_of, execution, shown_items, or_ok, lines_at, printed, outcome, is_output}
 use Rattle.rb_machine.specs.Views.{log_shown_by, status_shown_by}
 
 -- ---- where nothing refuses it
@@ -83,7 +83,7 @@ lines_are_output level items = or_ok_is_output level (flat_map (line_of level) i
 -- each directive gives a line or more
 pub outcome_is_output : (c : Cluster) (d : PlainDirective) → is_output (outcome c d).output ≡ true
 unfolding outcome
-outcome_is_output c d = lines_are_output (execution c d).level (execution c d).items
+outcome_is_output c d = lines_are_output (execution c d).level (shown_items (execution c d))
 
 output_solid : (ls : List Line) → is_output ls ≡ true → list_all is_solid ls ≡ true
 unfolding is_output

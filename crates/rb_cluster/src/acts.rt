@@ -2,7 +2,11 @@
 
 ghost use Rattle.std.specs.Prelude.{◌≡◌, OnOk};
 ghost use Rattle.rb_node.specs.Node.{node_step};
-ghost use Rattle.rb_machine.specs.Acts.{ticked_times, act, propose, set_timeout, transfer, report_unreachable};
+ghost use Rattle.rb_message.specs.declared.kind.MessageKind.TheVariants as kinds;
+ghost use Rattle.rb_raftlog.specs.declared.entry.Body.TheVariants as bodies;
+ghost use Rattle.rb_node.specs.Calls.{called};
+ghost use Rattle.rb_machine.specs.Acts.{ticked_times, step_by, act, propose, set_timeout, transfer, report_unreachable};
+ghost use Rattle.rb_machine.specs.Effects.{node_moved};
 ghost use Rattle.rb_machine.specs.Observers.{watched, after};
 
 use crate::cluster::{Cluster, place_of};
@@ -30,14 +34,14 @@ fn tick_times<L: RaftLog>(
 }
 
 impl<L: RaftLog> Cluster<L> {
-    /// Calls a node, as the directive says.
-    pub(crate) fn act<O: Observer>(
+    // Calls a node, as the directive says.
+    fn call_node<O: Observer<L>>(
         &mut self,
         what: NodeCommand,
         id: u64,
         observer: &mut O,
     ) -> Result<(), AllocError>
-        ensures { OnOk result (watched self.new (O.meaning observer.new) ≡ after O.taking (O.meaning observer.old) (act what id self.old)) }
+        ensures { OnOk result (watched self.new (O.meaning observer.new) ≡ after O.taking O.settling (O.meaning observer.old) (node_moved self.old id (step_by what))) }
     {
         let mut events = Vec::new(self.alloc);
         let Some(shared) = self.nodes.get_mut(place_of(id)) else {
@@ -53,14 +57,27 @@ impl<L: RaftLog> Cluster<L> {
         show_events(observer, &events)
     }
 
-    /// Proposes a payload at a node.
-    pub(crate) fn propose<O: Observer>(
+    /// Calls a node, as the directive says.
+    pub(crate) fn act<O: Observer<L>>(
+        &mut self,
+        what: NodeCommand,
+        id: u64,
+        observer: &mut O,
+    ) -> Result<(), AllocError>
+        ensures { OnOk result (watched self.new (O.meaning observer.new) ≡ after O.taking O.settling (O.meaning observer.old) (act what id self.old)) }
+    {
+        self.call_node(what, id, observer)?;
+        self.show_settled(id, observer)
+    }
+
+    // Proposes a payload at a node.
+    fn propose_payload<O: Observer<L>>(
         &mut self,
         id: u64,
         payload: &ScriptWord<'_>,
         observer: &mut O,
     ) -> Result<(), AllocError>
-        ensures { OnOk result (watched self.new (O.meaning observer.new) ≡ after O.taking (O.meaning observer.old) (propose id payload.now self.old)) }
+        ensures { OnOk result (watched self.new (O.meaning observer.new) ≡ after O.taking O.settling (O.meaning observer.old) (node_moved self.old id (λ t. called t (kinds.Proposal (bodies.Payload payload.now))))) }
     {
         let bytes = Shared::new(Vec::from_slice(self.alloc, payload.bytes())?)?;
         let mut events = Vec::new(self.alloc);
@@ -70,6 +87,19 @@ impl<L: RaftLog> Cluster<L> {
         let node = shared.make_mut()?;
         node.propose(bytes, &mut events)?;
         show_events(observer, &events)
+    }
+
+    /// Proposes a payload at a node.
+    pub(crate) fn propose<O: Observer<L>>(
+        &mut self,
+        id: u64,
+        payload: &ScriptWord<'_>,
+        observer: &mut O,
+    ) -> Result<(), AllocError>
+        ensures { OnOk result (watched self.new (O.meaning observer.new) ≡ after O.taking O.settling (O.meaning observer.old) (propose id payload.now self.old)) }
+    {
+        self.propose_payload(id, payload, observer)?;
+        self.show_settled(id, observer)
     }
 
     /// Sets a node's election timeout in ticks.
@@ -82,14 +112,14 @@ impl<L: RaftLog> Cluster<L> {
         Ok(())
     }
 
-    /// Asks a node to transfer leadership to another.
-    pub(crate) fn transfer<O: Observer>(
+    // Asks a node to transfer leadership to another.
+    fn ask_transfer<O: Observer<L>>(
         &mut self,
         from: u64,
         to: u64,
         observer: &mut O,
     ) -> Result<(), AllocError>
-        ensures { OnOk result (watched self.new (O.meaning observer.new) ≡ after O.taking (O.meaning observer.old) (transfer from to self.old)) }
+        ensures { OnOk result (watched self.new (O.meaning observer.new) ≡ after O.taking O.settling (O.meaning observer.old) (node_moved self.old from (λ t. called t (kinds.TransferLeader to)))) }
     {
         let mut events = Vec::new(self.alloc);
         let Some(shared) = self.nodes.get_mut(place_of(from)) else {
@@ -98,6 +128,19 @@ impl<L: RaftLog> Cluster<L> {
         let node = shared.make_mut()?;
         node.transfer(to, &mut events)?;
         show_events(observer, &events)
+    }
+
+    /// Asks a node to transfer leadership to another.
+    pub(crate) fn transfer<O: Observer<L>>(
+        &mut self,
+        from: u64,
+        to: u64,
+        observer: &mut O,
+    ) -> Result<(), AllocError>
+        ensures { OnOk result (watched self.new (O.meaning observer.new) ≡ after O.taking O.settling (O.meaning observer.old) (transfer from to self.old)) }
+    {
+        self.ask_transfer(from, to, observer)?;
+        self.show_settled(from, observer)
     }
 
     /// Reports to a node that another can't be reached.

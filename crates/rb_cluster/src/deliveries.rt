@@ -3,6 +3,8 @@
 ghost use Rattle.std.specs.Prelude.{◌≡◌, IfOk, OnOk, fold, map};
 ghost use Rattle.rb_machine.specs.Pending.{mail, other_mail, with_pending};
 ghost use Rattle.rb_machine.specs.Deliveries.{received, all_received, delivered, delivered_each, drop_item, dropped, dropped_each, is_for_any, selects_any, msgs_delivered};
+ghost use Rattle.rb_node.specs.Step.{stepped};
+ghost use Rattle.rb_machine.specs.Effects.{node_moved};
 ghost use Rattle.rb_machine.specs.Observers.{watched, after};
 
 use crate::cluster::{Cluster, place_of};
@@ -17,7 +19,10 @@ use std::alloc::AllocError;
 use std::mem;
 
 // Shows each message as dropped.
-fn show_dropped<O: Observer>(observer: &mut O, messages: &[SharedMessage]) -> Result<(), AllocError>
+fn show_dropped<L: RaftLog, O: Observer<L>>(
+    observer: &mut O,
+    messages: &[SharedMessage],
+) -> Result<(), AllocError>
     ensures { OnOk result (O.meaning observer.new ≡ fold O.taking (O.meaning observer.old) (map drop_item messages.now)) }
 {
     for shared in messages {
@@ -46,16 +51,15 @@ fn selects_any(asked: &DeliverMsgs, pending: &[SharedMessage]) -> bool
 }
 
 impl<L: RaftLog> Cluster<L> {
-    // Delivers a message to its node.
-    fn receive<O: Observer>(
+    // A node steps a message.
+    fn step_message<O: Observer<L>>(
         &mut self,
         id: u64,
         message: &Message,
         observer: &mut O,
     ) -> Result<(), AllocError>
-        ensures { OnOk result (watched self.new (O.meaning observer.new) ≡ after O.taking (O.meaning observer.old) (received id self.old message.now)) }
+        ensures { OnOk result (watched self.new (O.meaning observer.new) ≡ after O.taking O.settling (O.meaning observer.old) (node_moved self.old id (λ t. stepped t message.now))) }
     {
-        observer.observe(&Item::Moved(Verb::Deliver, message))?;
         let mut events = Vec::new(self.alloc);
         let Some(shared) = self.nodes.get_mut(place_of(id)) else {
             return Ok(());
@@ -65,14 +69,28 @@ impl<L: RaftLog> Cluster<L> {
         show_events(observer, &events)
     }
 
+    // Delivers a message to its node.
+    fn receive<O: Observer<L>>(
+        &mut self,
+        id: u64,
+        message: &Message,
+        observer: &mut O,
+    ) -> Result<(), AllocError>
+        ensures { OnOk result (watched self.new (O.meaning observer.new) ≡ after O.taking O.settling (O.meaning observer.old) (received id self.old message.now)) }
+    {
+        observer.observe(&Item::Moved(Verb::Deliver, message))?;
+        self.step_message(id, message, observer)?;
+        self.show_settled(id, observer)
+    }
+
     // Delivers messages to their node, in order.
-    fn receive_all<O: Observer>(
+    fn receive_all<O: Observer<L>>(
         &mut self,
         id: u64,
         messages: &[SharedMessage],
         observer: &mut O,
     ) -> Result<(), AllocError>
-        ensures { OnOk result (watched self.new (O.meaning observer.new) ≡ after O.taking (O.meaning observer.old) (all_received id self.old messages.now)) }
+        ensures { OnOk result (watched self.new (O.meaning observer.new) ≡ after O.taking O.settling (O.meaning observer.old) (all_received id self.old messages.now)) }
     {
         for shared in messages {
             self.receive(id, shared.message(), observer)?;
@@ -97,25 +115,25 @@ impl<L: RaftLog> Cluster<L> {
 
     /// Delivers a node's pending messages of the types.
     #[tactic(auto, unfolding(rb_machine::specs::Deliveries::delivered))]
-    pub(crate) fn deliver<O: Observer>(
+    pub(crate) fn deliver<O: Observer<L>>(
         &mut self,
         id: u64,
         types: &Option<TypeSet>,
         observer: &mut O,
     ) -> Result<(), AllocError>
-        ensures { OnOk result (watched self.new (O.meaning observer.new) ≡ after O.taking (O.meaning observer.old) (delivered types.now self.old id)) }
+        ensures { OnOk result (watched self.new (O.meaning observer.new) ≡ after O.taking O.settling (O.meaning observer.old) (delivered types.now self.old id)) }
     {
         let mail = self.take_mail(id, types)?;
         self.receive_all(id, &mail, observer)
     }
 
-    fn deliver_each<O: Observer>(
+    fn deliver_each<O: Observer<L>>(
         &mut self,
         ids: &[u8],
         types: &Option<TypeSet>,
         observer: &mut O,
     ) -> Result<(), AllocError>
-        ensures { OnOk result (watched self.new (O.meaning observer.new) ≡ after O.taking (O.meaning observer.old) (delivered_each types.now self.old ids.now)) }
+        ensures { OnOk result (watched self.new (O.meaning observer.new) ≡ after O.taking O.settling (O.meaning observer.old) (delivered_each types.now self.old ids.now)) }
     {
         for id in ids {
             self.deliver(u64::from(*id), types, observer)?;
@@ -125,25 +143,25 @@ impl<L: RaftLog> Cluster<L> {
 
     // Drops a node's pending messages of the types.
     #[tactic(auto, unfolding(rb_machine::specs::Deliveries::dropped))]
-    fn drop_mail<O: Observer>(
+    fn drop_mail<O: Observer<L>>(
         &mut self,
         id: u64,
         types: &Option<TypeSet>,
         observer: &mut O,
     ) -> Result<(), AllocError>
-        ensures { OnOk result (watched self.new (O.meaning observer.new) ≡ after O.taking (O.meaning observer.old) (dropped types.now self.old id)) }
+        ensures { OnOk result (watched self.new (O.meaning observer.new) ≡ after O.taking O.settling (O.meaning observer.old) (dropped types.now self.old id)) }
     {
         let mail = self.take_mail(id, types)?;
         show_dropped(observer, &mail)
     }
 
-    fn drop_each<O: Observer>(
+    fn drop_each<O: Observer<L>>(
         &mut self,
         ids: &[u8],
         types: &Option<TypeSet>,
         observer: &mut O,
     ) -> Result<(), AllocError>
-        ensures { OnOk result (watched self.new (O.meaning observer.new) ≡ after O.taking (O.meaning observer.old) (dropped_each types.now self.old ids.now)) }
+        ensures { OnOk result (watched self.new (O.meaning observer.new) ≡ after O.taking O.settling (O.meaning observer.old) (dropped_each types.now self.old ids.now)) }
     {
         for id in ids {
             self.drop_mail(u64::from(*id), types, observer)?;
@@ -153,12 +171,12 @@ impl<L: RaftLog> Cluster<L> {
 
     /// Delivers messages to nodes in their order, then drops messages.
     #[tactic(auto, unfolding(rb_machine::specs::Deliveries::msgs_delivered))]
-    pub(crate) fn deliver_msgs<O: Observer>(
+    pub(crate) fn deliver_msgs<O: Observer<L>>(
         &mut self,
         asked: &DeliverMsgs,
         observer: &mut O,
     ) -> Result<(), AllocError>
-        ensures { OnOk result (watched self.new (O.meaning observer.new) ≡ after O.taking (O.meaning observer.old) (msgs_delivered asked.now self.old)) }
+        ensures { OnOk result (watched self.new (O.meaning observer.new) ≡ after O.taking O.settling (O.meaning observer.old) (msgs_delivered asked.now self.old)) }
     {
         if !selects_any(asked, &self.pending) {
             return observer.observe(&Item::NoMessages);

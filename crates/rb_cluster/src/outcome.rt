@@ -8,7 +8,7 @@ ghost use Rattle.rb_script.specs.Tokens.{plain};
 ghost use Rattle.rb_directive.specs.Requests.{request, IsWithin};
 ghost use Rattle.rb_texts.specs.Items.{error};
 ghost use Rattle.rb_machine.specs.Cluster.{is_node};
-ghost use Rattle.rb_machine.specs.Outcome.{absent, first_absent, missing_node, fault, act_with, effect, execution, lines_at};
+ghost use Rattle.rb_machine.specs.Outcome.{absent, first_absent, missing_node, fault, act_with, effect, execution, shown_items, lines_at};
 ghost use Rattle.rb_machine.specs.Observers.{watched, after, after_directive};
 
 use crate::add_nodes::add_nodes_fault;
@@ -65,7 +65,7 @@ fn missing_node<'d, L: RaftLog>(
 }
 
 // Shows the error of a refused directive.
-fn refuse<'d, O: Observer>(
+fn refuse<'d, L: RaftLog, O: Observer<L>>(
     observer: &mut O,
     level: Level,
     fault: DirectiveError<'d>,
@@ -98,14 +98,14 @@ impl<L: RaftLog> Cluster<L> {
     }
 
     // Calls a node with a number, as the directive says.
-    fn act_with<O: Observer>(
+    fn act_with<O: Observer<L>>(
         &mut self,
         what: NodeCommandWithArg,
         id: u64,
         number: u64,
         observer: &mut O,
     ) -> Result<(), AllocError>
-        ensures { OnOk result (watched self.new (O.meaning observer.new) ≡ after O.taking (O.meaning observer.old) (act_with what id number self.old)) }
+        ensures { OnOk result (watched self.new (O.meaning observer.new) ≡ after O.taking O.settling (O.meaning observer.old) (act_with what id number self.old)) }
     {
         match what {
             NodeCommandWithArg::SetRandomizedElectionTimeout => {
@@ -124,14 +124,14 @@ impl<L: RaftLog> Cluster<L> {
 
     // Does what a request asks for, and shows each item of it.
     #[tactic(auto, using(crate::proofs::OutcomeLaws::room_for, crate::proofs::OutcomeLaws::index_for))]
-    fn perform<O: Observer>(
+    fn perform<O: Observer<L>>(
         &mut self,
         wanted: &Request<'_>,
         observer: &mut O,
     ) -> Result<(), AllocError>
         requires none { fault wanted.now self.old ≡ None }
         requires within { IsWithin wanted.now }
-        ensures { OnOk result (watched self.new (O.meaning observer.new) ≡ after O.taking (O.meaning observer.old) (effect wanted.now self.old)) }
+        ensures { OnOk result (watched self.new (O.meaning observer.new) ≡ after O.taking O.settling (O.meaning observer.old) (effect wanted.now self.old)) }
     {
         match wanted {
             Request::AddNodes(asked) => self.add_nodes(asked, observer),
@@ -160,12 +160,12 @@ impl<L: RaftLog> Cluster<L> {
     ///
     /// If memory was refused. The cluster and the observer are then unknown.
     #[tactic(auto, unfolding(rb_machine::specs::Outcome::execution))]
-    pub fn run_watched<O: Observer>(
+    pub fn run_watched<O: Observer<L>>(
         &mut self,
         directive: &DirectiveRef<'_>,
         observer: &mut O,
     ) -> Result<(), AllocError>
-        ensures { OnOk result (watched self.new (O.meaning observer.new) ≡ after_directive O.starting O.taking (O.meaning observer.old) (execution self.old (plain directive.now))) }
+        ensures { OnOk result (watched self.new (O.meaning observer.new) ≡ after_directive O.starting O.taking O.settling (O.meaning observer.old) (execution self.old (plain directive.now))) }
     {
         // The request is borrowed, since it is large.
         let read = request(directive);
@@ -183,7 +183,7 @@ impl<L: RaftLog> Cluster<L> {
     /// Runs a directive, and returns what it prints.
     pub(crate) fn printed(&mut self, directive: &DirectiveRef<'_>) -> Result<Lines, AllocError>
         ensures cluster { OnOk result (self.new ≡ (execution self.old (plain directive.now)).cluster) }
-        ensures output { IfOk result (λ lines. lines ≡ lines_at (execution self.old (plain directive.now)).level (execution self.old (plain directive.now)).items) }
+        ensures output { IfOk result (λ lines. lines ≡ lines_at (execution self.old (plain directive.now)).level (shown_items (execution self.old (plain directive.now)))) }
     {
         let mut printed = PrintedLines::new(self.alloc);
         self.run_watched(directive, &mut printed)?;

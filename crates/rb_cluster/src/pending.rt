@@ -74,12 +74,12 @@ pub(crate) fn split(
 
 impl<L: RaftLog> Cluster<L> {
     /// Appends a message to the pending ones, or drops it if there is no room.
-    pub(crate) fn send<O: Observer>(
+    pub(crate) fn send<O: Observer<L>>(
         &mut self,
         message: Message,
         observer: &mut O,
     ) -> Result<(), AllocError>
-        ensures { OnOk result (watched self.new (O.meaning observer.new) ≡ after O.taking (O.meaning observer.old) (sent self.old message)) }
+        ensures { OnOk result (watched self.new (O.meaning observer.new) ≡ after O.taking O.settling (O.meaning observer.old) (sent self.old message)) }
     {
         if !has_room(&self.pending) {
             return observer.observe(&Item::Moved(Verb::NoRoomFor, &message));
@@ -89,12 +89,12 @@ impl<L: RaftLog> Cluster<L> {
     }
 
     /// Appends messages, in their order.
-    pub(crate) fn send_all<O: Observer>(
+    pub(crate) fn send_all<O: Observer<L>>(
         &mut self,
         messages: Vec<Message>,
         observer: &mut O,
     ) -> Result<(), AllocError>
-        ensures { OnOk result (watched self.new (O.meaning observer.new) ≡ after O.taking (O.meaning observer.old) (all_sent self.old messages.items)) }
+        ensures { OnOk result (watched self.new (O.meaning observer.new) ≡ after O.taking O.settling (O.meaning observer.old) (all_sent self.old messages.items)) }
     {
         for message in messages {
             self.send(message, observer)?;

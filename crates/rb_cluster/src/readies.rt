@@ -5,7 +5,7 @@ ghost use Rattle.rb_raftlog.specs.Log.{not_durable};
 ghost use Rattle.rb_node.specs.Readying.{ready, applying, others};
 ghost use Rattle.rb_texts.specs.Items as items;
 ghost use Rattle.rb_machine.specs.Entries.{entry_items};
-ghost use Rattle.rb_machine.specs.Readies.{hard_items, snapshot_items, ready_items, node_advanced, ready_processed, ready_processed_each};
+ghost use Rattle.rb_machine.specs.Readies.{hard_items, snapshot_items, ready_items, node_advanced, advanced_and_settled, ready_processed, ready_processed_each};
 ghost use Rattle.rb_machine.specs.Observers.{watched, after};
 
 use crate::cluster::{Cluster, place_of};
@@ -17,7 +17,7 @@ use rb_texts::Item;
 use std::alloc::AllocError;
 
 // Shows the hard state and a restored snapshot, if they are ready.
-fn show_hard<O: Observer, L: RaftLog>(
+fn show_hard<O: Observer<L>, L: RaftLog>(
     observer: &mut O,
     view: &ReadyView<'_, L>,
 ) -> Result<(), AllocError>
@@ -29,7 +29,7 @@ fn show_hard<O: Observer, L: RaftLog>(
     }
 }
 
-fn show_snapshot<O: Observer, L: RaftLog>(
+fn show_snapshot<O: Observer<L>, L: RaftLog>(
     observer: &mut O,
     view: &ReadyView<'_, L>,
 ) -> Result<(), AllocError>
@@ -42,7 +42,7 @@ fn show_snapshot<O: Observer, L: RaftLog>(
 }
 
 // Shows the entries of a log that aren't durable, which are to be saved.
-fn show_unsaved<O: Observer, L: RaftLog>(observer: &mut O, log: &L) -> Result<(), AllocError>
+fn show_unsaved<O: Observer<L>, L: RaftLog>(observer: &mut O, log: &L) -> Result<(), AllocError>
     ensures { OnOk result (O.meaning observer.new ≡ fold O.taking (O.meaning observer.old) (entry_items items.save ((L.plain log.now).durable + 1) (not_durable (L.plain log.now)))) }
 {
     let _last = log.last_index();
@@ -56,14 +56,20 @@ fn show_unsaved<O: Observer, L: RaftLog>(observer: &mut O, log: &L) -> Result<()
 }
 
 // Shows the entries to save.
-fn show_saved<O: Observer, L: RaftLog>(observer: &mut O, node: &Node<L>) -> Result<(), AllocError>
+fn show_saved<O: Observer<L>, L: RaftLog>(
+    observer: &mut O,
+    node: &Node<L>,
+) -> Result<(), AllocError>
     ensures { OnOk result (O.meaning observer.new ≡ fold O.taking (O.meaning observer.old) (entry_items items.save (node.now.log.durable + 1) (ready node.now).save)) }
 {
     show_unsaved(observer, &node.status().log)
 }
 
 // Shows the entries to apply.
-fn show_applied<O: Observer, L: RaftLog>(observer: &mut O, node: &Node<L>) -> Result<(), AllocError>
+fn show_applied<O: Observer<L>, L: RaftLog>(
+    observer: &mut O,
+    node: &Node<L>,
+) -> Result<(), AllocError>
     ensures { OnOk result (O.meaning observer.new ≡ fold O.taking (O.meaning observer.old) (entry_items items.apply (node.now.applied + 1) (applying node.now))) }
 {
     let state = node.status();
@@ -78,7 +84,10 @@ fn show_applied<O: Observer, L: RaftLog>(observer: &mut O, node: &Node<L>) -> Re
 }
 
 // Shows the outgoing messages: the sent ones, and the waiting answers to other nodes.
-fn show_sent<O: Observer>(observer: &mut O, outbox: &Outbox) -> Result<(), AllocError>
+fn show_sent<L: RaftLog, O: Observer<L>>(
+    observer: &mut O,
+    outbox: &Outbox,
+) -> Result<(), AllocError>
     ensures { OnOk result (O.meaning observer.new ≡ fold O.taking (O.meaning observer.old) (map items.send outbox.now)) }
 {
     for k in 0..outbox.len() {
@@ -87,7 +96,11 @@ fn show_sent<O: Observer>(observer: &mut O, outbox: &Outbox) -> Result<(), Alloc
     Ok(())
 }
 
-fn show_waited<O: Observer>(observer: &mut O, id: u64, outbox: &Outbox) -> Result<(), AllocError>
+fn show_waited<L: RaftLog, O: Observer<L>>(
+    observer: &mut O,
+    id: u64,
+    outbox: &Outbox,
+) -> Result<(), AllocError>
     ensures { OnOk result (O.meaning observer.new ≡ fold O.taking (O.meaning observer.old) (map items.send (others id outbox.now))) }
 {
     for k in 0..outbox.len() {
@@ -101,7 +114,7 @@ fn show_waited<O: Observer>(observer: &mut O, id: u64, outbox: &Outbox) -> Resul
 
 // Shows a node's ready.
 #[tactic(auto, unfolding(rb_machine::specs::Readies::ready_items))]
-fn show_ready<O: Observer, L: RaftLog>(
+fn show_ready<O: Observer<L>, L: RaftLog>(
     observer: &mut O,
     id: u64,
     node: &Node<L>,
@@ -120,8 +133,8 @@ fn show_ready<O: Observer, L: RaftLog>(
 
 impl<L: RaftLog> Cluster<L> {
     // Advances a node, sends its outgoing messages, and shows its events.
-    fn advance<O: Observer>(&mut self, id: u64, observer: &mut O) -> Result<(), AllocError>
-        ensures { OnOk result (watched self.new (O.meaning observer.new) ≡ after O.taking (O.meaning observer.old) (node_advanced self.old id)) }
+    fn advance<O: Observer<L>>(&mut self, id: u64, observer: &mut O) -> Result<(), AllocError>
+        ensures { OnOk result (watched self.new (O.meaning observer.new) ≡ after O.taking O.settling (O.meaning observer.old) (node_advanced self.old id)) }
     {
         let mut events = Vec::new(self.alloc);
         let mut messages = Vec::new(self.alloc);
@@ -134,14 +147,26 @@ impl<L: RaftLog> Cluster<L> {
         show_events(observer, &events)
     }
 
-    /// Processes a node's ready, or shows that there is none.
-    #[tactic(auto, unfolding(rb_machine::specs::Readies::whole_ready_processed))]
-    pub(crate) fn process_one_ready<O: Observer>(
+    // Advances a node, which has then settled.
+    fn advance_and_settle<O: Observer<L>>(
         &mut self,
         id: u64,
         observer: &mut O,
     ) -> Result<(), AllocError>
-        ensures { OnOk result (watched self.new (O.meaning observer.new) ≡ after O.taking (O.meaning observer.old) (ready_processed self.old id)) }
+        ensures { OnOk result (watched self.new (O.meaning observer.new) ≡ after O.taking O.settling (O.meaning observer.old) (advanced_and_settled self.old id)) }
+    {
+        self.advance(id, observer)?;
+        self.show_settled(id, observer)
+    }
+
+    /// Processes a node's ready, or shows that there is none.
+    #[tactic(auto, unfolding(rb_machine::specs::Readies::whole_ready_processed))]
+    pub(crate) fn process_one_ready<O: Observer<L>>(
+        &mut self,
+        id: u64,
+        observer: &mut O,
+    ) -> Result<(), AllocError>
+        ensures { OnOk result (watched self.new (O.meaning observer.new) ≡ after O.taking O.settling (O.meaning observer.old) (ready_processed self.old id)) }
     {
         let Some(node) = self.node_with(id) else {
             return Ok(());
@@ -150,16 +175,16 @@ impl<L: RaftLog> Cluster<L> {
             return observer.observe(&Item::NothingReady(id));
         }
         show_ready(observer, id, node)?;
-        self.advance(id, observer)
+        self.advance_and_settle(id, observer)
     }
 
     /// Processes the ready of nodes, in their order.
-    pub(crate) fn process_ready<O: Observer>(
+    pub(crate) fn process_ready<O: Observer<L>>(
         &mut self,
         ids: &[u8],
         observer: &mut O,
     ) -> Result<(), AllocError>
-        ensures { OnOk result (watched self.new (O.meaning observer.new) ≡ after O.taking (O.meaning observer.old) (ready_processed_each self.old ids.now)) }
+        ensures { OnOk result (watched self.new (O.meaning observer.new) ≡ after O.taking O.settling (O.meaning observer.old) (ready_processed_each self.old ids.now)) }
     {
         for id in ids {
             self.process_one_ready(u64::from(*id), observer)?;

@@ -103,12 +103,12 @@ impl<L: RaftLog> Cluster<L> {
     }
 
     // Processes the ready of each node that has one.
-    fn process_each_ready<O: Observer>(
+    fn process_each_ready<O: Observer<L>>(
         &mut self,
         ids: &[u64],
         observer: &mut O,
     ) -> Result<(), AllocError>
-        ensures { OnOk result (watched self.new (O.meaning observer.new) ≡ after O.taking (O.meaning observer.old) (each_ready_processed self.old ids.now)) }
+        ensures { OnOk result (watched self.new (O.meaning observer.new) ≡ after O.taking O.settling (O.meaning observer.old) (each_ready_processed self.old ids.now)) }
     {
         for id in ids {
             if self.is_ready(*id) {
@@ -119,12 +119,12 @@ impl<L: RaftLog> Cluster<L> {
     }
 
     // Delivers each node's pending messages.
-    fn deliver_to_each<O: Observer>(
+    fn deliver_to_each<O: Observer<L>>(
         &mut self,
         ids: &[u64],
         observer: &mut O,
     ) -> Result<(), AllocError>
-        ensures { OnOk result (watched self.new (O.meaning observer.new) ≡ after O.taking (O.meaning observer.old) (delivered_each None self.old ids.now)) }
+        ensures { OnOk result (watched self.new (O.meaning observer.new) ≡ after O.taking O.settling (O.meaning observer.old) (delivered_each None self.old ids.now)) }
     {
         let receivers = Receivers::of(&self.pending);
         for id in ids {
@@ -136,21 +136,21 @@ impl<L: RaftLog> Cluster<L> {
     }
 
     #[tactic(auto, unfolding(rb_machine::specs::Rounds::round))]
-    fn round<O: Observer>(&mut self, ids: &[u64], observer: &mut O) -> Result<(), AllocError>
-        ensures { OnOk result (watched self.new (O.meaning observer.new) ≡ after O.taking (O.meaning observer.old) (round ids.now self.old)) }
+    fn round<O: Observer<L>>(&mut self, ids: &[u64], observer: &mut O) -> Result<(), AllocError>
+        ensures { OnOk result (watched self.new (O.meaning observer.new) ≡ after O.taking O.settling (O.meaning observer.old) (round ids.now self.old)) }
     {
         self.process_each_ready(ids, observer)?;
         self.deliver_to_each(ids, observer)
     }
 
     // Runs rounds while there is work, up to a limit.
-    fn run_rounds<O: Observer>(
+    fn run_rounds<O: Observer<L>>(
         &mut self,
         rounds: u64,
         ids: &[u64],
         observer: &mut O,
     ) -> Result<(), AllocError>
-        ensures { OnOk result (watched self.new (O.meaning observer.new) ≡ after O.taking (O.meaning observer.old) (rounds_run rounds rounds ids.now self.old)) }
+        ensures { OnOk result (watched self.new (O.meaning observer.new) ≡ after O.taking O.settling (O.meaning observer.old) (rounds_run rounds rounds ids.now self.old)) }
     {
         for _round in 0..rounds {
             if !self.has_work(ids) {
@@ -165,13 +165,13 @@ impl<L: RaftLog> Cluster<L> {
     }
 
     /// Runs rounds over the named nodes, or over all if none is named, until there is no work left or the limit is reached.
-    pub(crate) fn stabilize<O: Observer>(
+    pub(crate) fn stabilize<O: Observer<L>>(
         &mut self,
         named: &IdList,
         rounds: u64,
         observer: &mut O,
     ) -> Result<(), AllocError>
-        ensures { OnOk result (watched self.new (O.meaning observer.new) ≡ after O.taking (O.meaning observer.old) (stabilized named.now rounds self.old)) }
+        ensures { OnOk result (watched self.new (O.meaning observer.new) ≡ after O.taking O.settling (O.meaning observer.old) (stabilized named.now rounds self.old)) }
     {
         let ids = self.chosen(named)?;
         self.run_rounds(rounds, &ids, observer)

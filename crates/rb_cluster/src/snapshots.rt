@@ -63,8 +63,12 @@ fn snapshot_message<L: RaftLog>(
 impl<L: RaftLog> Cluster<L> {
     // Queues a message by hand, if there is room.
     #[tactic(auto, unfolding(rb_machine::specs::Snapshots::queued))]
-    fn queue<O: Observer>(&mut self, message: Message, observer: &mut O) -> Result<(), AllocError>
-        ensures { OnOk result (watched self.new (O.meaning observer.new) ≡ after O.taking (O.meaning observer.old) (queued self.old message)) }
+    fn queue<O: Observer<L>>(
+        &mut self,
+        message: Message,
+        observer: &mut O,
+    ) -> Result<(), AllocError>
+        ensures { OnOk result (watched self.new (O.meaning observer.new) ≡ after O.taking O.settling (O.meaning observer.old) (queued self.old message)) }
     {
         // If there is no room, `send` says so.
         if has_room(&self.pending) {
@@ -74,13 +78,13 @@ impl<L: RaftLog> Cluster<L> {
     }
 
     /// Queues a node's snapshot for another node.
-    pub(crate) fn send_snapshot<O: Observer>(
+    pub(crate) fn send_snapshot<O: Observer<L>>(
         &mut self,
         from: u64,
         to: u64,
         observer: &mut O,
     ) -> Result<(), AllocError>
-        ensures { OnOk result (watched self.new (O.meaning observer.new) ≡ after O.taking (O.meaning observer.old) (snapshot_sent from to self.old)) }
+        ensures { OnOk result (watched self.new (O.meaning observer.new) ≡ after O.taking O.settling (O.meaning observer.old) (snapshot_sent from to self.old)) }
     {
         let Some(node) = self.node_with(from) else {
             return Ok(());
@@ -101,13 +105,13 @@ impl<L: RaftLog> Cluster<L> {
     }
 
     /// Compacts a node's log to an index, and shows the log.
-    pub(crate) fn compact<O: Observer>(
+    pub(crate) fn compact<O: Observer<L>>(
         &mut self,
         id: u64,
         index: u64,
         observer: &mut O,
     ) -> Result<(), AllocError>
-        ensures { OnOk result (watched self.new (O.meaning observer.new) ≡ after O.taking (O.meaning observer.old) (compact id index self.old)) }
+        ensures { OnOk result (watched self.new (O.meaning observer.new) ≡ after O.taking O.settling (O.meaning observer.old) (compact id index self.old)) }
     {
         let Some(shared) = self.nodes.get_mut(place_of(id)) else {
             return Ok(());

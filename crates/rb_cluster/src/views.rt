@@ -30,7 +30,7 @@ fn log_line<L: RaftLog>(state: &State<L>) -> LogLine
 }
 
 // Shows the entries of a log.
-fn show_entries<O: Observer, L: RaftLog>(observer: &mut O, log: &L) -> Result<(), AllocError>
+fn show_entries<O: Observer<L>, L: RaftLog>(observer: &mut O, log: &L) -> Result<(), AllocError>
     ensures { OnOk result (O.meaning observer.new ≡ fold O.taking (O.meaning observer.old) (entry_items (held_item (L.plain log.now).durable) ((L.plain log.now).base + 1) (L.plain log.now).entries)) }
 {
     let durable = log.durable();
@@ -45,7 +45,7 @@ fn show_entries<O: Observer, L: RaftLog>(observer: &mut O, log: &L) -> Result<()
 
 /// Shows a node's log.
 #[tactic(auto, unfolding(rb_machine::specs::Views::log_items))]
-pub(crate) fn show_log<O: Observer, L: RaftLog>(
+pub(crate) fn show_log<O: Observer<L>, L: RaftLog>(
     observer: &mut O,
     node: &Node<L>,
 ) -> Result<(), AllocError>
@@ -59,7 +59,10 @@ pub(crate) fn show_log<O: Observer, L: RaftLog>(
 // ---- status
 
 // Shows a leader's views.
-fn show_views<O: Observer>(observer: &mut O, tracker: &Tracker) -> Result<(), AllocError>
+fn show_views<L: RaftLog, O: Observer<L>>(
+    observer: &mut O,
+    tracker: &Tracker,
+) -> Result<(), AllocError>
     ensures { OnOk result (O.meaning observer.new ≡ fold O.taking (O.meaning observer.old) (map view_item tracker.now.views)) }
 {
     for i in 0..tracker.len() {
@@ -70,7 +73,10 @@ fn show_views<O: Observer>(observer: &mut O, tracker: &Tracker) -> Result<(), Al
 }
 
 #[tactic(auto, unfolding(rb_machine::specs::Views::status_items))]
-fn show_status<O: Observer, L: RaftLog>(observer: &mut O, node: &Node<L>) -> Result<(), AllocError>
+fn show_status<O: Observer<L>, L: RaftLog>(
+    observer: &mut O,
+    node: &Node<L>,
+) -> Result<(), AllocError>
     ensures { OnOk result (O.meaning observer.new ≡ fold O.taking (O.meaning observer.old) (status_items node.now)) }
 {
     let state = node.status();
@@ -96,7 +102,7 @@ fn node_line<L: RaftLog>(state: &State<L>) -> NodeLine<'_>
     }
 }
 
-fn show_states<O: Observer, L: RaftLog>(
+fn show_states<O: Observer<L>, L: RaftLog>(
     observer: &mut O,
     nodes: &[SharedNode<L>],
 ) -> Result<(), AllocError>
@@ -110,8 +116,8 @@ fn show_states<O: Observer, L: RaftLog>(
 
 impl<L: RaftLog> Cluster<L> {
     /// Shows the log of a node.
-    pub fn show_log<O: Observer>(&self, id: u64, observer: &mut O) -> Result<(), AllocError>
-        ensures { OnOk result (watched self.now (O.meaning observer.new) ≡ after O.taking (O.meaning observer.old) (log_shown id self.now)) }
+    pub fn show_log<O: Observer<L>>(&self, id: u64, observer: &mut O) -> Result<(), AllocError>
+        ensures { OnOk result (watched self.now (O.meaning observer.new) ≡ after O.taking O.settling (O.meaning observer.old) (log_shown id self.now)) }
     {
         match self.node_with(id) {
             Some(node) => show_log(observer, node),
@@ -120,8 +126,8 @@ impl<L: RaftLog> Cluster<L> {
     }
 
     /// Shows the configuration of a node, and a leader's views.
-    pub fn show_status<O: Observer>(&self, id: u64, observer: &mut O) -> Result<(), AllocError>
-        ensures { OnOk result (watched self.now (O.meaning observer.new) ≡ after O.taking (O.meaning observer.old) (status_shown id self.now)) }
+    pub fn show_status<O: Observer<L>>(&self, id: u64, observer: &mut O) -> Result<(), AllocError>
+        ensures { OnOk result (watched self.now (O.meaning observer.new) ≡ after O.taking O.settling (O.meaning observer.old) (status_shown id self.now)) }
     {
         match self.node_with(id) {
             Some(node) => show_status(observer, node),
@@ -130,8 +136,8 @@ impl<L: RaftLog> Cluster<L> {
     }
 
     /// Shows the state of each node.
-    pub fn show_states<O: Observer>(&self, observer: &mut O) -> Result<(), AllocError>
-        ensures { OnOk result (watched self.now (O.meaning observer.new) ≡ after O.taking (O.meaning observer.old) (states_shown self.now)) }
+    pub fn show_states<O: Observer<L>>(&self, observer: &mut O) -> Result<(), AllocError>
+        ensures { OnOk result (watched self.now (O.meaning observer.new) ≡ after O.taking O.settling (O.meaning observer.old) (states_shown self.now)) }
     {
         show_states(observer, &self.nodes)
     }

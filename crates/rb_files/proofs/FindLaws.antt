@@ -4,7 +4,7 @@ use Rattle.std.specs.List.{All}
 use Rattle.std.proofs.lemmas.List.Elements.{All-nil, All-push}
 use Rattle.std.specs.declared.alloc.Global.{Global}
 use Rattle.rb_files.specs.declared.finding.Found.{Found}
-use Rattle.rb_files.specs.declared.finding.Lost.{Lost}
+use Rattle.rb_files.specs.declared.finding.FailedPath.{FailedPath}
 use Rattle.rb_files.specs.PathErrors.{IsOfReading}
 use Rattle.rb_files.specs.Finds.{AreTold, IsFound, IsKept}
 
@@ -15,7 +15,7 @@ pub nothing_told : AreTold []
 unfolding AreTold
 nothing_told = All-nil (λ l. IsOfReading l.error)
 
-pub one_more_told : (lost : List Lost) (one : Lost) → AreTold lost → IsOfReading one.error → AreTold (lost ++ one ∷ [])
+pub one_more_told : (lost : List FailedPath) (one : FailedPath) → AreTold lost → IsOfReading one.error → AreTold (lost ++ one ∷ [])
 unfolding AreTold
 one_more_told lost one h t = All-push (λ l. IsOfReading l.error) lost one h t
 

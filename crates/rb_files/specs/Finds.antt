@@ -5,14 +5,14 @@ use Rattle.std.specs.Str.Iter.{HasSubslice}
 use Rattle.std.specs.declared.alloc.Global.{Global}
 use Rattle.rb_files.specs.PathErrors.{IsOfReading}
 use Rattle.rb_files.specs.declared.finding.Found.{Found}
-use Rattle.rb_files.specs.declared.finding.Lost.{Lost}
+use Rattle.rb_files.specs.declared.finding.FailedPath.{FailedPath}
 use Rattle.rb_files.specs.declared.finding.Waiting.{Waiting}
 use Rattle.rb_files.specs.declared.path_error.PathError.{PathError}
 
 abbrev pub exclamation_mark : ℕ
 exclamation_mark = 33
 
--- the path has not what stands behind the word's `!`, or without that it has the word
+-- the path has not what is after the word's `!`, or without that it has the word
 pub record IsMet (word path : List ℕ) : Type 0 where
   pub left_out : (rest : List ℕ) → word ≡ exclamation_mark ∷ rest → HasSubslice path rest → ⊥
   pub wanted : ((rest : List ℕ) → word ≡ exclamation_mark ∷ rest → ⊥) → HasSubslice path word
@@ -22,11 +22,11 @@ abbrev pub IsKept : List (String Global) → List ℕ → Type 0
 IsKept words path = All (λ word. IsMet (string_bytes word) path) words
 
 -- why each of them is lost is what the system said, where it said something
-unfoldable pub AreTold : List Lost → Type 0
+unfoldable pub AreTold : List FailedPath → Type 0
 AreTold lost = All (λ l. IsOfReading l.error) lost
 
 -- the paths that are lost, and why
-abbrev pub losses : List Lost → List (List ℕ × PathError)
+abbrev pub losses : List FailedPath → List (List ℕ × PathError)
 losses lost = map (λ l. (l.path.items, l.error)) lost
 
 -- the paths that wait

@@ -8,7 +8,7 @@ pub record Written : Type 0 where
   pub text : List ℕ
   pub is_settled : Bool
 
--- what stands there: the file, and the new file, where there is one; what the first call that failed said, and whether removing failed
+-- what is there: the file, and the new file, if there is one; what the first call that failed said, and whether removing failed
 pub record Standing : Type 0 where
   pub file : Written
   pub new : Option Written
@@ -23,7 +23,7 @@ told_with e s = Some (unwrap_or s.told e)
 abbrev pub failed : PathError → Standing → Standing
 failed e s = record s { told = told_with e s }
 
--- a call that turns what stands there into this, or fails; nothing is said where it isn't known
+-- a call that turns what is there into this, or fails; nothing is said where it isn't known
 abbrev pub Turns : {X : Type 0} → (Standing → Standing) → Result X PathError → Option Standing → Option Standing → Type 0
 Turns turned (Ok x) old new = IfSome old (λ s. new ≡ Some (turned s))
 Turns turned (Err e) old new = IfSome old (λ s. new ≡ Some (failed e s))
@@ -32,15 +32,15 @@ Turns turned (Err e) old new = IfSome old (λ s. new ≡ Some (failed e s))
 abbrev pub FailsAtText : PathError → Standing → Option Standing → Type 0
 FailsAtText e s new = (w : Option Written) × (new ≡ Some (record { file = s.file; new = w; told = told_with e s; is_stuck = s.is_stuck })) × (is_some w ≡ is_some s.new)
 
--- with bytes behind its text
+-- with bytes after its text
 abbrev pub extended : List ℕ → Written → Written
 extended bytes w = record { text = w.text ++ bytes; is_settled = false }
 
--- the new file has bytes behind its text
+-- the new file has bytes after its text
 abbrev pub put : List ℕ → Standing → Standing
 put bytes s = record s { new = option_map (extended bytes) s.new }
 
--- a call that puts bytes behind the new file's text; on a failure that text is any
+-- a call that puts bytes after the new file's text; on a failure that text is any
 abbrev pub Puts : {X : Type 0} → List ℕ → Result X PathError → Option Standing → Option Standing → Type 0
 Puts bytes (Ok x) old new = IfSome old (λ s. new ≡ Some (put bytes s))
 Puts bytes (Err e) old new = IfSome old (λ s. FailsAtText e s new)
@@ -74,7 +74,7 @@ abbrev pub Removes : {X : Type 0} → Result X PathError → Option Standing →
 Removes (Ok x) old new = IfSome old (λ s. new ≡ Some (removed s))
 Removes (Err e) old new = IfSome old (λ s. new ≡ Some (record (failed e s) { is_stuck = true }))
 
--- this text stands there, settled, and no new file
+-- this text is there, settled, and no new file
 abbrev pub replaced : List ℕ → Standing → Standing
 replaced text s = record s { file = record { text = text; is_settled = true }; new = None }
 
@@ -83,7 +83,7 @@ abbrev pub Fills : {X : Type 0} → List ℕ → Result X PathError → Option S
 Fills text (Ok x) old new = IfSome old (λ s. s.new ≡ Some empty → new ≡ Some (replaced text s))
 Fills text (Err e) old new = IfSome old (λ s. FailsAtText e s new)
 
--- the old file stands there as it was, and no new one, or one whose removing failed, as is said; and it is reported what was said first
+-- the old file is there as it was, and no new one, or one whose removing failed, as is said; and it is reported what was said first
 abbrev pub LeavesOld : Unreplaced → Standing → Option Standing → Type 0
 LeavesOld why s new =
     MatchBool why.is_removed

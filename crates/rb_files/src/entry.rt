@@ -1,6 +1,6 @@
-//! What stands at a path, its links followed.
+//! The file or folder at a path, after following its links.
 //!
-//! A script is known by the folder that it stands in and its name there, and a folder by its number in the file system: so each is found
+//! A script is known by the folder that it is in and its name there, and a folder by its number in the file system: so each is found
 //! once, whatever paths and links lead to it. Two names of one file by hard links are two scripts, since each may be given a text of its own.
 
 ghost use Rattle.std.specs.Prelude.{◌≡◌, IfErr};
@@ -9,7 +9,7 @@ ghost use Rattle.rb_files.specs.PathErrors.{IsOfReading};
 
 use crate::file_look::FileLook;
 use crate::path_error::PathError;
-use rb_check::Failure;
+use rb_report::check::Failure;
 use std::fs;
 use std::fs::Metadata;
 use std::os::unix::fs::FileTypeExt;
@@ -19,7 +19,7 @@ use std::rt::Files;
 /// How many links in a row are followed; the system follows as many (path_resolution of Linux).
 const MOST_LINKS: usize = 40;
 
-/// A folder, wherever its name stands.
+/// A folder, by its identity.
 #[derive(Clone, Copy, PartialEq, Eq, PartialOrd, Ord)]
 pub(crate) struct FolderId {
     device: u64,
@@ -39,12 +39,12 @@ impl FolderId {
 
 /// A file: its folder, and its name there.
 #[derive(PartialEq, Eq, PartialOrd, Ord, Drop)]
-pub(crate) struct FileId {
+pub struct FileId {
     folder: FolderId,
     name: String,
 }
 
-/// What stands at a path.
+/// What is at a path.
 #[derive(Drop)]
 pub(crate) enum PathEntry {
     Folder(FolderId),
@@ -53,7 +53,7 @@ pub(crate) enum PathEntry {
     Other(Failure),
 }
 
-/// What stands at the path, its links followed.
+/// What is at the path, after following its links.
 pub(crate) fn entry_at<R: Files + AllocGlobal>(rt: &R, path: &str) -> Result<PathEntry, PathError>
     ensures { IfErr result IsOfReading }
 {
@@ -98,7 +98,7 @@ fn file_id<R: Files + AllocGlobal>(rt: &R, target: &str) -> Result<FileId, PathE
     Ok(FileId { folder, name })
 }
 
-// The system's answer for what the path names, a link too.
+// The system's answer for the path itself, even if it is a link.
 fn looked_at<R: Files>(rt: &R, path: &str) -> Result<Metadata, PathError>
     ensures { IfErr result IsOfReading }
 {
@@ -122,7 +122,7 @@ pub(crate) fn followed<R: Files + AllocGlobal>(rt: &R, path: &str) -> Result<Str
     Err(PathError::alone(Failure::LinkLoop))
 }
 
-// Where the link leads: a path that doesn't begin at the root begins at the link's folder.
+// The link's target: a path that doesn't begin at the root begins at the link's folder.
 fn next_link<R: Files + AllocGlobal>(rt: &R, link: &str) -> Result<String, PathError>
     ensures { IfErr result IsOfReading }
 {
@@ -136,7 +136,7 @@ fn next_link<R: Files + AllocGlobal>(rt: &R, link: &str) -> Result<String, PathE
     }
 }
 
-/// The folder that the path's last name stands in.
+/// The folder that the path's last name is in.
 pub(crate) fn folder_of(path: &str) -> &str
     ensures { result.now ≡ folder_of path.now }
 {
@@ -146,8 +146,22 @@ pub(crate) fn folder_of(path: &str) -> &str
     }
 }
 
-/// The last name of a path, or all of it if it has none.
-pub fn name_of(path: &str) -> &str
+/// The file at the path, as [`find`](crate::find) tells scripts apart; none if something else is there.
+///
+/// # Errors
+///
+/// If the path couldn't be looked at.
+pub fn file_at<R: Files + AllocGlobal>(rt: &R, path: &str) -> Result<Option<FileId>, PathError>
+    ensures { IfErr result IsOfReading }
+{
+    match entry_at(rt, path)? {
+        PathEntry::File(file) => Ok(Some(file)),
+        PathEntry::Folder(_) | PathEntry::Other(_) => Ok(None),
+    }
+}
+
+// The last name of a path, or all of it if it has none.
+fn name_of(path: &str) -> &str
     ensures { result.now ≡ name_of path.now }
 {
     match Path::new(path).file_name() {

@@ -1,4 +1,4 @@
-//! A look at a file: what tells one file from another, and a file from what it was before.
+//! Metadata that tells one file from another, and a changed file from the same file before.
 
 ghost use Rattle.std.specs.Prelude.{◌≡◌, ◌↔◌, IsTrue};
 ghost use Rattle.std.specs.Fs.{metadata_len};
@@ -6,7 +6,7 @@ ghost use Rattle.std.specs.Fs.{metadata_len};
 use std::fs::Metadata;
 use std::os::unix::fs::MetadataExt;
 
-/// What the system says of a file at some time.
+/// The system's metadata of a file at some time.
 #[derive(Clone, Copy, Debug)]
 pub(crate) struct FileLook {
     pub(crate) device: u64,
@@ -19,7 +19,7 @@ pub(crate) struct FileLook {
 
 impl FileLook {
     pub(crate) fn of(metadata: &Metadata) -> FileLook
-        // Of the other numbers the standard library says nothing.
+        // The standard library doesn't give the other numbers.
         ensures { result.len ≡ metadata_len metadata.now }
     {
         FileLook {

@@ -1,8 +1,8 @@
 //! Putting a new text in a file's place.
 //!
 //! A [`FilePlace`] is a file that has a text, beside which a new file can be made. The new text goes there first, whole and settled, and takes
-//! the old one's place by one step: so whatever fails, the old text or the new one stands in the place. This is proved of each place of which it
-//! is known what stands there and whose calls do what the trait says. Of real files nothing is known: that their place, [`crate::Beside`],
+//! the old one's place by one step: so whatever fails, the old text or the new one is in the place. This is proved of each place of which it
+//! is known what is there and whose calls do what the trait says. Of real files nothing is known: that their place, [`crate::AtomicReplace`],
 //! is such a one is not proved but tested, with calls of the system that fail in turn.
 
 ghost use Rattle.std.specs.Prelude.{Option};
@@ -10,16 +10,16 @@ ghost use Rattle.rb_files.specs.Places.{Standing, Turns, Puts, Fills, Removes, R
 
 use crate::path_error::PathError;
 
-/// A file with a text, and the new file beside it, where there is one.
+/// A file with a text, and the new file next to it, if there is one.
 pub trait FilePlace {
-    // what stands there, and what the first call that failed said; `None` where it isn't known
+    // the contents, and the first call's failure; `None` if they aren't known
     ghost stands: { Self → Option Standing };
 
     /// Makes the new file, without a text.
     fn create(&mut self) -> Result<(), PathError>
         ensures { Turns created result (stands self.old) (stands self.new) };
 
-    /// Writes behind the new file's text.
+    /// Appends to the new file's text.
     fn put(&mut self, bytes: &[u8]) -> Result<(), PathError>
         ensures { Puts bytes.now result (stands self.old) (stands self.new) };
 
@@ -27,7 +27,7 @@ pub trait FilePlace {
     fn settle(&mut self) -> Result<(), PathError>
         ensures { Turns settled result (stands self.old) (stands self.new) };
 
-    /// Puts the new file in the old one's place, if that is still what it was.
+    /// Renames the new file to the old one, if that hasn't changed.
     fn rename(&mut self) -> Result<(), PathError>
         ensures { Turns renamed result (stands self.old) (stands self.new) };
 
@@ -39,13 +39,13 @@ pub trait FilePlace {
 /// Why a text was not put in a place.
 #[derive(Clone, Copy, Debug)]
 pub struct Unreplaced {
-    /// What failed first.
+    /// The first failure.
     pub error: PathError,
     /// Whether no new file is left.
     pub is_removed: bool,
 }
 
-/// Puts the text in the place, where there is no new file yet.
+/// Replaces the text of the place, which has no new file yet.
 ///
 /// # Errors
 ///

@@ -12,7 +12,7 @@ fn has_word(path: &str, word: &str) -> bool
     path.contains(word)
 }
 
-// Whether the path has the word in it, or has not what stands behind its `!`.
+// Whether the path contains the word, or doesn't contain the part after its `!`.
 fn is_met(path: &str, word: &str) -> bool
     ensures { (result ≡ true) ↔ IsMet word.now path.now }
 {

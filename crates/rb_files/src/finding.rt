@@ -1,7 +1,7 @@
 //! Finding the scripts of some paths.
 //!
 //! A path is a script, or a folder, whose names that end in `.txt` are scripts, with those of its folders: in the order of the names, where a
-//! folder's scripts stand in its name's place. Each script and each folder is looked at once, so that loops of links end.
+//! folder's scripts are in its name's place. Each script and each folder is looked at once, so that loops of links end.
 //! What a folder's file `.raftbenchignore` names, a path a line, isn't looked at, unless it is itself one of the paths.
 
 ghost use Rattle.std.specs.Prelude.{◌≡◌, ◌||◌, ◌++◌, ◌∷◌, if◌then◌else◌, [], true, IfOk, map, string_bytes};
@@ -17,7 +17,7 @@ use crate::filter::is_kept;
 use crate::ignored::{IGNORED, ignored_by, ignored_in};
 use crate::listing::{Listing, listed};
 use crate::path_error::PathError;
-use rb_check::Failure;
+use rb_report::check::Failure;
 use std::alloc::{AllocError, Global};
 use std::collections::BTreeSet;
 use std::convert::AsStr;
@@ -25,27 +25,27 @@ use std::fs;
 use std::path::Path;
 use std::rt::Files;
 
-/// A path of which nothing came.
+/// A path that failed.
 #[derive(Drop)]
-pub struct Lost {
-    /// The path; what stands after its last `/` may be no text.
+pub struct FailedPath {
+    /// The path; its last name may not be UTF-8.
     pub path: Vec<u8>,
     /// Why.
     pub error: PathError,
 }
 
-/// What is found.
+/// The scripts that were found.
 #[derive(Drop)]
 pub struct Found {
     /// The paths of the scripts, in their order.
     pub scripts: Vec<String>,
-    /// The paths of which nothing came.
-    pub lost: Vec<Lost>,
+    /// The paths that failed.
+    pub lost: Vec<FailedPath>,
     /// Whether memory ran out before all was looked at.
     pub is_cut: bool,
 }
 
-/// The scripts of the paths; of them those whose paths have each of the words in them, and none that stands behind a `!`.
+/// The scripts of the paths; of them those whose paths have each of the words in them, and none that is after a `!`.
 #[tactic(auto, using(crate::proofs::FindLaws::nothing_told))]
 pub fn find<R: Files + AllocGlobal, S: AsStr>(rt: &R, paths: &[S], words: &[String]) -> Found
     // Each word holds of each path, and each loss is what the system said. That all scripts are found is only tested: what
@@ -78,7 +78,7 @@ struct Search {
     waiting: Vec<Waiting>,
     folders: BTreeSet<FolderId>,
     files: BTreeSet<FileId>,
-    // what a folder's file says isn't to be looked at
+    // the paths that ignore files name
     ignored: Vec<String>,
     found: Found,
 }
@@ -142,7 +142,7 @@ impl Search {
         }
     }
 
-    // Of what stands at the path.
+    // Of what is at the path.
     #[tactic(auto, using(crate::proofs::FindLaws::still_found))]
     fn look_in<R: Files + AllocGlobal>(
         &mut self,
@@ -165,7 +165,7 @@ impl Search {
         }
     }
 
-    // What isn't there, and was no folder and would be no script, is nothing that was lost.
+    // A path that has vanished, was not a folder and wouldn't be a script, is not a failure.
     fn miss(&mut self, next: Waiting, error: PathError) -> Result<(), AllocError>
         ensures scripts { self.new.found.scripts ≡ self.old.found.scripts }
         ensures told { AreTold self.old.found.lost.items → IsOfReading error → AreTold self.new.found.lost.items }
@@ -185,7 +185,7 @@ impl Search {
         ensures lost { IfOk result (λ _. losses self.new.found.lost.items ≡ losses self.old.found.lost.items ++ (string_bytes path, error) ∷ []) }
     {
         let path = path.into_bytes();
-        Ok(self.found.lost.push(Lost { path, error })?)
+        Ok(self.found.lost.push(FailedPath { path, error })?)
     }
 
     fn take(&mut self, path: String, id: FileId, words: &[String]) -> Result<(), AllocError>
@@ -222,7 +222,7 @@ impl Search {
         }
     }
 
-    // Takes note of what the text of a folder's file names.
+    // Records the paths that a folder's ignore file names.
     fn ignore(&mut self, alloc: Global, folder: &str, text: &str) -> Result<(), AllocError>
         ensures found { self.new.found ≡ self.old.found }
         ensures ignored { IfOk result (λ _. map string_bytes self.new.ignored.items
@@ -255,7 +255,7 @@ impl Search {
     {
         let alloc = rt.alloc();
         for name in &listing.strange {
-            self.lose_strange(alloc, folder, name)?;
+            self.report_undecodable_name(alloc, folder, name)?;
         }
         for name in listing.names.iter().rev() {
             let path = Path::new(folder).join(alloc, name.as_str())?.into_string();
@@ -291,7 +291,12 @@ impl Search {
 
     // A name that is no text can be opened by nobody here, be it a script's or a folder's.
     #[tactic(auto, using(crate::proofs::FindLaws::one_more_told))]
-    fn lose_strange(&mut self, alloc: Global, folder: &str, name: &[u8]) -> Result<(), AllocError>
+    fn report_undecodable_name(
+        &mut self,
+        alloc: Global,
+        folder: &str,
+        name: &[u8],
+    ) -> Result<(), AllocError>
         ensures scripts { self.new.found.scripts ≡ self.old.found.scripts }
         ensures told { AreTold self.old.found.lost.items → AreTold self.new.found.lost.items }
     {
@@ -299,11 +304,11 @@ impl Search {
         path.push(b'/')?;
         path.extend_from_slice(name)?;
         let error = PathError::alone(Failure::NotRead);
-        Ok(self.found.lost.push(Lost { path, error })?)
+        Ok(self.found.lost.push(FailedPath { path, error })?)
     }
 }
 
-// Where a folder's file of what isn't looked at stands.
+// The path of a folder's ignore file.
 fn ignored_path(alloc: Global, folder: &str) -> Result<String, AllocError> {
     Ok(Path::new(folder).join(alloc, IGNORED)?.into_string())
 }
@@ -316,7 +321,7 @@ fn is_script_name(name: &str) -> bool
     &bytes[bytes.len().saturating_sub(4)..] == b".txt".as_slice()
 }
 
-// What vanishes until its turn comes is known to have been a folder.
+// A name that vanishes before it is visited is known to have been a folder.
 fn is_folder_now<R: Files>(rt: &R, path: &str) -> bool {
     match fs::metadata(rt, path) {
         Ok(metadata) => metadata.is_dir(),

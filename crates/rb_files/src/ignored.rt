@@ -1,4 +1,4 @@
-//! The file in a folder that names what isn't looked at.
+//! The file in a folder that names paths to ignore.
 
 ghost use Rattle.std.specs.Prelude.{◌≡◌, ◌↔◌, ◌≤◌, IfErr, IfOk, IsOk, map, option_map, string_bytes};
 ghost use Rattle.std.specs.Io.BufRead.{strip_last};
@@ -8,7 +8,7 @@ ghost use Rattle.rb_files.specs.PathErrors.{IsOfReading};
 
 use crate::opening::opened;
 use crate::path_error::PathError;
-use rb_check::Failure;
+use rb_report::check::Failure;
 use std::alloc::{AllocError, Global};
 use std::io::ErrorKind;
 use std::path::Path;
@@ -21,7 +21,7 @@ pub(crate) const IGNORED: &str = ".raftbenchignore";
 /// How many bytes it may have.
 pub const MAX_IGNORED: u64 = 1_048_576;
 
-/// The text of the folder's file; none, where it has no such file, or lets nobody see whether it has.
+/// The text of the folder's ignore file; none, if there is none or it can't be seen.
 pub(crate) fn ignored_in<R: Files + AllocGlobal>(
     rt: &R,
     folder: &str,
@@ -29,7 +29,7 @@ pub(crate) fn ignored_in<R: Files + AllocGlobal>(
     ensures { IfErr result IsOfReading }
 {
     let path = Path::new(folder).join(rt.alloc(), IGNORED)?;
-    // A folder that may not be entered shows nothing of what is in it: each script there is told by itself.
+    // A folder that may not be entered hides its contents: each script in it is reported by itself.
     if fs::symlink_metadata(rt, path.as_str()).is_err_and(is_unseen) {
         return Ok(None);
     }
@@ -55,7 +55,7 @@ fn text_of<R: Files + AllocGlobal>(rt: &R, path: &str) -> Result<Option<String>,
     }
 }
 
-// Whether so many bytes are read of it. It is opened with this length, and no more is read.
+// Whether that many bytes are read of it. It is opened with this length, and no more is read.
 fn within_limit(len: u64) -> Result<(), PathError>
     ensures limit { IsOk result ↔ len ≤ MAX_IGNORED }
     ensures why { IfErr result IsOfReading }
@@ -86,7 +86,7 @@ fn lines_of(alloc: Global, text: &str) -> Result<Vec<&str>, AllocError>
     text.lines().collect(alloc)
 }
 
-// What a line names; an empty line and a comment name nothing.
+// The path that a line names; an empty line and a comment name nothing.
 fn named_by(line: &str) -> Option<&str>
     ensures { option_map (λ name. name.now) result ≡ named_by line.now }
 {

@@ -40,7 +40,7 @@ pub(crate) fn listed<R: Files + AllocGlobal>(rt: &R, folder: &str) -> Result<Lis
 }
 
 impl Listing {
-    // Adds a name that isn't hidden. The empty one is what follows the last name.
+    // Adds a name that isn't hidden. The empty name comes after the last one.
     fn add(&mut self, alloc: Global, name: &[u8]) -> Result<(), AllocError>
         ensures hidden { is_hidden name.now ≡ true → IfOk result (λ _. self.new ≡ self.old) }
         ensures text { is_hidden name.now ≡ false → IsUtf8 name.now → IfOk result (λ _. map string_bytes self.new.names.items ≡ map string_bytes self.old.names.items ++ name.now ∷ []) }
@@ -85,7 +85,7 @@ fn all_names<R: Files + AllocGlobal>(rt: &R, folder: &str) -> Result<Vec<u8>, Pa
     Ok(bytes)
 }
 
-// Adds what one call gives; whether it gave some.
+// Adds the names of one call; returns whether there were some.
 fn read_names<D: Read>(folder: &mut D, bytes: &mut Vec<u8>) -> Result<bool, PathError>
     ensures { IfErr result IsOfReading }
 {

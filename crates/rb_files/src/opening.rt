@@ -6,20 +6,20 @@ ghost use Rattle.std.specs.Io.Take.{take_limit};
 ghost use Rattle.rb_files.specs.PathErrors.{IsOfOpening};
 
 use crate::path_error::PathError;
-use rb_check::Failure;
+use rb_report::check::Failure;
 use std::fs;
 use std::fs::{File, Metadata, OpenFile};
 use std::io::{Read, Take};
 use std::rt::Files;
 
-/// The file at the path, opened for reading, and what the system says of it.
+/// The file at the path, opened for reading, and its metadata.
 ///
 /// A pipe would be waited for, and a device may give bytes without end: so it is looked at before it is opened, and the file that was
 /// opened once more. No more is read than the bytes that it has then: files of /proc say that they have none, and some of them are waited for.
 ///
 /// # Errors
 ///
-/// `NoFile` where it is no regular file; else why it couldn't be looked at or opened.
+/// `NoFile` if it is not a regular file; else why it couldn't be looked at or opened.
 pub fn opened<R: Files>(rt: &R, path: &str) -> Result<(Take<R::File>, Metadata), PathError>
     ensures file { MatchResult result (λ opened. IsFile (file_type opened.1)) IsOfOpening }
     ensures limit { IfOk result (λ opened. take_limit opened.0 ≡ metadata_len opened.1) }

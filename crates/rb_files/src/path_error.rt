@@ -1,21 +1,21 @@
-//! Why nothing came of a path.
+//! Why a path failed.
 
 ghost use Rattle.std.specs.Prelude.{◌≡◌, Some, None};
 ghost use Rattle.std.specs.IoError.{error_kind};
-ghost use Rattle.rb_check.specs.declared.failure.Failure.TheVariants.{OutOfMemory};
+ghost use Rattle.rb_report.specs.declared.check.failure.Failure.TheVariants.{OutOfMemory};
 ghost use Rattle.rb_files.specs.PathErrors.{reading_failure, writing_failure};
 
-use rb_check::Failure;
+use rb_report::check::Failure;
 use std::alloc::AllocError;
 use std::io;
 use std::io::ErrorKind;
 
-/// Why nothing came of a path, and what the system said.
+/// Why a path failed, with the system's error.
 #[derive(Clone, Copy, Debug)]
 pub struct PathError {
     /// Why.
     pub failure: Failure,
-    /// The system's error, where there is one.
+    /// The system's error, if there is one.
     pub cause: Option<io::Error>,
 }
 

@@ -25,6 +25,7 @@ use Rattle.rb_machine.specs.AddNodes.{add_nodes_fault, nodes_added}
 use Rattle.rb_machine.specs.Changes.{propose_change}
 use Rattle.rb_machine.specs.Cluster.{Cluster, is_node}
 use Rattle.rb_machine.specs.Deliveries.{msgs_delivered}
+use Rattle.rb_machine.specs.Observations.{Observation, Shown, items_of}
 use Rattle.rb_machine.specs.Readies.{ready_processed_each}
 use Rattle.rb_machine.specs.Rounds.{stabilized}
 use Rattle.rb_machine.specs.Effects.{Effect, quiet}
@@ -104,19 +105,23 @@ effect requests.RaftState c = states_shown c
 
 -- ---- what happens
 
--- the cluster after a directive, the level for its items, and the items
+-- the cluster after a directive, the level for its items, and what is observed
 pub record Execution : Type 0 where
   pub cluster : Cluster
   pub level : Level
-  pub items : List PlainItem
+  pub observed : List Observation
+
+-- the items of a directive
+abbrev pub shown_items : Execution → List PlainItem
+shown_items h = items_of h.observed
 
 -- the error is the only item, and the cluster stays
 abbrev pub refused : Cluster → DirectiveError → Execution
-refused c e = record { cluster = c; level = c.level; items = error e ∷ [] }
+refused c e = record { cluster = c; level = c.level; observed = Shown (error e ∷ []) ∷ [] }
 
 -- the option `log-level` applies to this directive only
 abbrev pub done : Asked → Cluster → Execution
-done a c = record { cluster = (effect a.request c).cluster; level = unwrap_or a.log_level c.level; items = (effect a.request c).items }
+done a c = record { cluster = (effect a.request c).cluster; level = unwrap_or a.log_level c.level; observed = (effect a.request c).observed }
 
 abbrev pub unless_refused : Option DirectiveError → Asked → Cluster → Execution
 unless_refused (Some e) a c = refused c e
@@ -141,7 +146,7 @@ abbrev pub lines_at : Level → List PlainItem → List Line
 lines_at level items = or_ok level (flat_map (line_of level) items)
 
 abbrev pub printed : Execution → Outcome
-printed h = record { cluster = h.cluster; output = lines_at h.level h.items }
+printed h = record { cluster = h.cluster; output = lines_at h.level (shown_items h) }
 
 -- the cluster after a directive, and its output
 unfoldable pub outcome : Cluster → PlainDirective → Outcome

@@ -4,6 +4,8 @@ ghost use Rattle.std.specs.Prelude.{◌≡◌, [], IfOk};
 ghost use Rattle.rb_machine.specs.Outcome.{or_ok};
 
 use crate::observer::Observer;
+use rb_node::Node;
+use rb_raftlog::RaftLog;
 use rb_script::Lines;
 use rb_texts::{Item, put};
 use rb_vocab::Level;
@@ -33,14 +35,15 @@ impl PrintedLines {
     {
         let mut printed = self;
         if printed.lines.is_empty() {
-            printed.observe(&Item::NothingElse)?;
+            put(&mut printed.lines, printed.level, &Item::NothingElse)?;
         }
         Ok(printed.lines)
     }
 }
 
-impl Observer for PrintedLines {
+impl<L: RaftLog> Observer<L> for PrintedLines {
     ghost use Rattle.rb_machine.specs.declared.printed.PrintedLines.{PrintedLines};
+    ghost use Rattle.rb_machine.specs.Observations.{passing};
     ghost use Rattle.rb_machine.specs.Printing.{at_level, with_item};
 
     ghost Meaning = { PrintedLines };
@@ -51,11 +54,17 @@ impl Observer for PrintedLines {
 
     ghost taking = { with_item };
 
+    ghost settling = { passing };
+
     fn start(&mut self, level: Level) {
         self.level = level;
     }
 
     fn observe(&mut self, item: &Item<'_>) -> Result<(), AllocError> {
         put(&mut self.lines, self.level, item)
+    }
+
+    fn settle(&mut self, _id: u64, _node: &Node<L>) -> Result<(), AllocError> {
+        Ok(())
     }
 }

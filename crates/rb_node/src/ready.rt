@@ -3,14 +3,13 @@
 //! Before a node advances, its owner saves the hard state and the new entries, sends messages, and applies committed entries (etcd raft
 //! documentation, "Ready"). The view borrows all of it from the node; nothing is copied.
 
-ghost use Rattle.std.specs.Prelude.{◌≡◌, ◌<◌, IsOk, length, slice_get};
-ghost use Rattle.rb_raftlog.specs.Log.{entry_at};
+ghost use Rattle.std.specs.Prelude.{◌≡◌, ◌<◌, length, slice_get};
 ghost use Rattle.rb_node.specs.Readying.{ready, hard_state, is_saved, has_ready, applying};
 
 use crate::node::Node;
 use crate::state::State;
 use rb_message::{HardState, Outbox};
-use rb_raftlog::{Entry, Pieces, RaftLog};
+use rb_raftlog::{Entry, Pieces, RaftLog, held_entry};
 use std::marker::Model;
 
 /// A borrowed view of what is ready. Contracts see its node.
@@ -57,17 +56,6 @@ pub(crate) fn applying_len<L: RaftLog>(state: &State<L>) -> usize
         .saturating_sub(from) as usize
 }
 
-// The entry at an index, which must exist.
-fn entry_of<L: RaftLog>(log: &L, index: u64) -> &Entry
-    requires { IsOk (entry_at (L.plain log.now) index) }
-    ensures { entry_at (L.plain log.now) index ≡ Ok result.now }
-{
-    match log.entry_at(index) {
-        Ok(entry) => entry,
-        Err(_) => unreachable!(),
-    }
-}
-
 // One of the committed entries that aren't applied.
 #[tactic(auto, using(crate::proofs::Between::between_sizes, crate::proofs::Between::between_found, crate::proofs::Between::between_is_found))]
 pub(crate) fn applying_entry<L: RaftLog>(state: &State<L>, k: usize) -> &Entry
@@ -76,7 +64,7 @@ pub(crate) fn applying_entry<L: RaftLog>(state: &State<L>, k: usize) -> &Entry
 {
     let from = state.applied.max(state.log.first_index() - 1);
     let _last = state.log.last_index();
-    entry_of(&state.log, from + 1 + k as u64)
+    held_entry(&state.log, from + 1 + k as u64)
 }
 
 impl<'a, L: RaftLog> ReadyView<'a, L> {

@@ -1,5 +1,5 @@
 //! Holds a session over plain logs on the script on standard input, takes one directive out and puts it back, and writes the report: tests/cases
-//! compares it with the program's. The status is 1 where there is none.
+//! compares it with the program's. The status is 1 if there is none.
 #![tactic(auto)]
 
 use rb_cluster::{Cluster, Meter};

@@ -1,1 +1,2 @@
 pub mod WrittenLaws
+pub mod ColonLaws

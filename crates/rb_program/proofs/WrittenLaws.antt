@@ -9,10 +9,10 @@ use Rattle.rb_script.specs.Writes.{AppendsFront}
 use Rattle.rb_script.proofs.ScriptLaws.{reads_once}
 use Rattle.rb_script.proofs.HeadLineLaws.{heads_once}
 use Rattle.rb_replay.specs.Report.{mismatches}
-use Rattle.rb_check.specs.declared.status.Status.{Status}
+use Rattle.rb_report.specs.declared.check.status.Status.{Status}
 use Rattle.rb_bench.specs.declared.fault.BenchFault.TheVariants as faults
 use Rattle.rb_bench.specs.Runs.{IsNoScript, status_of}
-use Rattle.rb_steps.specs.Steps.{steps_texts}
+use Rattle.rb_view.specs.Steps.{steps_texts}
 use Rattle.rb_program.specs.Written.{AreRowsOf, AreStepsOf, Tells}
 
 rows_once : (bytes heads : List ℕ) (s : PlainScript) (texts : List Line) → AreHeadLines 1 (lines bytes) s.blocks heads → AreRowsOf bytes s texts → texts ≡ steps_texts bytes heads s

@@ -1,18 +1,19 @@
 -- What the words of the command line ask for. (This project's.)
-use Rattle.std.specs.Prelude.{ℕ, ◌||◌, ◌&&◌, not, Bool, true, false, if◌then◌else◌, List, Option, Some, None, codes, unwrap_or}
-use Rattle.std.specs.Path.{path_file_name}
+use Rattle.std.specs.Prelude.{ℕ, ◌||◌, ◌&&◌, not, Bool, true, false, if◌then◌else◌, List, Option, Some, None, codes, option_map, unwrap_or}
+use Rattle.std.specs.Path.{path_file_name, rsplit_once}
 use Rattle.std.specs.Str.{bytes_eq}
+use Rattle.rb_text.specs.Numbers.{number_of}
 use Rattle.rb_args.specs.declared.choice.CheckChoice.{CheckChoice}
-use Rattle.rb_check.specs.declared.colors.Colors.{Colors}
-use Rattle.rb_check.specs.declared.colors.Colors.TheVariants as shades
-use Rattle.rb_checked.specs.declared.view.Shown.{Shown}
-use Rattle.rb_checked.specs.declared.view.Shown.TheVariants as shown
-use Rattle.rb_suite.specs.declared.format.Format.TheVariants as formats
+use Rattle.rb_report.specs.declared.check.colors.Colors.{Colors}
+use Rattle.rb_report.specs.declared.check.colors.Colors.TheVariants as shades
+use Rattle.rb_script_report.specs.declared.view.Detail.{Detail}
+use Rattle.rb_script_report.specs.declared.view.Detail.TheVariants as shown
+use Rattle.rb_check.specs.declared.format.Format.TheVariants as formats
 use Rattle.rb_program.specs.declared.checking.Terminals.{Terminals}
 use Rattle.rb_program.specs.declared.colors.ColorChoice.{ColorChoice}
 use Rattle.rb_program.specs.declared.colors.ColorChoice.TheVariants as colors
-use Rattle.rb_program.specs.declared.misuse.Misuse.{Misuse}
-use Rattle.rb_program.specs.declared.misuse.Misuse.TheVariants as misuses
+use Rattle.rb_program.specs.declared.usage_error.UsageError.{UsageError}
+use Rattle.rb_program.specs.declared.usage_error.UsageError.TheVariants as misuses
 use Rattle.rb_program.specs.declared.style.Style.{Style}
 use Rattle.rb_program.specs.declared.style.Style.TheVariants as styles
 
@@ -38,14 +39,15 @@ style_of (Some word) =
     if bytes_eq word (codes "text") then Some styles.Text
     else (if bytes_eq word (codes "json") then Some (styles.Program formats.Json)
     else (if bytes_eq word (codes "github") then Some (styles.Program formats.Github)
-    else None))
+    else (if bytes_eq word (codes "junit") then Some (styles.Program formats.Junit)
+    else None)))
 
 -- outputs are accepted where one of the three options asks for it, and nowhere else
 abbrev pub accepts : CheckChoice → Bool
 accepts choice = choice.accepts || choice.accepts_errors || choice.reviews
 
 -- how much is shown: the least of what is asked for; programs are told all that differs
-abbrev pub shown_of : CheckChoice → Style → Shown
+abbrev pub shown_of : CheckChoice → Style → Detail
 shown_of choice (styles.Program format) = shown.Differing
 shown_of choice styles.Text =
     if choice.is_brief || choice.reviews then shown.Brief
@@ -58,12 +60,20 @@ is_text styles.Text = true
 is_text (styles.Program format) = false
 
 -- what is wrong with a review: what it asks about isn't shown, or it can't ask
-abbrev pub review_fault : CheckChoice → Style → Terminals → Option Misuse
+abbrev pub review_fault : CheckChoice → Style → Terminals → Option UsageError
 review_fault choice style terminals =
     if not choice.reviews then None
     else (if choice.is_quiet || not (is_text style) then Some misuses.Unseen
     else (if terminals.input && terminals.output then None
     else Some misuses.NoTerminal))
+
+abbrev pub with_line : Option (List ℕ × List ℕ) → Option (List ℕ × ℕ)
+with_line None = None
+with_line (Some parts) = option_map (λ line. (parts.0, line)) (number_of parts.1)
+
+-- FILE, and the number after the word's last colon
+abbrev pub path_and_line : List ℕ → Option (List ℕ × ℕ)
+path_and_line word = with_line (rsplit_once 58 word)
 
 -- what a script is called where it is shown: the last name of its path
 abbrev pub shown_name : List ℕ → List ℕ

@@ -8,14 +8,14 @@ use Rattle.rb_script.specs.HeadLines.{AreHeadLines}
 use Rattle.rb_script.specs.Reading.{read_of, Refuses}
 use Rattle.rb_script.specs.Writes.{AppendsFront}
 use Rattle.rb_replay.specs.Report.{mismatches}
-use Rattle.rb_check.specs.declared.status.Status.{Status}
-use Rattle.rb_check.specs.declared.status.Status.TheVariants as statuses
+use Rattle.rb_report.specs.declared.check.status.Status.{Status}
+use Rattle.rb_report.specs.declared.check.status.Status.TheVariants as statuses
 use Rattle.rb_bench.specs.declared.fault.BenchFault.{BenchFault}
 use Rattle.rb_bench.specs.declared.fault.BenchFault.TheVariants as faults
 use Rattle.rb_bench.specs.Runs.{IsNoScript, IsUnread, read_part, status_of}
-use Rattle.rb_chart.specs.declared.part.ChartPart.{ChartPart}
-use Rattle.rb_chart.specs.Charts.{PlainChart, chart_text}
-use Rattle.rb_chart.specs.Drawn.{drawn_arrows, without_places}
+use Rattle.rb_view.specs.declared.chart.part.ChartPart.{ChartPart}
+use Rattle.rb_view.specs.Charts.{PlainChart, chart_text}
+use Rattle.rb_view.specs.Drawn.{drawn_arrows, without_places}
 
 -- the arrows of a picture are those of the part of a script, which the bytes are
 pub record IsPictureOf (bytes : List ℕ) (part : ChartPart) (s : PlainScript) (chart : PlainChart) : Type 0 where
@@ -36,7 +36,7 @@ IsDrawn style part bytes status old new =
     ((chart : PlainChart) × IsPicture bytes part chart status × Appends old new (chart_text style chart)) ⊎ ((status ≡ statuses.Refused) × Keeps old new)
 
 -- The answer to bytes: a picture was written and the status of their script, or a fault. That writing failed is answered only of a script, and what
--- went out then is a beginning of a picture.
+-- was written then is a beginning of a picture.
 abbrev pub Draws : List ℕ → ChartPart → List ℕ → Result Status BenchFault → Option (List ℕ) → Option (List ℕ) → Type 0
 Draws style part bytes (Ok status) old new = IsDrawn style part bytes status old new
 Draws style part bytes (Err faults.Spacing) old new = ⊥

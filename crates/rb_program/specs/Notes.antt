@@ -1,23 +1,20 @@
 -- What is said of a script that was written with its outputs. (This project's.)
-use Rattle.std.specs.Prelude.{ℕ, if◌then◌else◌, List, [], ◌++◌, unwrap_or}
+use Rattle.std.specs.Prelude.{ℕ, if◌then◌else◌, List, []}
 use Rattle.std.specs.List.{flat_map}
 use Rattle.rb_script.specs.Lines.{Line}
 use Rattle.rb_script.specs.Script.{PlainBlock}
 use Rattle.rb_script.specs.Reading.{directive_of}
-use Rattle.rb_check.specs.Headings.{note_text}
-use Rattle.rb_check.specs.Notices.{warning_text}
-use Rattle.rb_help.specs.Suggestions.{suggested}
-use Rattle.rb_checked.specs.declared.warning.Warning.{Warning}
-use Rattle.rb_checked.specs.Checked.{head_of, of_each}
-use Rattle.rb_checked.specs.Errors.{first_line, is_unexpected}
-
--- what was probably meant by a directive
-abbrev pub meant_by : PlainBlock → List ℕ
-meant_by b = unwrap_or (suggested (directive_of b)) []
+use Rattle.rb_report.specs.Headings.{note_text}
+use Rattle.rb_report.specs.Hints.{hint_text}
+use Rattle.rb_report.specs.Notices.{warning_text}
+use Rattle.rb_report.specs.Suggestions.{suggested}
+use Rattle.rb_script_report.specs.declared.warning.Warning.{Warning}
+use Rattle.rb_script_report.specs.Checked.{head_of, of_each}
+use Rattle.rb_script_report.specs.Errors.{first_line, is_unexpected}
 
 -- a directive whose output is an error, which the script, of these lines, doesn't say is expected
 abbrev pub error_noted : List Line → List ℕ → ℕ → PlainBlock → List Line → List ℕ
-error_noted ls path line b output = if is_unexpected ls line output then note_text path line (head_of b) (first_line output) (meant_by b) else []
+error_noted ls path line b output = if is_unexpected ls line output then note_text path line (head_of b) (first_line output) (hint_text (suggested (directive_of b))) else []
 
 -- all of these, by the lines of their heads
 abbrev pub errors_noted : List Line → List ℕ → List ℕ → List PlainBlock → List (List Line) → List ℕ

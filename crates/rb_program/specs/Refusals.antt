@@ -4,10 +4,10 @@ use Rattle.clap.specs.Values.{kind_of}
 use Rattle.clap.specs.declared.error.Error.{Error}
 use Rattle.clap.specs.declared.error.kind.ErrorKind.{ErrorKind}
 use Rattle.clap.specs.declared.error.kind.ErrorKind.TheVariants as kinds
-use Rattle.rb_check.specs.declared.status.Status.{Status}
-use Rattle.rb_check.specs.declared.status.Status.TheVariants as statuses
-use Rattle.rb_program.specs.declared.refusal.Refusal.{Refusal}
-use Rattle.rb_program.specs.declared.refusal.Refusal.TheVariants as refusals
+use Rattle.rb_report.specs.declared.check.status.Status.{Status}
+use Rattle.rb_report.specs.declared.check.status.Status.TheVariants as statuses
+use Rattle.rb_program.specs.declared.program_error.ProgramError.{ProgramError}
+use Rattle.rb_program.specs.declared.program_error.ProgramError.TheVariants as refusals
 
 -- help and the version are what was asked for, and are written or not; all else is a mistake in the words
 abbrev pub EndsByKind : ErrorKind → Status → Type 0
@@ -16,7 +16,7 @@ EndsByKind kinds.DisplayVersion status = (status ≡ statuses.Matched) ⊎ (stat
 EndsByKind _ status = status ≡ statuses.BadUsage
 
 -- the status that a refusal ends with
-abbrev pub EndsWith : Refusal → Status → Type 0
+abbrev pub EndsWith : ProgramError → Status → Type 0
 EndsWith (refusals.Clap error) status = EndsByKind (kind_of error) status
 EndsWith (refusals.Usage misuse) status = status ≡ statuses.BadUsage
 EndsWith (refusals.OwnUsage misuse) status = status ≡ statuses.BadUsage

@@ -8,11 +8,11 @@ use Rattle.rb_script.specs.Reading.{read_of, Refuses}
 use Rattle.rb_script.specs.HeadLines.{AreHeadLines}
 use Rattle.rb_script.specs.Writes.{AppendsFront}
 use Rattle.rb_replay.specs.Report.{mismatches}
-use Rattle.rb_check.specs.declared.status.Status.{Status}
+use Rattle.rb_report.specs.declared.check.status.Status.{Status}
 use Rattle.rb_bench.specs.declared.fault.BenchFault.{BenchFault}
 use Rattle.rb_bench.specs.declared.fault.BenchFault.TheVariants as faults
 use Rattle.rb_bench.specs.Runs.{IsNoScript, IsUnread, read_part, status_of}
-use Rattle.rb_trace.specs.Traces.{trace_lines}
+use Rattle.rb_view.specs.Traces.{trace_lines}
 
 -- these are the lines of the trace of a script of this name, which the bytes are
 pub record AreLinesOf (name bytes : List ℕ) (s : PlainScript) (traced : List Line) : Type 0 where
@@ -28,7 +28,7 @@ pub record IsTraceOf (name bytes : List ℕ) (traced : List Line) (status : Stat
   pub status_is : status ≡ status_of (mismatches script)
 
 -- The answer to bytes: the trace of their script was written and this is its status, or a fault. That writing failed is answered only of a script,
--- and what went out then is a beginning of its trace.
+-- and what was written then is a beginning of its trace.
 abbrev pub Traces : List ℕ → List ℕ → Result Status BenchFault → Option (List ℕ) → Option (List ℕ) → Type 0
 Traces name bytes (Ok status) old new = (traced : List Line) × IsTraceOf name bytes traced status × Appends old new (text_of traced)
 Traces name bytes (Err faults.Spacing) old new = ⊥

@@ -7,12 +7,12 @@ use Rattle.rb_text.specs.Numbers.{number_of}
 use Rattle.rb_program.specs.declared.work.Work.{Work}
 use Rattle.rb_program.specs.declared.work.Work.TheVariants as works
 
--- the number behind `--every`
+-- the number after `--every`
 abbrev pub spacing_of : Option (List ℕ) → Option ℕ
 spacing_of None = Some DEFAULT_CHECKPOINT_INTERVAL
 spacing_of (Some word) = number_of word
 
--- what the subcommand does, with the text behind `--every`, which pages don't look at; nothing, where that is no number
+-- what the subcommand does, with the text after `--every`, which pages don't look at; nothing, where that is no number
 abbrev pub work_of : ScriptCommand → Option (List ℕ) → Option Work
 work_of commands.Run every = option_map (λ n. works.Report n) (spacing_of every)
 work_of commands.Rewrite every = option_map (λ n. works.Rewriting n) (spacing_of every)

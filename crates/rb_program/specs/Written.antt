@@ -8,13 +8,13 @@ use Rattle.rb_script.specs.Reading.{read_of, Refuses}
 use Rattle.rb_script.specs.HeadLines.{AreHeadLines}
 use Rattle.rb_script.specs.Writes.{AppendsFront}
 use Rattle.rb_replay.specs.Report.{mismatches}
-use Rattle.rb_check.specs.declared.status.Status.{Status}
+use Rattle.rb_report.specs.declared.check.status.Status.{Status}
 use Rattle.rb_bench.specs.declared.fault.BenchFault.{BenchFault}
 use Rattle.rb_bench.specs.declared.fault.BenchFault.TheVariants as faults
 use Rattle.rb_bench.specs.Runs.{IsNoScript, IsUnread, read_part, status_of}
-use Rattle.rb_steps.specs.Steps.{steps_texts}
+use Rattle.rb_view.specs.Steps.{steps_texts}
 
--- these are the rows behind the first of a script, which the bytes are
+-- these are the rows after the first of a script, which the bytes are
 pub record AreRowsOf (bytes : List ℕ) (s : PlainScript) (texts : List Line) : Type 0 where
   pub heads : List ℕ
   pub heads_are : AreHeadLines 1 (lines bytes) s.blocks heads
@@ -28,7 +28,7 @@ pub record AreStepsOf (bytes : List ℕ) (texts : List Line) (status : Status) :
   pub status_is : status ≡ status_of (mismatches script)
 
 -- The answer to bytes, where this text is written of rows: the text of those of their script and the status, or a fault. That writing failed
--- is answered only of a script, and what went out then is a beginning of its text.
+-- is answered only of a script, and what was written then is a beginning of its text.
 abbrev pub Tells : (List Line → List ℕ) → List ℕ → Result Status BenchFault → Option (List ℕ) → Option (List ℕ) → Type 0
 Tells text bytes (Ok status) old new = (texts : List Line) × AreStepsOf bytes texts status × Appends old new (text texts)
 Tells text bytes (Err faults.Spacing) old new = ⊥

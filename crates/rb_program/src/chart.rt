@@ -2,13 +2,13 @@
 
 use crate::chart_over::chart_over;
 use crate::job::{Job, run_job};
-use crate::misuse::{Misuse, misused};
 use crate::page::name_of;
-use crate::refusal::Refusal;
+use crate::program_error::ProgramError;
+use crate::usage_error::{UsageError, misused};
 use rb_bench::{BenchFault, Outlet};
-use rb_chart::ChartPart;
-use rb_check::Status;
+use rb_report::check::Status;
 use rb_text::{Source, number_of};
+use rb_view::chart::ChartPart;
 use std::alloc::Global;
 use std::rt::Files;
 
@@ -18,7 +18,7 @@ pub(crate) fn chart<R: Files + Input + Print + AllocGlobal>(
     file: &str,
     from: Option<&str>,
     until: Option<&str>,
-) -> Result<Status, Refusal> {
+) -> Result<Status, ProgramError> {
     let charting = Charting {
         name: name_of(file).as_bytes(),
         part: ChartPart {
@@ -28,7 +28,7 @@ pub(crate) fn chart<R: Files + Input + Print + AllocGlobal>(
     };
     let status = run_job(rt, file, &charting)?;
     if status == Status::Refused {
-        return Err(Refusal::TooLarge);
+        return Err(ProgramError::TooLarge);
     }
     Ok(status)
 }
@@ -51,30 +51,30 @@ impl<'a> Job for Charting<'a> {
     }
 }
 
-// The line behind `--from`, where it is given.
-fn first_line(alloc: Global, from: Option<&str>) -> Result<Option<u64>, Refusal> {
+// The line after `--from`, if it is given.
+fn first_line(alloc: Global, from: Option<&str>) -> Result<Option<u64>, ProgramError> {
     let Some(word) = from else {
         return Ok(None);
     };
     match number_of(word.as_bytes()) {
         Some(line) => Ok(Some(line)),
         None => Err(match misused(alloc, from) {
-            Some(text) => Refusal::OwnUsage(Misuse::From(text)),
-            None => Refusal::OutOfMemory,
+            Some(text) => ProgramError::OwnUsage(UsageError::From(text)),
+            None => ProgramError::OutOfMemory,
         }),
     }
 }
 
-// The line behind `--until`, where it is given.
-fn last_line(alloc: Global, until: Option<&str>) -> Result<Option<u64>, Refusal> {
+// The line after `--until`, if it is given.
+fn last_line(alloc: Global, until: Option<&str>) -> Result<Option<u64>, ProgramError> {
     let Some(word) = until else {
         return Ok(None);
     };
     match number_of(word.as_bytes()) {
         Some(line) => Ok(Some(line)),
         None => Err(match misused(alloc, until) {
-            Some(text) => Refusal::OwnUsage(Misuse::Until(text)),
-            None => Refusal::OutOfMemory,
+            Some(text) => ProgramError::OwnUsage(UsageError::Until(text)),
+            None => ProgramError::OutOfMemory,
         }),
     }
 }

@@ -7,15 +7,16 @@ ghost use Rattle.rb_script.specs.Reading.{early_fault};
 ghost use Rattle.rb_script.specs.Writes.{Writes};
 ghost use Rattle.rb_bench.specs.Handed.{IsHandedOn};
 ghost use Rattle.rb_bench.specs.Runs.{most_read};
-ghost use Rattle.rb_chart.specs.Charts.{chart_text};
+ghost use Rattle.rb_view.specs.Charts.{chart_text};
 ghost use Rattle.rb_program.specs.Drawn.{Draws, DrawsOver};
 
-use crate::script_chart::{picture_of, read_script};
+use crate::reading::read_script;
+use crate::script_chart::picture_of;
 use rb_bench::{BenchFault, Outlet};
-use rb_chart::{Chart, ChartPart, STYLE, put_chart};
-use rb_check::Status;
+use rb_report::check::Status;
 use rb_script::{MAX_SCRIPT, WriteFault};
 use rb_text::{Source, read_up_to};
+use rb_view::chart::{Chart, ChartPart, STYLE, put_chart};
 use std::alloc::Global;
 
 /// Reads a script, runs it and writes the picture of its run, or of a part of it, under this name. The answer is the program's status:
@@ -33,23 +34,23 @@ pub(crate) fn chart_over<S: Source, W: Outlet>(
     name: &[u8],
     part: ChartPart,
 ) -> Result<Status, BenchFault>
-    // No more is taken of the source than is wanted, whatever comes of it, and it is asked no more often than for that.
+    // No more than needed is read from the source, whatever the result, in as few calls.
     ensures consumed { (taken : List ℕ) × (length taken ≤ most_read) × Consumes (S.left source.old) (S.left source.new) taken }
     ensures asked { AsksFor (S.left source.old) (S.asked source.old) (S.asked source.new) most_read }
-    // Where the source's bytes are known.
+    // If the source's bytes are known.
     // A call of the source that failed is a failure of the whole.
     ensures unfailed { OnOk result (Fails (S.asked source.old) (S.asked source.new) 0) }
     ensures answered { IfSome (S.left source.old) (λ all. DrawsOver STYLE.now part all (S.left source.new) result (W.held writer.old) (W.held writer.new)) }
-    // What was written was handed on.
+    // The output was flushed.
     ensures handed { IfOk result (λ status. status ≢ Status.Refused → IsHandedOn (W.handed writer.new) (W.held writer.new)) }
-    // No failure is answered where no call failed.
+    // Without a failed call the result is not a failure.
     ensures io { S.gives_all source.old → W.takes_all writer.old → result ≢ Err BenchFault.Io }
 {
     let bytes = read_up_to(alloc, source, MAX_SCRIPT + 1)?;
     chart_bytes(alloc, bytes.as_slice(), writer, name, part)
 }
 
-/// Runs the script of the bytes and writes its picture, as [`chart_over`] does of what it has read.
+/// Runs the script of the bytes and writes its picture, as [`chart_over`] does with its input.
 ///
 /// # Errors
 ///
@@ -62,7 +63,7 @@ pub(crate) fn chart_bytes<W: Outlet>(
     part: ChartPart,
 ) -> Result<Status, BenchFault>
     ensures answered { Draws STYLE.now part bytes.now result (W.held writer.old) (W.held writer.new) }
-    // What is too long is found whether or not there is memory.
+    // A script that is too long is refused whether or not there is memory.
     ensures early { IfSome (early_fault bytes.now) (λ fault. result ≡ Err (BenchFault.Script fault)) }
     ensures handed { IfOk result (λ status. status ≢ Status.Refused → IsHandedOn (W.handed writer.new) (W.held writer.new)) }
     ensures io { W.takes_all writer.old → result ≢ Err BenchFault.Io }

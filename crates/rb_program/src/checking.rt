@@ -5,14 +5,14 @@ ghost use Rattle.rb_program.specs.Choices.{accepts, review_fault, shown_of};
 
 use crate::clusters::Clusters;
 use crate::colors::{ColorChoice, color_choice_of, colors};
-use crate::misuse::{Misuse, misused};
-use crate::refusal::Refusal;
+use crate::program_error::ProgramError;
 use crate::style::{Style, style_of};
 use crate::target::targets;
+use crate::usage_error::{UsageError, misused};
 use rb_args::CheckChoice;
-use rb_check::Status;
-use rb_checked::Shown;
-use rb_suite::{CheckRequest, check};
+use rb_check::{CheckRequest, check};
+use rb_report::check::Status;
+use rb_script_report::Detail;
 use std::alloc::Global;
 use std::io::Write;
 use std::rt::{Env, Files};
@@ -30,18 +30,18 @@ pub struct Terminals {
 ///
 /// # Errors
 ///
-/// What is wrong with the arguments; or that no memory was found to begin with.
+/// If the arguments are wrong, or memory was refused at the beginning.
 pub fn check_all<R: Files + Input + Print + Env + Clock + AllocGlobal, E: Write + Drop>(
     rt: &R,
     choice: &CheckChoice,
     errors: E,
     terminals: Terminals,
-) -> Result<Status, Refusal>
-    // What is found to be wrong with the arguments is a refusal.
+) -> Result<Status, ProgramError>
+    // Wrong arguments are a usage error.
     ensures { IfOk result (λ status. status ≢ Status.BadUsage) }
 {
     let (color, style) = colors_and_style(rt.alloc(), choice, terminals)?;
-    let targets = targets(rt, &choice.paths, accepts(choice))?;
+    let targets = targets(rt, &choice.paths)?;
     let asked = CheckRequest {
         targets: &targets,
         filters: &choice.filters,
@@ -50,7 +50,8 @@ pub fn check_all<R: Files + Input + Print + Env + Clock + AllocGlobal, E: Write 
         is_forced: choice.is_forced,
         reviews: choice.reviews,
         is_quiet: choice.is_quiet,
-        explains: choice.explains && !choice.is_quiet && style.is_text(),
+        explains: choice.explains && !choice.is_quiet,
+        is_strict: choice.is_strict,
         shown: shown(choice, style),
         format: style.format(),
         colors: colors(rt, color, terminals.output),
@@ -65,67 +66,71 @@ fn accepts(choice: &CheckChoice) -> bool
     choice.accepts || choice.accepts_errors || choice.reviews
 }
 
-// What the report is to look like. What else is asked for is looked at too.
+// The form of the report. The other options are checked too.
 fn colors_and_style(
     alloc: Global,
     choice: &CheckChoice,
     terminals: Terminals,
-) -> Result<(ColorChoice, Style), Refusal> {
+) -> Result<(ColorChoice, Style), ProgramError> {
     let color = color_choice_asked(alloc, choice)?;
     let style = style_asked(alloc, choice)?;
     check_review(choice, style, terminals)?;
     Ok((color, style))
 }
 
-fn color_choice_asked(alloc: Global, choice: &CheckChoice) -> Result<ColorChoice, Refusal> {
+fn color_choice_asked(alloc: Global, choice: &CheckChoice) -> Result<ColorChoice, ProgramError> {
     match color_choice_of(choice.color.as_deref()) {
         Some(color) => Ok(color),
         None => match misused(alloc, choice.color.as_deref()) {
-            Some(text) => Err(Refusal::OwnUsage(Misuse::Color(text))),
-            None => Err(Refusal::OutOfMemory),
+            Some(text) => Err(ProgramError::OwnUsage(UsageError::Color(text))),
+            None => Err(ProgramError::OutOfMemory),
         },
     }
 }
 
-fn style_asked(alloc: Global, choice: &CheckChoice) -> Result<Style, Refusal> {
+fn style_asked(alloc: Global, choice: &CheckChoice) -> Result<Style, ProgramError> {
     match style_of(choice.format.as_deref()) {
         Some(style) => Ok(style),
         None => match misused(alloc, choice.format.as_deref()) {
-            Some(text) => Err(Refusal::OwnUsage(Misuse::Format(text))),
-            None => Err(Refusal::OutOfMemory),
+            Some(text) => Err(ProgramError::OwnUsage(UsageError::Format(text))),
+            None => Err(ProgramError::OutOfMemory),
         },
     }
 }
 
-// Whether there is somebody to ask, who sees what is asked about.
-fn check_review(choice: &CheckChoice, style: Style, terminals: Terminals) -> Result<(), Refusal>
-    ensures { MatchOption (review_fault choice.now style terminals) (IsOk result) (λ misuse. result ≡ Err (Refusal.OwnUsage misuse)) }
+// Whether there is a terminal to ask on, and the question is shown on it.
+fn check_review(
+    choice: &CheckChoice,
+    style: Style,
+    terminals: Terminals,
+) -> Result<(), ProgramError>
+    ensures { MatchOption (review_fault choice.now style terminals) (IsOk result) (λ misuse. result ≡ Err (ProgramError.OwnUsage misuse)) }
 {
     if !choice.reviews {
         Ok(())
     } else if choice.is_quiet || !style.is_text() {
-        Err(Refusal::OwnUsage(Misuse::Unseen))
+        Err(ProgramError::OwnUsage(UsageError::Unseen))
     } else if terminals.input && terminals.output {
         Ok(())
     } else {
-        Err(Refusal::OwnUsage(Misuse::NoTerminal))
+        Err(ProgramError::OwnUsage(UsageError::NoTerminal))
     }
 }
 
 // How much of each script is shown; the least of what is asked for. Programs are told what differs, and no less;
-// where each mismatch is shown to be asked about, a line stands before those of a script.
-fn shown(choice: &CheckChoice, style: Style) -> Shown
+// where each mismatch is shown to be asked about, a line is before those of a script.
+fn shown(choice: &CheckChoice, style: Style) -> Detail
     ensures { result ≡ shown_of choice.now style }
 {
     if !style.is_text() {
-        Shown::Differing
+        Detail::Differing
     } else if choice.is_brief || choice.reviews {
-        Shown::Brief
+        Detail::Brief
     } else if choice.is_first {
-        Shown::First
+        Detail::First
     } else if choice.is_verbose {
-        Shown::All
+        Detail::All
     } else {
-        Shown::Differing
+        Detail::Differing
     }
 }

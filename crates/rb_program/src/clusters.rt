@@ -1,11 +1,11 @@
-//! What the scripts of a check run on.
+//! The machine that the scripts of a check run on.
 
-use rb_checked::LineReasons;
+use rb_check::{ExplainedRun, Runner};
 use rb_cluster::{Cluster, Meter};
 use rb_machine::{Both, Machine, PrintedLines};
 use rb_raftlog::SplitLog;
 use rb_script::{DirectiveRef, Lines};
-use rb_suite::{ExplainedRun, Runner};
+use rb_script_report::LineReasons;
 use std::alloc::{AllocError, Global};
 
 /// Clusters of nodes with split logs.

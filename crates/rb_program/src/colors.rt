@@ -4,10 +4,10 @@ ghost use Rattle.std.specs.Prelude.{◌≡◌, option_map};
 ghost use Rattle.rb_program.specs.Choices.{color_choice_of, colors_of};
 
 use crate::environment::has_text;
-use rb_check::Colors;
+use rb_report::check::Colors;
 use std::rt::Env;
 
-/// What `--color` asks for.
+/// The values of `--color`.
 #[derive(Clone, Copy)]
 pub(crate) enum ColorChoice {
     Auto,
@@ -15,7 +15,7 @@ pub(crate) enum ColorChoice {
     Never,
 }
 
-/// What the value of `--color` asks for; none is `auto`.
+/// The value of `--color`; none is `auto`.
 pub(crate) fn color_choice_of(word: Option<&str>) -> Option<ColorChoice>
     ensures { result ≡ color_choice_of (option_map (λ word. word.now) word.entry) }
 {

@@ -1,11 +1,11 @@
-//! `raftbench directives`: what directives there are, or one of them.
+//! `raftbench directives`: the list of directives, or one of them.
 
 ghost use Rattle.std.specs.Prelude.{◌≡◌, IfOk};
 
-use crate::misuse::Misuse;
-use crate::refusal::Refusal;
-use rb_check::Status;
-use rb_help::{nearest_name, page_of, put_manual};
+use crate::program_error::ProgramError;
+use crate::usage_error::UsageError;
+use rb_report::check::Status;
+use rb_report::help::{nearest_name, page_of, put_manual};
 use rb_script::{Sink, Through, WriteFault};
 use rb_text::FailFast;
 use std::alloc::Global;
@@ -20,7 +20,7 @@ use std::io::{BufWriter, Write};
 pub fn show_directives<R: Print + AllocGlobal>(
     rt: &R,
     name: Option<&str>,
-) -> Result<Status, Refusal>
+) -> Result<Status, ProgramError>
     ensures { IfOk result (λ status. status ≡ Status.Matched) }
 {
     let alloc = rt.alloc();
@@ -36,26 +36,26 @@ pub fn show_directives<R: Print + AllocGlobal>(
     status_of(handed_on(&mut sink, written))
 }
 
-fn page_named(alloc: Global, name: &str) -> Result<&'static [u8], Refusal> {
+fn page_named(alloc: Global, name: &str) -> Result<&'static [u8], ProgramError> {
     if let Some(page) = page_of(name.as_bytes()) {
         return Ok(page);
     }
     let unknown = String::from_str(alloc, name)?;
     let meant = nearest_name(name.as_bytes());
-    Err(Refusal::OwnUsage(Misuse::Directive(unknown, meant)))
+    Err(ProgramError::OwnUsage(UsageError::Directive(unknown, meant)))
 }
 
-/// What it comes to that this was written, or was not.
-pub(crate) fn status_of(written: Result<(), WriteFault>) -> Result<Status, Refusal>
+/// The status after writing, or after writing failed.
+pub(crate) fn status_of(written: Result<(), WriteFault>) -> Result<Status, ProgramError>
     ensures { IfOk result (λ status. status ≡ Status.Matched) }
 {
     match written {
         Ok(()) => Ok(Status::Matched),
-        Err(_) => Err(Refusal::Io),
+        Err(_) => Err(ProgramError::Io),
     }
 }
 
-/// Hands on what was written.
+/// Flushes the output.
 pub(crate) fn handed_on<W: Write + Drop>(
     sink: &mut Through<BufWriter<W>>,
     written: Result<(), WriteFault>,

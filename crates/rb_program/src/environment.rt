@@ -1,4 +1,4 @@
-//! What the environment asks for.
+//! Settings in the environment.
 
 use std::env;
 use std::rt::Env;

@@ -1,9 +1,9 @@
-//! What is done with one script, from where it is read to where what comes of it is written.
+//! One script, from reading it to writing the result.
 
-use crate::refusal::Refusal;
+use crate::program_error::ProgramError;
 use crate::running::{ended, explained, opened};
 use rb_bench::{BenchFault, Outlet};
-use rb_check::Status;
+use rb_report::check::Status;
 use rb_script::Through;
 use rb_text::{FailFast, ReadSource, Source};
 use std::alloc::Global;
@@ -11,9 +11,9 @@ use std::io;
 use std::io::BufWriter;
 use std::rt::Files;
 
-/// What is done with a script of which nothing else is to be known.
+/// A job for one script.
 pub(crate) trait Job {
-    /// Reads the script from the source, and writes what comes of it.
+    /// Reads the script from the source, and writes the result.
     fn run<S: Source, W: Outlet>(
         &self,
         alloc: Global,
@@ -27,7 +27,7 @@ pub(crate) fn run_job<R: Files + Input + Print + AllocGlobal, J: Job>(
     rt: &R,
     file: &str,
     job: &J,
-) -> Result<Status, Refusal> {
+) -> Result<Status, ProgramError> {
     if file == "-" {
         run_from(rt, &mut ReadSource(rt.reader()), job)
     } else {
@@ -39,7 +39,7 @@ fn run_opened<R: Files + Print + AllocGlobal, J: Job>(
     rt: &R,
     file: &str,
     job: &J,
-) -> Result<Status, Refusal> {
+) -> Result<Status, ProgramError> {
     let ended = run_from(rt, &mut ReadSource(opened(rt, file)?), job);
     match ended {
         Ok(status) => Ok(status),
@@ -52,7 +52,7 @@ pub(crate) fn run_from<R: Print + AllocGlobal, S: Source, J: Job>(
     rt: &R,
     source: &mut S,
     job: &J,
-) -> Result<Status, Refusal> {
+) -> Result<Status, ProgramError> {
     let alloc = rt.alloc();
     let mut writer = Through(BufWriter::new(alloc, FailFast(io::writer(rt)))?);
     ended(job.run(alloc, source, &mut writer))

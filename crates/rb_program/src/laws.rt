@@ -10,8 +10,8 @@ ghost use Rattle.rb_script.specs.Writes.{AppendsFront};
 ghost use Rattle.rb_replay.specs.Report.{mismatches};
 ghost use Rattle.rb_bench.specs.Runs.{IsNoScript, status_of};
 ghost use Rattle.rb_bench.specs.declared.fault.BenchFault.TheVariants as faults;
-ghost use Rattle.rb_check.specs.declared.status.Status.{Status};
-ghost use Rattle.rb_steps.specs.Steps.{steps_texts};
+ghost use Rattle.rb_report.specs.declared.check.status.Status.{Status};
+ghost use Rattle.rb_view.specs.Steps.{steps_texts};
 ghost use Rattle.rb_program.specs.Written.{Tells};
 
 /// What is written of a script is told of one script, that of the bytes: where it ends with a status this is that of its mismatches, and the text

@@ -1,7 +1,7 @@
-//! What the program does for each of its subcommands but `lsp`, over the files, the streams, the environment and the clock of a runtime.
+//! The program's subcommands except `lsp`, over the files, the streams, the environment and the clock of a runtime.
 //!
-//! [`check_all`] checks scripts, [`show_directives`] shows what directives there are, and [`carry_out`] does what is asked for with one script.
-//! Each gives the status that it ended with, or why it was not done: a [`Refusal`], which says so on standard error.
+//! [`check_all`] checks scripts, [`show_directives`] shows the directives, and [`carry_out`] runs a subcommand for one script.
+//! Each returns its status, or a [`ProgramError`], which reports itself on standard error.
 //!
 //! `page_over` reads a script, runs it and writes its page, `chart_over` the picture of its run, and `trace_over` its trace: what rb_bench's `run_over` is for a report,
 //! with the same faults and statuses. They write nothing before all memory is there.
@@ -17,11 +17,11 @@ mod environment;
 mod job;
 mod laws;
 mod look;
-mod misuse;
 mod noting;
 mod page;
 mod page_over;
-mod refusal;
+mod program_error;
+mod reading;
 mod rewriting;
 mod running;
 mod script_chart;
@@ -32,11 +32,12 @@ mod subcommands;
 mod target;
 mod trace;
 mod trace_over;
+mod usage_error;
 mod work;
 
 pub use checking::{Terminals, check_all};
 pub use directives::show_directives;
 pub use laws::pages_are_one;
-pub use misuse::Misuse;
-pub use refusal::Refusal;
+pub use program_error::ProgramError;
 pub use subcommands::carry_out;
+pub use usage_error::UsageError;

@@ -1,29 +1,29 @@
-//! `raftbench look FILE:LINE`: what stands after a directive.
+//! `raftbench look FILE:LINE`: the cluster after a directive.
 
 ghost use Rattle.std.specs.Prelude.{◌≤◌, length};
 
 use crate::directives::{handed_on, status_of};
-use crate::misuse::Misuse;
-use crate::refusal::Refusal;
+use crate::program_error::ProgramError;
 use crate::running::script;
 use crate::target::path_and_line;
-use rb_check::{FileLine, Status, put_directive};
+use crate::usage_error::UsageError;
+use rb_check::{VisibleSink, place_at};
 use rb_cluster::{Cluster, Meter};
-use rb_look::look;
 use rb_raftlog::SplitLog;
+use rb_report::check::{FileLine, Hint, Status, put_directive};
 use rb_script::{Block, Lines, MAX_DIRECTIVES, Script, ScriptWithLines, Through};
-use rb_suite::place_at;
 use rb_text::FailFast;
+use rb_view::look::look;
 use std::alloc::{AllocError, Global};
 use std::io;
 use std::io::BufWriter;
 use std::rt::Files;
 
-/// Shows the cluster as it is after the last directive whose head begins at the line, or above it.
+/// Shows the cluster after the last directive whose head begins at or above the line.
 pub(crate) fn look_at<R: Files + Print + AllocGlobal>(
     rt: &R,
     word: &str,
-) -> Result<Status, Refusal> {
+) -> Result<Status, ProgramError> {
     let alloc = rt.alloc();
     let Some((path, line)) = path_and_line(word) else {
         return Err(no_place(alloc, word));
@@ -37,17 +37,17 @@ pub(crate) fn look_at<R: Files + Print + AllocGlobal>(
         path: path.as_bytes(),
         line: head,
     };
-    show(rt, word, at, &read.script, place)
+    show(rt, word, at, &read, place)
 }
 
-fn no_place(alloc: Global, word: &str) -> Refusal {
+fn no_place(alloc: Global, word: &str) -> ProgramError {
     match String::from_str(alloc, word) {
-        Ok(text) => Refusal::OwnUsage(Misuse::Place(text)),
-        Err(_) => Refusal::OutOfMemory,
+        Ok(text) => ProgramError::OwnUsage(UsageError::Place(text)),
+        Err(_) => ProgramError::OutOfMemory,
     }
 }
 
-// What is to be seen after so many directives of the script.
+// Looks at the cluster after the first directives of a script.
 fn seen(alloc: Global, script: &Script, place: usize) -> Result<Lines, AllocError>
     requires { place ≤ length script.now.blocks }
 {
@@ -59,23 +59,27 @@ fn show<R: Print + AllocGlobal>(
     rt: &R,
     word: &str,
     at: FileLine<'_>,
-    script: &Script,
+    read: &ScriptWithLines,
     place: usize,
-) -> Result<Status, Refusal> {
+) -> Result<Status, ProgramError> {
+    let script = &read.script;
     let Some(block) = script.block(place) else {
         return Err(no_place(rt.alloc(), word));
     };
     let seen = seen(rt.alloc(), script, place.min(script.len()))?;
-    put(rt, at, block, &seen)
+    put(rt, at, &read.lines, block, &seen)
 }
 
+// Shows a directive of a script with these lines. Bytes that act in a terminal go out by their numbers.
 fn put<R: Print + AllocGlobal>(
     rt: &R,
     at: FileLine<'_>,
+    lines: &Lines,
     block: &Block,
     seen: &Lines,
-) -> Result<Status, Refusal> {
-    let mut sink = Through(BufWriter::new(rt.alloc(), FailFast(io::writer(rt)))?);
-    let written = put_directive(&mut sink, at, &block.directive(), seen, b"");
-    status_of(handed_on(&mut sink, written))
+) -> Result<Status, ProgramError> {
+    let sink = Through(BufWriter::new(rt.alloc(), FailFast(io::writer(rt)))?);
+    let mut screen = VisibleSink::of_script(sink, at.path, lines);
+    let written = put_directive(&mut screen, at, &block.directive(), seen, Hint::Unknown);
+    status_of(handed_on(&mut screen.sink, written))
 }

@@ -1,41 +1,34 @@
-//! What is said of a script that was written with its outputs: the lines that look like a mistake, and the outputs that are new errors.
+//! Notes on a script that was written with its outputs: probable mistakes, and new errors.
 
-ghost use Rattle.std.specs.Prelude.{◌≡◌, IsOk, length};
+ghost use Rattle.std.specs.Prelude.{◌≡◌, IsOk};
 ghost use Rattle.rb_script.specs.Writes.{Writes};
 ghost use Rattle.rb_replay.specs.Run.{outputs};
-ghost use Rattle.rb_program.specs.Notes.{error_noted, errors_noted, meant_by, warnings_noted};
+ghost use Rattle.rb_script_report.specs.Layouts.{IsLayout};
+ghost use Rattle.rb_program.specs.Notes.{error_noted, errors_noted, warnings_noted};
 
-use rb_check::{FileLine, put_note, put_warning};
-use rb_checked::{
+use crate::clusters::Clusters;
+use rb_check::run_script;
+use rb_machine::Machine;
+use rb_replay::Session;
+use rb_report::check::{FileLine, put_note, put_warning};
+use rb_report::help::suggested;
+use rb_script::{Block, Lines, Sink, Through, WriteFault};
+use rb_script_report::{
     Layout, Warning, block_at, first_line, is_unexpected, number_at, output_at, warnings,
 };
-use rb_cluster::{Cluster, Meter};
-use rb_help::suggested;
-use rb_machine::Machine;
-use rb_raftlog::SplitLog;
-use rb_replay::Session;
-use rb_script::{Block, Lines, ScriptWithLines, Sink, Through, WriteFault};
 use std::alloc::Global;
 
-/// What is said of the script of the bytes; nothing, where they are none or memory was refused.
+/// The notes on the script of the bytes; none, if they are not a script or memory was refused.
 pub(crate) fn notes_of(alloc: Global, path: &[u8], bytes: &[u8]) -> Option<Vec<u8>> {
-    let mut meter = Meter::new();
-    let Ok(session) = Session::<Cluster<SplitLog>>::run_once(alloc, bytes, &mut meter) else {
+    let Ok(run) = run_script(alloc, &mut Clusters, false, bytes) else {
         return None;
     };
-    let Ok(read) = ScriptWithLines::read(alloc, bytes) else {
-        return None;
-    };
-    let layout = Layout {
-        text: read.lines,
-        heads: read.heads,
-    };
-    let Ok(doubts) = warnings(alloc, &session, &layout) else {
+    let Ok(doubts) = warnings(alloc, &run.session, &run.layout) else {
         return None;
     };
     let mut sink = Through(Vec::new(alloc));
     let is_whole = put_warnings(&mut sink, path, &doubts).is_ok()
-        && put_errors(&mut sink, path, &session, &layout).is_ok();
+        && put_errors(&mut sink, path, bytes, &run.session, &run.layout).is_ok();
     if is_whole { Some(sink.0) } else { None }
 }
 
@@ -50,14 +43,15 @@ fn put_warnings<S: Sink>(sink: &mut S, path: &[u8], doubts: &[Warning]) -> Resul
     Ok(())
 }
 
-// Writes the outputs that are new errors.
+// Writes the outputs that are new errors, of the script that these bytes are.
 fn put_errors<M: Machine, S: Sink>(
     sink: &mut S,
     path: &[u8],
+    _bytes: &[u8],
     session: &Session<M>,
     layout: &Layout,
 ) -> Result<(), WriteFault>
-    requires { length layout.now.heads.items ≡ length session.now.script.blocks }
+    requires { IsLayout _bytes.now session.now.script layout.now }
     ensures wrote { Writes result (S.held sink.old) (S.held sink.new) (errors_noted layout.now.text path.now layout.now.heads.items session.now.script.blocks (outputs session.now.script)) }
     ensures all { S.takes_all sink.old → IsOk result × S.takes_all sink.new }
 {
@@ -90,15 +84,6 @@ fn put_error<S: Sink>(
         place,
         &block.directive(),
         first_line(output),
-        meant_by(block),
+        suggested(&block.directive()),
     )
-}
-
-fn meant_by(block: &Block) -> &'static [u8]
-    ensures { result.now ≡ meant_by block.now }
-{
-    match suggested(&block.directive()) {
-        Some(meant) => meant,
-        None => b"",
-    }
 }

@@ -5,12 +5,12 @@ ghost use Rattle.rb_program.specs.Choices.{shown_name};
 
 use crate::job::{Job, run_job};
 use crate::page_over::page_over;
-use crate::refusal::Refusal;
+use crate::program_error::ProgramError;
 use rb_bench::{BenchFault, Outlet};
-use rb_check::Status;
-use rb_frame::{back, front};
-use rb_steps::Frame;
+use rb_report::check::Status;
 use rb_text::Source;
+use rb_view::frame::{back, front};
+use rb_view::steps::Frame;
 use std::alloc::Global;
 use std::path::Path;
 use std::rt::Files;
@@ -19,7 +19,7 @@ use std::rt::Files;
 pub(crate) fn page<R: Files + Input + Print + AllocGlobal>(
     rt: &R,
     file: &str,
-) -> Result<Status, Refusal> {
+) -> Result<Status, ProgramError> {
     let name = name_of(file).as_bytes();
     run_job(rt, file, &Paging { name })
 }
@@ -46,7 +46,7 @@ impl<'a> Job for Paging<'a> {
     }
 }
 
-/// What a script is called where it is shown: the last part of its path.
+/// The name of a script in a page: the last part of its path.
 pub(crate) fn name_of(file: &str) -> &str
     ensures { result.now ≡ shown_name file.now }
 {

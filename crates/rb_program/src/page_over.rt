@@ -7,15 +7,15 @@ ghost use Rattle.rb_script.specs.Reading.{early_fault};
 ghost use Rattle.rb_script.specs.Writes.{Writes};
 ghost use Rattle.rb_bench.specs.Handed.{IsHandedOn};
 ghost use Rattle.rb_bench.specs.Runs.{most_read};
-ghost use Rattle.rb_steps.specs.Pages.{page_joined};
+ghost use Rattle.rb_view.specs.Pages.{page_joined};
 ghost use Rattle.rb_program.specs.Written.{Tells, TellsOver};
 
 use crate::script_steps::read_steps;
 use rb_bench::{BenchFault, Outlet};
-use rb_check::Status;
+use rb_report::check::Status;
 use rb_script::{Lines, MAX_SCRIPT, WriteFault};
-use rb_steps::{Frame, put_page};
 use rb_text::{Source, read_up_to};
+use rb_view::steps::{Frame, put_page};
 use std::alloc::Global;
 
 /// Reads a script, runs it and writes its page, under this name. The answer is the program's status: `Matched`, or `Mismatched` where there are mismatches.
@@ -31,23 +31,23 @@ pub(crate) fn page_over<S: Source, W: Outlet>(
     frame: Frame<'_>,
     name: &[u8],
 ) -> Result<Status, BenchFault>
-    // No more is taken of the source than is wanted, whatever comes of it, and it is asked no more often than for that.
+    // No more than needed is read from the source, whatever the result, in as few calls.
     ensures consumed { (taken : List ℕ) × (length taken ≤ most_read) × Consumes (S.left source.old) (S.left source.new) taken }
     ensures asked { AsksFor (S.left source.old) (S.asked source.old) (S.asked source.new) most_read }
-    // Where the source's bytes are known.
+    // If the source's bytes are known.
     // A call of the source that failed is a failure of the whole.
     ensures unfailed { OnOk result (Fails (S.asked source.old) (S.asked source.new) 0) }
     ensures answered { IfSome (S.left source.old) (λ all. TellsOver (page_joined frame.entry.front.now frame.entry.back.now name.now) all (S.left source.new) result (W.held writer.old) (W.held writer.new)) }
-    // What was written was handed on.
+    // The output was flushed.
     ensures handed { OnOk result (IsHandedOn (W.handed writer.new) (W.held writer.new)) }
-    // No failure is answered where no call failed.
+    // Without a failed call the result is not a failure.
     ensures io { S.gives_all source.old → W.takes_all writer.old → result ≢ Err BenchFault.Io }
 {
     let bytes = read_up_to(alloc, source, MAX_SCRIPT + 1)?;
     page_bytes(alloc, bytes.as_slice(), writer, frame, name)
 }
 
-/// Runs the script of the bytes and writes its page, as [`page_over`] does of what it has read.
+/// Runs the script of the bytes and writes its page, as [`page_over`] does with its input.
 ///
 /// # Errors
 ///
@@ -60,7 +60,7 @@ pub(crate) fn page_bytes<W: Outlet>(
     name: &[u8],
 ) -> Result<Status, BenchFault>
     ensures answered { Tells (page_joined frame.entry.front.now frame.entry.back.now name.now) bytes.now result (W.held writer.old) (W.held writer.new) }
-    // What is too long is found whether or not there is memory.
+    // A script that is too long is refused whether or not there is memory.
     ensures early { IfSome (early_fault bytes.now) (λ fault. result ≡ Err (BenchFault.Script fault)) }
     ensures handed { OnOk result (IsHandedOn (W.handed writer.new) (W.held writer.new)) }
     ensures io { W.takes_all writer.old → result ≢ Err BenchFault.Io }

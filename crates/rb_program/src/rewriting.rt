@@ -1,25 +1,25 @@
-//! `raftbench rewrite FILE` where somebody reads what is said of it.
+//! `raftbench rewrite FILE` with notes for a reader.
 
 use crate::noting::notes_of;
-use crate::refusal::Refusal;
+use crate::program_error::ProgramError;
 use crate::running::{ended, run, script};
 use rb_bench::{Mode, run_bytes};
-use rb_check::Status;
 use rb_replay::is_checkpoint_interval;
+use rb_report::check::Status;
 use rb_script::{MAX_SCRIPT, Through};
 use rb_text::{FailFast, ReadSource, read_up_to};
 use std::io;
 use std::io::{BufWriter, Write};
 use std::rt::Files;
 
-/// Writes the script in the file, or on standard input, with its outputs. Below it `errors` gets what looks like a mistake: that changes neither
-/// what is written nor the status.
+/// Writes the script in the file, or on standard input, with its outputs. `errors` gets its probable mistakes: that changes neither
+/// the output nor the status.
 pub(crate) fn rewrite<R: Files + Input + Print + AllocGlobal, E: Write + Drop>(
     rt: &R,
     file: &str,
     every: u64,
     errors: E,
-) -> Result<Status, Refusal> {
+) -> Result<Status, ProgramError> {
     if !is_checkpoint_interval(every) {
         return run(rt, file, Mode::Rewrite, every);
     }
@@ -39,9 +39,9 @@ pub(crate) fn rewrite<R: Files + Input + Print + AllocGlobal, E: Write + Drop>(
     Ok(status)
 }
 
-fn input<R: Input + AllocGlobal>(rt: &R) -> Result<Vec<u8>, Refusal> {
+fn input<R: Input + AllocGlobal>(rt: &R) -> Result<Vec<u8>, ProgramError> {
     match read_up_to(rt.alloc(), &mut ReadSource(rt.reader()), MAX_SCRIPT + 1) {
         Ok(bytes) => Ok(bytes),
-        Err(fault) => Err(Refusal::from(fault)),
+        Err(fault) => Err(ProgramError::from(fault)),
     }
 }

@@ -1,9 +1,9 @@
 //! `raftbench run|rewrite|session FILE`: the report of a script, its text with its outputs, and a session on it.
 
 use crate::job::{Job, run_from, run_job};
-use crate::refusal::Refusal;
+use crate::program_error::ProgramError;
 use rb_bench::{BenchFault, Mode, Outlet, run_over, serve};
-use rb_check::Status;
+use rb_report::check::Status;
 use rb_script::MAX_SCRIPT;
 use rb_text::{ReadSource, Source, read_up_to};
 use std::alloc::Global;
@@ -17,7 +17,7 @@ pub(crate) fn run<R: Files + Input + Print + AllocGlobal>(
     file: &str,
     mode: Mode,
     every: u64,
-) -> Result<Status, Refusal> {
+) -> Result<Status, ProgramError> {
     run_job(rt, file, &Running { mode, every })
 }
 
@@ -40,7 +40,7 @@ impl Job for Running {
 }
 
 /// What it came to, or why it came to nothing. It stands by itself so that what was opened is closed on one way out.
-pub(crate) fn ended(status: Result<Status, BenchFault>) -> Result<Status, Refusal> {
+pub(crate) fn ended(status: Result<Status, BenchFault>) -> Result<Status, ProgramError> {
     Ok(status?)
 }
 
@@ -49,7 +49,7 @@ pub(crate) fn session<R: Files + Input + Print + AllocGlobal>(
     rt: &R,
     file: &str,
     every: u64,
-) -> Result<Status, Refusal> {
+) -> Result<Status, ProgramError> {
     let script = script(rt, file)?;
     let serving = Serving {
         script: &script,
@@ -78,22 +78,26 @@ impl<'a> Job for Serving<'a> {
 
 /// The first bytes of the file, which is closed again. Where standard input was closed, the file took its place: what is
 /// left of it must not be read for commands.
-pub(crate) fn script<R: Files + AllocGlobal>(rt: &R, file: &str) -> Result<Vec<u8>, Refusal> {
+pub(crate) fn script<R: Files + AllocGlobal>(rt: &R, file: &str) -> Result<Vec<u8>, ProgramError> {
     let mut source = ReadSource(opened(rt, file)?);
     match read_up_to(rt.alloc(), &mut source, MAX_SCRIPT + 1) {
         Ok(bytes) => Ok(bytes),
-        Err(fault) => Err(explained(rt, file, Refusal::from(fault))),
+        Err(fault) => Err(explained(rt, file, ProgramError::from(fault))),
     }
 }
 
 /// The refusal, with the reason where input failed because the path is a folder's: such a path is opened, and isn't read.
-pub(crate) fn explained<R: Files + AllocGlobal>(rt: &R, file: &str, refusal: Refusal) -> Refusal {
-    let is_folder = matches!(&refusal, Refusal::Io) && is_folder(rt, file);
+pub(crate) fn explained<R: Files + AllocGlobal>(
+    rt: &R,
+    file: &str,
+    refusal: ProgramError,
+) -> ProgramError {
+    let is_folder = matches!(&refusal, ProgramError::Io) && is_folder(rt, file);
     if !is_folder {
         return refusal;
     }
     match String::from_str(rt.alloc(), file) {
-        Ok(path) => Refusal::Folder(path),
+        Ok(path) => ProgramError::Folder(path),
         Err(_) => refusal,
     }
 }
@@ -102,13 +106,13 @@ fn is_folder<R: Files>(rt: &R, path: &str) -> bool {
     matches!(fs::metadata(rt, path), Ok(metadata) if metadata.is_dir())
 }
 
-/// A file that can't be opened has failed as input, whatever the system says was wanting.
-pub(crate) fn opened<R: Files + AllocGlobal>(rt: &R, file: &str) -> Result<R::File, Refusal> {
+/// A file that can't be opened is failed input, whatever the system's error is.
+pub(crate) fn opened<R: Files + AllocGlobal>(rt: &R, file: &str) -> Result<R::File, ProgramError> {
     match File::open(rt, file) {
         Ok(opened) => Ok(opened),
         Err(error) => match String::from_str(rt.alloc(), file) {
-            Ok(path) => Err(Refusal::Unopened(path, error)),
-            Err(_) => Err(Refusal::Io),
+            Ok(path) => Err(ProgramError::Unopened(path, error)),
+            Err(_) => Err(ProgramError::Io),
         },
     }
 }

@@ -13,16 +13,16 @@ ghost use Rattle.rb_bench.specs.Runs.{status_of};
 ghost use Rattle.rb_program.specs.Written.{AreRowsOf, AreStepsOf};
 
 use rb_bench::BenchFault;
-use rb_check::Status;
 use rb_cluster::Cluster;
 use rb_machine::Machine;
 use rb_raftlog::SplitLog;
 use rb_replay::{Session, StartFault};
+use rb_report::check::Status;
 use rb_script::{Lines, ScriptWithLines};
-use rb_steps::{StepMachine, steps_of};
+use rb_view::steps::{StepMachine, steps_of};
 use std::alloc::{AllocError, Global};
 
-/// The rows of a script behind the first, each as a text, and the status that a report of it would have.
+/// The rows of a script after the first, each as a text, and the status of its report.
 #[derive(Drop)]
 pub(crate) struct ScriptSteps {
     pub(crate) texts: Lines,
@@ -55,7 +55,7 @@ pub(crate) fn status<M: Machine>(session: &Session<M>) -> Status
     }
 }
 
-// Reads the script of the bytes, runs it once on such a machine, and gives its steps.
+// Reads the script of the bytes, runs it once, and returns its steps.
 fn steps_on<M: StepMachine>(alloc: Global, bytes: &[u8]) -> Result<ScriptSteps, StartFault>
     ensures read { IfOk result (λ steps. AreStepsOf bytes.now steps.texts steps.status) }
     ensures only { (s : PlainScript) → Reads bytes.now s → IfErr result (λ fault. fault ≡ StartFault.OutOfMemory) }
@@ -75,13 +75,13 @@ fn steps_on<M: StepMachine>(alloc: Global, bytes: &[u8]) -> Result<ScriptSteps, 
 ///
 /// # Errors
 ///
-/// `Script` where the bytes are no script, and `OutOfMemory`.
+/// `Script` if the bytes are not a script, and `OutOfMemory`.
 pub(crate) fn read_steps(alloc: Global, bytes: &[u8]) -> Result<ScriptSteps, BenchFault>
     ensures read { IfOk result (λ steps. AreStepsOf bytes.now steps.texts steps.status) }
-    // What is a script is refused for want of memory alone.
+    // A script is refused only if memory is refused.
     ensures only { (s : PlainScript) → Reads bytes.now s → IfErr result (λ fault. fault ≡ BenchFault.OutOfMemory) }
     ensures refused { IfErr result (λ fault. TellsFault fault (read_of bytes.now)) }
-    // What is too long is found whether or not there is memory.
+    // A script that is too long is refused whether or not there is memory.
     ensures early { IfSome (early_fault bytes.now) (λ fault. result ≡ Err (BenchFault.Script fault)) }
     // Nothing else is read or written, and no spacing is looked at.
     ensures own { IfErr result (λ fault. (fault ≢ BenchFault.Io) × (fault ≢ BenchFault.Spacing)) }

@@ -1,4 +1,4 @@
-//! The number behind `--every`.
+//! The number after `--every`.
 
 ghost use Rattle.std.specs.Prelude.{◌≡◌, option_map};
 ghost use Rattle.rb_program.specs.Work.{spacing_of};

@@ -1,11 +1,11 @@
-//! How what differs is written.
+//! The format of a report.
 
 ghost use Rattle.std.specs.Prelude.{◌≡◌, option_map};
 ghost use Rattle.rb_program.specs.Choices.{is_text, style_of};
 
-use rb_suite::Format;
+use rb_check::Format;
 
-/// What `--format` asks for.
+/// The values of `--format`.
 #[derive(Clone, Copy, PartialEq, Eq)]
 pub(crate) enum Style {
     /// Text for people.
@@ -25,7 +25,7 @@ impl Style {
         }
     }
 
-    /// The format for programs, where it is one.
+    /// The format for programs, if it is one.
     pub(crate) fn format(self) -> Option<Format> {
         match self {
             Style::Text => None,
@@ -34,7 +34,7 @@ impl Style {
     }
 }
 
-/// What the value of `--format` asks for; none is no style.
+/// The value of `--format`; none, if it isn't one.
 pub(crate) fn style_of(word: Option<&str>) -> Option<Style>
     ensures { result ≡ style_of (option_map (λ word. word.now) word.entry) }
 {
@@ -43,6 +43,7 @@ pub(crate) fn style_of(word: Option<&str>) -> Option<Style>
         Some(word) if word == "text" => Some(Style::Text),
         Some(word) if word == "json" => Some(Style::Program(Format::Json)),
         Some(word) if word == "github" => Some(Style::Program(Format::Github)),
+        Some(word) if word == "junit" => Some(Style::Program(Format::Junit)),
         Some(_) => None,
     }
 }

@@ -1,20 +1,20 @@
-//! What is done with one script.
+//! Subcommands for one script.
 
 ghost use Rattle.std.specs.Prelude.{◌≡◌, None, Err};
 
 use crate::chart::chart;
 use crate::checking::Terminals;
 use crate::look::look_at;
-use crate::misuse::{Misuse, misuse_of_every};
 use crate::page::page;
-use crate::refusal::Refusal;
+use crate::program_error::ProgramError;
 use crate::rewriting::rewrite;
 use crate::running::{run, session};
 use crate::trace::trace;
+use crate::usage_error::{UsageError, usage_error_of_every};
 use crate::work::{Work, work_of};
 use rb_args::{CommandChoice, ScriptCommand};
 use rb_bench::Mode;
-use rb_check::Status;
+use rb_report::check::Status;
 use std::io::Write;
 use std::rt::Files;
 
@@ -30,14 +30,14 @@ pub fn carry_out<R: Files + Input + Print + AllocGlobal, E: Write + Drop>(
     choice: &CommandChoice,
     errors: E,
     terminals: Terminals,
-) -> Result<Status, Refusal>
-    ensures { choice.now.file ≡ None → result ≡ Err (Refusal.Usage Misuse.NoFile) }
+) -> Result<Status, ProgramError>
+    ensures { choice.now.file ≡ None → result ≡ Err (ProgramError.Usage UsageError.NoFile) }
 {
     let Some(file) = choice.file.as_deref() else {
-        return Err(Refusal::Usage(Misuse::NoFile));
+        return Err(ProgramError::Usage(UsageError::NoFile));
     };
     if command == ScriptCommand::Session && file == "-" {
-        return Err(Refusal::Usage(Misuse::Input));
+        return Err(ProgramError::Usage(UsageError::Input));
     }
     let every = choice.every.as_deref();
     let ended = match work_of(command, every) {
@@ -45,10 +45,10 @@ pub fn carry_out<R: Files + Input + Print + AllocGlobal, E: Write + Drop>(
             rewrite(rt, file, every, errors)
         }
         Some(work) => done(rt, work, file, choice),
-        None => Err(Refusal::Usage(Misuse::Spacing)),
+        None => Err(ProgramError::Usage(UsageError::Spacing)),
     };
-    if let Err(Refusal::Usage(Misuse::Spacing)) = &ended {
-        return Err(Refusal::Usage(misuse_of_every(rt.alloc(), every)));
+    if let Err(ProgramError::Usage(UsageError::Spacing)) = &ended {
+        return Err(ProgramError::Usage(usage_error_of_every(rt.alloc(), every)));
     }
     ended
 }
@@ -58,7 +58,7 @@ fn done<R: Files + Input + Print + AllocGlobal>(
     work: Work,
     file: &str,
     choice: &CommandChoice,
-) -> Result<Status, Refusal> {
+) -> Result<Status, ProgramError> {
     match work {
         Work::Report(every) => run(rt, file, Mode::Run, every),
         Work::Rewriting(every) => run(rt, file, Mode::Rewrite, every),

@@ -1,28 +1,36 @@
-//! What the PATHs of `check` name, and FILE:LINE.
+//! The PATHs of `check`, and FILE:LINE.
 
-use rb_suite::Target;
+ghost use Rattle.std.specs.Prelude.{◌≡◌, option_map};
+ghost use Rattle.rb_program.specs.Choices.{path_and_line};
+
+use rb_check::Target;
 use rb_text::number_of;
 use std::alloc::{AllocError, Global};
 use std::fs;
 use std::rt::Files;
 
-/// FILE, and the number behind the argument's last colon.
-pub(crate) fn path_and_line(word: &str) -> Option<(&str, usize)> {
-    let (path, line) = word.rsplit_once(':')?;
-    Some((path, number_of(line.as_bytes())? as usize))
+/// FILE, and the number after the argument's last colon.
+pub(crate) fn path_and_line(word: &str) -> Option<(&str, usize)>
+    ensures { option_map (λ found. (found.0.now, found.1)) result ≡ path_and_line word.now }
+{
+    match word.rsplit_once(':') {
+        Some((path, line)) => match number_of(line.as_bytes()) {
+            Some(line) => Some((path, line as usize)),
+            None => None,
+        },
+        None => None,
+    }
 }
 
-/// What the arguments name. Where outputs are accepted, one that ends in a colon and a number names a directive of a file, unless it is
-/// itself the name of something.
+/// What the arguments name. One that ends in a colon and a number names a directive of a file, unless it is itself the name of something.
 pub(crate) fn targets<R: Files + AllocGlobal>(
     rt: &R,
     words: &[String],
-    accepts: bool,
 ) -> Result<Vec<Target>, AllocError> {
     let alloc = rt.alloc();
     let mut all = Vec::new(alloc);
     for word in words {
-        let (path, line) = named(rt, word.as_str(), accepts);
+        let (path, line) = named(rt, word.as_str());
         all.push(target(alloc, path, line)?)?;
     }
     Ok(all)
@@ -33,8 +41,8 @@ fn target(alloc: Global, path: &str, line: Option<usize>) -> Result<Target, Allo
     Ok(Target { path, line })
 }
 
-fn named<'a, R: Files>(rt: &R, word: &'a str, accepts: bool) -> (&'a str, Option<usize>) {
-    if !accepts || fs::metadata(rt, word).is_ok() {
+fn named<'a, R: Files>(rt: &R, word: &'a str) -> (&'a str, Option<usize>) {
+    if fs::metadata(rt, word).is_ok() {
         return (word, None);
     }
     match path_and_line(word) {

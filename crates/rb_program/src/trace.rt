@@ -2,10 +2,10 @@
 
 use crate::job::{Job, run_job};
 use crate::page::name_of;
-use crate::refusal::Refusal;
+use crate::program_error::ProgramError;
 use crate::trace_over::trace_over;
 use rb_bench::{BenchFault, Outlet};
-use rb_check::Status;
+use rb_report::check::Status;
 use rb_text::Source;
 use std::alloc::Global;
 use std::rt::Files;
@@ -14,7 +14,7 @@ use std::rt::Files;
 pub(crate) fn trace<R: Files + Input + Print + AllocGlobal>(
     rt: &R,
     file: &str,
-) -> Result<Status, Refusal> {
+) -> Result<Status, ProgramError> {
     let name = name_of(file).as_bytes();
     run_job(rt, file, &Tracing { name })
 }

@@ -9,21 +9,21 @@ ghost use Rattle.rb_script.specs.Reading.{early_fault, read_of};
 ghost use Rattle.rb_script.specs.Reads.{Reads};
 ghost use Rattle.rb_script.specs.Script.{PlainScript};
 ghost use Rattle.rb_script.specs.Writes.{Writes};
-ghost use Rattle.rb_replay.specs.Start.{TellsStartFault};
 ghost use Rattle.rb_bench.specs.Faults.{TellsFault};
 ghost use Rattle.rb_bench.specs.Handed.{IsHandedOn};
 ghost use Rattle.rb_bench.specs.Runs.{most_read};
 ghost use Rattle.rb_program.specs.Traced.{AreLinesOf, IsTraceOf, Traces, TracesOver};
 
+use crate::reading::read_script;
 use crate::script_steps::status;
 use rb_bench::{BenchFault, Outlet};
-use rb_check::Status;
 use rb_cluster::Cluster;
 use rb_raftlog::{RaftLog, SplitLog};
-use rb_replay::{Session, StartFault};
+use rb_replay::Session;
+use rb_report::check::Status;
 use rb_script::{Lines, MAX_SCRIPT, ScriptWithLines, Sink, WriteFault};
 use rb_text::{Source, read_up_to};
-use rb_trace::trace_of;
+use rb_view::trace::trace_of;
 use std::alloc::{AllocError, Global};
 
 /// Reads a script, runs it and writes its trace, under this name. The answer is the program's status: `Matched`, or `Mismatched` where there are
@@ -39,23 +39,23 @@ pub(crate) fn trace_over<S: Source, W: Outlet>(
     writer: &mut W,
     name: &[u8],
 ) -> Result<Status, BenchFault>
-    // No more is taken of the source than is wanted, whatever comes of it, and it is asked no more often than for that.
+    // No more than needed is read from the source, whatever the result, in as few calls.
     ensures consumed { (taken : List ℕ) × (length taken ≤ most_read) × Consumes (S.left source.old) (S.left source.new) taken }
     ensures asked { AsksFor (S.left source.old) (S.asked source.old) (S.asked source.new) most_read }
     // A call of the source that failed is a failure of the whole.
     ensures unfailed { OnOk result (Fails (S.asked source.old) (S.asked source.new) 0) }
-    // Where the source's bytes are known.
+    // If the source's bytes are known.
     ensures answered { IfSome (S.left source.old) (λ all. TracesOver name.now all (S.left source.new) result (W.held writer.old) (W.held writer.new)) }
-    // What was written was handed on.
+    // The output was flushed.
     ensures handed { OnOk result (IsHandedOn (W.handed writer.new) (W.held writer.new)) }
-    // No failure is answered where no call failed.
+    // Without a failed call the result is not a failure.
     ensures io { S.gives_all source.old → W.takes_all writer.old → result ≢ Err BenchFault.Io }
 {
     let bytes = read_up_to(alloc, source, MAX_SCRIPT + 1)?;
     trace_bytes(alloc, bytes.as_slice(), writer, name)
 }
 
-/// Runs the script of the bytes and writes its trace, as [`trace_over`] does of what it has read.
+/// Runs the script of the bytes and writes its trace, as [`trace_over`] does with its input.
 ///
 /// # Errors
 ///
@@ -67,7 +67,7 @@ pub(crate) fn trace_bytes<W: Outlet>(
     name: &[u8],
 ) -> Result<Status, BenchFault>
     ensures answered { Traces name.now bytes.now result (W.held writer.old) (W.held writer.new) }
-    // What is too long is found whether or not there is memory.
+    // A script that is too long is refused whether or not there is memory.
     ensures early { IfSome (early_fault bytes.now) (λ fault. result ≡ Err (BenchFault.Script fault)) }
     ensures handed { OnOk result (IsHandedOn (W.handed writer.new) (W.held writer.new)) }
     ensures io { W.takes_all writer.old → result ≢ Err BenchFault.Io }
@@ -102,35 +102,25 @@ fn traced<L: RaftLog>(
     Ok(ran)
 }
 
-// Reads the script of the bytes, runs it once with such logs, and gives its trace.
-fn trace_on<L: RaftLog>(alloc: Global, bytes: &[u8], name: &[u8]) -> Result<ScriptTrace, StartFault>
-    ensures read { IfOk result (λ trace. IsTraceOf name.now bytes.now trace.lines trace.status) }
-    ensures only { (s : PlainScript) → Reads bytes.now s → IfErr result (λ fault. fault ≡ StartFault.OutOfMemory) }
-    ensures refused { IfErr result (λ fault. TellsStartFault fault (read_of bytes.now)) }
-    ensures early { IfSome (early_fault bytes.now) (λ fault. result ≡ Err (StartFault.Script fault)) }
-    ensures spaced { result ≢ Err StartFault.BadSpacing }
-{
-    let read = ScriptWithLines::read(alloc, bytes)?;
-    let (session, lines) = traced::<L>(alloc, read, bytes, name)?;
-    Ok(ScriptTrace {
-        lines,
-        status: status(&session),
-    })
-}
-
 // Reads the script of the bytes, runs it once, and gives its trace.
 fn read_trace(alloc: Global, bytes: &[u8], name: &[u8]) -> Result<ScriptTrace, BenchFault>
     ensures read { IfOk result (λ trace. IsTraceOf name.now bytes.now trace.lines trace.status) }
-    // What is a script is refused for want of memory alone.
+    // A script is refused only if memory is refused.
     ensures only { (s : PlainScript) → Reads bytes.now s → IfErr result (λ fault. fault ≡ BenchFault.OutOfMemory) }
     ensures refused { IfErr result (λ fault. TellsFault fault (read_of bytes.now)) }
-    // What is too long is found whether or not there is memory.
+    // A script that is too long is refused whether or not there is memory.
     ensures early { IfSome (early_fault bytes.now) (λ fault. result ≡ Err (BenchFault.Script fault)) }
     // Nothing else is read or written, and no spacing is looked at.
     ensures own { IfErr result (λ fault. (fault ≢ BenchFault.Io) × (fault ≢ BenchFault.Spacing)) }
 {
-    let trace = trace_on::<SplitLog>(alloc, bytes, name)?;
-    Ok(trace)
+    let read = read_script(alloc, bytes)?;
+    let Ok((session, lines)) = traced::<SplitLog>(alloc, read, bytes, name) else {
+        return Err(BenchFault::OutOfMemory);
+    };
+    Ok(ScriptTrace {
+        lines,
+        status: status(&session),
+    })
 }
 
 // Writes a trace, and hands it on.

@@ -1,4 +1,4 @@
-//! What is done with one script, and how far apart its checkpoints stand.
+//! The job for one script, and its checkpoint interval.
 
 ghost use Rattle.std.specs.Prelude.{◌≡◌, option_map};
 ghost use Rattle.rb_program.specs.Work.{work_of};
@@ -6,7 +6,7 @@ ghost use Rattle.rb_program.specs.Work.{work_of};
 use crate::spacing::spacing;
 use rb_args::ScriptCommand;
 
-/// What is done with one script.
+/// The job for one script.
 #[derive(Clone, Copy, Debug, PartialEq, Eq)]
 pub(crate) enum Work {
     Report(u64),
@@ -18,7 +18,7 @@ pub(crate) enum Work {
     Trace,
 }
 
-/// What the subcommand does; nothing, where it looks at `--every` and the text behind that is no number.
+/// What the subcommand does; nothing, where it looks at `--every` and the text after that is no number.
 pub(crate) fn work_of(command: ScriptCommand, every: Option<&str>) -> Option<Work>
     ensures { result ≡ work_of command (option_map (λ word. word.now) every.entry) }
 {

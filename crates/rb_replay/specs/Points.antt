@@ -11,7 +11,7 @@ abbrev pub every : ℕ → ℕ → ℕ → List ℕ
 every K from zero = []
 every K from (suc j) = every K from j ++ (from + suc j * K) ∷ []
 
--- what thinning leaves of p and the points after it, where `kept` was kept last
+-- p and the points after it after thinning, if `kept` was kept last
 abbrev pub thin_after : ℕ → ℕ → ℕ → List ℕ → List ℕ
 thin_after K kept p [] = p ∷ []
 thin_after K kept p (next ∷ ps) = if nat_le (next - kept) K then thin_after K kept next ps else p ∷ thin_after K p next ps

@@ -12,7 +12,7 @@ use Rattle.rb_replay.specs.Run.{outputs, at_place, output_at}
 abbrev pub same_lines : List Line → List Line → Bool
 same_lines = pointwise bytes_eq
 
--- the places, the first of which is `place`, where the expectation is not the output
+-- the places, starting at `place`, where the output differs from the expectation
 abbrev pub differing : ℕ → List PlainBlock → List (List Line) → List ℕ
 differing place [] os = []
 differing place (b ∷ bs) [] = []

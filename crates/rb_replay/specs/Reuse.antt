@@ -12,7 +12,7 @@ use Rattle.rb_replay.specs.Points.{last_up_to, every, thin, AreKept}
 use Rattle.rb_replay.specs.Holding.{Holding}
 
 -- Two scripts and what they share: the first `front` directives, and those after old point `old_rest`, which
--- stand after new point `new_rest`. Clusters of the old script are kept at `points`, `checkpoint interval` directives
+-- are after new point `new_rest`. Clusters of the old script are kept at `points`, `checkpoint interval` directives
 -- apart.
 pub record Change : Type 0 where
   pub old : PlainScript
@@ -90,7 +90,7 @@ points_before c (Some s) =
 abbrev pub points_after : Change → Option ℕ → List ℕ
 points_after c meeting = thin c.checkpoint_interval (points_before c meeting)
 
--- which points stand in that list
+-- which points are in that list
 abbrev pub IsOldPoint : Change → Option ℕ → ℕ → Type 0
 IsOldPoint c None p = ⊥
 IsOldPoint c (Some s) p = (s ≤ p) × Contains c.points (old_point c p)

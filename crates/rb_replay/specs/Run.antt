@@ -16,7 +16,7 @@ abbrev pub led : Cluster → List PlainDirective → Cluster
 led c [] = c
 led c (d ∷ ds) = led (outcome c d).cluster ds
 
--- what they answer on the way
+-- their answers
 abbrev pub answers : Cluster → List PlainDirective → List (List Line)
 answers c [] = []
 answers c (d ∷ ds) = (outcome c d).output ∷ answers (outcome c d).cluster ds
@@ -29,7 +29,7 @@ state s i = led empty (take i (directives s))
 abbrev pub outputs : PlainScript → List (List Line)
 outputs s = answers empty (directives s)
 
--- what stands at a place of a list; places count from 1
+-- the item at a place of a list; places count from 1
 abbrev pub at_place : {T : Type 0} → List T → ℕ → Option T
 at_place xs place = if place == 0 then None else slice_get xs (place - 1)
 

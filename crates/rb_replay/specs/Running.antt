@@ -15,7 +15,7 @@ pub record IsPaced (K from at until_checkpoint : ℕ) (points : List ℕ) : Type
   pub most : until_checkpoint ≤ K
   pub fresh : until_checkpoint ≡ K → at ≡ from
 
--- and who goes on from `at` has kept it if it was until_checkpoint
+-- and who continues from `at` has kept it if it was until_checkpoint
 pub record IsPacedOn (K from at until_checkpoint : ℕ) (points : List ℕ) : Type 0 where
   pub so_far : points ≡ every K from (length points)
   pub next : at + until_checkpoint ≡ from + (length points + 1) * K
@@ -29,7 +29,7 @@ pub record HasRun {M : Type 0} (meaning : M → Cluster) (s : PlainScript) (c : 
   pub outputs_on : take c.from (outputs s) ++ values c.outputs.items ≡ take c.at (outputs s)
   pub states_are : map meaning c.kept.items ≡ map (state s) c.points.items
 
--- and its points, when it comes to a point, and when it goes on from it
+-- and its points, when it comes to a point, and when it continues from it
 abbrev pub PacedAt : {M : Type 0} → Run M → Type 0
 PacedAt c = IsPaced c.checkpoint_interval c.from c.at c.until_checkpoint c.points.items
 

@@ -1,4 +1,4 @@
--- A change, by what the code knows of it. (This project's.)
+-- A change, as the code represents it. (This project's.)
 use Rattle.std.specs.Prelude.{◌≡◌, ℕ, ◌+◌, ◌-◌, ◌<◌, ◌≤◌, min, nat_le, nat_lt, List, [], ◌∷◌, ◌++◌, length, take, drop, map, filter, slice_index, Option, Some, None}
 use Rattle.rb_script.specs.Script.{PlainScript}
 use Rattle.rb_replay.specs.declared.splice.Splice.{Splice}
@@ -12,7 +12,7 @@ use Rattle.rb_replay.specs.Run.{state, outputs}
 use Rattle.rb_replay.specs.Report.{mismatches}
 use Rattle.rb_replay.specs.Reuse.{Change, start, stop, old_point, IsFirstMeeting, fresh_points, points_before}
 
--- where a point, or the next one after it, stands in a list of points
+-- where a point, or the next one after it, is in a list of points
 pub record IsNext (points : List ℕ) (point index : ℕ) : Type 0 where
   pub within : index ≤ length points
   pub below : (k : ℕ) → k < index → slice_index points k < point
@@ -32,7 +32,7 @@ abbrev pub old_stop : Change → Option ℕ → ℕ
 old_stop c None = length c.old.blocks
 old_stop c (Some s) = old_point c s
 
--- what a run of an edited script brings back
+-- the result of running an edited script
 pub record IsRerun {M : Type 0} (meaning : M → Cluster) (c : Change) (r : Rerun M) : Type 0 where
   pub is_first : IsFirstMeeting c r.met
   pub from_is : r.running.from ≡ start c
@@ -41,7 +41,7 @@ pub record IsRerun {M : Type 0} (meaning : M → Cluster) (c : Change) (r : Reru
   pub has_run : HasRun meaning c.new r.running
   pub points_are : r.running.points.items ≡ run_points c r.met
 
--- Where the old run goes on: which of its points stay, and which are used again.
+-- Where the old run continues: which of its points stay, and which are used again.
 pub record IsRejoin (c : Change) (meeting : Option ℕ) (rejoin : Rejoin) : Type 0 where
   pub old_stop_is : rejoin.old_stop ≡ old_stop c meeting
   pub fronts : take rejoin.front c.points ≡ filter (λ p. nat_lt p (front_bound c meeting)) c.points
@@ -61,7 +61,7 @@ pub record IsUpdated (old new : PlainScript) (splice : Splice) (from : ℕ) (os 
   pub same_answers : take from (outputs new) ≡ take from (outputs old)
   -- the outputs `os` are those of the new script from there on
   pub answers_on : take from (outputs new) ++ os ≡ take (from + length os) (outputs new)
-  -- behind them the blocks are those behind `stop` in the old script
+  -- after them the blocks are those after `stop` in the old script
   pub same_rest : drop (from + length os) new.blocks ≡ drop stop old.blocks
   -- and so are the outputs
   pub same_end : drop (from + length os) (outputs new) ≡ drop stop (outputs old)
@@ -75,7 +75,7 @@ pub record IsUpdated (old new : PlainScript) (splice : Splice) (from : ℕ) (os 
   pub old_within : stop ≤ length old.blocks
   pub new_within : from + length os ≤ length new.blocks
 
--- What stands ready for a change: with what of the old stays it makes up the new.
+-- The prepared parts of a change: with the parts of the old session that stay they are the new one.
 pub record IsReady {M : Type 0} (meaning : M → Cluster) (c : Change) (kept : List Cluster) (r : Ready M) : Type 0 where
   -- where an old cluster was met, if one was
   pub meeting : Option ℕ
@@ -84,13 +84,13 @@ pub record IsReady {M : Type 0} (meaning : M → Cluster) (c : Change) (kept : L
   pub from_is : r.running.from ≡ start c
   pub at_is : r.running.at ≡ stop c meeting
   pub spacing_is : r.running.checkpoint_interval ≡ c.checkpoint_interval
-  -- the new points, before thinning, and the new mismatches stand ready whole
+  -- the new points, before thinning, and the new mismatches are prepared whole
   pub points_are : r.points.items ≡ points_before c meeting
   pub mismatches_are : r.mismatches.items ≡ mismatches c.new
   -- and so do its outputs
   pub outputs_are : r.outputs ≡ outputs c.new
   -- old clusters, those that were kept on the way, and old ones again are those of the new points
   pub states_are : take r.rejoin.front kept ++ (map meaning r.running.kept.items ++ drop r.rejoin.rest kept) ≡ map (state c.new) r.points.items
-  -- what stays and what is used again don't overlap, and lie within what there was
+  -- the parts that stay and those that are reused don't overlap, and are within the old ones
   pub front_first : r.rejoin.front ≤ r.rejoin.rest
   pub rest_within : r.rejoin.rest ≤ length c.points

@@ -1,4 +1,4 @@
--- What a refused start says. (This project's.)
+-- What a refused start means. (This project's.)
 use Rattle.std.specs.Prelude.{◌≡◌, ℕ, ◌≤◌, ◌+◌, Bool, ◌&&◌, nat_le, List, length, Result}
 use Rattle.rb_script.specs.declared.fault.ScriptFault.{ScriptFault}
 use Rattle.rb_script.specs.declared.fault.ScriptFault.TheVariants as reads

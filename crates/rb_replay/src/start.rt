@@ -62,7 +62,7 @@ impl<M: Machine> Session<M> {
     }
 
     /// Reads the script of the bytes and runs it whole, as [`Session::start`] does, for whoever edits no directive: the empty
-    /// cluster alone is kept, so an edit runs all that stands before it again.
+    /// cluster alone is kept, so an edit runs all that is before it again.
     pub fn run_once(
         alloc: Global,
         bytes: &[u8],

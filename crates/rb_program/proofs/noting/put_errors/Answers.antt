@@ -4,9 +4,9 @@ use Rattle.rb_script.specs.Lines.{Line}
 use Rattle.rb_script.specs.Script.{PlainBlock}
 use Rattle.rb_replay.specs.Run.{outputs}
 use Rattle.rb_text.proofs.SentLaws.{sent_all}
-use Rattle.rb_check.proofs.PutLaws.{next_sent, next_exit}
+use Rattle.rb_report.proofs.PutLaws.{next_sent, next_exit}
 use Rattle.rb_program.specs.Notes.{error_noted}
-use Rattle.rb_checked.proofs.EachLaws.{each_step, each_done}
+use Rattle.rb_script_report.proofs.EachLaws.{each_step, each_done}
 use Rattle.rb_program.proofs.noting.put_errors.Goals as goal
 
 pub returns-in_err-put_error-clause-wrote : goal.returns-in_err-put_error-clause-wrote

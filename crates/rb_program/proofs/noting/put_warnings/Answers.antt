@@ -1,8 +1,8 @@
 use Rattle.std.proofs.Common.{◌+◌, List, drop, get_or, ap, arith}
 use Rattle.std.proofs.lemmas.List.{drop_more, drop_all}
 use Rattle.rb_text.proofs.SentLaws.{sent_piece, sent_along, sent_all, piece_exit}
-use Rattle.rb_check.specs.Notices.{warning_text}
-use Rattle.rb_checked.specs.declared.warning.Warning.{Warning}
+use Rattle.rb_report.specs.Notices.{warning_text}
+use Rattle.rb_script_report.specs.declared.warning.Warning.{Warning}
 use Rattle.rb_program.specs.Notes.{warnings_noted}
 use Rattle.rb_program.proofs.noting.put_warnings.Goals as goal
 

@@ -7,5 +7,5 @@ use Rattle.rb_cluster.proofs.cluster.Cluster.add_each_node.Given as goal
 
 abbrev pub invariant-loop-id : goal.invariant-loop-id
 invariant-loop-id g l =
-    after g.O.Observer.taking (g.O.Observer.meaning l.observer) (added_each l.start l.options l.self (range_with_len l.id (l.end - l.id)))
-    ≡ after g.O.Observer.taking (g.O.Observer.meaning l.fn.observer) (added_each l.start l.options l.fn.self (range_with_len l.first (l.end - l.first)))
+    after g.O.Observer.taking g.O.Observer.settling (g.O.Observer.meaning l.observer) (added_each l.start l.options l.self (range_with_len l.id (l.end - l.id)))
+    ≡ after g.O.Observer.taking g.O.Observer.settling (g.O.Observer.meaning l.fn.observer) (added_each l.start l.options l.fn.self (range_with_len l.first (l.end - l.first)))

@@ -25,9 +25,9 @@ returns g c =
     ∙ slice_get_read nodes (length nodes) c.place_of.result n refl low c.in-Some.ensures.value in
     let is : t ≡ advanced (node_step n []) = search rules in
     let hands : c.advance.new.sent.items ≡ outgoing n = search rules in
-    let first : watched c.send_all.new.self sent ≡ after g.O.Observer.taking by (all_sent (with_node c.args.self.now c.args.id c.advance.new.self) c.advance.new.sent.items) = search rules in
+    let first : watched c.send_all.new.self sent ≡ after g.O.Observer.taking g.O.Observer.settling by (all_sent (with_node c.args.self.now c.args.id c.advance.new.self) c.advance.new.sent.items) = search rules in
     let told : c.deref.result.now ≡ c.advance.new.events.items = search rules in
     on_ok_weaker c.show_events.result
-    (λ shows. advanced_shown g.O.Observer.taking by c.args.self.now c.send_all.new.self c.args.id n t c.advance.new.sent.items sent (g.O.Observer.meaning c.show_events.new.observer) at is hands first
+    (λ shows. advanced_shown g.O.Observer.taking g.O.Observer.settling by c.args.self.now c.send_all.new.self c.args.id n t c.advance.new.sent.items sent (g.O.Observer.meaning c.show_events.new.observer) at is hands first
     (shows ∙ ap (λ (l : List Event). fold g.O.Observer.taking sent (map event l)) told))
     c.show_events.ensures

@@ -8,6 +8,6 @@ use Rattle.rb_cluster.proofs.cluster.Cluster.deliver_to_each.Given as goal
 
 abbrev pub invariant-loop-id : goal.invariant-loop-id
 invariant-loop-id g l = record {
-  rest : after g.O.Observer.taking (g.O.Observer.meaning l.initial.observer) (delivered_each None l.initial.self l.ids) ≡ after g.O.Observer.taking (g.O.Observer.meaning l.observer) (delivered_each None l.self (drop l.id-index l.ids));
+  rest : after g.O.Observer.taking g.O.Observer.settling (g.O.Observer.meaning l.initial.observer) (delivered_each None l.initial.self l.ids) ≡ after g.O.Observer.taking g.O.Observer.settling (g.O.Observer.meaning l.observer) (delivered_each None l.self (drop l.id-index l.ids));
   unmarked : (id : ℕ) → is_marked l.receivers.has id ≡ false → has_mail l.self.pending id ≡ false;
 }

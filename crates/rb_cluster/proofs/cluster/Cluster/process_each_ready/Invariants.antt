@@ -6,4 +6,4 @@ use Rattle.rb_cluster.proofs.cluster.Cluster.process_each_ready.Given as goal
 
 abbrev pub invariant-loop-id : goal.invariant-loop-id
 invariant-loop-id g l =
-    after g.O.Observer.taking (g.O.Observer.meaning l.initial.observer) (each_ready_processed l.initial.self l.ids) ≡ after g.O.Observer.taking (g.O.Observer.meaning l.observer) (each_ready_processed l.self (drop l.id-index l.ids))
+    after g.O.Observer.taking g.O.Observer.settling (g.O.Observer.meaning l.initial.observer) (each_ready_processed l.initial.self l.ids) ≡ after g.O.Observer.taking g.O.Observer.settling (g.O.Observer.meaning l.observer) (each_ready_processed l.self (drop l.id-index l.ids))

@@ -6,12 +6,12 @@ use Rattle.rb_script.specs.Tokens.{plain}
 use Rattle.rb_texts.specs.declared.reason.Reason.{Reason}
 use Rattle.rb_machine.specs.declared.printed.PrintedLines.{PrintedLines}
 use Rattle.rb_machine.specs.Observers.{Watched}
-use Rattle.rb_machine.specs.Outcome.{execution, outcome}
+use Rattle.rb_machine.specs.Outcome.{execution, shown_items, outcome}
 use Rattle.rb_machine.specs.Printing as printing
 use Rattle.rb_cluster.proofs.PrintLaws.{printed_is}
-use Rattle.rb_checked.specs.declared.reasons.LineReasons.{LineReasons}
-use Rattle.rb_checked.specs.Whys.{all_reasons, at_level, no_reasons, with_item}
-use Rattle.rb_steps.proofs.SeenLaws.{each_seen}
+use Rattle.rb_script_report.specs.declared.reasons.LineReasons.{LineReasons}
+use Rattle.rb_script_report.specs.Whys.{all_reasons, at_level, no_reasons, with_item}
+use Rattle.rb_machine.proofs.EffectLaws.{each_seen}
 use Rattle.rb_program.proofs.clusters.ClustersRunner.run_explained.Goals as goal
 
 begun_at : (r : LineReasons) (level : Level) → r.above ≡ [] → r.has_begun ≡ false → r.last ≡ None → at_level r level ≡ no_reasons level
@@ -23,14 +23,14 @@ pub returns-clause-output : goal.returns-clause-output
 unfolding outcome
 returns-clause-output c =
     let e = execution c.args.machine (plain c.args.directive) in
-    let seen = each_seen printing.with_item with_item (printing.at_level c.new.result e.level) c.run_watched.new.observer.first (at_level c.new-2.result e.level) c.run_watched.new.observer.second e.items
+    let seen = each_seen printing.with_item with_item (printing.at_level c.new.result e.level) c.run_watched.new.observer.first (at_level c.new-2.result e.level) c.run_watched.new.observer.second e.observed
     (ap (λ (w : Watched (PrintedLines × LineReasons)). w.by) c.in_ok-run_watched.ensures) in
     c.in_ok-or_ok.ensures ∙ printed_is c.new.result c.run_watched.new.observer.first e c.new.ensures seen.0
 
 pub returns-clause-reasons : goal.returns-clause-reasons
 returns-clause-reasons c =
     let e = execution c.args.machine (plain c.args.directive) in
-    let seen = each_seen printing.with_item with_item (printing.at_level c.new.result e.level) c.run_watched.new.observer.first (at_level c.new-2.result e.level) c.run_watched.new.observer.second e.items
+    let seen = each_seen printing.with_item with_item (printing.at_level c.new.result e.level) c.run_watched.new.observer.first (at_level c.new-2.result e.level) c.run_watched.new.observer.second e.observed
     (ap (λ (w : Watched (PrintedLines × LineReasons)). w.by) c.in_ok-run_watched.ensures) in
     c.in_ok-all.ensures
-    ∙ ap all_reasons (seen.1 ∙ ap (λ (r : LineReasons). fold with_item r e.items) (begun_at c.new-2.result e.level c.new-2.ensures.above c.new-2.ensures.has_begun c.new-2.ensures.last))
+    ∙ ap all_reasons (seen.1 ∙ ap (λ (r : LineReasons). fold with_item r (shown_items e)) (begun_at c.new-2.result e.level c.new-2.ensures.above c.new-2.ensures.has_begun c.new-2.ensures.last))

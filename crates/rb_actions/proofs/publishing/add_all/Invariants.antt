@@ -1,9 +1,0 @@
--- What went out so far, and what is left.
-use Rattle.std.proofs.Common.{◌≡◌, ◌++◌, [], drop}
-use Rattle.rb_offers.specs.Texts.{listed}
-use Rattle.rb_actions.specs.Published.{diagnostic_text}
-use Rattle.rb_actions.proofs.publishing.add_all.Given as goal
-
-abbrev pub invariant-loop-diagnostic : goal.invariant-loop-diagnostic
-invariant-loop-diagnostic l =
-    l.out.items ++ listed (diagnostic_text l.client l.uri l.text) l.lead (drop l.diagnostic-index l.list) ≡ l.initial.out.items ++ listed (diagnostic_text l.client l.uri l.text) [] l.list

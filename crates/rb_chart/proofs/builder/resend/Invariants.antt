@@ -1,8 +1,0 @@
--- The arrows so far, and the messages that are left.
-use Rattle.std.proofs.Common.{◌≡◌, drop}
-use Rattle.std.specs.Prelude.{fold}
-use Rattle.rb_chart.specs.Arrows.{resent}
-use Rattle.rb_chart.proofs.builder.resend.Given as goal
-
-abbrev pub invariant-loop-message : goal.invariant-loop-message
-invariant-loop-message l = fold resent l.arrows (drop l.message-index l.messages) ≡ fold resent l.initial.arrows l.messages

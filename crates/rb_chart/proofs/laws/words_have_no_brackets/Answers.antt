@@ -1,5 +1,0 @@
-use Rattle.rb_chart.proofs.EscapeLaws.{no_brackets}
-use Rattle.rb_chart.proofs.laws.words_have_no_brackets.Goals as goal
-
-pub returns : goal.returns
-returns c = no_brackets

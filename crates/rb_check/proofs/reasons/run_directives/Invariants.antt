@@ -1,0 +1,13 @@
+-- What was printed, the reasons so far, and those that are still to come of the directives that are left.
+use Rattle.std.specs.Prelude.{◌≡◌, ◌++◌, take}
+use Rattle.rb_replay.specs.Run.{outputs, state}
+use Rattle.rb_script_report.specs.Whys.{whys_of}
+use Rattle.rb_check.proofs.ReasonLaws.{left}
+use Rattle.rb_check.proofs.reasons.run_directives.Given as goal
+
+abbrev pub invariant-loop-i : goal.invariant-loop-i
+invariant-loop-i g l = record {
+  here : g.T.Machine.Machine.meaning l.machine ≡ state l.script l.i;
+  printed : l.printed ≡ take l.i (outputs l.script);
+  so_far : l.whys.items ++ left (g.T.Machine.Machine.meaning l.machine) l.script.blocks l.i ≡ whys_of l.script;
+}

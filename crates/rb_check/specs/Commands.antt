@@ -1,0 +1,42 @@
+-- A script's report as workflow commands, one a line, which GitHub shows next to the script's lines. (GitHub, Workflow commands for
+-- GitHub Actions.)
+use Rattle.std.specs.Prelude.{ℕ, ◌==◌, if◌then◌else◌, List, [], ◌++◌, Option, Some, None, codes, decimal}
+use Rattle.std.specs.List.{flat_map}
+use Rattle.rb_script.specs.Lines.{Line}
+use Rattle.rb_report.specs.declared.check.colors.Colors.TheVariants.{Off}
+use Rattle.rb_report.specs.Pieces.{noun}
+use Rattle.rb_report.specs.Whys.{told_diff}
+use Rattle.rb_check.specs.declared.piece.CommandPiece.{CommandPiece}
+use Rattle.rb_check.specs.declared.piece.CommandPiece.TheVariants as pieces
+use Rattle.rb_check.specs.Escapes.{in_message, in_property}
+
+abbrev pub line_property : Option ℕ → List ℕ
+line_property None = []
+line_property (Some line) = codes ",line=" ++ decimal line
+
+abbrev pub piece_text : CommandPiece → List ℕ
+piece_text (pieces.Bytes bytes) = bytes.now
+piece_text (pieces.Property bytes) = flat_map in_property bytes.now
+piece_text (pieces.Message bytes) = flat_map in_message bytes.now
+piece_text (pieces.Line line) = line_property line
+
+-- a command with the file, the line and the title that it is shown with, and what follows
+abbrev pub command_with : List ℕ → List ℕ → Option ℕ → List ℕ → List ℕ → List ℕ
+command_with command path line title rest =
+    codes "::" ++ (command ++ (codes " file=" ++ (flat_map in_property path ++ (line_property line ++ (codes ",title=" ++ (flat_map in_property title ++ (codes "::" ++ rest)))))))
+
+abbrev pub command_text : List ℕ → List ℕ → Option ℕ → List ℕ → List ℕ → List ℕ
+command_text command path line title message = command_with command path line title (flat_map in_message message ++ codes "\n")
+
+-- how many other directives of the script differ
+abbrev pub others_text : ℕ → List ℕ
+others_text others = if others == 0 then [] else codes "; " ++ (decimal others ++ noun others (codes " other directive differs") (codes " other directives differ"))
+
+-- what the signs mean
+abbrev pub legend_text : ℕ → List ℕ
+legend_text others = codes "(- expected, + output" ++ (others_text others ++ codes ")\n")
+
+-- a mismatch: the head is the title, and the diff the message, with reasons; n cells are left to compare it
+abbrev pub difference_text : ℕ → List ℕ → ℕ → List ℕ → List Line → List Line → List Line → ℕ → List ℕ
+difference_text left path line head expected output why others =
+    command_with (codes "error") path (Some line) head (flat_map in_message (told_diff left Off why expected output) ++ legend_text others)

@@ -1,0 +1,84 @@
+-- What is told of scripts as JUnit's XML, as GitLab and Jenkins read it: for each script a suite of one case. (This project's.)
+use Rattle.std.specs.Prelude.{ℕ, ◌==◌, Bool, if◌then◌else◌, List, [], ◌++◌, Option, codes, decimal, length}
+use Rattle.std.specs.List.{flat_map}
+use Rattle.rb_script.specs.Lines.{Line}
+use Rattle.rb_script.specs.Script.{PlainScript}
+use Rattle.rb_replay.specs.Run.{outputs}
+use Rattle.rb_replay.specs.Report.{mismatches}
+use Rattle.rb_report.specs.declared.check.colors.Colors.TheVariants.{Off}
+use Rattle.rb_report.specs.declared.check.status.Status.{Status}
+use Rattle.rb_report.specs.declared.check.status.Status.TheVariants.{Matched}
+use Rattle.rb_report.specs.Counts.{nothing, of_outcome, status_of, together}
+use Rattle.rb_report.specs.Notices.{warning_text}
+use Rattle.rb_report.specs.Refusals.{at_line}
+use Rattle.rb_script_report.specs.declared.view.Detail.TheVariants.{Differing}
+use Rattle.rb_script_report.specs.declared.warning.Warning.{Warning}
+use Rattle.rb_script_report.specs.Errors.{error_count}
+use Rattle.rb_script_report.specs.Whys.{told_text}
+use Rattle.rb_check.specs.declared.junit.CaseVerdict.{CaseVerdict}
+use Rattle.rb_check.specs.declared.junit.CaseVerdict.TheVariants.{Passes, Fails, Errs}
+use Rattle.rb_check.specs.declared.kind.NoticeKind.{NoticeKind}
+use Rattle.rb_check.specs.declared.kind.NoticeKind.TheVariants as kinds
+use Rattle.rb_check.specs.Counts.{ran_as, warnings_in}
+use Rattle.rb_check.specs.Xml.{in_text, in_value}
+
+-- ---- a suite
+
+-- the number of its cases, its failures and its errors
+abbrev pub counts_of : CaseVerdict → List ℕ
+counts_of Passes = codes "\" tests=\"1\" failures=\"0\" errors=\"0\">"
+counts_of Fails = codes "\" tests=\"1\" failures=\"1\" errors=\"0\">"
+counts_of Errs = codes "\" tests=\"1\" failures=\"0\" errors=\"1\">"
+
+-- what its case has in it: nothing, where it passes and nothing is told
+abbrev pub body_of : CaseVerdict → List ℕ → List ℕ → List ℕ
+body_of Passes message told = if length told == 0 then [] else codes "<system-out>" ++ (flat_map in_text told ++ codes "</system-out>")
+body_of Fails message told = codes "<failure type=\"mismatch\" message=\"" ++ (flat_map in_value message ++ (codes "\">" ++ (flat_map in_text told ++ codes "</failure>")))
+body_of Errs message told = codes "<error type=\"refused\" message=\"" ++ (flat_map in_value message ++ (codes "\">" ++ (flat_map in_text told ++ codes "</error>")))
+
+abbrev pub suite_front : List ℕ → CaseVerdict → List ℕ
+suite_front path verdict =
+    codes "<testsuite name=\"" ++ (flat_map in_value path ++ (counts_of verdict ++ (codes "<testcase classname=\"raftbench\" name=\"" ++ (flat_map in_value path ++ codes "\">"))))
+
+abbrev pub suite_text : List ℕ → CaseVerdict → List ℕ → List ℕ → List ℕ
+suite_text path verdict message told = suite_front path verdict ++ (body_of verdict message told ++ codes "</testcase></testsuite>\n")
+
+-- ---- a script of these lines that ran, whose heads begin on those
+
+-- it passes, where its status alone would be 0
+abbrev pub verdict_by : Status → CaseVerdict
+verdict_by Matched = Passes
+verdict_by other = Fails
+
+abbrev pub verdict_of : Bool → List Line → List ℕ → PlainScript → CaseVerdict
+verdict_of strict ls heads s = verdict_by (status_of strict (together nothing (of_outcome (ran_as ls heads s (length (mismatches s))))))
+
+abbrev pub message_with : ℕ → ℕ → ℕ → List ℕ
+message_with mismatches errors warnings = codes "mismatches: " ++ (decimal mismatches ++ (codes ", errors: " ++ (decimal errors ++ (codes ", warnings: " ++ decimal warnings))))
+
+abbrev pub message_of : List Line → List ℕ → PlainScript → List ℕ
+message_of ls heads s = message_with (length (mismatches s)) (error_count ls heads (outputs s)) (length (warnings_in ls heads s))
+
+abbrev pub warnings_text : List ℕ → List Warning → List ℕ
+warnings_text path ws = flat_map (λ w. warning_text path w.line w.doubt) ws
+
+-- what people are told: its warnings, what differs, and its new errors
+abbrev pub told_people : List Line → List ℕ → List (List Line) → List ℕ → PlainScript → List ℕ
+told_people ls path whys heads s = warnings_text path (warnings_in ls heads s) ++ told_text Differing Off ls path whys heads s
+
+abbrev pub script_suite : Bool → List Line → List ℕ → List (List Line) → List ℕ → PlainScript → List ℕ
+script_suite strict ls path whys heads s = suite_text path (verdict_of strict ls heads s) (message_of ls heads s) (told_people ls path whys heads s)
+
+-- ---- what else is told of a script
+
+-- its line, and the message
+abbrev pub placed : List ℕ → Option ℕ → List ℕ → List ℕ
+placed path line message = path ++ (at_line line ++ (codes ": " ++ (message ++ codes "\n")))
+
+-- a warning is among what is told of the script
+abbrev pub notice_suite : List ℕ → Option ℕ → NoticeKind → List ℕ → List ℕ
+notice_suite path line kinds.Refused message = suite_text path Errs message (placed path line message)
+notice_suite path line kinds.Failed message = suite_text path Errs message (placed path line message)
+notice_suite path line kinds.Warning message = []
+notice_suite path line kinds.Left message = suite_text path Passes message (placed path line message)
+notice_suite path line kinds.Accepted message = suite_text path Passes message (placed path line message)

@@ -1,0 +1,53 @@
+-- What is told of a script as JSON, an object a line. (This project's; RFC 8259, and one object a line as in JSON Lines.)
+use Rattle.std.specs.Prelude.{ℕ, ◌==◌, if◌then◌else◌, List, [], ◌++◌, length, Option, Some, None, codes, decimal, map}
+use Rattle.std.specs.List.{flat_map}
+use Rattle.rb_text.specs.Json.{ascii}
+use Rattle.rb_script.specs.Lines.{Line}
+use Rattle.rb_report.specs.Heads.{listed}
+use Rattle.rb_report.specs.declared.check.totals.Totals.{Totals}
+
+-- a line between quotes
+abbrev pub quoted : Line → List ℕ
+quoted line = codes "\"" ++ (flat_map ascii line ++ codes "\"")
+
+-- lines from one that has an index, with a comma between each two
+abbrev pub strings_from : ℕ → List Line → List ℕ
+strings_from i ls = listed i (map quoted ls)
+
+-- what is before the expected lines
+abbrev pub object_front : List ℕ → ℕ → List ℕ → List ℕ → List ℕ
+object_front path line head status =
+    codes "{\"script\":\"" ++ (flat_map ascii path ++ (codes "\",\"line\":" ++ (decimal line ++ (codes ",\"directive\":\"" ++ (flat_map ascii head ++ (codes "\",\"status\":\"" ++ (status ++ codes "\",\"expected\":[")))))))
+
+-- the reasons of its output, a text for each line, where there are any
+abbrev pub reasons_member : List Line → List ℕ
+reasons_member why = if length why == 0 then [] else codes "],\"reasons\":[" ++ strings_from 0 why
+
+-- a directive, with what is expected of it and what it gave
+abbrev pub lines_members : List ℕ → ℕ → List ℕ → List ℕ → List Line → List Line → List ℕ
+lines_members path line head status expected output =
+    object_front path line head status ++ (strings_from 0 expected ++ (codes "],\"output\":[" ++ strings_from 0 output))
+
+abbrev pub object_end : List Line → List ℕ
+object_end why = reasons_member why ++ codes "]}\n"
+
+-- the same, with the reasons of what it gave
+abbrev pub object_text : List ℕ → ℕ → List ℕ → List ℕ → List Line → List Line → List Line → List ℕ
+object_text path line head status expected output why = lines_members path line head status expected output ++ object_end why
+
+-- the line of a script that something is told of, if there is one, after the script's path
+abbrev pub line_member : Option ℕ → List ℕ
+line_member None = codes "\",\"line\":null"
+line_member (Some line) = codes "\",\"line\":" ++ decimal line
+
+-- something else that is told of a script
+abbrev pub notice_object : List ℕ → Option ℕ → List ℕ → List ℕ → List ℕ
+notice_object path line status message =
+    codes "{\"script\":\"" ++ (flat_map ascii path ++ (line_member line ++ (codes ",\"status\":\"" ++ (status ++ (codes "\",\"message\":\"" ++ (flat_map ascii message ++ codes "\"}\n"))))))
+
+-- what came of all, the last object
+abbrev pub totals_object : Totals → List ℕ
+totals_object t =
+    codes "{\"status\":\"totals\",\"scripts\":" ++ (decimal t.scripts ++ (codes ",\"directives\":" ++ (decimal t.directives ++ (codes ",\"mismatches\":" ++ (decimal t.mismatches
+    ++ (codes ",\"refused\":" ++ (decimal t.refused ++ (codes ",\"errors\":" ++ (decimal t.errors ++ (codes ",\"warnings\":" ++ (decimal t.warnings
+    ++ (codes ",\"accepted\":" ++ (decimal t.accepted ++ (codes ",\"failed\":" ++ (decimal t.failed ++ codes "}\n")))))))))))))))

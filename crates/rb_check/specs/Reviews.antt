@@ -1,0 +1,170 @@
+-- A review: what is asked about, what answers mean, and what is accepted by what comes. (This project's.)
+use Rattle.std.specs.Prelude.{ℕ, zero, suc, ◌==◌, ◌||◌, ◌-◌, Bool, false, not, if◌then◌else◌, List, [], ◌∷◌, ◌++◌, Option, Some, None, codes, decimal, drop, length, min, slice_index_or, take}
+use Rattle.std.specs.List.{flat_map, fold}
+use Rattle.std.specs.Str.{trim}
+use Rattle.rb_script.specs.Bytes.{number_sign}
+use Rattle.rb_script.specs.Lines.{Line}
+use Rattle.rb_script.specs.Marks.{trim_blanks}
+use Rattle.rb_script.specs.Script.{PlainBlock, PlainScript}
+use Rattle.rb_replay.specs.Report.{same_lines}
+use Rattle.rb_replay.specs.Run.{outputs}
+use Rattle.rb_script_report.specs.declared.accept_options.AcceptFilter.{AcceptFilter}
+use Rattle.rb_script_report.specs.Accepting.{is_picked}
+use Rattle.rb_script_report.specs.Checked.{of_each}
+use Rattle.rb_script_report.specs.Errors.{is_unexpected}
+use Rattle.rb_check.specs.declared.answer.Answer.{Answer}
+use Rattle.rb_check.specs.declared.answer.Answer.TheVariants as answers
+use Rattle.rb_check.specs.declared.answer.HeardAnswer.{HeardAnswer}
+use Rattle.rb_check.specs.declared.answer.HeardAnswer.TheVariants as heard
+use Rattle.rb_check.specs.declared.question.ReviewQuestion.{ReviewQuestion}
+use Rattle.rb_check.specs.declared.review.Review.{Review}
+use Rattle.rb_check.specs.declared.review.Review.TheVariants as reviews
+
+-- ---- what is asked about
+
+-- a directive whose output is not the expected one, and that is picked
+abbrev pub question_of : Bool → AcceptFilter → List Line → ℕ → PlainBlock → List Line → Option ReviewQuestion
+question_of errors picked ls line b output =
+    if same_lines b.expected output || not (is_picked picked line) then None
+    else Some (record { head = line; is_taken = errors || not (is_unexpected ls line output) })
+
+abbrev pub as_list : Option ReviewQuestion → List ReviewQuestion
+as_list None = []
+as_list (Some question) = question ∷ []
+
+-- those of a script of these lines, whose heads begin on those
+abbrev pub questions_of : Bool → AcceptFilter → List Line → List ℕ → List PlainBlock → List (List Line) → List ReviewQuestion
+questions_of errors picked ls heads bs os = of_each (λ line b output. as_list (question_of errors picked ls line b output)) heads bs os
+
+-- which of how many it is
+abbrev pub question_text : ℕ → ℕ → List ℕ
+question_text number count = decimal number ++ (codes " of " ++ (decimal count ++ codes ": accept this output? [y,n,a,s,q,?] "))
+
+-- ---- the comment above a directive
+
+abbrev pub begins_comment : Line → Bool
+begins_comment [] = false
+begins_comment (b ∷ line) = b == number_sign
+
+-- how many of the first n lines are above the comments at their end
+abbrev pub above_comment : List Line → ℕ → ℕ
+above_comment ls zero = 0
+above_comment ls (suc n) = if begins_comment (trim_blanks (slice_index_or ls n [])) then above_comment ls n else suc n
+
+abbrev pub with_end : Line → List ℕ
+with_end line = line ++ codes "\n"
+
+-- how many lines are above the head that begins on the line, which counts from 1
+abbrev pub lines_above : List Line → ℕ → ℕ
+lines_above ls line = min (line - 1) (length ls)
+
+-- the comments directly above the head
+abbrev pub comment_text : List Line → ℕ → List ℕ
+comment_text ls line = flat_map with_end (drop (above_comment ls (lines_above ls line)) (take (lines_above ls line) ls))
+
+-- ---- what answers mean
+
+-- the answer that a letter is: y, n, a, s, q
+abbrev pub answer_of : ℕ → Option Answer
+answer_of b = if b == 121 then Some answers.Yes else (if b == 110 then Some answers.No else (if b == 97 then Some answers.All else (if b == 115 then Some answers.Skip else (if b == 113 then Some answers.Quit else None))))
+
+-- a word is one letter
+abbrev pub answer_to : List ℕ → Option Answer
+answer_to [] = None
+answer_to (b ∷ []) = answer_of b
+answer_to (b ∷ c ∷ word) = None
+
+abbrev pub heard_as : Option Answer → HeardAnswer
+heard_as None = heard.Else
+heard_as (Some answer) = heard.Answer answer
+
+-- what a line says, white space around it aside
+abbrev pub heard_in : List ℕ → HeardAnswer
+heard_in line = heard_as (answer_to (trim line))
+
+-- what is still to be asked after it
+abbrev pub next_review : Answer → Review
+next_review answers.Yes = reviews.Each
+next_review answers.No = reviews.Each
+next_review answers.All = reviews.Rest
+next_review answers.Skip = reviews.Skipped
+next_review answers.Quit = reviews.Over
+
+-- the head that it was given for, where the output is accepted by it
+abbrev pub said_by : Answer → ℕ → List ℕ
+said_by answers.Yes head = head ∷ []
+said_by answers.No head = []
+said_by answers.All head = head ∷ []
+said_by answers.Skip head = []
+said_by answers.Quit head = []
+
+-- a head that isn't asked about, once all others are accepted
+abbrev pub said_unasked : ReviewQuestion → List ℕ
+said_unasked question = if question.is_taken then question.head ∷ [] else []
+
+-- ---- what comes
+
+-- the next of what comes; nothing more is the end
+abbrev pub first_heard : List HeardAnswer → HeardAnswer
+first_heard [] = heard.End
+first_heard (next ∷ more) = next
+
+abbrev pub rest_heard : List HeardAnswer → List HeardAnswer
+rest_heard [] = []
+rest_heard (next ∷ more) = more
+
+-- the first answer of what comes: what is none is asked again, and the end is as q
+abbrev pub answered : List HeardAnswer → Answer
+answered [] = answers.Quit
+answered (heard.Answer answer ∷ more) = answer
+answered (heard.Else ∷ more) = answered more
+answered (heard.End ∷ more) = answers.Quit
+
+-- what comes after it
+abbrev pub after_answer : List HeardAnswer → List HeardAnswer
+after_answer [] = []
+after_answer (heard.Answer answer ∷ more) = more
+after_answer (heard.Else ∷ more) = after_answer more
+after_answer (heard.End ∷ more) = more
+
+-- ---- what is accepted
+
+-- the heads that are accepted so far, what is still to be asked, and what is still to come
+pub record Reviewing : Type 0 where
+  pub said : List ℕ
+  pub review : Review
+  pub left : List HeardAnswer
+
+abbrev pub reviewing : List ℕ → Review → List HeardAnswer → Reviewing
+reviewing said review left = record { said = said; review = review; left = left }
+
+abbrev pub answered_one : Reviewing → ReviewQuestion → Reviewing
+answered_one r question = reviewing (r.said ++ said_by (answered r.left) question.head) (next_review (answered r.left)) (after_answer r.left)
+
+abbrev pub reviewed_as : Review → Reviewing → ReviewQuestion → Reviewing
+reviewed_as reviews.Each r question = answered_one r question
+reviewed_as reviews.Rest r question = reviewing (r.said ++ said_unasked question) r.review r.left
+reviewed_as reviews.Skipped r question = r
+reviewed_as reviews.Over r question = r
+
+-- a question is asked, where it is still to be asked
+abbrev pub reviewed_one : Reviewing → ReviewQuestion → Reviewing
+reviewed_one r question = reviewed_as r.review r question
+
+abbrev pub reviewed_all : Reviewing → List ReviewQuestion → Reviewing
+reviewed_all r questions = fold reviewed_one r questions
+
+-- what is to be asked of the next script
+abbrev pub review_behind : Review → Review
+review_behind reviews.Each = reviews.Each
+review_behind reviews.Rest = reviews.Each
+review_behind reviews.Skipped = reviews.Each
+review_behind reviews.Over = reviews.Over
+
+-- A review of a script: what is accepted of its questions, after what was asked before, by what comes.
+abbrev pub review_of : Review → List HeardAnswer → List ReviewQuestion → Reviewing
+review_of review left questions = reviewed_all (reviewing [] (review_behind review) left) questions
+
+-- what is said where a review ends before all scripts were looked at
+abbrev pub quit_text : ℕ → ℕ → List ℕ
+quit_text accepted left = codes "the review ends here; accepted so far: " ++ (decimal accepted ++ (codes "; scripts not looked at: " ++ (decimal left ++ codes "\n")))

@@ -1,0 +1,17 @@
+//! A script that is being checked.
+
+use crate::system::Text;
+use rb_machine::Machine;
+use rb_replay::Session;
+use rb_script::Lines;
+use rb_script_report::Layout;
+
+/// A script that ran, with the reasons of its outputs if they were asked for.
+#[derive(Drop)]
+pub(crate) struct CheckedScript<'a, M: Machine> {
+    pub(crate) path: &'a str,
+    pub(crate) text: &'a Text,
+    pub(crate) session: &'a Session<M>,
+    pub(crate) layout: &'a Layout,
+    pub(crate) whys: &'a [Lines],
+}

@@ -1,0 +1,291 @@
+//! Checking one script. Nothing is held longer than its script.
+
+ghost use Rattle.std.specs.Prelude.{◌≡◌, ◌≢◌, ◌<◌, ◌^◌, ℕ, [], IfOk, IfErr, length};
+ghost use Rattle.rb_replay.specs.Report.{mismatches};
+ghost use Rattle.rb_replay.specs.Run.{outputs};
+ghost use Rattle.rb_script_report.specs.Doubts.{all_warnings};
+ghost use Rattle.rb_script_report.specs.Layouts.{IsLayout};
+ghost use Rattle.rb_script_report.specs.Shows.{summary_of};
+ghost use Rattle.rb_check.specs.Counts.{counted_as, ran_as, told_after, warnings_in};
+ghost use Rattle.rb_check.specs.Came.{Came};
+ghost use Rattle.rb_check.specs.Endings.{AcceptsSaid, AreWanted, EndsAs, ending_at, has_warnings};
+
+use crate::accepting::accept;
+use crate::alone::show_alone;
+use crate::check_request::CheckRequest;
+use crate::checked_script::CheckedScript;
+use crate::ending::{CheckEnding, ending_of};
+use crate::format::Format;
+use crate::formatted::formatted;
+use crate::person::Person;
+use crate::picking::{lines_alone, named_heads, picked_of};
+use crate::ran::{Ran, ScriptEnd};
+use crate::reasons::run_script;
+use crate::report::Report;
+use crate::review::{Reviewer, reviewed};
+use crate::runner::Runner;
+use crate::system::System;
+use rb_files::PathError;
+use rb_machine::Machine;
+use rb_replay::{Session, StartFault};
+use rb_report::check::Failure;
+use rb_script_report::{
+    AcceptFilter, AcceptOptions, Detail, View, Warning, is_quiet, put_checked, summary_of, warnings,
+};
+use std::alloc::{AllocError, Global};
+use std::io::Write;
+
+/// Checks the script at the path: shows its mismatches, and accepts them if that was asked for.
+///
+/// # Errors
+///
+/// What failed, where the script could not be read or run, or memory was refused for what there is to show.
+pub(crate) fn check_script<T: Runner, S: System, P: Person, W: Write + Drop, E: Write + Drop>(
+    system: &S,
+    runner: &mut T,
+    asked: &CheckRequest<'_>,
+    path: &str,
+    reviewer: &mut Reviewer<P>,
+    report: &mut Report<W, E>,
+) -> Result<(), PathError>
+    // What the session of the script that was read says is told, or why it is none.
+    ensures came { IfOk result (λ _. Came asked.now (P.is_known reviewer.old.person) reviewer.old.review (P.left reviewer.old.person) report.old.told report.new.told) }
+    // What failed is still to be told.
+    ensures failed { IfErr result (λ _. report.new.told ≡ report.old.told) }
+{
+    report.heed(path.as_bytes(), None);
+    let text = system.read(path)?;
+    let run = match run_script(system.alloc(), runner, asked.explains, &text.bytes) {
+        Ok(run) => run,
+        Err(StartFault::Script(fault)) => {
+            report.refused(path, fault);
+            return Ok(());
+        }
+        Err(_) => return Err(PathError::alone(Failure::OutOfMemory)),
+    };
+    report.heed(path.as_bytes(), Some(&run.layout.text));
+    let subject = CheckedScript {
+        path,
+        text: &text,
+        session: &run.session,
+        layout: &run.layout,
+        whys: &run.whys,
+    };
+    answer(system, asked, &subject, reviewer, report)?;
+    Ok(())
+}
+
+// What is to be told of a script that ran.
+fn ran_of<'a, M: Machine>(subject: &CheckedScript<'a, M>, warnings: &[Warning]) -> Ran<'a>
+    requires layout { IsLayout subject.now.text.now.bytes.items subject.now.session.now.script subject.now.layout.now }
+    requires warnings { warnings.now ≡ warnings_in subject.now.layout.now.text subject.now.layout.now.heads.items subject.now.session.now.script }
+    ensures counts { (left : ℕ) → counted_as result left ≡ ran_as subject.now.layout.now.text subject.now.layout.now.heads.items subject.now.session.now.script left }
+    ensures mismatches { result.mismatches ≡ length (mismatches subject.now.session.now.script) }
+{
+    Ran {
+        path: subject.path,
+        directives: subject.session.len(),
+        mismatches: subject.session.mismatches().len(),
+        told: summary_of(subject.session, subject.layout),
+        warnings: warnings.len(),
+    }
+}
+
+// Shows what there is to show, and does with the outputs what is to be done.
+fn answer<M: Machine, S: System, P: Person, W: Write + Drop, E: Write + Drop>(
+    system: &S,
+    asked: &CheckRequest<'_>,
+    subject: &CheckedScript<'_, M>,
+    reviewer: &mut Reviewer<P>,
+    report: &mut Report<W, E>,
+) -> Result<ScriptEnd, PathError>
+    requires { IsLayout subject.now.text.now.bytes.items subject.now.session.now.script subject.now.layout.now }
+    ensures told { IfOk result (λ end. report.new.told ≡ told_after report.old.told (ran_as subject.now.layout.now.text subject.now.layout.now.heads.items subject.now.session.now.script end.left) end.failure) }
+    ensures ended { IfOk result (λ end. EndsAs (ending_at asked.now subject.now.layout.now subject.now.session.now.script) asked.now (P.is_known reviewer.old.person) reviewer.old.review (P.left reviewer.old.person) subject.now.layout.now subject.now.session.now.script end) }
+    ensures failed { IfErr result (λ _. report.new.told ≡ report.old.told) }
+{
+    let alloc = system.alloc();
+    let warnings = warnings(alloc, subject.session, subject.layout)?;
+    let ran = ran_of(subject, &warnings);
+    tell(system, asked, subject, ran, &warnings, report)?;
+    let heads = named_heads(system, asked, subject, report)?;
+    let picked = picked_of(alloc, asked, subject, &heads)?;
+    match ending_at(asked, !warnings.is_empty(), subject) {
+        CheckEnding::Kept => {
+            report.ran(alloc, ran);
+            Ok(ScriptEnd::of_left(ran.mismatches))
+        }
+        CheckEnding::Refused => {
+            report.refuse_to_accept(alloc, ran);
+            Ok(ScriptEnd::of_left(ran.mismatches))
+        }
+        CheckEnding::Accepted => {
+            let errors = asked.accepts_errors;
+            let wanted = AcceptOptions { picked, errors };
+            Ok(accept(system, wanted, ran, subject, report))
+        }
+        CheckEnding::Reviewed => {
+            accept_reviewed(system, asked, ran, picked, subject, reviewer, report)
+        }
+    }
+}
+
+// What is done with the outputs. Where none differs, it isn't looked at whether there are warnings.
+fn ending_at<M: Machine>(
+    asked: &CheckRequest<'_>,
+    is_warned: bool,
+    subject: &CheckedScript<'_, M>,
+) -> CheckEnding
+    requires { mismatches subject.now.session.now.script ≢ [] → is_warned ≡ has_warnings subject.now.layout.now subject.now.session.now.script }
+    ensures { result ≡ ending_at asked.now subject.now.layout.now subject.now.session.now.script }
+{
+    ending_of(asked, is_warned, subject.session.mismatches().len())
+}
+
+// Shows what there is to show: the directives that are named alone, or the lines that look like a slip and what differs.
+fn tell<M: Machine, S: System, W: Write + Drop, E: Write + Drop>(
+    system: &S,
+    asked: &CheckRequest<'_>,
+    subject: &CheckedScript<'_, M>,
+    ran: Ran<'_>,
+    warnings: &[Warning],
+    report: &mut Report<W, E>,
+) -> Result<(), PathError>
+    requires layout { IsLayout subject.now.text.now.bytes.items subject.now.session.now.script subject.now.layout.now }
+    requires warnings { warnings.now ≡ warnings_in subject.now.layout.now.text subject.now.layout.now.heads.items subject.now.session.now.script }
+    requires ran { counted_as ran ran.mismatches ≡ ran_as subject.now.layout.now.text subject.now.layout.now.heads.items subject.now.session.now.script (length (mismatches subject.now.session.now.script)) }
+    ensures { report.new.told ≡ report.old.told }
+{
+    let alloc = system.alloc();
+    if let Some(lines) = lines_alone(system, asked, subject.path)? {
+        return show_alone(alloc, asked, subject, &lines, report);
+    }
+    if warns(asked, subject.session) {
+        report.warn(subject.path, warnings);
+    }
+    show(alloc, asked, subject, ran, warnings, report)
+}
+
+// Whether the lines that look like a slip are shown.
+fn warns<M: Machine>(asked: &CheckRequest<'_>, session: &Session<M>) -> bool {
+    let may_accept = asked.accepts && !session.mismatches().is_empty();
+    may_accept || asked.is_strict || shows_warnings(asked.shown)
+}
+
+// Accepts the outputs that are said yes to.
+fn accept_reviewed<M: Machine, S: System, P: Person, W: Write + Drop, E: Write + Drop>(
+    system: &S,
+    asked: &CheckRequest<'_>,
+    ran: Ran<'_>,
+    picked: AcceptFilter<'_>,
+    subject: &CheckedScript<'_, M>,
+    reviewer: &mut Reviewer<P>,
+    report: &mut Report<W, E>,
+) -> Result<ScriptEnd, PathError>
+    requires { IsLayout subject.now.text.now.bytes.items subject.now.session.now.script subject.now.layout.now }
+    ensures told { IfOk result (λ end. report.new.told ≡ told_after report.old.told (counted_as ran.entry end.left) end.failure) }
+    ensures ended { ran.entry.mismatches ≡ length (mismatches subject.now.session.now.script) → IfOk result (λ end. AcceptsSaid asked.now (P.is_known reviewer.old.person) reviewer.old.review (P.left reviewer.old.person) subject.now.layout.now subject.now.session.now.script end) }
+    ensures failed { IfErr result (λ _. report.new.told ≡ report.old.told) }
+{
+    let said = reviewed(system.alloc(), asked, subject, picked, reviewer, report)?;
+    Ok(accept(system, wanted_of(said.as_slice()), ran, subject, report))
+}
+
+// What is said yes to is accepted, new errors too.
+fn wanted_of(said: &[usize]) -> AcceptOptions<'_>
+    ensures { AreWanted said.now result }
+{
+    AcceptOptions {
+        picked: AcceptFilter::Heads(said),
+        errors: true,
+    }
+}
+
+// With less detail than the mismatches only that is shown, and why nothing is accepted.
+fn shows_warnings(shown: Detail) -> bool {
+    match shown {
+        Detail::Differing | Detail::All => true,
+        Detail::First | Detail::Brief => false,
+    }
+}
+
+// Shows the script's report to people or programs. If it is empty, nothing is computed.
+fn show<M: Machine, W: Write + Drop, E: Write + Drop>(
+    alloc: Global,
+    asked: &CheckRequest<'_>,
+    subject: &CheckedScript<'_, M>,
+    ran: Ran<'_>,
+    warnings: &[Warning],
+    report: &mut Report<W, E>,
+) -> Result<(), PathError>
+    requires layout { IsLayout subject.now.text.now.bytes.items subject.now.session.now.script subject.now.layout.now }
+    requires warnings { warnings.now ≡ warnings_in subject.now.layout.now.text subject.now.layout.now.heads.items subject.now.session.now.script }
+    requires ran { counted_as ran ran.mismatches ≡ ran_as subject.now.layout.now.text subject.now.layout.now.heads.items subject.now.session.now.script (length (mismatches subject.now.session.now.script)) }
+    ensures { report.new.told ≡ report.old.told }
+{
+    if asked.format != Some(Format::Junit) && is_quiet(subject.session, asked.shown) {
+        return Ok(());
+    }
+    match asked.format {
+        Some(format) => Ok(show_programs(
+            alloc,
+            format,
+            asked.is_strict,
+            subject,
+            ran,
+            warnings,
+            report,
+        )?),
+        None => show_people(alloc, asked, subject, report),
+    }
+}
+
+// Shows the script's report to people.
+fn show_people<M: Machine, W: Write + Drop, E: Write + Drop>(
+    alloc: Global,
+    asked: &CheckRequest<'_>,
+    subject: &CheckedScript<'_, M>,
+    report: &mut Report<W, E>,
+) -> Result<(), PathError>
+    requires { IsLayout subject.now.text.now.bytes.items subject.now.session.now.script subject.now.layout.now }
+    ensures { report.new.told ≡ report.old.told }
+{
+    if !report.is_open() {
+        return Ok(());
+    }
+    let view = View {
+        path: subject.path.as_bytes(),
+        colors: report.colors(asked.colors),
+        shown: asked.shown,
+    };
+    let sink = &mut report.output;
+    let shown = put_checked(
+        alloc,
+        sink,
+        subject.session,
+        subject.layout,
+        view,
+        subject.whys,
+    );
+    report.showed(shown)
+}
+
+// Shows the script's report to programs.
+fn show_programs<M: Machine, W: Write + Drop, E: Write + Drop>(
+    alloc: Global,
+    format: Format,
+    is_strict: bool,
+    subject: &CheckedScript<'_, M>,
+    ran: Ran<'_>,
+    warnings: &[Warning],
+    report: &mut Report<W, E>,
+) -> Result<(), AllocError>
+    requires layout { IsLayout subject.now.text.now.bytes.items subject.now.session.now.script subject.now.layout.now }
+    requires warnings { warnings.now ≡ warnings_in subject.now.layout.now.text subject.now.layout.now.heads.items subject.now.session.now.script }
+    requires ran { counted_as ran ran.mismatches ≡ ran_as subject.now.layout.now.text subject.now.layout.now.heads.items subject.now.session.now.script (length (mismatches subject.now.session.now.script)) }
+    ensures { report.new.told ≡ report.old.told }
+{
+    let text = formatted(alloc, format, is_strict, subject, ran, warnings)?;
+    report.put(&text);
+    Ok(())
+}

@@ -1,0 +1,304 @@
+//! What is told of scripts as JUnit's XML: for each script a suite of one case, so that nothing has to be counted before it is written.
+
+ghost use Rattle.std.specs.Prelude.{◌≡◌, ◌++◌, [], IfOk, OnOk, length};
+ghost use Rattle.rb_replay.specs.Report.{mismatches};
+ghost use Rattle.rb_report.specs.Notices.{warning_text};
+ghost use Rattle.rb_report.specs.Counts.{nothing, of_outcome, status_of, together};
+ghost use Rattle.rb_script_report.specs.Layouts.{IsLayout};
+ghost use Rattle.rb_check.specs.Counts.{counted_as, ran_as, warnings_in};
+ghost use Rattle.rb_check.specs.Junit.{body_of, counts_of, message_with, notice_suite, placed, script_suite, suite_front, suite_text, told_people, verdict_by, warnings_text};
+
+use crate::checked_script::CheckedScript;
+use crate::kind::NoticeKind;
+use crate::ran::{Ran, counted_as};
+use crate::xml::XmlPiece;
+use rb_machine::Machine;
+use rb_report::check::{Colors, Status, Totals, put_warning};
+use rb_script::Through;
+use rb_script_report::{Detail, View, Warning, put_checked};
+use rb_text::add_pieces;
+use std::alloc::{AllocError, Global};
+use std::mem;
+
+/// What is before all suites.
+pub(crate) const BEGINNING: &[u8] =
+    b"<?xml version=\"1.0\" encoding=\"UTF-8\"?>\n<testsuites name=\"raftbench\">\n";
+
+/// What is after them.
+pub(crate) const END: &[u8] = b"</testsuites>\n";
+
+/// What a case came to.
+#[derive(Clone, Copy, Debug, PartialEq, Eq)]
+pub(crate) enum CaseVerdict {
+    Passes,
+    /// Something of the script is not as it should be.
+    Fails,
+    /// There was no run of it.
+    Errs,
+}
+
+fn counts_of(verdict: CaseVerdict) -> &'static [u8]
+    ensures { result.now ≡ counts_of verdict }
+{
+    match verdict {
+        CaseVerdict::Passes => b"\" tests=\"1\" failures=\"0\" errors=\"0\">",
+        CaseVerdict::Fails => b"\" tests=\"1\" failures=\"1\" errors=\"0\">",
+        CaseVerdict::Errs => b"\" tests=\"1\" failures=\"0\" errors=\"1\">",
+    }
+}
+
+fn add_front(text: &mut Vec<u8>, path: &[u8], verdict: CaseVerdict) -> Result<(), AllocError>
+    ensures { OnOk result (text.new.items ≡ text.old.items ++ suite_front path.now verdict) }
+{
+    add_pieces(
+        text,
+        &[
+            XmlPiece::Bytes(b"<testsuite name=\""),
+            XmlPiece::Value(path),
+            XmlPiece::Bytes(counts_of(verdict)),
+            XmlPiece::Bytes(b"<testcase classname=\"raftbench\" name=\""),
+            XmlPiece::Value(path),
+            XmlPiece::Bytes(b"\">"),
+        ],
+    )
+}
+
+fn add_body<'a>(
+    text: &mut Vec<u8>,
+    verdict: CaseVerdict,
+    message: &'a [u8],
+    told: &'a [u8],
+) -> Result<(), AllocError>
+    ensures { OnOk result (text.new.items ≡ text.old.items ++ body_of verdict message.now told.now) }
+{
+    match verdict {
+        CaseVerdict::Passes => add_output(text, told),
+        CaseVerdict::Fails => add_pieces(
+            text,
+            &[
+                XmlPiece::Bytes(b"<failure type=\"mismatch\" message=\""),
+                XmlPiece::Value(message),
+                XmlPiece::Bytes(b"\">"),
+                XmlPiece::Text(told),
+                XmlPiece::Bytes(b"</failure>"),
+            ],
+        ),
+        CaseVerdict::Errs => add_pieces(
+            text,
+            &[
+                XmlPiece::Bytes(b"<error type=\"refused\" message=\""),
+                XmlPiece::Value(message),
+                XmlPiece::Bytes(b"\">"),
+                XmlPiece::Text(told),
+                XmlPiece::Bytes(b"</error>"),
+            ],
+        ),
+    }
+}
+
+// What is told of a case that passes.
+fn add_output(text: &mut Vec<u8>, told: &[u8]) -> Result<(), AllocError>
+    ensures { OnOk result (text.new.items ≡ text.old.items ++ body_of CaseVerdict.Passes [] told.now) }
+{
+    if told.is_empty() {
+        return Ok(());
+    }
+    add_pieces(
+        text,
+        &[
+            XmlPiece::Bytes(b"<system-out>"),
+            XmlPiece::Text(told),
+            XmlPiece::Bytes(b"</system-out>"),
+        ],
+    )
+}
+
+// Adds the suite of a script.
+fn add_suite(
+    text: &mut Vec<u8>,
+    path: &[u8],
+    verdict: CaseVerdict,
+    message: &[u8],
+    told: &[u8],
+) -> Result<(), AllocError>
+    ensures { IfOk result (λ _. text.new.items ≡ text.old.items ++ suite_text path.now verdict message.now told.now) }
+{
+    add_front(text, path, verdict)?;
+    add_body(text, verdict, message, told)?;
+    add_pieces(text, &[XmlPiece::Bytes(b"</testcase></testsuite>\n")])?;
+    Ok(())
+}
+
+fn verdict_by(status: Status) -> CaseVerdict
+    ensures { result ≡ verdict_by status }
+{
+    match status {
+        Status::Matched => CaseVerdict::Passes,
+        _ => CaseVerdict::Fails,
+    }
+}
+
+// What a script came to, alone.
+fn verdict_of(ran: Ran<'_>, is_strict: bool) -> CaseVerdict
+    ensures { result ≡ verdict_by (status_of is_strict (together nothing (of_outcome (counted_as ran.entry ran.entry.mismatches)))) }
+{
+    let mut totals = Totals::new();
+    totals.add(counted_as(ran, ran.mismatches));
+    verdict_by(totals.status(is_strict))
+}
+
+fn message(
+    alloc: Global,
+    mismatches: usize,
+    errors: usize,
+    warnings: usize,
+) -> Result<Vec<u8>, AllocError>
+    ensures { IfOk result (λ made. made.items ≡ message_with mismatches errors warnings) }
+{
+    let mut text = Vec::new(alloc);
+    add_pieces(
+        &mut text,
+        &[
+            XmlPiece::Bytes(b"mismatches: "),
+            XmlPiece::Number(mismatches as u64),
+            XmlPiece::Bytes(b", errors: "),
+            XmlPiece::Number(errors as u64),
+            XmlPiece::Bytes(b", warnings: "),
+            XmlPiece::Number(warnings as u64),
+        ],
+    )?;
+    Ok(text)
+}
+
+fn add_warning(text: &mut Vec<u8>, path: &[u8], warning: Warning) -> Result<(), AllocError>
+    ensures { OnOk result (text.new.items ≡ text.old.items ++ warning_text path.now warning.line warning.doubt) }
+{
+    let nothing = Vec::new(*text.allocator());
+    let mut sink = Through(mem::replace(text, nothing));
+    let written = put_warning(&mut sink, path, warning.line, warning.doubt);
+    *text = sink.0;
+    match written {
+        Ok(()) => Ok(()),
+        Err(_) => Err(AllocError),
+    }
+}
+
+fn add_warnings(text: &mut Vec<u8>, path: &[u8], warnings: &[Warning]) -> Result<(), AllocError>
+    ensures { IfOk result (λ _. text.new.items ≡ text.old.items ++ warnings_text path.now warnings.now) }
+{
+    for warning in warnings {
+        add_warning(text, path, *warning)?;
+    }
+    Ok(())
+}
+
+// What people are told of the script.
+fn told_people<M: Machine>(
+    alloc: Global,
+    subject: &CheckedScript<'_, M>,
+    warnings: &[Warning],
+) -> Result<Vec<u8>, AllocError>
+    requires layout { IsLayout subject.now.text.now.bytes.items subject.now.session.now.script subject.now.layout.now }
+    requires warnings { warnings.now ≡ warnings_in subject.now.layout.now.text subject.now.layout.now.heads.items subject.now.session.now.script }
+    ensures { IfOk result (λ made. made.items ≡ told_people subject.now.layout.now.text subject.now.path.now subject.now.whys.now subject.now.layout.now.heads.items subject.now.session.now.script) }
+{
+    let path = subject.path.as_bytes();
+    let mut text = Vec::new(alloc);
+    add_warnings(&mut text, path, warnings)?;
+    let view = View {
+        path,
+        colors: Colors::Off,
+        shown: Detail::Differing,
+    };
+    let mut sink = Through(text);
+    let shown = put_checked(
+        alloc,
+        &mut sink,
+        subject.session,
+        subject.layout,
+        view,
+        subject.whys,
+    );
+    match shown {
+        Ok(()) => Ok(sink.0),
+        Err(_) => Err(AllocError),
+    }
+}
+
+/// The suite of a script that ran: its case fails where the script alone would end the check with another status than 0.
+pub(crate) fn script_suite<M: Machine>(
+    alloc: Global,
+    subject: &CheckedScript<'_, M>,
+    ran: Ran<'_>,
+    warnings: &[Warning],
+    is_strict: bool,
+) -> Result<Vec<u8>, AllocError>
+    requires layout { IsLayout subject.now.text.now.bytes.items subject.now.session.now.script subject.now.layout.now }
+    requires warnings { warnings.now ≡ warnings_in subject.now.layout.now.text subject.now.layout.now.heads.items subject.now.session.now.script }
+    requires ran { counted_as ran ran.mismatches ≡ ran_as subject.now.layout.now.text subject.now.layout.now.heads.items subject.now.session.now.script (length (mismatches subject.now.session.now.script)) }
+    ensures { IfOk result (λ made. made.items ≡ script_suite is_strict subject.now.layout.now.text subject.now.path.now subject.now.whys.now subject.now.layout.now.heads.items subject.now.session.now.script) }
+{
+    let told = told_people(alloc, subject, warnings)?;
+    let message = message(alloc, ran.mismatches, ran.told.errors, ran.warnings)?;
+    let mut text = Vec::new(alloc);
+    let path = subject.path.as_bytes();
+    let verdict = verdict_of(ran, is_strict);
+    add_suite(&mut text, path, verdict, &message, &told)?;
+    Ok(text)
+}
+
+// The message with its line.
+fn placed<'a>(
+    alloc: Global,
+    path: &'a [u8],
+    line: Option<usize>,
+    message: &'a [u8],
+) -> Result<Vec<u8>, AllocError>
+    ensures { IfOk result (λ made. made.items ≡ placed path.now line message.now) }
+{
+    let mut text = Vec::new(alloc);
+    match line {
+        Some(line) => add_pieces(
+            &mut text,
+            &[
+                XmlPiece::Bytes(path),
+                XmlPiece::Bytes(b":"),
+                XmlPiece::Number(line as u64),
+                XmlPiece::Bytes(b": "),
+                XmlPiece::Bytes(message),
+                XmlPiece::Bytes(b"\n"),
+            ],
+        )?,
+        None => add_pieces(
+            &mut text,
+            &[
+                XmlPiece::Bytes(path),
+                XmlPiece::Bytes(b": "),
+                XmlPiece::Bytes(message),
+                XmlPiece::Bytes(b"\n"),
+            ],
+        )?,
+    }
+    Ok(text)
+}
+
+/// Adds the suite by which something else is told of a script. A warning is told with the script itself.
+pub(crate) fn add_notice_suite(
+    alloc: Global,
+    text: &mut Vec<u8>,
+    path: &[u8],
+    line: Option<usize>,
+    kind: NoticeKind,
+    message: &[u8],
+) -> Result<(), AllocError>
+    ensures { IfOk result (λ _. text.new.items ≡ text.old.items ++ notice_suite path.now line kind message.now) }
+{
+    let verdict = match kind {
+        NoticeKind::Refused | NoticeKind::Failed => CaseVerdict::Errs,
+        NoticeKind::Left | NoticeKind::Accepted => CaseVerdict::Passes,
+        NoticeKind::Warning => return Ok(()),
+    };
+    let told = placed(alloc, path, line, message)?;
+    add_suite(text, path, verdict, message, &told)?;
+    Ok(())
+}

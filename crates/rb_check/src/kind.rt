@@ -1,0 +1,53 @@
+//! Notices to programs about a script, besides its directives.
+
+ghost use Rattle.std.specs.Prelude.{◌≡◌};
+ghost use Rattle.rb_check.specs.Formats.{command_of, severity, status_of};
+
+/// Notices to programs about a script, besides its directives.
+#[derive(Clone, Copy, Debug, PartialEq, Eq)]
+pub(crate) enum NoticeKind {
+    /// It is no script.
+    Refused,
+    /// It could not be read, or not be written.
+    Failed,
+    /// A line looks like a slip.
+    Warning,
+    /// An output was not accepted.
+    Left,
+    /// Outputs were accepted.
+    Accepted,
+}
+
+impl NoticeKind {
+    /// Its word in JSON.
+    pub(crate) fn status(self) -> &'static [u8]
+        ensures { result.now ≡ status_of self }
+    {
+        match self {
+            NoticeKind::Refused => b"refused",
+            NoticeKind::Failed => b"failed",
+            NoticeKind::Warning => b"warning",
+            NoticeKind::Left => b"left",
+            NoticeKind::Accepted => b"accepted",
+        }
+    }
+
+    /// The command by which GitHub is told.
+    pub(crate) fn command(self, is_strict: bool) -> &'static [u8]
+        ensures { result.now ≡ command_of is_strict self }
+    {
+        match self {
+            NoticeKind::Refused | NoticeKind::Failed => b"error",
+            NoticeKind::Warning => severity(is_strict),
+            NoticeKind::Left => b"warning",
+            NoticeKind::Accepted => b"notice",
+        }
+    }
+}
+
+/// The command for what fails only if the check is strict.
+pub(crate) fn severity(is_strict: bool) -> &'static [u8]
+    ensures { result.now ≡ severity is_strict }
+{
+    if is_strict { b"error" } else { b"warning" }
+}

@@ -1,0 +1,157 @@
+//! A directive as an object of JSON.
+
+ghost use Rattle.std.specs.Prelude.{◌≡◌, ◌++◌, IfOk, OnOk};
+ghost use Rattle.rb_report.specs.Heads.{before_value};
+ghost use Rattle.rb_report.specs.Whys.{reasons_in};
+ghost use Rattle.rb_check.specs.Objects.{lines_members, object_end, object_front, object_text, quoted, reasons_member, strings_from, totals_object};
+
+use rb_report::check::{FileLine, Totals, Why};
+use rb_script::Lines;
+use rb_text::{Json, Piece, add_pieces};
+use std::alloc::{AllocError, Global};
+
+// The text before the line at an index.
+fn separator(index: usize) -> &'static [u8]
+    ensures { result.now ≡ before_value index }
+{
+    if index == 0 { b"" } else { b"," }
+}
+
+fn add_string(text: &mut Vec<u8>, index: usize, line: &[u8]) -> Result<(), AllocError>
+    ensures { OnOk result (text.new.items ≡ text.old.items ++ (before_value index ++ quoted line.now)) }
+{
+    add_pieces(
+        text,
+        &[
+            Piece::Bytes(separator(index)),
+            Piece::Bytes(b"\""),
+            Piece::Escaped(Json::Ascii, line),
+            Piece::Bytes(b"\""),
+        ],
+    )
+}
+
+// Adds the lines, each between quotes.
+fn add_strings(text: &mut Vec<u8>, lines: &Lines) -> Result<(), AllocError>
+    ensures { OnOk result (text.new.items ≡ text.old.items ++ strings_from 0 lines.now) }
+{
+    for i in 0..lines.len() {
+        add_string(text, i, lines.line(i))?;
+    }
+    Ok(())
+}
+
+fn add_front<'a>(
+    text: &mut Vec<u8>,
+    place: FileLine<'a>,
+    head: &'a [u8],
+    status: &'a [u8],
+) -> Result<(), AllocError>
+    ensures { OnOk result (text.new.items ≡ text.old.items ++ object_front place.entry.path.now place.entry.line head.now status.now) }
+{
+    add_pieces(
+        text,
+        &[
+            Piece::Bytes(b"{\"script\":\""),
+            Piece::Escaped(Json::Ascii, place.path),
+            Piece::Bytes(b"\",\"line\":"),
+            Piece::Number(place.line as u64),
+            Piece::Bytes(b",\"directive\":\""),
+            Piece::Escaped(Json::Ascii, head),
+            Piece::Bytes(b"\",\"status\":\""),
+            Piece::Bytes(status),
+            Piece::Bytes(b"\",\"expected\":["),
+        ],
+    )
+}
+
+/// Adds a directive with the lines that are expected of it, those that it gave, and their reasons, in a line.
+pub(crate) fn add_object(
+    text: &mut Vec<u8>,
+    place: FileLine<'_>,
+    head: &[u8],
+    status: &[u8],
+    expected: &Lines,
+    output: &Lines,
+    why: Why<'_>,
+) -> Result<(), AllocError>
+    ensures { IfOk result (λ _. text.new.items ≡ text.old.items ++ object_text place.entry.path.now place.entry.line head.now status.now expected.now output.now (reasons_in why.entry)) }
+{
+    add_lines(text, place, head, status, expected, output)?;
+    add_end(text, why)?;
+    Ok(())
+}
+
+// Adds what the directive is, with the lines that are expected of it and those that it gave.
+fn add_lines(
+    text: &mut Vec<u8>,
+    place: FileLine<'_>,
+    head: &[u8],
+    status: &[u8],
+    expected: &Lines,
+    output: &Lines,
+) -> Result<(), AllocError>
+    ensures { IfOk result (λ _. text.new.items ≡ text.old.items ++ lines_members place.entry.path.now place.entry.line head.now status.now expected.now output.now) }
+{
+    add_front(text, place, head, status)?;
+    add_strings(text, expected)?;
+    add_pieces(text, &[Piece::Bytes(b"],\"output\":[")])?;
+    add_strings(text, output)?;
+    Ok(())
+}
+
+// Adds the reasons, a text for each line, if there are any, and the end of the object.
+fn add_end(text: &mut Vec<u8>, why: Why<'_>) -> Result<(), AllocError>
+    ensures { IfOk result (λ _. text.new.items ≡ text.old.items ++ object_end (reasons_in why.entry)) }
+{
+    if let Why::Given(reasons) = why {
+        add_reasons(text, reasons)?;
+    }
+    add_pieces(text, &[Piece::Bytes(b"]}\n")])?;
+    Ok(())
+}
+
+fn add_reasons(text: &mut Vec<u8>, reasons: &Lines) -> Result<(), AllocError>
+    ensures { IfOk result (λ _. text.new.items ≡ text.old.items ++ reasons_member reasons.now) }
+{
+    if reasons.is_empty() {
+        return Ok(());
+    }
+    add_pieces(text, &[Piece::Bytes(b"],\"reasons\":[")])?;
+    add_strings(text, reasons)?;
+    Ok(())
+}
+
+/// What came of all paths, as an object.
+///
+/// # Errors
+///
+/// If memory was refused.
+pub(crate) fn totals_object(alloc: Global, totals: &Totals) -> Result<Vec<u8>, AllocError>
+    ensures { IfOk result (λ made. made.items ≡ totals_object totals.now) }
+{
+    let mut text = Vec::new(alloc);
+    add_pieces(
+        &mut text,
+        &[
+            Piece::Bytes(b"{\"status\":\"totals\",\"scripts\":"),
+            Piece::Number(totals.scripts),
+            Piece::Bytes(b",\"directives\":"),
+            Piece::Number(totals.directives),
+            Piece::Bytes(b",\"mismatches\":"),
+            Piece::Number(totals.mismatches),
+            Piece::Bytes(b",\"refused\":"),
+            Piece::Number(totals.refused),
+            Piece::Bytes(b",\"errors\":"),
+            Piece::Number(totals.errors),
+            Piece::Bytes(b",\"warnings\":"),
+            Piece::Number(totals.warnings),
+            Piece::Bytes(b",\"accepted\":"),
+            Piece::Number(totals.accepted),
+            Piece::Bytes(b",\"failed\":"),
+            Piece::Number(totals.failed),
+            Piece::Bytes(b"}\n"),
+        ],
+    )?;
+    Ok(text)
+}

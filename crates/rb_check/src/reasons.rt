@@ -1,0 +1,131 @@
+//! The run of a script, and the reasons of its outputs.
+
+ghost use Rattle.std.specs.Prelude.{◌≡◌, ◌≢◌, ◌≤◌, ◌<◌, Err, IfErr, IfOk, Some, length, slice_get};
+ghost use Rattle.rb_script.specs.declared.limits.TheConstants.{MAX_DIRECTIVES};
+ghost use Rattle.rb_script.specs.Script.{PlainScript};
+ghost use Rattle.rb_script.specs.Reads.{Reads};
+ghost use Rattle.rb_script.specs.Reading.{read_of};
+ghost use Rattle.rb_replay.specs.Run.{outputs};
+ghost use Rattle.rb_replay.specs.Start.{TellsStartFault};
+ghost use Rattle.rb_script_report.specs.Layouts.{IsLayout};
+ghost use Rattle.rb_script_report.specs.Whys.{whys_of};
+ghost use Rattle.rb_check.specs.Reasons.{asked_reasons};
+
+use crate::runner::Runner;
+use rb_machine::Machine;
+use rb_replay::{Outputs, Session, StartFault};
+use rb_script::{Block, Lines, Script, ScriptWithLines};
+use rb_script_report::Layout;
+use std::alloc::{AllocError, Global};
+
+/// A script that ran, with its layout, and with the reasons of its outputs if they were asked for.
+#[derive(Drop)]
+pub struct ScriptRun<M: Machine> {
+    /// A session on it.
+    pub session: Session<M>,
+    /// Its layout in its bytes.
+    pub layout: Layout,
+    /// The reasons, where they are asked for.
+    pub whys: Vec<Lines>,
+}
+
+/// Reads the script of the bytes, once, and runs it, each directive once.
+///
+/// # Errors
+///
+/// Why the bytes are no script, or `OutOfMemory`.
+pub fn run_script<T: Runner>(
+    alloc: Global,
+    runner: &mut T,
+    explains: bool,
+    bytes: &[u8],
+) -> Result<ScriptRun<T::Machine>, StartFault>
+    ensures script { IfOk result (λ run. IsLayout bytes.now run.session.script run.layout) }
+    ensures whys { IfOk result (λ run. run.whys.items ≡ asked_reasons explains run.session.script) }
+    ensures only { (s : PlainScript) → Reads bytes.now s → IfErr result (λ fault. fault ≡ StartFault.OutOfMemory) }
+    ensures refused { IfErr result (λ fault. TellsStartFault fault (read_of bytes.now)) }
+    ensures spaced { result ≢ Err StartFault.BadSpacing }
+{
+    let read = ScriptWithLines::read(alloc, bytes)?;
+    let layout = Layout {
+        text: read.lines,
+        heads: read.heads,
+    };
+    let (session, whys) = run_read(alloc, runner, explains, read.script)?;
+    Ok(ScriptRun {
+        session,
+        layout,
+        whys,
+    })
+}
+
+// Runs a script; returns the reasons of its outputs if they were asked for.
+fn run_read<T: Runner>(
+    alloc: Global,
+    runner: &mut T,
+    explains: bool,
+    script: Script,
+) -> Result<(Session<T::Machine>, Vec<Lines>), AllocError>
+    requires { length script.blocks ≤ MAX_DIRECTIVES }
+    ensures script { IfOk result (λ ran. ran.0.script ≡ script) }
+    ensures whys { IfOk result (λ ran. ran.1.items ≡ asked_reasons explains script) }
+{
+    let (printed, whys) = if explains {
+        run_directives(alloc, runner, &script)?
+    } else {
+        (run_plainly(alloc, runner, &script)?, Vec::new(alloc))
+    };
+    Ok((Session::from_outputs(alloc, script, printed)?, whys))
+}
+
+// The block of the directive at an index, which counts from 0.
+fn block_of(script: &Script, index: usize) -> &Block
+    requires few { length script.now.blocks ≤ MAX_DIRECTIVES }
+    requires within { index < length script.now.blocks }
+    ensures { slice_get script.now.blocks index ≡ Some result.now }
+{
+    script.block(index + 1).unwrap()
+}
+
+// Runs the directives; returns their outputs and the reasons of each.
+fn run_directives<T: Runner>(
+    alloc: Global,
+    runner: &mut T,
+    script: &Script,
+) -> Result<(Outputs, Vec<Lines>), AllocError>
+    requires { length script.now.blocks ≤ MAX_DIRECTIVES }
+    ensures outputs { IfOk result (λ ran. ran.0 ≡ outputs script.now) }
+    ensures whys { IfOk result (λ ran. ran.1.items ≡ whys_of script.now) }
+{
+    let mut printed = Outputs::new(alloc);
+    let mut whys = Vec::new(alloc);
+    let mut machine: T::Machine = Machine::empty(alloc)?;
+    for i in 0..script.len() {
+        let block = block_of(script, i);
+        let ran = runner.run_explained(alloc, machine, block.directive())?;
+        printed.push(ran.output)?;
+        whys.push(ran.reasons)?;
+        machine = ran.machine;
+    }
+    Ok((printed, whys))
+}
+
+// Runs the directives; returns their outputs.
+fn run_plainly<T: Runner>(
+    alloc: Global,
+    runner: &mut T,
+    script: &Script,
+) -> Result<Outputs, AllocError>
+    requires { length script.now.blocks ≤ MAX_DIRECTIVES }
+    ensures { IfOk result (λ printed. printed ≡ outputs script.now) }
+{
+    let mut printed = Outputs::new(alloc);
+    let mut machine: T::Machine = Machine::empty(alloc)?;
+    for i in 0..script.len() {
+        let block = block_of(script, i);
+        let (after, output) = runner.run(machine, block.directive())?;
+        printed.push(output)?;
+        machine = after;
+    }
+    Ok(printed)
+}

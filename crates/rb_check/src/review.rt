@@ -1,0 +1,325 @@
+//! Asking about each output that differs.
+//!
+//! A review of a script is one definition, `Reviews.review_of`, of what was asked before, of its questions and of what comes to them: it says what is
+//! accepted and what is still to be asked. Each function here does a part of it.
+
+ghost use Rattle.std.specs.Prelude.{◌≡◌, ◌++◌, ◌∷◌, [], ◌<◌, ◌≤◌, ◌^◌, ◌+◌, ℕ, IfOk, drop, length};
+ghost use Rattle.rb_replay.specs.Run.{outputs};
+ghost use Rattle.rb_script_report.specs.Layouts.{IsLayout};
+ghost use Rattle.rb_check.specs.Reviews.{answered_one, as_list, next_review, questions_of, review_behind, review_of, reviewed_all, reviewing, said_by, said_unasked};
+
+use crate::answer::Answer;
+use crate::check_request::CheckRequest;
+use crate::checked_script::CheckedScript;
+use crate::comment::put_comment;
+use crate::person::{Person, ask};
+use crate::question::{ReviewQuestion, question_of, question_text};
+use crate::report::Report;
+use rb_files::PathError;
+use rb_machine::Machine;
+use rb_script_report::{
+    AcceptFilter, Detail, ShowFault, View, block_at, number_at, output_at, put_one_mismatch,
+};
+use std::alloc::{AllocError, Global};
+use std::io::Write;
+use std::mem;
+
+/// What is still to be asked.
+#[derive(Clone, Copy, PartialEq, Eq)]
+pub(crate) enum Review {
+    /// Each mismatch.
+    Each,
+    /// No more of this script: what follows in it is accepted.
+    Rest,
+    /// No more of this script: what follows in it is left.
+    Skipped,
+    /// Nothing more: what follows is left.
+    Over,
+}
+
+/// A review, as far as it has come.
+#[derive(Drop)]
+pub(crate) struct Reviewer<P: Person> {
+    /// Who is asked.
+    pub(crate) person: P,
+    pub(crate) review: Review,
+    // the lines of the heads whose outputs are accepted, in this script
+    said: Vec<usize>,
+    // how many questions were asked in this script, and how many it has
+    number: usize,
+    count: usize,
+}
+
+impl<P: Person> Reviewer<P> {
+    /// Nothing was asked yet.
+    pub(crate) fn new(alloc: Global, person: P) -> Reviewer<P>
+        ensures { result.review ≡ Review.Each }
+    {
+        Reviewer {
+            person,
+            review: Review::Each,
+            said: Vec::new(alloc),
+            number: 0,
+            count: 0,
+        }
+    }
+
+    // Begins a script, which has so many questions.
+    fn begin(&mut self, alloc: Global, count: usize)
+        ensures said { self.new.said.items ≡ [] }
+        ensures review { self.new.review ≡ review_behind self.old.review }
+        ensures person { self.new.person ≡ self.old.person }
+    {
+        self.said = Vec::new(alloc);
+        self.review = review_behind(self.review);
+        self.number = 0;
+        self.count = count;
+    }
+
+    // The question, in words.
+    fn next_question(&mut self, alloc: Global) -> Result<Vec<u8>, AllocError>
+        ensures said { self.new.said ≡ self.old.said }
+        ensures review { self.new.review ≡ self.old.review }
+        ensures person { self.new.person ≡ self.old.person }
+    {
+        self.number = self.number.saturating_add(1);
+        question_text(alloc, self.number, self.count)
+    }
+
+    // Asks, and does what is answered.
+    fn ask<W: Write + Drop, E: Write + Drop>(
+        &mut self,
+        alloc: Global,
+        question: ReviewQuestion,
+        report: &mut Report<W, E>,
+    ) -> Result<(), AllocError>
+        ensures told { report.new.told ≡ report.old.told }
+        ensures known { P.is_known self.old.person → P.is_known self.new.person }
+        ensures few { P.is_known self.old.person → length (P.left self.old.person) < 2 ^ 64 → length (P.left self.new.person) ≤ length (P.left self.old.person) }
+        ensures asked { P.is_known self.old.person → length (P.left self.old.person) < 2 ^ 64
+            → IfOk result (λ _. reviewing self.new.said.items self.new.review (P.left self.new.person) ≡ answered_one (reviewing self.old.said.items self.old.review (P.left self.old.person)) question) }
+    {
+        let text = self.next_question(alloc)?;
+        let answer = ask(&mut self.person, &text, report);
+        self.review = take(&mut self.said, question.head, answer)?;
+        Ok(())
+    }
+
+    // Accepts an output that isn't asked about, if accepting takes it.
+    fn take_rest(&mut self, question: ReviewQuestion) -> Result<(), AllocError>
+        ensures said { IfOk result (λ _. self.new.said.items ≡ self.old.said.items ++ said_unasked question) }
+        ensures review { self.new.review ≡ self.old.review }
+        ensures person { self.new.person ≡ self.old.person }
+    {
+        if question.is_taken {
+            push(&mut self.said, question.head)?;
+        }
+        Ok(())
+    }
+}
+
+// What is asked of the next script.
+fn review_behind(review: Review) -> Review
+    ensures { result ≡ review_behind review }
+{
+    match review {
+        Review::Each | Review::Rest | Review::Skipped => Review::Each,
+        Review::Over => Review::Over,
+    }
+}
+
+/// The lines of the heads of the directives whose outputs are to be accepted, by what is answered.
+pub(crate) fn reviewed<M: Machine, P: Person, W: Write + Drop, E: Write + Drop>(
+    alloc: Global,
+    asked: &CheckRequest<'_>,
+    subject: &CheckedScript<'_, M>,
+    picked: AcceptFilter<'_>,
+    reviewer: &mut Reviewer<P>,
+    report: &mut Report<W, E>,
+) -> Result<Vec<usize>, PathError>
+    requires { IsLayout subject.now.text.now.bytes.items subject.now.session.now.script subject.now.layout.now }
+    ensures told { report.new.told ≡ report.old.told }
+    ensures known { P.is_known reviewer.old.person → P.is_known reviewer.new.person }
+    ensures few { P.is_known reviewer.old.person → length (P.left reviewer.old.person) < 2 ^ 64 → length (P.left reviewer.new.person) ≤ length (P.left reviewer.old.person) }
+    // Of a person of whom it is known what comes: what is accepted is the review of the questions by that.
+    ensures reviewed { P.is_known reviewer.old.person → length (P.left reviewer.old.person) < 2 ^ 64
+        → IfOk result (λ said. reviewing said.items reviewer.new.review (P.left reviewer.new.person)
+        ≡ review_of reviewer.old.review (P.left reviewer.old.person) (questions_of asked.now.accepts_errors picked.entry subject.now.layout.now.text subject.now.layout.now.heads.items subject.now.session.now.script.blocks (outputs subject.now.session.now.script))) }
+{
+    reviewer.begin(alloc, count_questions(asked, subject, picked));
+    go_over(alloc, asked, subject, picked, reviewer, report)?;
+    Ok(mem::replace(&mut reviewer.said, Vec::new(alloc)))
+}
+
+// How many questions there are.
+fn count_questions<M: Machine>(
+    asked: &CheckRequest<'_>,
+    subject: &CheckedScript<'_, M>,
+    picked: AcceptFilter<'_>,
+) -> usize
+    requires { IsLayout subject.now.text.now.bytes.items subject.now.session.now.script subject.now.layout.now }
+    ensures { result ≡ length (questions_of asked.now.accepts_errors picked.entry subject.now.layout.now.text subject.now.layout.now.heads.items subject.now.session.now.script.blocks (outputs subject.now.session.now.script)) }
+{
+    let mut count = 0;
+    for index in 0..subject.session.len() {
+        count += one_if(question_at(asked, subject, picked, index));
+    }
+    count
+}
+
+fn one_if(question: Option<ReviewQuestion>) -> usize
+    ensures value { result ≡ length (as_list question) }
+    ensures most { result ≤ 1 }
+{
+    match question {
+        Some(_) => 1,
+        None => 0,
+    }
+}
+
+// What is asked about the directive at an index, which counts from 0.
+fn question_at<M: Machine>(
+    asked: &CheckRequest<'_>,
+    subject: &CheckedScript<'_, M>,
+    picked: AcceptFilter<'_>,
+    index: usize,
+) -> Option<ReviewQuestion>
+    requires layout { IsLayout subject.now.text.now.bytes.items subject.now.session.now.script subject.now.layout.now }
+    requires within { index < length subject.now.session.now.script.blocks }
+    // It is the next of those that are left.
+    ensures { let left = λ (n : ℕ). questions_of asked.now.accepts_errors picked.entry subject.now.layout.now.text (drop n subject.now.layout.now.heads.items) (drop n subject.now.session.now.script.blocks) (drop n (outputs subject.now.session.now.script)) in
+        left index ≡ as_list result ++ left (index + 1) }
+{
+    let _count = subject.session.len();
+    let block = block_at(subject.session, index);
+    let output = output_at(subject.session, index);
+    let head = number_at(subject.layout.heads.as_slice(), index);
+    question_of(
+        asked.accepts_errors,
+        picked,
+        &subject.layout.text,
+        head,
+        block,
+        output,
+    )
+}
+
+// Asks about each directive whose output differs and that is picked, as far as it is still to be asked.
+fn go_over<M: Machine, P: Person, W: Write + Drop, E: Write + Drop>(
+    alloc: Global,
+    asked: &CheckRequest<'_>,
+    subject: &CheckedScript<'_, M>,
+    picked: AcceptFilter<'_>,
+    reviewer: &mut Reviewer<P>,
+    report: &mut Report<W, E>,
+) -> Result<(), PathError>
+    requires { IsLayout subject.now.text.now.bytes.items subject.now.session.now.script subject.now.layout.now }
+    ensures told { report.new.told ≡ report.old.told }
+    ensures known { P.is_known reviewer.old.person → P.is_known reviewer.new.person }
+    ensures few { P.is_known reviewer.old.person → length (P.left reviewer.old.person) < 2 ^ 64 → length (P.left reviewer.new.person) ≤ length (P.left reviewer.old.person) }
+    ensures reviewed { P.is_known reviewer.old.person → length (P.left reviewer.old.person) < 2 ^ 64
+        → IfOk result (λ _. reviewing reviewer.new.said.items reviewer.new.review (P.left reviewer.new.person)
+        ≡ reviewed_all (reviewing reviewer.old.said.items reviewer.old.review (P.left reviewer.old.person)) (questions_of asked.now.accepts_errors picked.entry subject.now.layout.now.text subject.now.layout.now.heads.items subject.now.session.now.script.blocks (outputs subject.now.session.now.script))) }
+{
+    for index in 0..subject.session.len() {
+        let question = question_at(asked, subject, picked, index);
+        review_one(alloc, asked, subject, index, question, reviewer, report)?;
+    }
+    Ok(())
+}
+
+// Asks about the directive at an index, where there is something to ask and it is still to be asked.
+fn review_one<M: Machine, P: Person, W: Write + Drop, E: Write + Drop>(
+    alloc: Global,
+    asked: &CheckRequest<'_>,
+    subject: &CheckedScript<'_, M>,
+    index: usize,
+    question: Option<ReviewQuestion>,
+    reviewer: &mut Reviewer<P>,
+    report: &mut Report<W, E>,
+) -> Result<(), PathError>
+    requires layout { IsLayout subject.now.text.now.bytes.items subject.now.session.now.script subject.now.layout.now }
+    requires within { index < length subject.now.session.now.script.blocks }
+    ensures told { report.new.told ≡ report.old.told }
+    ensures known { P.is_known reviewer.old.person → P.is_known reviewer.new.person }
+    ensures few { P.is_known reviewer.old.person → length (P.left reviewer.old.person) < 2 ^ 64 → length (P.left reviewer.new.person) ≤ length (P.left reviewer.old.person) }
+    ensures reviewed { P.is_known reviewer.old.person → length (P.left reviewer.old.person) < 2 ^ 64
+        → IfOk result (λ _. reviewing reviewer.new.said.items reviewer.new.review (P.left reviewer.new.person)
+        ≡ reviewed_all (reviewing reviewer.old.said.items reviewer.old.review (P.left reviewer.old.person)) (as_list question)) }
+{
+    let Some(question) = question else {
+        return Ok(());
+    };
+    match reviewer.review {
+        Review::Each => {
+            show(alloc, asked, subject, index, question, report)?;
+            Ok(reviewer.ask(alloc, question, report)?)
+        }
+        Review::Rest => Ok(reviewer.take_rest(question)?),
+        Review::Skipped | Review::Over => Ok(()),
+    }
+}
+
+fn push(said: &mut Vec<usize>, head: usize) -> Result<(), AllocError>
+    ensures { IfOk result (λ _. said.new.items ≡ said.old.items ++ head ∷ []) }
+{
+    said.push(head)?;
+    Ok(())
+}
+
+// Does what is answered for the head, and gives what is still to be asked.
+fn take(said: &mut Vec<usize>, head: usize, answer: Answer) -> Result<Review, AllocError>
+    ensures next { IfOk result (λ review. review ≡ next_review answer) }
+    ensures said { IfOk result (λ _. said.new.items ≡ said.old.items ++ said_by answer head) }
+{
+    match answer {
+        Answer::Yes => {
+            push(said, head)?;
+            Ok(Review::Each)
+        }
+        Answer::No => Ok(Review::Each),
+        Answer::All => {
+            push(said, head)?;
+            Ok(Review::Rest)
+        }
+        Answer::Skip => Ok(Review::Skipped),
+        Answer::Quit => Ok(Review::Over),
+    }
+}
+
+// Shows what is asked about, and the comment above it.
+fn show<M: Machine, W: Write + Drop, E: Write + Drop>(
+    alloc: Global,
+    asked: &CheckRequest<'_>,
+    subject: &CheckedScript<'_, M>,
+    index: usize,
+    question: ReviewQuestion,
+    report: &mut Report<W, E>,
+) -> Result<(), PathError>
+    requires layout { IsLayout subject.now.text.now.bytes.items subject.now.session.now.script subject.now.layout.now }
+    requires within { index < length subject.now.session.now.script.blocks }
+    ensures { report.new.told ≡ report.old.told }
+{
+    if !report.is_open() {
+        return Ok(());
+    }
+    let view = View {
+        path: subject.path.as_bytes(),
+        colors: report.colors(asked.colors),
+        shown: Detail::Differing,
+    };
+    let sink = &mut report.output;
+    if put_comment(sink, &subject.layout.text, question.head).is_err() {
+        return report.showed(Err(ShowFault::Writing));
+    }
+    let shown = put_one_mismatch(
+        alloc,
+        sink,
+        subject.session,
+        subject.layout,
+        view,
+        subject.whys,
+        index,
+    );
+    report.showed(shown)
+}

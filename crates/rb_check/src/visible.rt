@@ -1,0 +1,210 @@
+//! Output for people and programs acts in no terminal and in no log.
+//!
+//! A script may have any bytes. If one has a control character, a mark that turns the direction of text, a separator of lines, or bytes that are not
+//! UTF-8, all of it but printable ASCII is shown by numbers, as `\x1b`, and without colours: then the only bytes that act are line ends, which the
+//! program itself writes, and tabs.
+
+ghost use Rattle.std.specs.Prelude.{◌≡◌, false, not, None, IfOk, IsOk, IsTrue};
+ghost use Rattle.std.specs.List.{list_any};
+ghost use Rattle.rb_script.specs.Writes.{Writes};
+ghost use Rattle.rb_check.specs.declared.visible.Showing.{Showing};
+ghost use Rattle.rb_check.specs.declared.visible.Showing.TheVariants.{AsIs};
+ghost use Rattle.rb_check.specs.Visible.{acts, stays, visible_byte, json_byte, byte_shown, text_shown};
+
+use rb_script::{Lines, Sink, Through, WriteFault};
+use rb_text::{Escape, hex_digit, put_escaped};
+use std::alloc::{AllocError, Global};
+use std::str;
+
+/// How bytes go out.
+#[derive(Clone, Copy, Debug, PartialEq, Eq)]
+pub enum Showing {
+    /// As they are.
+    AsIs,
+    /// All but printable ASCII, tabs and ends of lines by their numbers, and backslashes too, so that no two bytes look alike.
+    Visible,
+    /// As they are in JSON, with DEL by its number.
+    Json,
+}
+
+impl Escape for Showing {
+    ghost text = { byte_shown };
+
+    fn put<S: Sink>(&self, sink: &mut S, b: u8) -> Result<(), WriteFault> {
+        match *self {
+            Showing::AsIs => sink.put(&[b]),
+            Showing::Visible => put_visible_byte(sink, b),
+            Showing::Json => put_json_byte(sink, b),
+        }
+    }
+}
+
+fn stays(b: u8) -> bool
+    ensures { result ≡ stays b }
+{
+    b == b'\n' || b == b'\t' || (b' ' <= b && b <= b'~' && b != b'\\')
+}
+
+/// Writes a byte, by its number where it isn't printable.
+pub(crate) fn put_visible_byte<S: Sink>(sink: &mut S, b: u8) -> Result<(), WriteFault>
+    ensures wrote { Writes result (S.held sink.old) (S.held sink.new) (visible_byte b) }
+    ensures all { S.takes_all sink.old → IsOk result × S.takes_all sink.new }
+{
+    if stays(b) {
+        sink.put(&[b])
+    } else {
+        sink.put(&[b'\\', b'x', hex_digit(b / 16), hex_digit(b % 16)])
+    }
+}
+
+fn put_json_byte<S: Sink>(sink: &mut S, b: u8) -> Result<(), WriteFault>
+    ensures wrote { Writes result (S.held sink.old) (S.held sink.new) (json_byte b) }
+    ensures all { S.takes_all sink.old → IsOk result × S.takes_all sink.new }
+{
+    if b == 127 {
+        sink.put(b"\\u007f")
+    } else {
+        sink.put(&[b])
+    }
+}
+
+fn put_shown<S: Sink>(sink: &mut S, showing: Showing, bytes: &[u8]) -> Result<(), WriteFault>
+    ensures wrote { Writes result (S.held sink.old) (S.held sink.new) (text_shown showing bytes.now) }
+    ensures all { S.takes_all sink.old → IsOk result × S.takes_all sink.new }
+{
+    match showing {
+        Showing::AsIs => sink.put(bytes),
+        Showing::Visible | Showing::Json => put_escaped(sink, &showing, bytes),
+    }
+}
+
+/// A sink before another. Bytes that act in a terminal are put by their numbers.
+#[derive(Drop)]
+pub struct VisibleSink<S> {
+    pub sink: S,
+    pub(crate) showing: Showing,
+}
+
+impl<S> VisibleSink<S> {
+    ghost use Rattle.std.specs.Prelude.{◌≡◌};
+    ghost use Rattle.std.specs.List.{list_any};
+    ghost use Rattle.rb_check.specs.declared.visible.Showing.TheVariants.{AsIs};
+    ghost use Rattle.rb_check.specs.Visible.{acts};
+
+    /// A screen for what is shown of a script at a path, which has these lines. If a byte of the path acts, bytes are put by their numbers.
+    pub fn of_script(sink: S, path: &[u8], lines: &Lines) -> VisibleSink<S>
+        ensures { result.showing ≡ AsIs → list_any acts path.now ≡ false }
+    {
+        let showing = showing_of_script(path, lines);
+        VisibleSink { sink, showing }
+    }
+}
+
+impl<S: Sink> Sink for VisibleSink<S> {
+    // Other bytes go out than are put.
+    ghost held = { λ _. None };
+
+    ghost takes_all = { λ _. ⊥ };
+
+    fn put(&mut self, bytes: &[u8]) -> Result<(), WriteFault> {
+        put_shown(&mut self.sink, self.showing, bytes)
+    }
+}
+
+// Whether the byte acts in a terminal.
+fn acts(b: u8) -> bool
+    ensures { result ≡ acts b }
+{
+    (b < b' ' && b != b'\t') || b == 127
+}
+
+// Whether a byte of the line does.
+fn has_control(line: &[u8]) -> bool
+    ensures { result ≡ list_any acts line.now }
+{
+    line.iter().any(|b| acts(*b))
+}
+
+// Whether a character past ASCII acts: a control character, an end of a line, or a mark that turns the direction of what is read (Unicode Standard
+// Annex 9, table 3).
+fn acts_past_ascii(c: char) -> bool {
+    let code = c as u32;
+    (0x80 <= code && code < 0xa0)
+        || code == 0x61c
+        || code == 0x200e
+        || code == 0x200f
+        || (0x2028 <= code && code <= 0x202e)
+        || (0x2066 <= code && code <= 0x2069)
+        || code == 0xfeff
+}
+
+fn has_acting_char(line: &[u8]) -> bool {
+    match str::from_utf8(line) {
+        Ok(text) => {
+            for c in text.chars() {
+                if acts_past_ascii(c) {
+                    return true;
+                }
+            }
+            false
+        }
+        Err(_) => true,
+    }
+}
+
+// Whether a line has something that would act, or is no text.
+fn is_harmful(line: &[u8]) -> bool
+    ensures { IsTrue (not result) → list_any acts line.now ≡ false }
+{
+    has_control(line) || has_acting_char(line)
+}
+
+// Whether one of the lines has.
+fn are_harmful(lines: &Lines) -> bool {
+    for i in 0..lines.len() {
+        if is_harmful(lines.line(i)) {
+            return true;
+        }
+    }
+    false
+}
+
+/// How a path goes out.
+pub(crate) fn showing_of(path: &[u8]) -> Showing
+    ensures { result ≡ AsIs → list_any acts path.now ≡ false }
+{
+    if is_harmful(path) {
+        Showing::Visible
+    } else {
+        Showing::AsIs
+    }
+}
+
+/// How what is shown of a script at a path goes out, which has these lines.
+pub(crate) fn showing_of_script(path: &[u8], lines: &Lines) -> Showing
+    ensures { result ≡ AsIs → list_any acts path.now ≡ false }
+{
+    if are_harmful(lines) {
+        Showing::Visible
+    } else {
+        showing_of(path)
+    }
+}
+
+// Copies bytes as they are shown.
+fn shown_as(alloc: Global, showing: Showing, bytes: &[u8]) -> Result<Vec<u8>, AllocError>
+    ensures { IfOk result (λ shown. shown.items ≡ text_shown showing bytes.now) }
+{
+    let mut sink = Through(Vec::new(alloc));
+    match put_shown(&mut sink, showing, bytes) {
+        Ok(()) => Ok(sink.0),
+        Err(_) => Err(AllocError),
+    }
+}
+
+/// Copies a name for a terminal: if a byte of it acts, bytes by their numbers.
+pub fn visible_name(alloc: Global, name: &[u8]) -> Result<Vec<u8>, AllocError>
+    ensures { IfOk result (λ shown. (showing : Showing) × (shown.items ≡ text_shown showing name.now) × (showing ≡ AsIs → list_any acts name.now ≡ false)) }
+{
+    shown_as(alloc, showing_of(name), name)
+}

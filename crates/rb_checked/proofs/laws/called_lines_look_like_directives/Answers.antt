@@ -1,5 +1,0 @@
-use Rattle.rb_checked.proofs.DoubtLaws.{all_right}
-use Rattle.rb_checked.proofs.laws.called_lines_look_like_directives.Goals as goal
-
-pub returns : goal.returns
-returns c = all_right

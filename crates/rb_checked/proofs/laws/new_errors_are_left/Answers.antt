@@ -1,6 +1,0 @@
-use Rattle.rb_replay.specs.Run.{outputs}
-use Rattle.rb_checked.proofs.AcceptLaws.{left_new}
-use Rattle.rb_checked.proofs.laws.new_errors_are_left.Goals as goal
-
-pub returns : goal.returns
-returns c = λ wanted ls heads s k line b o none. left_new wanted ls heads s.blocks (outputs s) k line b o none

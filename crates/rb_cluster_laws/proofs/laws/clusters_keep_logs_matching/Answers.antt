@@ -1,5 +1,0 @@
-use Rattle.rb_cluster_laws.proofs.ClusterLaws.{cluster_matches}
-use Rattle.rb_cluster_laws.proofs.laws.clusters_keep_logs_matching.Goals as goal
-
-pub returns : goal.returns
-returns c = cluster_matches

@@ -1,5 +1,0 @@
-use Rattle.rb_cluster_laws.proofs.MatchingLaws.{two_match}
-use Rattle.rb_cluster_laws.proofs.laws.logs_match.Goals as goal
-
-pub returns : goal.returns
-returns c = two_match

@@ -1,5 +1,0 @@
-use Rattle.rb_cluster_laws.proofs.RestartMoments.{applied_same}
-use Rattle.rb_cluster_laws.proofs.restarts.applied_entries_agree_with_restarts.Goals as goal
-
-pub returns : goal.returns
-returns c = applied_same

@@ -1,5 +1,0 @@
-use Rattle.rb_cluster_laws.proofs.RestartMoments.{commits_same}
-use Rattle.rb_cluster_laws.proofs.restarts.committed_entries_agree_with_restarts.Goals as goal
-
-pub returns : goal.returns
-returns c = commits_same

@@ -1,5 +1,0 @@
-use Rattle.rb_cluster_laws.proofs.RestartMoments.{contents_agree}
-use Rattle.rb_cluster_laws.proofs.restarts.contents_agree_with_restarts.Goals as goal
-
-pub returns : goal.returns
-returns c = contents_agree

@@ -1,5 +1,0 @@
-use Rattle.rb_cluster_laws.proofs.RestartMoments.{one_leader}
-use Rattle.rb_cluster_laws.proofs.restarts.elections_are_safe_with_restarts.Goals as goal
-
-pub returns : goal.returns
-returns c = one_leader

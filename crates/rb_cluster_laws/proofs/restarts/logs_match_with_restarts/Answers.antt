@@ -1,5 +1,0 @@
-use Rattle.rb_cluster_laws.proofs.RestartMoments.{logs_match}
-use Rattle.rb_cluster_laws.proofs.restarts.logs_match_with_restarts.Goals as goal
-
-pub returns : goal.returns
-returns c = logs_match

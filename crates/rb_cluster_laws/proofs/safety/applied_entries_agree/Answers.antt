@@ -1,5 +1,0 @@
-use Rattle.rb_cluster_laws.proofs.TwoMoments.{applied_same}
-use Rattle.rb_cluster_laws.proofs.safety.applied_entries_agree.Goals as goal
-
-pub returns : goal.returns
-returns c = applied_same

@@ -1,5 +1,0 @@
-use Rattle.rb_cluster_laws.proofs.ClusterHistory.{cluster_contents_agree}
-use Rattle.rb_cluster_laws.proofs.safety.clusters_contents_agree.Goals as goal
-
-pub returns : goal.returns
-returns c = cluster_contents_agree

@@ -1,5 +1,0 @@
-use Rattle.rb_cluster_laws.proofs.TwoMoments.{contents_agree}
-use Rattle.rb_cluster_laws.proofs.safety.contents_agree.Goals as goal
-
-pub returns : goal.returns
-returns c = contents_agree

@@ -1,8 +1,0 @@
-use Rattle.rb_cluster_laws.proofs.TwoMoments.{leads_after, leads_before}
-use Rattle.rb_cluster_laws.proofs.safety.leaders_have_what_is_committed.Goals as goal
-
-pub returns-clause-after : goal.returns-clause-after
-returns-clause-after c = leads_after
-
-pub returns-clause-before : goal.returns-clause-before
-returns-clause-before c = leads_before

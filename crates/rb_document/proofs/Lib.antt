@@ -1,8 +1,0 @@
-pub mod PlaceLaws
-pub mod PositionLaws
-pub mod BehindLaws
-pub mod ChangeLaws
-pub mod TableLaws
-pub mod PlainLaws
-pub mod EditLaws
-pub mod DifferLaws

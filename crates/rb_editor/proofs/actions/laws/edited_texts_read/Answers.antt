@@ -1,0 +1,5 @@
+use Rattle.rb_editor.proofs.AppliedLaws.{edited_text}
+use Rattle.rb_editor.proofs.actions.laws.edited_texts_read.Goals as goal
+
+pub returns : goal.returns
+returns c = edited_text

@@ -1,0 +1,24 @@
+-- What scripts mean to an editor: what is said of a text, and what is answered of it, by one fresh run or by its text alone. (This project's.)
+use Rattle.std.specs.Prelude.{ℕ, List}
+use Rattle.rb_lsp.specs.declared.document.position.Encoding.{Encoding}
+use Rattle.rb_lsp.specs.declared.server.query.Query.{Query}
+use Rattle.rb_lsp.specs.declared.server.query.Query.TheVariants.{CodeAction, Formatting, Hover, Completion, FoldingRange, DocumentSymbol}
+use Rattle.rb_lsp.specs.Meanings.{Meaning}
+use Rattle.rb_editor.specs.Folds.{folds}
+use Rattle.rb_editor.specs.Formatting.{formatting}
+use Rattle.rb_editor.specs.Symbols.{symbols}
+use Rattle.rb_editor.specs.Published.{diagnose}
+use Rattle.rb_editor.specs.Actions.{actions}
+use Rattle.rb_editor.specs.Completing.{complete}
+use Rattle.rb_editor.specs.Hovers.{hover}
+
+abbrev pub answer : Encoding → Query → List ℕ → List ℕ → List ℕ
+answer encoding (CodeAction range) uri text = actions encoding range uri text
+answer encoding Formatting uri text = formatting encoding text
+answer encoding (Hover position) uri text = hover encoding position text
+answer encoding (Completion position) uri text = complete encoding position text
+answer encoding FoldingRange uri text = folds text
+answer encoding DocumentSymbol uri text = symbols encoding text
+
+abbrev pub meaning : Meaning
+meaning = record { diagnose = diagnose; answer = answer }

@@ -1,0 +1,36 @@
+//! What an editor is shown of a script: the language server of scripts.
+//!
+//! [`lsp`] publishes mismatches, errors, and why a text isn't a script. On request it shows the output of a directive with its reasons and the
+//! cluster after it, offers actions that correct words and accept outputs, and completes. All this is what one fresh run of the text gives.
+//! Each document keeps its session, and what is shown depends on the text alone. A run stops after as much work as an editor waits for: then
+//! the diagnostics are those of the text above, and one where it stopped.
+
+mod above;
+mod action;
+mod actual_output;
+mod bench;
+mod bounded;
+mod completing;
+mod correction;
+mod diagnostic;
+mod document;
+mod explain;
+mod extent;
+mod finding;
+mod findings;
+mod fix;
+mod front;
+mod hover;
+mod laws;
+mod layout;
+mod publishing;
+mod quiet;
+mod replacement;
+mod run;
+mod stopping;
+
+pub use bench::lsp;
+pub use laws::{
+    accepts_as_check_does, edited_lines_read, edited_texts_read, edits_replace_lines,
+    ids_are_those_of_the_cluster, matching_texts_have_none, texts_have_one_run,
+};

@@ -1,0 +1,141 @@
+//! The language server of scripts.
+
+ghost use Rattle.std.specs.Prelude.{◌≡◌, ◌≤◌, ◌++◌, IfOk, OnErr, OnOk, length};
+ghost use Rattle.rb_lsp.specs.declared.document.limits.TheConstants.{MAX_TEXT};
+ghost use Rattle.rb_lsp.specs.Serves.{BreaksOff, Served};
+ghost use Rattle.rb_editor.specs.Meanings.{answer, meaning};
+
+use crate::actions::action::add_actions;
+use crate::actions::bounded::{BoundedCluster, MAX_WORK, WorkMeter};
+use crate::actions::completing::add_completions;
+use crate::actions::document::AskedDocument;
+use crate::actions::hover::add_hover;
+use crate::actions::publishing::add_list;
+use crate::actions::stopping::{KeptRun, of_text};
+use crate::offers::{add_folds, add_formatting, add_symbols};
+use rb_lsp::document::Encoding;
+use rb_lsp::server::{Client, ExitStatus, Query, ServeFault, Service, serve};
+use rb_report::check::Table;
+use rb_script::Sink;
+use rb_text::Source;
+use std::alloc::{AllocError, Global};
+
+/// Answers for scripts.
+#[derive(Drop)]
+pub(crate) struct Bench {
+    alloc: Global,
+    table: Table,
+}
+
+impl Bench {
+    // Takes memory for comparing outputs once.
+    fn new(alloc: Global) -> Result<Bench, AllocError> {
+        let table = Table::new(alloc)?;
+        Ok(Bench { alloc, table })
+    }
+}
+
+impl Service for Bench {
+    type Kept = KeptRun<BoundedCluster>;
+
+    ghost meaning = { meaning };
+
+    fn nothing(&self) -> KeptRun<BoundedCluster> {
+        KeptRun::none()
+    }
+
+    fn add_diagnostics(
+        &mut self,
+        client: Client,
+        uri: &[u8],
+        text: &[u8],
+        kept: &mut KeptRun<BoundedCluster>,
+        out: &mut Vec<u8>,
+    ) -> Result<Option<usize>, AllocError> {
+        let alloc = self.alloc;
+        let encoding = client.encoding;
+        let mut meter = WorkMeter::new(MAX_WORK);
+        let found = of_text(alloc, encoding, &mut self.table, kept, &mut meter, text)?;
+        add_list(alloc, out, client, uri, text, found.list.as_slice())?;
+        Ok(found.stop)
+    }
+
+    fn add_answer(
+        &mut self,
+        encoding: Encoding,
+        asked: Query,
+        uri: &[u8],
+        text: &[u8],
+        kept: &KeptRun<BoundedCluster>,
+        out: &mut Vec<u8>,
+    ) -> Result<Option<usize>, AllocError> {
+        if needs_run(asked)
+            && let Some(line) = kept.stop_of(text)
+        {
+            return Ok(Some(line));
+        }
+        self.add_result(encoding, asked, uri, text, kept, out)?;
+        Ok(None)
+    }
+}
+
+// Whether the run of the text is needed for what is asked.
+fn needs_run(asked: Query) -> bool {
+    matches!(asked, Query::CodeAction(_) | Query::Hover(_))
+}
+
+impl Bench {
+    // Adds the result of a request about a text that was run whole. What is shown of it takes some more work.
+    fn add_result(
+        &self,
+        encoding: Encoding,
+        asked: Query,
+        uri: &[u8],
+        text: &[u8],
+        kept: &KeptRun<BoundedCluster>,
+        out: &mut Vec<u8>,
+    ) -> Result<(), AllocError>
+        requires { length text.now ≤ MAX_TEXT }
+        ensures { OnOk result (out.new.items ≡ out.old.items ++ answer encoding asked uri.now text.now) }
+    {
+        let mut meter = WorkMeter::new(2 * MAX_WORK);
+        let alloc = self.alloc;
+        let run = &kept.run;
+        let document = AskedDocument {
+            encoding,
+            uri,
+            text,
+        };
+        match asked {
+            Query::CodeAction(range) => {
+                add_actions(alloc, out, document, range, run, &mut meter)
+            }
+            Query::Formatting => add_formatting(alloc, out, encoding, text),
+            Query::Hover(position) => add_hover(alloc, out, document, position, run, &mut meter),
+            Query::Completion(position) => {
+                add_completions(alloc, out, document, position, run, &mut meter)
+            }
+            Query::FoldingRange => add_folds(alloc, out, text),
+            Query::DocumentSymbol => add_symbols(alloc, out, encoding, text),
+        }
+    }
+}
+
+/// Serves an editor up to the end of the conversation.
+///
+/// # Errors
+///
+/// `Io` at the first error of the source or the sink; `OutOfMemory` if memory was refused.
+pub fn lsp<S: Source, W: Sink>(
+    alloc: Global,
+    source: &mut S,
+    sink: &mut W,
+) -> Result<ExitStatus, ServeFault>
+    // What is written is the conversation over the bytes that come in, and the status is that of its end.
+    ensures ok { IfOk result (λ status. Served meaning (S.left source.old) status (W.held sink.old) (W.held sink.new)) }
+    // Where a call fails, a beginning of it was written.
+    ensures failed { OnErr result (BreaksOff meaning (S.left source.old) (W.held sink.old) (W.held sink.new)) }
+{
+    let mut bench = Bench::new(alloc)?;
+    serve(alloc, &mut bench, source, sink)
+}

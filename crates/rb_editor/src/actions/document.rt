@@ -1,0 +1,11 @@
+//! A document that an editor asks about.
+
+use rb_lsp::document::Encoding;
+
+/// A document: what its columns count in, its URI, and its text.
+#[derive(Clone, Copy)]
+pub(crate) struct AskedDocument<'u, 't> {
+    pub(crate) encoding: Encoding,
+    pub(crate) uri: &'u [u8],
+    pub(crate) text: &'t [u8],
+}

@@ -1,0 +1,159 @@
+//! The diagnostic of a directive that ran.
+
+ghost use Rattle.std.specs.Prelude.{◌≡◌, ◌++◌, ℕ, not, IfOk, OnOk};
+ghost use Rattle.rb_report.specs.Hints.{plain_hint};
+ghost use Rattle.rb_replay.specs.Report.{same_lines};
+ghost use Rattle.rb_editor.specs.BlockLines.{StandsIn};
+ghost use Rattle.rb_editor.specs.Findings.{diff_message, error_output, finding, hint_end, mismatch, mismatch_kind, mismatch_message};
+
+use crate::actions::actual_output::actual_output_of;
+use crate::actions::diagnostic::{Diagnostic, DiagnosticKind};
+use crate::actions::front::{add_opening, common_front, marked_at};
+use crate::offers::BlockLines;
+use rb_report::check::{Colors, Hint, Table, put_diff};
+use rb_report::help::suggested;
+use rb_script::{Block, Lines, Through};
+use rb_script_report::{first_line, is_unexpected};
+use rb_text::{Piece, add_pieces};
+use std::alloc::{AllocError, Global};
+
+// Makes the diff that `check` shows, without the end of its last line.
+fn diff_message(
+    alloc: Global,
+    table: &mut Table,
+    expected: &Lines,
+    output: &Lines,
+) -> Result<Vec<u8>, AllocError>
+    ensures { IfOk result (λ message. message.items ≡ diff_message expected.now output.now) }
+{
+    let mut sink = Through(Vec::new(alloc));
+    let Ok(()) = put_diff(&mut sink, table, expected, output, Colors::Off) else {
+        return Err(AllocError);
+    };
+    let mut message = sink.0;
+    message.truncate(message.len().saturating_sub(1));
+    Ok(message)
+}
+
+// Adds a hint, on a line of its own.
+fn add_hint(message: &mut Vec<u8>, hint: Hint<'_>) -> Result<(), AllocError>
+    ensures { OnOk result (message.new.items ≡ message.old.items ++ hint_end (plain_hint hint.entry)) }
+{
+    match hint {
+        Hint::Unknown => Ok(()),
+        Hint::Meant(word) => add_pieces(
+            message,
+            &[
+                Piece::Bytes(b"\ndid you mean \""),
+                Piece::Bytes(word),
+                Piece::Bytes(b"\"?"),
+            ],
+        ),
+        Hint::Sentence(sentence) => {
+            add_pieces(message, &[Piece::Bytes(b"\n"), Piece::Bytes(sentence)])
+        }
+    }
+}
+
+// Makes a message: the first lines that differ, the diff, and a hint.
+fn mismatch_message(
+    alloc: Global,
+    table: &mut Table,
+    block: &Block,
+    output: &Lines,
+) -> Result<Vec<u8>, AllocError>
+    ensures { IfOk result (λ message. message.items ≡ mismatch_message block.now output.now) }
+{
+    let expected = block.expected();
+    let mut message = Vec::new(alloc);
+    add_opening(
+        &mut message,
+        common_front(expected, output),
+        expected,
+        output,
+    )?;
+    let diff = diff_message(alloc, table, expected, output)?;
+    message.extend_from_slice(diff.as_slice())?;
+    add_hint(&mut message, suggested(&block.directive()))?;
+    Ok(message)
+}
+
+// The kind of a mismatch whose head is on a line: a later one if the first is above.
+fn mismatch_kind(first: usize, line: usize) -> DiagnosticKind
+    ensures { result ≡ mismatch_kind first line }
+{
+    if first < line {
+        DiagnosticKind::LaterMismatch
+    } else {
+        DiagnosticKind::Mismatch
+    }
+}
+
+// Makes the diagnostic of a mismatch, of a block with these lines.
+fn mismatch(
+    alloc: Global,
+    table: &mut Table,
+    text: &Lines,
+    lines: BlockLines,
+    kind: DiagnosticKind,
+    block: &Block,
+    output: &Lines,
+) -> Result<Diagnostic, AllocError>
+    ensures { (first line : ℕ) → kind ≡ mismatch_kind first line → IfOk result (λ d. d ≡ mismatch text.now lines first line block.now output.now) }
+{
+    let message = mismatch_message(alloc, table, block, output)?;
+    let came = actual_output_of(alloc, lines, output)?;
+    Ok(Diagnostic {
+        line: marked_at(text, lines, block.expected(), output),
+        kind,
+        message,
+        came: Some(came),
+    })
+}
+
+fn error_output(
+    alloc: Global,
+    line: usize,
+    block: &Block,
+    output: &Lines,
+) -> Result<Diagnostic, AllocError>
+    ensures { IfOk result (λ d. d ≡ error_output line block.now output.now) }
+{
+    let mut message = Vec::from_slice(alloc, first_line(output))?;
+    add_hint(&mut message, suggested(&block.directive()))?;
+    Ok(Diagnostic {
+        line,
+        kind: DiagnosticKind::ErrorOutput,
+        message,
+        came: None,
+    })
+}
+
+/// Makes the diagnostic of a directive whose head begins on a line. It is known whether its output differs, and where the head of the first
+/// mismatch is.
+#[tactic(auto, unfolding(crate::specs::Findings::finding))]
+pub(crate) fn finding(
+    alloc: Global,
+    table: &mut Table,
+    text: &Lines,
+    first: usize,
+    line: usize,
+    differs: bool,
+    block: &Block,
+    output: &Lines,
+) -> Result<Option<Diagnostic>, AllocError>
+    requires stands { StandsIn text.now line block.now }
+    requires differs { differs ≡ not (same_lines block.now.expected output.now) }
+    ensures { IfOk result (λ found. found ≡ finding first text.now line block.now output.now) }
+{
+    if differs {
+        let lines = BlockLines::of_block(text, line, block);
+        let kind = mismatch_kind(first, line);
+        let found = mismatch(alloc, table, text, lines, kind, block, output)?;
+        return Ok(Some(found));
+    }
+    if is_unexpected(text, line, output) {
+        return Ok(Some(error_output(alloc, line, block, output)?));
+    }
+    Ok(None)
+}

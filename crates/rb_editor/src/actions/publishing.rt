@@ -1,0 +1,214 @@
+//! Diagnostics as an editor is sent them.
+
+ghost use Rattle.std.specs.Prelude.{◌≡◌, ◌≤◌, ◌++◌, [], OnOk, length};
+ghost use Rattle.rb_lsp.specs.Tables.{IsTable};
+ghost use Rattle.rb_lsp.specs.declared.document.limits.TheConstants.{MAX_TEXT};
+ghost use Rattle.rb_editor.specs.Texts.{list_text, listed, range_member};
+ghost use Rattle.rb_editor.specs.Published.{diagnostic_text, kind_text, message_text, place_text, related_if, related_text, shown_text};
+
+use crate::actions::actual_output::ActualOutput;
+use crate::actions::diagnostic::{Diagnostic, DiagnosticKind};
+use crate::offers::add_range_member;
+use rb_lsp::document::{Encoding, LineTable};
+use rb_lsp::server::Client;
+use rb_text::{Json, Piece, add_pieces};
+use std::alloc::{AllocError, Global};
+
+// Its severity, and its code.
+#[tactic(auto, unfolding(crate::specs::Published::kind_text))]
+fn kind_text(softens_later: bool, kind: DiagnosticKind) -> &'static [u8]
+    ensures { result.now ≡ kind_text softens_later kind }
+{
+    match kind {
+        DiagnosticKind::Mismatch => {
+            b",\"severity\":1,\"code\":\"mismatch\",\"source\":\"raftbench\",\"message\":\""
+        }
+        DiagnosticKind::LaterMismatch => {
+            if softens_later {
+                b",\"severity\":3,\"code\":\"mismatch\",\"source\":\"raftbench\",\"message\":\""
+            } else {
+                b",\"severity\":1,\"code\":\"mismatch\",\"source\":\"raftbench\",\"message\":\""
+            }
+        }
+        DiagnosticKind::ErrorOutput => {
+            b",\"severity\":2,\"code\":\"error-output\",\"source\":\"raftbench\",\"message\":\""
+        }
+        DiagnosticKind::NoScript => {
+            b",\"severity\":1,\"code\":\"no-script\",\"source\":\"raftbench\",\"message\":\""
+        }
+        DiagnosticKind::Slip => {
+            b",\"severity\":2,\"code\":\"slip\",\"source\":\"raftbench\",\"message\":\""
+        }
+        DiagnosticKind::Stopped => {
+            b",\"severity\":2,\"code\":\"stopped\",\"source\":\"raftbench\",\"message\":\""
+        }
+    }
+}
+
+// The severity of a diagnostic, its code, and what it says.
+#[tactic(auto, unfolding(crate::specs::Published::message_text))]
+fn add_message(
+    out: &mut Vec<u8>,
+    softens_later: bool,
+    diagnostic: &Diagnostic,
+) -> Result<(), AllocError>
+    ensures { OnOk result (out.new.items ≡ out.old.items ++ message_text softens_later diagnostic.now) }
+{
+    add_pieces(
+        out,
+        &[
+            Piece::Bytes(kind_text(softens_later, diagnostic.kind)),
+            Piece::Escaped(Json::Utf8, diagnostic.message.as_slice()),
+            Piece::Bytes(b"\""),
+        ],
+    )
+}
+
+// The range from one line of a text up to another.
+#[tactic(auto, unfolding(crate::specs::Published::place_text))]
+fn add_place(
+    out: &mut Vec<u8>,
+    encoding: Encoding,
+    text: &[u8],
+    table: &LineTable,
+    first: usize,
+    behind: usize,
+) -> Result<(), AllocError>
+    requires { IsTable encoding text.now table.now }
+    ensures { OnOk result (out.new.items ≡ out.old.items ++ place_text encoding text.now first behind) }
+{
+    let start = table.start_of(first);
+    let end = table.start_of(behind);
+    out.extend_from_slice(b",\"relatedInformation\":[{\"location\":")?;
+    add_range_member(out, start, end)?;
+    Ok(())
+}
+
+// The document in which it is, and what came.
+#[tactic(auto, unfolding(crate::specs::Published::shown_text))]
+fn add_shown<'a>(out: &mut Vec<u8>, uri: &'a [u8], shown: &'a [u8]) -> Result<(), AllocError>
+    ensures { OnOk result (out.new.items ≡ out.old.items ++ shown_text uri.now shown.now) }
+{
+    add_pieces(
+        out,
+        &[
+            Piece::Bytes(b",\"uri\":\""),
+            Piece::Escaped(Json::Utf8, uri),
+            Piece::Bytes(b"\"},\"message\":\""),
+            Piece::Escaped(Json::Utf8, shown),
+            Piece::Bytes(b"\"}]"),
+        ],
+    )
+}
+
+// What came, for the lines of a text that expect another output.
+#[tactic(auto, unfolding(crate::specs::Published::related_text))]
+fn add_related(
+    out: &mut Vec<u8>,
+    encoding: Encoding,
+    uri: &[u8],
+    text: &[u8],
+    table: &LineTable,
+    came: &ActualOutput,
+) -> Result<(), AllocError>
+    requires { IsTable encoding text.now table.now }
+    ensures { OnOk result (out.new.items ≡ out.old.items ++ related_text encoding uri.now text.now came.now) }
+{
+    add_place(out, encoding, text, table, came.first, came.behind)?;
+    add_shown(out, uri, came.shown.as_slice())
+}
+
+// What came, where that is another output, to whoever takes it.
+fn add_if(
+    out: &mut Vec<u8>,
+    encoding: Encoding,
+    takes_related: bool,
+    uri: &[u8],
+    text: &[u8],
+    table: &LineTable,
+    diagnostic: &Diagnostic,
+) -> Result<(), AllocError>
+    requires { IsTable encoding text.now table.now }
+    ensures { OnOk result (out.new.items ≡ out.old.items ++ related_if takes_related encoding uri.now text.now diagnostic.now.came) }
+{
+    if !takes_related {
+        return Ok(());
+    }
+    match &diagnostic.came {
+        Some(came) => add_related(out, encoding, uri, text, table, came),
+        None => Ok(()),
+    }
+}
+
+// A diagnostic of a text, whose lines are in the table.
+#[tactic(auto, unfolding(crate::specs::Published::diagnostic_text))]
+fn add_diagnostic(
+    out: &mut Vec<u8>,
+    client: Client,
+    uri: &[u8],
+    text: &[u8],
+    table: &LineTable,
+    diagnostic: &Diagnostic,
+) -> Result<(), AllocError>
+    requires { IsTable client.encoding text.now table.now }
+    ensures { OnOk result (out.new.items ≡ out.old.items ++ diagnostic_text client uri.now text.now diagnostic.now) }
+{
+    let start = table.start_of(diagnostic.line.saturating_sub(1));
+    let end = table.start_of(diagnostic.line);
+    add_range_member(out, start, end)?;
+    add_message(out, client.softens_later, diagnostic)?;
+    let encoding = client.encoding;
+    add_if(
+        out,
+        encoding,
+        client.takes_related,
+        uri,
+        text,
+        table,
+        diagnostic,
+    )?;
+    out.extend_from_slice(b"}")
+}
+
+// Some, of which the first is after nothing, and the others after commas.
+fn add_all(
+    out: &mut Vec<u8>,
+    client: Client,
+    uri: &[u8],
+    text: &[u8],
+    table: &LineTable,
+    list: &[Diagnostic],
+) -> Result<(), AllocError>
+    requires { IsTable client.encoding text.now table.now }
+    ensures { OnOk result (out.new.items ≡ out.old.items ++ listed (diagnostic_text client uri.now text.now) [] list.now) }
+{
+    let mut lead: &[u8] = b"";
+    for diagnostic in list {
+        out.extend_from_slice(lead)?;
+        add_diagnostic(out, client, uri, text, table, diagnostic)?;
+        lead = b",";
+    }
+    out.extend_from_slice(b"]")?;
+    Ok(())
+}
+
+/// Adds the diagnostics of a text, as a list. What came is told of each that is a mismatch by the URI of its document, if that is taken.
+#[tactic(auto, unfolding(crate::specs::Texts::list_text), using(crate::proofs::QuietLaws::none_listed))]
+pub(crate) fn add_list(
+    alloc: Global,
+    out: &mut Vec<u8>,
+    client: Client,
+    uri: &[u8],
+    text: &[u8],
+    list: &[Diagnostic],
+) -> Result<(), AllocError>
+    requires { length text.now ≤ MAX_TEXT }
+    ensures { OnOk result (out.new.items ≡ out.old.items ++ list_text (diagnostic_text client uri.now text.now) list.now) }
+{
+    if list.is_empty() {
+        return out.extend_from_slice(b"[]");
+    }
+    let table = LineTable::new(alloc, client.encoding, text)?;
+    out.extend_from_slice(b"[")?;
+    add_all(out, client, uri, text, &table, list)
+}

@@ -1,0 +1,193 @@
+//! The place of a real file.
+
+ghost use Rattle.std.specs.Prelude.{◌≡◌, ◌↔◌, None, IsOk, MatchResult, option_map, string_bytes};
+ghost use Rattle.rb_files.specs.PathErrors.{IsOfReading};
+
+use crate::entry::{folder_of, followed};
+use crate::file_look::FileLook;
+use crate::file_place::FilePlace;
+use crate::path_error::PathError;
+use std::fs::{Metadata, OpenFile, OpenOptions};
+use std::io::{ErrorKind, Write};
+use std::os::unix::fs::{MetadataExt, OpenOptionsExt, chown};
+use std::path::Path;
+use std::rt::Files;
+use std::{fs, io};
+
+// How many names are tried for a new file. Those that are taken belong to other programs, or to a run that was killed.
+const MOST_NAMES: usize = 1_000;
+
+/// A script's file, and the new file next to it.
+#[derive(Drop)]
+pub struct AtomicReplace<'a, R: Files> {
+    rt: &'a R,
+    // where the script's file is, all links followed
+    target: String,
+    // its metadata when it was read
+    seen: Metadata,
+    new: Option<NewFile<R::File>>,
+}
+
+// A file that is open, and its path.
+#[derive(Drop)]
+struct NewFile<F: Drop> {
+    path: String,
+    file: F,
+}
+
+impl<'a, R: Files + AllocGlobal> AtomicReplace<'a, R> {
+    /// The place of the file at the path, its links followed, which was `seen` when it was read.
+    pub fn new(rt: &'a R, path: &str, seen: Metadata) -> Result<AtomicReplace<'a, R>, PathError>
+        // There is no new file yet.
+        ensures { MatchResult result (λ place. place.new ≡ None) IsOfReading }
+    {
+        let target = followed(rt, path)?;
+        Ok(AtomicReplace {
+            rt,
+            target,
+            seen,
+            new: None,
+        })
+    }
+
+    /// The new file's path, if there is one.
+    pub fn left(&self) -> Option<&str>
+        ensures { option_map (λ path. path.now) result ≡ option_map (λ new. string_bytes new.path) self.now.new }
+    {
+        match &self.new {
+            Some(new) => Some(new.path.as_str()),
+            None => None,
+        }
+    }
+
+    // A file that nobody else has, in the folder of the script's file. Its name begins with a dot and doesn't end in `.txt`.
+    fn new_file(&self) -> io::Result<NewFile<R::File>> {
+        for number in 0..MOST_NAMES {
+            let path = self.new_path(number)?;
+            let opened = OpenOptions::new()
+                .write(true)
+                .create_new(true)
+                .mode(0o600)
+                .open(self.rt, path.as_str());
+            match opened {
+                Ok(file) => return Ok(NewFile { path, file }),
+                Err(error) if error.kind() == ErrorKind::AlreadyExists => {}
+                Err(error) => return Err(error),
+            }
+        }
+        Err(io::Error::other(
+            "its folder has all of .raftbench-0.new to .raftbench-999.new; remove them",
+        ))
+    }
+
+    fn new_path(&self, number: usize) -> io::Result<String> {
+        let alloc = self.rt.alloc();
+        let name = format!(in alloc; ".raftbench-{number}.new")?;
+        Ok(
+            Path::new(folder_of(self.target.as_str()))
+                .join(alloc, name)?
+                .into_string(),
+        )
+    }
+
+    // A file that may not be written isn't replaced, even if its folder would allow it.
+    fn check_rights(&self) -> io::Result<()> {
+        OpenOptions::new()
+            .write(true)
+            .open(self.rt, self.target.as_str())?;
+        Ok(())
+    }
+
+    // Whether the file is still the one that was read.
+    fn check_unchanged(&self) -> io::Result<()> {
+        let now = fs::symlink_metadata(self.rt, self.target.as_str())?;
+        unchanged(&FileLook::of(&now), &FileLook::of(&self.seen))
+    }
+}
+
+// Fails if a file has changed.
+fn unchanged(now: &FileLook, seen: &FileLook) -> io::Result<()>
+    ensures { IsOk result ↔ now.now ≡ seen.now }
+{
+    if now.is_same(seen) {
+        Ok(())
+    } else {
+        Err(io::Error::other("the file has changed since it was read"))
+    }
+}
+
+impl<F: Write + OpenFile + Drop> NewFile<F> {
+    // The owner first, since a change of it may take rights away. Who may not give a file away keeps it.
+    fn settle<R: Files>(&self, rt: &R, seen: &Metadata) -> io::Result<()> {
+        let now = self.file.metadata()?;
+        if now.uid() != seen.uid() || now.gid() != seen.gid() {
+            let _ = chown(rt, self.path.as_str(), Some(seen.uid()), Some(seen.gid()));
+        }
+        self.file.set_permissions(seen.permissions())?;
+        self.file.sync_all()
+    }
+}
+
+fn missing() -> io::Error {
+    io::Error::from(ErrorKind::NotFound)
+}
+
+fn answered(outcome: io::Result<()>) -> Result<(), PathError> {
+    match outcome {
+        Ok(()) => Ok(()),
+        Err(error) => Err(PathError::of_writing(error)),
+    }
+}
+
+// The contents of the system's folders are not known, so nothing is claimed of these calls.
+impl<'a, R: Files + AllocGlobal> FilePlace for AtomicReplace<'a, R> {
+    ghost stands = { λ _. None };
+
+    fn create(&mut self) -> Result<(), PathError> {
+        answered(self.check_rights())?;
+        match self.new_file() {
+            Ok(new) => {
+                self.new = Some(new);
+                Ok(())
+            }
+            Err(error) => Err(PathError::of_writing(error)),
+        }
+    }
+
+    fn put(&mut self, text: &[u8]) -> Result<(), PathError> {
+        match &mut self.new {
+            Some(new) => answered(new.file.write_all(text)),
+            None => answered(Err(missing())),
+        }
+    }
+
+    fn settle(&mut self) -> Result<(), PathError> {
+        match &self.new {
+            Some(new) => answered(new.settle(self.rt, &self.seen)),
+            None => answered(Err(missing())),
+        }
+    }
+
+    fn rename(&mut self) -> Result<(), PathError> {
+        answered(self.check_unchanged())?;
+        let outcome = match &self.new {
+            Some(new) => answered(fs::rename(self.rt, new.path.as_str(), self.target.as_str())),
+            None => return answered(Err(missing())),
+        };
+        if outcome.is_ok() {
+            self.new = None;
+        }
+        outcome
+    }
+
+    fn remove(&mut self) -> Result<(), PathError> {
+        let outcome = match &self.new {
+            Some(new) => answered(fs::remove_file(self.rt, new.path.as_str())),
+            None => return answered(Err(missing())),
+        };
+        if outcome.is_ok() {
+            self.new = None;
+        }
+        outcome
+    }
+}

@@ -1,0 +1,5 @@
+use Rattle.rb_laws.proofs.SafetyLaws.{chosen}
+use Rattle.rb_laws.proofs.cluster.laws.leaders_are_chosen.Goals as goal
+
+pub returns : goal.returns
+returns c = chosen

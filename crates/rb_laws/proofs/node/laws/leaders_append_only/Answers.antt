@@ -1,0 +1,5 @@
+use Rattle.rb_laws.proofs.CallLaws.{runs}
+use Rattle.rb_laws.proofs.node.laws.leaders_append_only.Goals as goal
+
+pub returns : goal.returns
+returns c = λ cs t sound. ((runs cs t).goes sound).own

@@ -1,0 +1,15 @@
+pub mod Network
+pub mod Honesty
+pub mod Votes
+pub mod Clusters
+pub mod Safety
+pub mod Restarts
+pub mod Sound
+pub mod Calling
+pub mod Elections
+pub mod Words
+pub mod Choices
+pub mod Matches
+pub mod Events
+pub mod Learning
+pub mod Rules

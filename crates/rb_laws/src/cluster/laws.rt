@@ -1,0 +1,57 @@
+//! What the nodes of a cluster keep together, whatever happens.
+ghost use Rattle.std.specs.Prelude.{◌≡◌, ℕ, List, [], Ok, Some, slice_get};
+ghost use Rattle.rb_script.specs.Directive.{PlainDirective};
+ghost use Rattle.rb_directive.specs.declared.requests.AddNodes.{AddNodes};
+ghost use Rattle.rb_directive.specs.declared.requests.Request.TheVariants as requests;
+ghost use Rattle.rb_directive.specs.declared.build.Asked.{Asked};
+ghost use Rattle.rb_directive.specs.Requests.{request};
+ghost use Rattle.rb_vocab.specs.declared.conf_state.ConfState.{ConfState};
+ghost use Rattle.rb_raftlog.specs.Laws.{AreMatching};
+ghost use Rattle.rb_tracker.specs.Configs.{config_of};
+ghost use Rattle.rb_node.specs.Node.{PlainNode};
+ghost use Rattle.rb_machine.specs.AddNodes.{start};
+ghost use Rattle.rb_machine.specs.Cluster.{Cluster, empty};
+ghost use Rattle.rb_machine.specs.Outcome.{outcome};
+ghost use Rattle.rb_laws.specs.Clusters.{AreSteady, led, IsNew};
+ghost use Rattle.rb_laws.specs.Network.{Network, Happening, run, IsBegun, Leads};
+ghost use Rattle.rb_laws.specs.Honesty.{AreHonest, AreGenuine};
+ghost use Rattle.rb_laws.specs.Votes.{IsCast, IsChosen};
+
+/// A node casts at most one vote in a term: of all the answers that were put out, those of one node that give a vote of one term give it to
+/// one candidate.
+pub fn votes_are_cast_once()
+    ensures { (members : ConfState) (s : Network) (happenings : List Happening) (voter term first second : ℕ) → members.outgoing ≡ [] → IsBegun members s → AreHonest (config_of members) happenings s → IsCast (run happenings s).said voter term first → IsCast (run happenings s).said voter term second → second ≡ first }
+{}
+
+/// Who leads in a term was chosen in it: a quorum of the members cast its votes for it.
+pub fn leaders_are_chosen()
+    ensures { (members : ConfState) (s : Network) (happenings : List Happening) (id term : ℕ) → members.outgoing ≡ [] → IsBegun members s → AreHonest (config_of members) happenings s → Leads (run happenings s).nodes id term → IsChosen (config_of members) (run happenings s).said id term }
+{}
+
+/// Election safety: two nodes that lead in one term, at whatever points of a run, are one node. The nodes start with the same members, in
+/// no joint configuration; no vote is forged, and the configuration stays.
+pub fn elections_are_safe()
+    ensures { (members : ConfState) (s : Network) (earlier later : List Happening) (first second term : ℕ) → members.outgoing ≡ [] → IsBegun members s → AreHonest (config_of members) earlier s → AreHonest (config_of members) later (run earlier s) → Leads (run earlier s).nodes first term → Leads (run later (run earlier s)).nodes second term → second ≡ first }
+{}
+
+/// The same of a cluster of the bench, whatever directives it is given but `add-nodes` and `propose-conf-change`: two nodes that lead in
+/// one term, at whatever points of the script, are one node. The nodes come by `add-nodes`, each with the same voters and learners.
+pub fn clusters_elect_one_leader()
+    ensures leader { (members : ConfState) (c : Cluster) (earlier later : List PlainDirective) (first second term : ℕ) → members.outgoing ≡ [] → IsNew members c → AreSteady earlier → AreSteady later → Leads (led c earlier).nodes first term → Leads (led (led c earlier) later).nodes second term → second ≡ first }
+    ensures empty { (members : ConfState) → IsNew members empty }
+    ensures added { (members : ConfState) (c : Cluster) (d : PlainDirective) (a : Asked) (r : AddNodes) → request d ≡ Ok a → a.request ≡ requests.AddNodes r → (start r).config ≡ members → IsNew members c → IsNew members (outcome c d).cluster }
+    ensures single { (r : AddNodes) → (start r).config.outgoing ≡ [] }
+{}
+
+/// Log matching: the logs of two nodes, or of one, at whatever points of a run, are the same up to an index at which both have an entry of
+/// the same term, as far as both still have it. The nodes start with the same members, in no joint configuration; no vote and no append is
+/// forged, and the configuration stays. Snapshots may be made up.
+pub fn logs_match()
+    ensures { (members : ConfState) (s : Network) (earlier later : List Happening) (j k : ℕ) (first second : PlainNode) → members.outgoing ≡ [] → IsBegun members s → AreHonest (config_of members) earlier s → AreHonest (config_of members) later (run earlier s) → AreGenuine earlier s → AreGenuine later (run earlier s) → slice_get (run earlier s).nodes j ≡ Some first → slice_get (run later (run earlier s)).nodes k ≡ Some second → AreMatching first.log second.log }
+{}
+
+/// The same of a cluster of the bench, whatever directives it is given but `add-nodes` and `propose-conf-change`: logs of its nodes, at
+/// whatever points of the script, match.
+pub fn clusters_keep_logs_matching()
+    ensures { (members : ConfState) (c : Cluster) (earlier later : List PlainDirective) (j k : ℕ) (first second : PlainNode) → members.outgoing ≡ [] → IsNew members c → AreSteady earlier → AreSteady later → slice_get (led c earlier).nodes j ≡ Some first → slice_get (led (led c earlier) later).nodes k ≡ Some second → AreMatching first.log second.log }
+{}

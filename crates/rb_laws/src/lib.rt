@@ -1,0 +1,5 @@
+//! What Raft promises, proved over the definitions: of a node, and of a cluster.
+#![tactic(auto)]
+
+pub mod cluster;
+pub mod node;

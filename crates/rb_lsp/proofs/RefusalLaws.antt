@@ -1,0 +1,85 @@
+-- Where what is asked of a text isn't done whole, that is said, and nothing else changes.
+use Rattle.std.proofs.Common.{◌≡◌, ◌⊎◌, inl, inr, ℕ, List, Bool, Option, Some, None, refl}
+use Rattle.std.specs.Prelude.{codes}
+use Rattle.serde_json.specs.Data.{Data}
+use Rattle.rb_lsp.specs.declared.document.position.Encoding.{Encoding}
+use Rattle.rb_lsp.specs.Messages.{frame}
+use Rattle.rb_lsp.specs.Said.{Said, request, notification}
+use Rattle.rb_lsp.specs.declared.server.query.Query.{Query}
+use Rattle.rb_lsp.specs.declared.server.client.Client.{Client}
+use Rattle.rb_lsp.specs.declared.server.method.Question.{Question}
+use Rattle.rb_lsp.specs.declared.server.method.Method.{Method}
+use Rattle.rb_lsp.specs.declared.server.method.Method.TheVariants.{Exit, Asks}
+use Rattle.rb_lsp.specs.declared.server.phase.Phase.{Phase}
+use Rattle.rb_lsp.specs.declared.server.phase.Phase.TheVariants.{Running}
+use Rattle.rb_lsp.specs.Methods.{method_of}
+use Rattle.rb_lsp.specs.Documents.{PlainDocument, text_of}
+use Rattle.rb_lsp.specs.declared.server.reach.Reach.{Reach}
+use Rattle.rb_lsp.specs.declared.server.reach.Reach.TheVariants.{Whole, Stopped, Cancelled, NoMemory}
+use Rattle.rb_lsp.specs.Meanings.{Meaning}
+use Rattle.rb_lsp.specs.Notices.{Notice, is_crowded, notice_body, notice_of, notice_text, publication, stale_versions, told_version}
+use Rattle.rb_lsp.specs.Questions.{asked_of, of_text, question_body, uri_of, with_asked}
+use Rattle.rb_lsp.specs.Replies.{PlainServer, body_in, published, sent, told_of, with_notice}
+use Rattle.rb_lsp.specs.Laws.{TellsRefusal, of_document, of_request, stops_document, stops_request, cancels}
+
+-- ---- of a document
+
+text_told : (meaning : Meaning) (reach : Reach) (method : List ℕ) (params : Option Data) (client : Client) (uri : List ℕ) (version : Option ℕ) (is_crowded : Bool) (text : Option (List ℕ))
+    → (frame (publication meaning reach client uri version is_crowded text) ≡ frame (publication meaning Whole client uri version is_crowded text))
+    ⊎ TellsRefusal meaning reach (notification method params) (frame (publication meaning reach client uri version is_crowded text))
+text_told meaning reach method params client uri version is_crowded None = inl refl
+text_told meaning NoMemory method params client uri version is_crowded (Some text) = inr (of_document method params uri version)
+text_told meaning (Stopped line) method params client uri version is_crowded (Some text) = inr (stops_document line method params client uri version text)
+text_told meaning Whole method params client uri version is_crowded (Some text) = inl refl
+text_told meaning Cancelled method params client uri version is_crowded (Some text) = inl refl
+
+body_told : (meaning : Meaning) (reach : Reach) (method : List ℕ) (params : Option Data) (versions : Option (ℕ × ℕ)) (n : Notice) (before ds : List PlainDocument)
+    → (frame (notice_body meaning reach versions n before ds) ≡ frame (notice_body meaning Whole versions n before ds))
+    ⊎ TellsRefusal meaning reach (notification method params) (frame (notice_body meaning reach versions n before ds))
+body_told meaning reach method params (Some versions) n before ds = inl refl
+body_told meaning reach method params None n before ds = text_told meaning reach method params n.client n.uri (told_version n) (is_crowded n before) (text_of n.uri ds)
+
+notice_told : (meaning : Meaning) (reach : Reach) (method : List ℕ) (params : Option Data) (notice : Option Notice) (before ds : List PlainDocument)
+    → (notice_text meaning reach notice before ds ≡ notice_text meaning Whole notice before ds) ⊎ TellsRefusal meaning reach (notification method params) (notice_text meaning reach notice before ds)
+notice_told meaning reach method params None before ds = inl refl
+notice_told meaning reach method params (Some n) before ds = body_told meaning reach method params (stale_versions n before) n before ds
+
+notification_told : (meaning : Meaning) (reach : Reach) (server : PlainServer) (name : List ℕ) (method : Method) (params : Option Data)
+    → (published meaning reach server method params ≡ published meaning Whole server method params) ⊎ TellsRefusal meaning reach (notification name params) (published meaning reach server method params)
+notification_told meaning reach server name Exit params = inl refl
+notification_told meaning reach server name method params = notice_told meaning reach name params (notice_of server.phase method params) server.documents (with_notice server method params).documents
+
+-- ---- of a request
+
+abbrev IsTold : Meaning → Reach → Data → List ℕ → Option Data → List ℕ → List ℕ → Type 0
+IsTold meaning reach id method params refused known = (frame refused ≡ frame known) ⊎ TellsRefusal meaning reach (request id method params) (frame refused)
+
+answer_told : (meaning : Meaning) (reach : Reach) (id : Data) (method : List ℕ) (params : Option Data) (encoding : Encoding) (asked : Query) (uri : List ℕ) (text : Option (List ℕ))
+    → IsTold meaning reach id method params (of_text meaning reach encoding asked uri id text) (of_text meaning Whole encoding asked uri id text)
+answer_told meaning reach id method params encoding asked uri None = inl refl
+answer_told meaning NoMemory id method params encoding asked uri (Some text) = inr (of_request id method params)
+answer_told meaning (Stopped line) id method params encoding asked uri (Some text) = inr (stops_request line id method params)
+answer_told meaning Whole id method params encoding asked uri (Some text) = inl refl
+answer_told meaning Cancelled id method params encoding asked uri (Some text) = inr (cancels id method params)
+
+asked_told : (meaning : Meaning) (reach : Reach) (id : Data) (method : List ℕ) (params : Option Data) (encoding : Encoding) (ds : List PlainDocument) (uri : Option (List ℕ)) (asked : Option Query)
+    → IsTold meaning reach id method params (with_asked meaning reach encoding ds id uri asked) (with_asked meaning Whole encoding ds id uri asked)
+asked_told meaning reach id method params encoding ds (Some uri) (Some asked) = answer_told meaning reach id method params encoding asked uri (text_of uri ds)
+asked_told meaning reach id method params encoding ds uri asked = inl refl
+
+question_told : (meaning : Meaning) (reach : Reach) (id : Data) (method : List ℕ) (encoding : Encoding) (ds : List PlainDocument) (question : Question) (params : Option Data)
+    → IsTold meaning reach id method params (question_body meaning reach encoding ds question params id) (question_body meaning Whole encoding ds question params id)
+question_told meaning reach id method encoding ds question None = inl refl
+question_told meaning reach id method encoding ds question (Some d) = asked_told meaning reach id method (Some d) encoding ds (uri_of d) (asked_of question d)
+
+answer_body_told : (meaning : Meaning) (reach : Reach) (id : Data) (name : List ℕ) (ds : List PlainDocument) (phase : Phase) (method : Method) (params : Option Data)
+    → IsTold meaning reach id name params (body_in meaning reach ds phase method params id) (body_in meaning Whole ds phase method params id)
+answer_body_told meaning reach id name ds (Running client) (Asks question) params = question_told meaning reach id name client.encoding ds question params
+answer_body_told meaning reach id name ds phase method params = inl refl
+
+pub refusal_told : (meaning : Meaning) (reach : Reach) (server : PlainServer) (what : Said)
+    → (told_of meaning reach server what ≡ told_of meaning Whole server what) ⊎ TellsRefusal meaning reach what (told_of meaning reach server what)
+unfolding sent
+refusal_told meaning reach server (request id method params) = answer_body_told meaning reach id method server.documents server.phase (method_of method) params
+refusal_told meaning reach server (notification method params) = notification_told meaning reach server method (method_of method) params
+refusal_told meaning reach server what = inl refl

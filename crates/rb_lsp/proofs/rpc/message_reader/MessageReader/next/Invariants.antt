@@ -1,0 +1,10 @@
+-- Nothing is lost.
+use Rattle.std.specs.Io.KnownBytes.{Keeps}
+use Rattle.rb_lsp.specs.Reading.{left_of}
+use Rattle.rb_lsp.proofs.rpc.message_reader.MessageReader.next.Given as goal
+
+abbrev pub invariant-reading : goal.invariant-reading
+invariant-reading g l = Keeps (left_of l.initial.self (g.S.Source.left l.initial.source)) (left_of l.self (g.S.Source.left l.source))
+
+abbrev pub decreases-reading : goal.decreases-reading
+decreases-reading g l = l.self.calls

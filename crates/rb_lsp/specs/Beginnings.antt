@@ -1,0 +1,88 @@
+-- What a client offers at `initialize`, and what the server can do. (LSP 3.17, "Initialize Request" and "PositionEncodingKind".)
+use Rattle.std.specs.Prelude.{ℕ, Bool, true, false, ◌||◌, List, Option, Some, None, codes, if◌then◌else◌, is_some, option_and_then, unwrap_or}
+use Rattle.std.specs.Str.{bytes_eq}
+use Rattle.serde_json.specs.Data.{Data, array, boolean, item, member, no_items, no_members, number, object, string, unsigned}
+use Rattle.serde_json.specs.Find.{get, at, as_bool, as_str, as_object}
+use Rattle.rb_lsp.specs.declared.document.position.Encoding.{Encoding}
+use Rattle.rb_lsp.specs.declared.document.position.Encoding.TheVariants.{Utf8, Utf16}
+use Rattle.rb_lsp.specs.declared.server.client.Client.{Client}
+
+-- the encodings that a client offers
+abbrev pub offered : Data → Option Data
+offered d = option_and_then (get (codes "positionEncodings")) (option_and_then (get (codes "general")) (get (codes "capabilities") d))
+
+abbrev pub is_bytes : Option (List ℕ) → Bool
+is_bytes None = false
+is_bytes (Some name) = bytes_eq name (codes "utf-8")
+
+-- the name at place n is that of bytes
+abbrev pub names_bytes : ℕ → Data → Bool
+names_bytes n d = is_bytes (option_and_then as_str (at n d))
+
+-- bytes are among the first three: the protocol knows three encodings
+abbrev pub are_bytes_in : Option Data → Bool
+are_bytes_in None = false
+are_bytes_in (Some names) = (names_bytes 0 names || names_bytes 1 names) || names_bytes 2 names
+
+abbrev pub offers_bytes : Data → Bool
+offers_bytes d = are_bytes_in (offered d)
+
+-- in what columns count: in bytes where the client offers that
+abbrev pub chosen_encoding : Data → Encoding
+chosen_encoding d = if offers_bytes d then Utf8 else Utf16
+
+-- a client's capabilities for diagnostics ("PublishDiagnosticsClientCapabilities")
+abbrev pub of_diagnostics : Data → Option Data
+of_diagnostics d = option_and_then (get (codes "publishDiagnostics")) (option_and_then (get (codes "textDocument")) (get (codes "capabilities") d))
+
+-- whether related information is among them
+abbrev pub says_related : Data → Option Bool
+says_related taken = option_and_then as_bool (get (codes "relatedInformation") taken)
+
+-- it takes related information with a diagnostic
+abbrev pub takes_related : Data → Bool
+takes_related d = unwrap_or (option_and_then says_related (of_diagnostics d)) false
+
+-- what the client's settings say of the mismatches after the first: they are information (this project's)
+abbrev pub says_softens : Data → Option Bool
+says_softens settings = option_and_then as_bool (get (codes "softenLaterMismatches") settings)
+
+-- they are, unless the settings say otherwise
+abbrev pub softens_later : Data → Bool
+softens_later d = unwrap_or (option_and_then says_softens (get (codes "initializationOptions") d)) true
+
+-- the client of these parameters: none if they aren't an object
+abbrev pub client_of : Option Data → Option Client
+client_of None = None
+client_of (Some d) = if is_some (as_object d) then Some (record { encoding = chosen_encoding d; takes_related = takes_related d; softens_later = softens_later d }) else None
+
+abbrev pub encoding_name : Encoding → List ℕ
+encoding_name Utf8 = codes "utf-8"
+encoding_name Utf16 = codes "utf-16"
+
+-- it wants notifications of opened and closed documents, and changes one by one (2, "TextDocumentSyncKind")
+unfoldable pub synchronizes : Data
+synchronizes = object (member (codes "change") (number (unsigned 2)) (member (codes "openClose") (boolean true) no_members))
+
+-- the characters that trigger completion: an option's values begin after each ("CompletionOptions")
+unfoldable pub completes : Data
+completes = object (member (codes "triggerCharacters") (array (item (string (codes "=")) (item (string (codes "(")) (item (string (codes ",")) no_items)))) no_members)
+
+-- the server's capabilities
+unfoldable pub capabilities : Encoding → Data
+capabilities encoding =
+    object
+    (member (codes "codeActionProvider") (boolean true)
+    (member (codes "completionProvider") completes
+    (member (codes "documentFormattingProvider") (boolean true)
+    (member (codes "documentSymbolProvider") (boolean true)
+    (member (codes "foldingRangeProvider") (boolean true)
+    (member (codes "hoverProvider") (boolean true)
+    (member (codes "positionEncoding") (string (encoding_name encoding)) (member (codes "textDocumentSync") synchronizes no_members))))))))
+
+-- what the server can do
+unfoldable pub initialized : Encoding → Data
+initialized encoding =
+    object
+    (member (codes "capabilities") (capabilities encoding)
+    (member (codes "serverInfo") (object (member (codes "name") (string (codes "raftbench")) no_members)) no_members))

@@ -1,0 +1,101 @@
+-- Statements about all answers, notifications and conversations.
+use Rattle.std.specs.Prelude.{◌≡◌, ◌⊎◌, ℕ, Bool, true, false, List, [], Option, Some, None, codes}
+use Rattle.serde_json.specs.Data.{Data}
+use Rattle.serde_json.specs.Written.{compact_text}
+use Rattle.rb_lsp.specs.Messages.{frame}
+use Rattle.rb_lsp.specs.Said.{Said, request, notification, response}
+use Rattle.rb_lsp.specs.Answers.{success, failure}
+use Rattle.rb_lsp.specs.declared.rpc.answer.ErrorCode.{ErrorCode}
+use Rattle.rb_lsp.specs.declared.server.phase.Phase.TheVariants.{Running}
+use Rattle.rb_lsp.specs.declared.server.phase.ExitStatus.{ExitStatus}
+use Rattle.rb_lsp.specs.declared.server.phase.ExitStatus.TheVariants.{CutOff, NoMessage}
+use Rattle.rb_lsp.specs.declared.server.method.Method.{Method}
+use Rattle.rb_lsp.specs.declared.server.method.Method.TheVariants.{Asks}
+use Rattle.rb_lsp.specs.declared.server.method.Question.{Question}
+use Rattle.rb_lsp.specs.declared.server.query.Query.{Query}
+use Rattle.rb_lsp.specs.declared.server.client.Client.{Client}
+use Rattle.rb_lsp.specs.Documents.{PlainDocument, text_of}
+use Rattle.rb_lsp.specs.declared.server.reach.Reach.{Reach}
+use Rattle.rb_lsp.specs.declared.server.reach.Reach.TheVariants.{Whole, Stopped, Cancelled, NoMemory}
+use Rattle.rb_lsp.specs.Meanings.{Meaning}
+use Rattle.rb_lsp.specs.Methods.{method_of}
+use Rattle.rb_lsp.specs.Questions.{answer_text, asked_of, body_text, cancelled_for, named_text, no_memory_for, stopped_for, uri_of}
+use Rattle.rb_lsp.specs.Notices.{Notice, list_publication, no_memory_list, notice_body, notice_of, stale_versions}
+use Rattle.rb_lsp.specs.Replies.{PlainServer, On, reply, told_of, turned_by}
+use Rattle.rb_lsp.specs.Talk.{Talks}
+
+-- The text of an answer to the request of this method with this id: a result, a refusal, or what is asked of the text, as it stands, of the
+-- document that the request names.
+pub data Answers (meaning : Meaning) (server : PlainServer) (method : Method) (params : Option Data) : Data → List ℕ → Type 0 where
+  done : (id result : Data) → Answers meaning server method params id (body_text (success id result))
+  refused : (id : Data) (code : ErrorCode) (message : List ℕ) → Answers meaning server method params id (body_text (failure id code message))
+  answered : (id given : Data) (client : Client) (question : Question) (asked : Query) (uri text : List ℕ) → server.phase ≡ Running client → method ≡ Asks question → params ≡ Some given
+      → uri_of given ≡ Some uri → asked_of question given ≡ Some asked → text_of uri server.documents ≡ Some text
+      → Answers meaning server method params id (answer_text id (meaning.answer client.encoding asked uri text))
+
+-- each request has one answer
+abbrev pub RequestsHaveOneAnswer : Type 0
+RequestsHaveOneAnswer = (meaning : Meaning) (reach : Reach) (server : PlainServer) (id : Data) (method : List ℕ) (params : Option Data)
+    → (answer : List ℕ) × (reply meaning reach server (request id method params) ≡ Some answer) × Answers meaning server (method_of method) params id answer
+
+-- a notification has none, and neither has an answer
+abbrev pub NotificationsHaveNoAnswer : Type 0
+NotificationsHaveNoAnswer = (meaning : Meaning) (reach : Reach) (server : PlainServer)
+    → ((method : List ℕ) (params : Option Data) → reply meaning reach server (notification method params) ≡ None) × (reply meaning reach server response ≡ None)
+
+-- whatever was sent before, and whatever else is open: what is answered to a request depends on where the server stands, and on the text, as it
+-- stands, of the document that the request names
+abbrev pub TextsAreAnswered : Type 0
+TextsAreAnswered = (meaning : Meaning) (reach : Reach) (server other : PlainServer) (id : Data) (method : List ℕ) (params : Option Data)
+    → server.phase ≡ other.phase → named_text params server.documents ≡ named_text params other.documents
+    → told_of meaning reach server (request id method params) ≡ told_of meaning reach other (request id method params)
+
+-- the text of an answer, whose result is the text of a value, is that of an answer with the value
+abbrev pub ResultsStandInAnswers : Type 0
+ResultsStandInAnswers = (id result : Data) → answer_text id (compact_text result) ≡ body_text (success id result)
+
+-- The diagnostics of a document's text as it stands go out, as far as it was run, or the one that says that memory was refused, and nothing else: of
+-- the document that the notification names, with its URI, and with the version that the notification says. Of one for which there is no room beside
+-- those that were open before it, the one that says so. A change whose version doesn't come after the known one is refused, and that is shown.
+pub record Publishes (meaning : Meaning) (reach : Reach) (before : List PlainDocument) (server : PlainServer) (notice : Notice) (text : List ℕ) : Type 0 where
+  pub running : server.phase ≡ Running notice.client
+  pub text_is : text ≡ frame (notice_body meaning reach (stale_versions notice before) notice before server.documents)
+
+-- what goes out where the server stands here after a notification: nothing alone where that tells of no document
+abbrev pub IsPublished : Meaning → Reach → List PlainDocument → PlainServer → Option Notice → List ℕ → Type 0
+IsPublished meaning reach before server None text = text ≡ []
+IsPublished meaning reach before server (Some notice) text = Publishes meaning reach before server notice text
+
+-- whatever was sent before: what goes out for a notification are the diagnostics of its document's text as it then stands
+abbrev pub TextsAreDiagnosed : Type 0
+TextsAreDiagnosed = (meaning : Meaning) (reach : Reach) (server next : PlainServer) (method : List ℕ) (params : Option Data)
+    → turned_by server (notification method params) ≡ On next
+    → IsPublished meaning reach server.documents next (notice_of server.phase (method_of method) params) (told_of meaning reach server (notification method params))
+
+-- What goes out says why what a message asks of a text isn't done whole: for a notification the one diagnostic of a document for which memory was
+-- refused, or those of a text whose run stopped above a line, and for a request an error with its id.
+pub data TellsRefusal (meaning : Meaning) : Reach → Said → List ℕ → Type 0 where
+  of_document : (method : List ℕ) (params : Option Data) (uri : List ℕ) (version : Option ℕ)
+      → TellsRefusal meaning NoMemory (notification method params) (frame (list_publication uri version no_memory_list))
+  of_request : (id : Data) (method : List ℕ) (params : Option Data) → TellsRefusal meaning NoMemory (request id method params) (frame (body_text (no_memory_for id)))
+  stops_document : (line : ℕ) (method : List ℕ) (params : Option Data) (client : Client) (uri : List ℕ) (version : Option ℕ) (text : List ℕ)
+      → TellsRefusal meaning (Stopped line) (notification method params) (frame (list_publication uri version (meaning.diagnose (Some line) client uri text)))
+  stops_request : (line : ℕ) (id : Data) (method : List ℕ) (params : Option Data) → TellsRefusal meaning (Stopped line) (request id method params) (frame (body_text (stopped_for id)))
+  cancels : (id : Data) (method : List ℕ) (params : Option Data) → TellsRefusal meaning Cancelled (request id method params) (frame (body_text (cancelled_for id)))
+
+-- where what a message asks of a text isn't done whole, that is said, and nothing else changes
+abbrev pub RefusalsAreTold : Type 0
+RefusalsAreTold = (meaning : Meaning) (reach : Reach) (server : PlainServer) (what : Said)
+    → (told_of meaning reach server what ≡ told_of meaning Whole server what) ⊎ TellsRefusal meaning reach what (told_of meaning reach server what)
+
+-- how a conversation ends over bytes that are left and begin no message
+abbrev pub is_left : ExitStatus → Bool
+is_left CutOff = true
+is_left NoMessage = true
+is_left status = false
+
+-- What is written depends on the bytes alone, and on how far what each message asks was done; and so does how it ends. Where bytes are left with
+-- which no message ever begins, either of two statuses says so, and a program ends with one for both.
+abbrev pub ConversationsAreOne : Type 0
+ConversationsAreOne = (meaning : Meaning) (all : List ℕ) (reaches : List Reach) (s t : ExitStatus) (x y : List ℕ) → Talks meaning all reaches s x → Talks meaning all reaches t y
+    → (x ≡ y) × ((s ≡ t) ⊎ ((is_left s ≡ true) × (is_left t ≡ true)))

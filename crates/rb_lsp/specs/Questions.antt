@@ -1,0 +1,88 @@
+-- What is asked of a document, and what is answered. (LSP 3.17, "Language Features"; JSON-RPC 2.0, section 5. The sentences are this
+-- project's.)
+use Rattle.std.specs.Prelude.{ℕ, List, ◌++◌, Option, Some, None, codes, option_map, option_and_then}
+use Rattle.serde_json.specs.Data.{Data}
+use Rattle.serde_json.specs.Written.{compact_text}
+use Rattle.rb_lsp.specs.declared.document.position.Encoding.{Encoding}
+use Rattle.rb_lsp.specs.Answers.{failure}
+use Rattle.rb_lsp.specs.Params.{position_at, range_at, text_below}
+use Rattle.rb_lsp.specs.declared.rpc.answer.ErrorCode.TheVariants.{InvalidParams, InternalError, RequestCancelled, RequestFailed}
+use Rattle.rb_lsp.specs.declared.server.query.Query.{Query}
+use Rattle.rb_lsp.specs.declared.server.query.Query.TheVariants as asks
+use Rattle.rb_lsp.specs.declared.server.method.Question.{Question}
+use Rattle.rb_lsp.specs.declared.server.method.Question.TheVariants.{CodeAction, Formatting, Hover, Completion, FoldingRange, DocumentSymbol}
+use Rattle.rb_lsp.specs.Documents.{PlainDocument, text_of}
+use Rattle.rb_lsp.specs.declared.server.reach.Reach.{Reach}
+use Rattle.rb_lsp.specs.declared.server.reach.Reach.TheVariants.{Stopped, Cancelled, NoMemory}
+use Rattle.rb_lsp.specs.Meanings.{Meaning}
+
+-- the request, if the method's parameters give it
+abbrev pub asked_of : Question → Data → Option Query
+asked_of CodeAction d = option_map (λ range. asks.CodeAction range) (range_at (codes "range") d)
+asked_of Formatting d = Some asks.Formatting
+asked_of Hover d = option_map (λ position. asks.Hover position) (position_at (codes "position") d)
+asked_of Completion d = option_map (λ position. asks.Completion position) (position_at (codes "position") d)
+asked_of FoldingRange d = Some asks.FoldingRange
+asked_of DocumentSymbol d = Some asks.DocumentSymbol
+
+-- the document that is named
+abbrev pub uri_of : Data → Option (List ℕ)
+uri_of d = text_below (codes "textDocument") (codes "uri") d
+
+-- ---- the answer
+
+-- the text of an answer
+unfoldable pub body_text : Data → List ℕ
+body_text answer = compact_text answer
+
+-- the text of an answer with this id, whose result has this text
+unfoldable pub answer_text : Data → List ℕ → List ℕ
+answer_text id result = codes "{\"id\":" ++ (compact_text id ++ (codes ",\"jsonrpc\":\"2.0\",\"result\":" ++ (result ++ codes "}")))
+
+-- the parameters are not those of the method
+unfoldable pub unfit : Data → Data
+unfit id = failure id InvalidParams (codes "the method takes other params")
+
+-- where the document isn't open
+unfoldable pub not_open : Data → Data
+not_open id = failure id InvalidParams (codes "the document isn't open")
+
+-- where memory is refused for it
+unfoldable pub no_memory_for : Data → Data
+no_memory_for id = failure id InternalError (codes "no memory for an answer")
+
+-- where the text's run was stopped ("RequestFailed")
+unfoldable pub stopped_for : Data → Data
+stopped_for id = failure id RequestFailed (codes "the run of this script was stopped")
+
+-- where its client has cancelled it (LSP 3.17, "Cancellation Support")
+unfoldable pub cancelled_for : Data → Data
+cancelled_for id = failure id RequestCancelled (codes "the request was cancelled")
+
+-- of a text, as far as it was run, unless the request was cancelled
+abbrev pub text_by : Meaning → Reach → Encoding → Query → List ℕ → Data → List ℕ → List ℕ
+text_by meaning NoMemory encoding asked uri id text = body_text (no_memory_for id)
+text_by meaning Cancelled encoding asked uri id text = body_text (cancelled_for id)
+text_by meaning (Stopped line) encoding asked uri id text = body_text (stopped_for id)
+text_by meaning reach encoding asked uri id text = answer_text id (meaning.answer encoding asked uri text)
+
+-- of a document, whose text this is where it is open
+abbrev pub of_text : Meaning → Reach → Encoding → Query → List ℕ → Data → Option (List ℕ) → List ℕ
+of_text meaning reach encoding asked uri id None = body_text (not_open id)
+of_text meaning reach encoding asked uri id (Some text) = text_by meaning reach encoding asked uri id text
+
+-- of the document that is named, and what is asked of it
+abbrev pub with_asked : Meaning → Reach → Encoding → List PlainDocument → Data → Option (List ℕ) → Option Query → List ℕ
+with_asked meaning reach encoding ds id None asked = body_text (unfit id)
+with_asked meaning reach encoding ds id (Some uri) None = body_text (unfit id)
+with_asked meaning reach encoding ds id (Some uri) (Some asked) = of_text meaning reach encoding asked uri id (text_of uri ds)
+
+-- of what is given to the method
+abbrev pub question_body : Meaning → Reach → Encoding → List PlainDocument → Question → Option Data → Data → List ℕ
+question_body meaning reach encoding ds question None id = body_text (unfit id)
+question_body meaning reach encoding ds question (Some d) id = with_asked meaning reach encoding ds id (uri_of d) (asked_of question d)
+
+-- the text of the document that is named, where it is open
+abbrev pub named_text : Option Data → List PlainDocument → Option (List ℕ)
+named_text None ds = None
+named_text (Some d) ds = option_and_then (λ uri. text_of uri ds) (uri_of d)

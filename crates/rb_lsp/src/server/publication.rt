@@ -1,0 +1,143 @@
+//! Diagnostics that are published for a document.
+
+ghost use Rattle.std.specs.Prelude.{◌≡◌, ◌≤◌, ◌++◌, IfOk, IfSome, OnOk, length, option_map};
+ghost use Rattle.rb_lsp.specs.declared.document.limits.TheConstants.{MAX_TEXT};
+ghost use Rattle.rb_lsp.specs.Messages.{frame};
+ghost use Rattle.rb_lsp.specs.Notices.{closed_list, crowded_list, head_text, list_by, list_publication, middle_text, no_memory_list, publication};
+
+use crate::server::client::Client;
+use crate::server::outgoing::{OutgoingText, framed};
+use crate::server::reach::{Reach, reach_of};
+use crate::server::service::Service;
+use rb_text::{Json, Piece, add_pieces};
+use std::alloc::{AllocError, Global};
+
+#[tactic(auto, unfolding(crate::specs::Notices::head_text))]
+fn add_head(out: &mut Vec<u8>, uri: &[u8]) -> Result<(), AllocError>
+    ensures { OnOk result (out.new.items ≡ out.old.items ++ head_text uri.now) }
+{
+    add_pieces(
+        out,
+        &[
+            Piece::Bytes(
+                b"{\"jsonrpc\":\"2.0\",\"method\":\"textDocument/publishDiagnostics\",\"params\":{\"uri\":\"",
+            ),
+            Piece::Escaped(Json::Utf8, uri),
+            Piece::Bytes(b"\""),
+        ],
+    )
+}
+
+// The version, and what begins the list.
+#[tactic(auto, unfolding(crate::specs::Notices::middle_text))]
+fn add_middle(out: &mut Vec<u8>, version: Option<u64>) -> Result<(), AllocError>
+    ensures { OnOk result (out.new.items ≡ out.old.items ++ middle_text version) }
+{
+    match version {
+        Some(n) => add_pieces(
+            out,
+            &[
+                Piece::Bytes(b",\"version\":"),
+                Piece::Number(n),
+                Piece::Bytes(b",\"diagnostics\":"),
+            ],
+        ),
+        None => out.extend_from_slice(b",\"diagnostics\":"),
+    }
+}
+
+// With this list, framed.
+#[tactic(auto, unfolding(crate::specs::Notices::list_publication))]
+fn with_list(
+    alloc: Global,
+    uri: &[u8],
+    version: Option<u64>,
+    list: &[u8],
+) -> Result<Vec<u8>, AllocError>
+    ensures { IfOk result (λ out. out.items ≡ frame (list_publication uri.now version list.now)) }
+{
+    let mut body = Vec::new(alloc);
+    add_head(&mut body, uri)?;
+    add_middle(&mut body, version)?;
+    body.extend_from_slice(list)?;
+    body.extend_from_slice(b"}}")?;
+    framed(alloc, body.as_slice())
+}
+
+// With the diagnostics that the service gives of a text, as far as it was run, as it goes out.
+#[tactic(auto, unfolding(crate::specs::Notices::list_publication))]
+fn diagnosed<V: Service>(
+    alloc: Global,
+    service: &mut V,
+    client: Client,
+    uri: &[u8],
+    version: Option<u64>,
+    text: &[u8],
+    kept: &mut V::Kept,
+) -> Result<OutgoingText, AllocError>
+    requires { length text.now ≤ MAX_TEXT }
+    ensures { IfOk result (λ told. told.out.items ≡ frame (list_publication uri.now version (list_by V.meaning told.reach client uri.now text.now))) }
+{
+    let mut body = Vec::new(alloc);
+    add_head(&mut body, uri)?;
+    add_middle(&mut body, version)?;
+    let stop = service.add_diagnostics(client, uri, text, kept, &mut body)?;
+    body.extend_from_slice(b"}}")?;
+    Ok(OutgoingText {
+        out: framed(alloc, body.as_slice())?,
+        reach: reach_of(stop),
+    })
+}
+
+// One diagnostic for the whole first line.
+#[tactic(auto, unfolding(crate::specs::Notices::no_memory_list))]
+fn no_memory_list() -> &'static [u8]
+    ensures { result.now ≡ no_memory_list }
+{
+    b"[{\"range\":{\"start\":{\"line\":0,\"character\":0},\"end\":{\"line\":1,\"character\":0}},\"severity\":1,\"code\":\"no-memory\",\"source\":\"raftbench\",\"message\":\"no memory for a run of this script\"}]"
+}
+
+// One diagnostic for the whole first line.
+#[tactic(auto, unfolding(crate::specs::Notices::crowded_list))]
+fn crowded_list() -> &'static [u8]
+    ensures { result.now ≡ crowded_list }
+{
+    b"[{\"range\":{\"start\":{\"line\":0,\"character\":0},\"end\":{\"line\":1,\"character\":0}},\"severity\":2,\"code\":\"not-checked\",\"source\":\"raftbench\",\"message\":\"this script is not checked: 1,000 others are open\"}]"
+}
+
+// The list of a document that isn't open.
+fn closed_list(is_crowded: bool) -> &'static [u8]
+    ensures { result.now ≡ closed_list is_crowded }
+{
+    if is_crowded { crowded_list() } else { b"[]" }
+}
+
+/// What is published of the document with this URI: the diagnostics of its text, as far as it was run, or that there was no memory for them. If it isn't open, none,
+/// or that there is no room for it. If memory was refused, what the service kept of the document goes first, so that there is memory to say so.
+pub(crate) fn publication<V: Service>(
+    alloc: Global,
+    service: &mut V,
+    client: Client,
+    uri: &[u8],
+    version: Option<u64>,
+    is_crowded: bool,
+    text: Option<&[u8]>,
+    kept: &mut V::Kept,
+) -> Result<OutgoingText, AllocError>
+    requires { IfSome text (λ text. length text.now ≤ MAX_TEXT) }
+    ensures { IfOk result (λ told. told.out.items ≡ frame (publication V.meaning told.reach client uri.now version is_crowded (option_map (λ text. text.now) text.entry))) }
+{
+    let Some(text) = text else {
+        return Ok(OutgoingText::whole(with_list(alloc, uri, version, closed_list(is_crowded))?));
+    };
+    match diagnosed(alloc, service, client, uri, version, text, kept) {
+        Ok(told) => Ok(told),
+        Err(AllocError) => {
+            *kept = service.nothing();
+            Ok(OutgoingText {
+                out: with_list(alloc, uri, version, no_memory_list())?,
+                reach: Reach::NoMemory,
+            })
+        }
+    }
+}

@@ -1,0 +1,223 @@
+//! Answers to requests about documents.
+
+ghost use Rattle.std.specs.Prelude.{◌≡◌, ◌≤◌, ◌++◌, None, Some, false, IfOk, OnOk, length, option_map};
+ghost use Rattle.serde_json.specs.View.{view};
+ghost use Rattle.serde_json.specs.Written.{compact_text, has_float};
+ghost use Rattle.rb_lsp.specs.declared.document.limits.TheConstants.{MAX_TEXT};
+ghost use Rattle.rb_lsp.specs.Answers.{failure};
+ghost use Rattle.rb_lsp.specs.Messages.{frame};
+ghost use Rattle.rb_lsp.specs.Documents.{text_of};
+ghost use Rattle.rb_lsp.specs.Questions.{answer_text, asked_of, body_text, cancelled_for, no_memory_for, not_open, of_text, question_body, stopped_for, text_by, unfit, with_asked};
+
+use crate::document::Encoding;
+use crate::rpc::{ErrorCode, failure, text_below, text_of};
+use crate::server::documents::Documents;
+use crate::server::method::Question;
+use crate::server::outgoing::{OutgoingText, framed, framed_answer};
+use crate::server::query::{Query, asked_of};
+use crate::server::reach::Reach;
+use crate::server::service::Service;
+use serde_json::Value;
+use std::alloc::{AllocError, Global};
+
+// A framed error with this code and this sentence.
+fn refused(
+    alloc: Global,
+    id: &Value,
+    code: ErrorCode,
+    sentence: &str,
+) -> Result<Vec<u8>, AllocError>
+    requires { has_float (view id.now) ≡ false }
+    ensures { IfOk result (λ out. out.items ≡ frame (body_text (failure (view id.now) code sentence.now))) }
+{
+    let answer = failure(alloc, id, code, sentence)?;
+    framed_answer(alloc, &answer)
+}
+
+// Refuses parameters that the method doesn't take.
+#[tactic(auto, unfolding(crate::specs::Questions::unfit))]
+fn unfit(alloc: Global, id: &Value) -> Result<OutgoingText, AllocError>
+    requires { has_float (view id.now) ≡ false }
+    ensures { IfOk result (λ told. told.out.items ≡ frame (body_text (unfit (view id.now)))) }
+{
+    let code = ErrorCode::InvalidParams;
+    let out = refused(alloc, id, code, "the method takes other params")?;
+    Ok(OutgoingText::whole(out))
+}
+
+// Refuses a request about a document that isn't open.
+#[tactic(auto, unfolding(crate::specs::Questions::not_open))]
+fn not_open(alloc: Global, id: &Value) -> Result<OutgoingText, AllocError>
+    requires { has_float (view id.now) ≡ false }
+    ensures { IfOk result (λ told. told.out.items ≡ frame (body_text (not_open (view id.now)))) }
+{
+    let code = ErrorCode::InvalidParams;
+    let out = refused(alloc, id, code, "the document isn't open")?;
+    Ok(OutgoingText::whole(out))
+}
+
+// Refuses a request for whose answer memory was refused.
+#[tactic(auto, unfolding(crate::specs::Questions::no_memory_for))]
+fn no_memory_for(alloc: Global, id: &Value) -> Result<Vec<u8>, AllocError>
+    requires { has_float (view id.now) ≡ false }
+    ensures { IfOk result (λ out. out.items ≡ frame (body_text (no_memory_for (view id.now)))) }
+{
+    let code = ErrorCode::InternalError;
+    refused(alloc, id, code, "no memory for an answer")
+}
+
+// Refuses a request about a text whose run was stopped.
+#[tactic(auto, unfolding(crate::specs::Questions::stopped_for))]
+fn stopped_for(alloc: Global, id: &Value) -> Result<Vec<u8>, AllocError>
+    requires { has_float (view id.now) ≡ false }
+    ensures { IfOk result (λ out. out.items ≡ frame (body_text (stopped_for (view id.now)))) }
+{
+    let code = ErrorCode::RequestFailed;
+    refused(alloc, id, code, "the run of this script was stopped")
+}
+
+// Refuses a request that its client has cancelled.
+#[tactic(auto, unfolding(crate::specs::Questions::cancelled_for))]
+fn cancelled_for(alloc: Global, id: &Value) -> Result<OutgoingText, AllocError>
+    requires { has_float (view id.now) ≡ false }
+    ensures out { IfOk result (λ told. told.out.items ≡ frame (body_text (cancelled_for (view id.now)))) }
+    ensures reach { IfOk result (λ told. told.reach ≡ Reach.Cancelled) }
+{
+    let code = ErrorCode::RequestCancelled;
+    Ok(OutgoingText {
+        out: refused(alloc, id, code, "the request was cancelled")?,
+        reach: Reach::Cancelled,
+    })
+}
+
+// Adds an id.
+fn add_id(alloc: Global, out: &mut Vec<u8>, id: &Value) -> Result<(), AllocError>
+    requires { has_float (view id.now) ≡ false }
+    ensures { OnOk result (out.new.items ≡ out.old.items ++ compact_text (view id.now)) }
+{
+    let text = text_of(alloc, id)?;
+    out.extend_from_slice(text.as_bytes())
+}
+
+// The answer whose result the service gives, as it goes out, or that the run of the text was stopped.
+#[tactic(auto, unfolding(crate::specs::Questions::answer_text))]
+fn answered<V: Service>(
+    alloc: Global,
+    service: &mut V,
+    encoding: Encoding,
+    asked: Query,
+    uri: &[u8],
+    text: &[u8],
+    kept: &V::Kept,
+    id: &Value,
+) -> Result<OutgoingText, AllocError>
+    requires plain { has_float (view id.now) ≡ false }
+    requires bounded { length text.now ≤ MAX_TEXT }
+    ensures { IfOk result (λ told. told.out.items ≡ frame (text_by V.meaning told.reach encoding asked uri.now (view id.now) text.now)) }
+{
+    let mut body = Vec::new(alloc);
+    body.extend_from_slice(b"{\"id\":")?;
+    add_id(alloc, &mut body, id)?;
+    body.extend_from_slice(b",\"jsonrpc\":\"2.0\",\"result\":")?;
+    if let Some(line) = service.add_answer(encoding, asked, uri, text, kept, &mut body)? {
+        return Ok(OutgoingText {
+            out: stopped_for(alloc, id)?,
+            reach: Reach::Stopped(line),
+        });
+    }
+    body.extend_from_slice(b"}")?;
+    Ok(OutgoingText::whole(framed(alloc, body.as_slice())?))
+}
+
+// The answer to what is asked of a document that is open, or that it was cancelled, or that there was no memory for it.
+fn of_text<V: Service>(
+    alloc: Global,
+    service: &mut V,
+    encoding: Encoding,
+    asked: Query,
+    uri: &[u8],
+    text: &[u8],
+    kept: &V::Kept,
+    id: &Value,
+    is_cancelled: bool,
+) -> Result<OutgoingText, AllocError>
+    requires plain { has_float (view id.now) ≡ false }
+    requires bounded { length text.now ≤ MAX_TEXT }
+    ensures { IfOk result (λ told. told.out.items ≡ frame (of_text V.meaning told.reach encoding asked uri.now (view id.now) (Some text.now))) }
+{
+    if is_cancelled {
+        return cancelled_for(alloc, id);
+    }
+    match answered(alloc, service, encoding, asked, uri, text, kept, id) {
+        Ok(told) => Ok(told),
+        Err(AllocError) => Ok(OutgoingText {
+            out: no_memory_for(alloc, id)?,
+            reach: Reach::NoMemory,
+        }),
+    }
+}
+
+// The answer to a request about the document with this URI.
+fn of_document<V: Service>(
+    alloc: Global,
+    service: &mut V,
+    documents: &Documents<V::Kept>,
+    encoding: Encoding,
+    asked: Query,
+    uri: &[u8],
+    id: &Value,
+    is_cancelled: bool,
+) -> Result<OutgoingText, AllocError>
+    requires { has_float (view id.now) ≡ false }
+    ensures { IfOk result (λ told. told.out.items ≡ frame (of_text V.meaning told.reach encoding asked uri.now (view id.now) (text_of uri.now documents.now))) }
+{
+    match documents.get(uri) {
+        Some((text, kept)) => of_text(
+            alloc,
+            service,
+            encoding,
+            asked,
+            uri,
+            text,
+            kept,
+            id,
+            is_cancelled,
+        ),
+        None => not_open(alloc, id),
+    }
+}
+
+/// The answer to what is asked of a document, by what is given to the method. It is not done if it is cancelled.
+pub(crate) fn question_told<V: Service>(
+    alloc: Global,
+    service: &mut V,
+    documents: &Documents<V::Kept>,
+    encoding: Encoding,
+    question: Question,
+    params: Option<&Value>,
+    id: &Value,
+    is_cancelled: bool,
+) -> Result<OutgoingText, AllocError>
+    requires { has_float (view id.now) ≡ false }
+    ensures { IfOk result (λ told. told.out.items ≡ frame (question_body V.meaning told.reach encoding documents.now question (option_map (λ v. view v.now) params.entry) (view id.now))) }
+{
+    let Some(params) = params else {
+        return unfit(alloc, id);
+    };
+    let Some(uri) = text_below(params, "textDocument", "uri") else {
+        return unfit(alloc, id);
+    };
+    let Some(asked) = asked_of(question, params) else {
+        return unfit(alloc, id);
+    };
+    of_document(
+        alloc,
+        service,
+        documents,
+        encoding,
+        asked,
+        uri.as_bytes(),
+        id,
+        is_cancelled,
+    )
+}

@@ -1,0 +1,237 @@
+//! A server, and how it handles a message.
+
+ghost use Rattle.std.specs.Prelude.{◌≡◌, [], false, Some, None, IfOk, OnOk, option_map};
+ghost use Rattle.serde_json.specs.View.{view};
+ghost use Rattle.serde_json.specs.Written.{has_float};
+ghost use Rattle.rb_lsp.specs.Said.{said};
+ghost use Rattle.rb_lsp.specs.Notices.{documents_after, notice_of, notice_text};
+ghost use Rattle.rb_lsp.specs.Questions.{body_text};
+ghost use Rattle.rb_lsp.specs.Replies.{after, answer_body, no_json, noticed_by, published, sent, told_of, turned_by, with_phase};
+ghost use Rattle.rb_lsp.specs.Serves.{turned_of};
+
+use crate::rpc::{Incoming, incoming_of, number_below, text_below};
+use crate::server::answers::{after, answer_told, no_json, no_message};
+use crate::server::changes::document_after;
+use crate::server::client::Client;
+use crate::server::documents::Documents;
+use crate::server::method::{Method, is_of_documents, method_of};
+use crate::server::outgoing::{OutgoingText, framed_answer};
+use crate::server::phase::{ExitStatus, Phase, status_of};
+use crate::server::publication::publication;
+use crate::server::reach::Reach;
+use crate::server::service::Service;
+use crate::server::stale::{refused_change, stale_by};
+use serde_json::Value;
+use std::alloc::{AllocError, Global};
+use std::marker::Model;
+
+/// A server: its phase, and the open documents.
+#[derive(Drop)]
+pub(crate) struct Server<K> {
+    phase: Phase,
+    documents: Documents<K>,
+}
+
+impl<K> Model for Server<K> {
+    ghost use Rattle.rb_lsp.specs.Replies.{PlainServer};
+
+    ghost Value = { PlainServer };
+
+    ghost view = { λ s. record { phase = s.phase; documents = s.documents } };
+}
+
+impl<K: Drop> Server<K> {
+    ghost use Rattle.std.specs.Prelude.{◌≡◌};
+    ghost use Rattle.rb_lsp.specs.Replies.{fresh};
+
+    /// A server at its start.
+    pub(crate) fn new(alloc: Global) -> Server<K>
+        ensures { result ≡ fresh }
+    {
+        Server {
+            phase: Phase::Fresh,
+            documents: Documents::new(alloc),
+        }
+    }
+}
+
+/// What goes out for a message, how far what it asks of a text was done, and how the server ends, if it does.
+#[derive(Drop)]
+pub(crate) struct ServerReply {
+    pub(crate) out: Vec<u8>,
+    pub(crate) reach: Reach,
+    pub(crate) over: Option<ExitStatus>,
+}
+
+// Nothing is sent.
+fn silent(alloc: Global, over: Option<ExitStatus>) -> ServerReply
+    ensures out { result.out.items ≡ [] }
+    ensures over { result.over ≡ over }
+{
+    ServerReply {
+        out: Vec::new(alloc),
+        reach: Reach::Whole,
+        over,
+    }
+}
+
+// Hears a request, which is cancelled or isn't.
+#[tactic(auto, unfolding(crate::specs::Replies::sent))]
+fn hear_request<V: Service>(
+    alloc: Global,
+    service: &mut V,
+    server: &mut Server<V::Kept>,
+    id: &Value,
+    method: Method,
+    params: Option<&Value>,
+    is_cancelled: bool,
+) -> Result<ServerReply, AllocError>
+    requires { has_float (view id.now) ≡ false }
+    ensures out { IfOk result (λ heard. heard.out.items ≡ sent (Some (answer_body V.meaning heard.reach server.old method (option_map (λ v. view v.now) params.entry) (view id.now)))) }
+    ensures over { IfOk result (λ heard. heard.over ≡ None) }
+    ensures server { OnOk result (server.new ≡ with_phase server.old (after server.old.phase method (option_map (λ v. view v.now) params.entry))) }
+{
+    let told = answer_told(
+        alloc,
+        service,
+        &server.documents,
+        server.phase,
+        method,
+        params,
+        id,
+        is_cancelled,
+    )?;
+    server.phase = after(server.phase, method, params);
+    Ok(ServerReply {
+        out: told.out,
+        reach: told.reach,
+        over: None,
+    })
+}
+
+// Takes a notification of the document with this URI, unless it is a change whose version doesn't come after the document's.
+fn notice<V: Service>(
+    alloc: Global,
+    service: &mut V,
+    documents: &mut Documents<V::Kept>,
+    client: Client,
+    method: Method,
+    params: &Value,
+    uri: &[u8],
+) -> Result<OutgoingText, AllocError>
+    ensures documents { OnOk result (documents.new ≡ documents_after (Some (record { client = client; method = method; uri = uri.now; given = view params.now })) documents.old) }
+    ensures out { IfOk result (λ told. told.out.items ≡ notice_text V.meaning told.reach (Some (record { client = client; method = method; uri = uri.now; given = view params.now })) documents.old documents.new) }
+{
+    let version = number_below(params, "textDocument", "version");
+    if let Some((known, told)) = stale_by(method, documents.version(uri), version) {
+        return Ok(OutgoingText::whole(refused_change(alloc, known, told)?));
+    }
+    let (old, mut kept) = match documents.take(uri) {
+        Some((document, kept)) => (Some(document), kept),
+        None => (None, service.nothing()),
+    };
+    let new = document_after(alloc, client.encoding, method, params, old)?;
+    let is_crowded = new.is_some() && !documents.has_room();
+    documents.keep(uri, version, new, service.nothing())?;
+    let text = documents.text(uri);
+    let told = publication(
+        alloc, service, client, uri, version, is_crowded, text, &mut kept,
+    )?;
+    documents.set_kept(uri, kept);
+    Ok(told)
+}
+
+// Handles a notification about a document.
+fn take_notice<V: Service>(
+    alloc: Global,
+    service: &mut V,
+    server: &mut Server<V::Kept>,
+    method: Method,
+    params: Option<&Value>,
+) -> Result<OutgoingText, AllocError>
+    ensures phase { server.new.phase ≡ server.old.phase }
+    ensures documents { OnOk result (server.new.documents ≡ documents_after (notice_of server.old.phase method (option_map (λ v. view v.now) params.entry)) server.old.documents) }
+    ensures out { IfOk result (λ told. told.out.items ≡ notice_text V.meaning told.reach (notice_of server.old.phase method (option_map (λ v. view v.now) params.entry)) server.old.documents server.new.documents) }
+{
+    let Phase::Running(client) = server.phase else {
+        return Ok(OutgoingText::whole(Vec::new(alloc)));
+    };
+    let Some(params) = params else {
+        return Ok(OutgoingText::whole(Vec::new(alloc)));
+    };
+    if !is_of_documents(method) {
+        return Ok(OutgoingText::whole(Vec::new(alloc)));
+    }
+    let Some(uri) = text_below(params, "textDocument", "uri") else {
+        return Ok(OutgoingText::whole(Vec::new(alloc)));
+    };
+    notice(
+        alloc,
+        service,
+        &mut server.documents,
+        client,
+        method,
+        params,
+        uri.as_bytes(),
+    )
+}
+
+// Handles a notification.
+fn hear_notification<V: Service>(
+    alloc: Global,
+    service: &mut V,
+    server: &mut Server<V::Kept>,
+    method: Method,
+    params: Option<&Value>,
+) -> Result<ServerReply, AllocError>
+    ensures out { IfOk result (λ heard. heard.out.items ≡ published V.meaning heard.reach server.old method (option_map (λ v. view v.now) params.entry)) }
+    ensures turned { IfOk result (λ heard. turned_of heard.over server.new ≡ noticed_by server.old method (option_map (λ v. view v.now) params.entry)) }
+{
+    if matches!(method, Method::Exit) {
+        return Ok(silent(alloc, Some(status_of(server.phase))));
+    }
+    let told = take_notice(alloc, service, server, method, params)?;
+    Ok(ServerReply {
+        out: told.out,
+        reach: told.reach,
+        over: None,
+    })
+}
+
+/// Hears a message, which is cancelled or isn't: what goes out for it, and where the server stands then.
+#[tactic(auto, unfolding(crate::specs::Replies::sent))]
+pub(crate) fn hear<V: Service>(
+    alloc: Global,
+    service: &mut V,
+    server: &mut Server<V::Kept>,
+    message: &Value,
+    is_cancelled: bool,
+) -> Result<ServerReply, AllocError>
+    ensures out { IfOk result (λ heard. heard.out.items ≡ told_of V.meaning heard.reach server.old (said (view message.now))) }
+    ensures turned { IfOk result (λ heard. turned_of heard.over server.new ≡ turned_by server.old (said (view message.now))) }
+{
+    match incoming_of(message) {
+        Incoming::Request(id, method, params) => {
+            let method = method_of(method);
+            hear_request(alloc, service, server, id, method, params, is_cancelled)
+        }
+        Incoming::Notification(method, params) => {
+            hear_notification(alloc, service, server, method_of(method), params)
+        }
+        Incoming::Response => Ok(silent(alloc, None)),
+        Incoming::Invalid => Ok(ServerReply {
+            out: framed_answer(alloc, &no_message(alloc)?)?,
+            reach: Reach::Whole,
+            over: None,
+        }),
+    }
+}
+
+/// What is sent for bytes that aren't JSON.
+#[tactic(auto, unfolding(crate::specs::Replies::sent))]
+pub(crate) fn refused(alloc: Global) -> Result<Vec<u8>, AllocError>
+    ensures { IfOk result (λ out. out.items ≡ sent (Some (body_text no_json))) }
+{
+    let answer = no_json(alloc)?;
+    framed_answer(alloc, &answer)
+}

@@ -1,0 +1,139 @@
+//! A server over a source and a sink.
+
+ghost use Rattle.std.specs.Prelude.{◌≡◌, None, Some, IfOk, OnErr, OnOk};
+ghost use Rattle.std.specs.Io.KnownBytes.{Appends};
+ghost use Rattle.serde_json.specs.View.{view};
+ghost use Rattle.rb_script.specs.Writes.{AppendsFront};
+ghost use Rattle.rb_lsp.specs.Reading.{left_of};
+ghost use Rattle.rb_lsp.specs.Said.{said};
+ghost use Rattle.rb_lsp.specs.Talk.{goes};
+ghost use Rattle.rb_lsp.specs.Serves.{BreaksOff, Responds, Served, StartsAnswer, StartsTelling, Tells, TurnBreaks, TurnsOut, turned_of};
+
+use crate::rpc::{
+    Incoming, MAX_CALLS, MessageReader, NextMessage, ReadError, incoming_of, read, text_of,
+};
+use crate::server::fault::ServeFault;
+use crate::server::method::{Method, method_of};
+use crate::server::phase::ExitStatus;
+use crate::server::server::{Server, hear, refused};
+use crate::server::service::Service;
+use rb_script::Sink;
+use rb_text::Source;
+use serde_json::Value;
+use std::alloc::Global;
+
+/// Serves an editor until the end of the conversation. Each message is answered in one write before the next is read.
+///
+/// # Errors
+///
+/// `Io` at the first error of the source or the sink, an interrupted call too, and where [`MAX_CALLS`] calls of the source were made;
+/// `OutOfMemory` if memory was refused for anything but the work on a text.
+pub fn serve<V: Service, S: Source, W: Sink>(
+    alloc: Global,
+    service: &mut V,
+    source: &mut S,
+    sink: &mut W,
+) -> Result<ExitStatus, ServeFault>
+    // The output is the conversation over the bytes of the input, and the status is that of its end.
+    ensures ok { IfOk result (λ status. Served V.meaning (S.left source.old) status (W.held sink.old) (W.held sink.new)) }
+    // If a call fails, a beginning of it was written.
+    ensures failed { OnErr result (BreaksOff V.meaning (S.left source.old) (W.held sink.old) (W.held sink.new)) }
+{
+    let mut reader = MessageReader::new(alloc, MAX_CALLS);
+    let mut server = Server::new(alloc);
+    for _ in 0..MAX_CALLS {
+        match turn(alloc, service, &mut server, &mut reader, source, sink) {
+            Ok(None) => {}
+            Ok(Some(status)) => return Ok(status),
+            Err(fault) => return Err(fault),
+        }
+    }
+    Err(ServeFault::Io)
+}
+
+// Reads a message and answers it.
+fn turn<V: Service, S: Source, W: Sink>(
+    alloc: Global,
+    service: &mut V,
+    server: &mut Server<V::Kept>,
+    reader: &mut MessageReader,
+    source: &mut S,
+    sink: &mut W,
+) -> Result<Option<ExitStatus>, ServeFault>
+    ensures ok { IfOk result (λ over. TurnsOut V.meaning server.old (turned_of over server.new) (left_of reader.old (S.left source.old)) (left_of reader.new (S.left source.new)) (W.held sink.old) (W.held sink.new)) }
+    ensures failed { OnErr result (TurnBreaks V.meaning server.old (left_of reader.old (S.left source.old)) (W.held sink.old) (W.held sink.new)) }
+{
+    match reader.next(source)? {
+        NextMessage::Message => respond(alloc, service, server, reader, reader.body(), sink),
+        NextMessage::End => Ok(Some(ExitStatus::Closed)),
+        NextMessage::CutOff => Ok(Some(ExitStatus::CutOff)),
+        NextMessage::Bad => Ok(Some(ExitStatus::NoMessage)),
+    }
+}
+
+// Does what a message has to have, which the reader gave.
+fn respond<V: Service, W: Sink>(
+    alloc: Global,
+    service: &mut V,
+    server: &mut Server<V::Kept>,
+    reader: &MessageReader,
+    body: &[u8],
+    sink: &mut W,
+) -> Result<Option<ExitStatus>, ServeFault>
+    ensures ok { IfOk result (λ over. Responds V.meaning server.old body.now (turned_of over server.new) (W.held sink.old) (W.held sink.new)) }
+    ensures failed { OnErr result (StartsAnswer V.meaning server.old body.now (W.held sink.old) (W.held sink.new)) }
+{
+    match read(alloc, body) {
+        Ok(message) => respond_to(alloc, service, server, reader, &message, sink),
+        Err(ReadError::NotJson) => refuse::<V, W>(alloc, server, sink),
+        Err(ReadError::OutOfMemory) => Err(ServeFault::OutOfMemory),
+    }
+}
+
+// Whether the message asks something of a document, and its cancellation waits after it.
+fn is_cancelled(alloc: Global, reader: &MessageReader, message: &Value) -> bool {
+    let Incoming::Request(id, method, _) = incoming_of(message) else {
+        return false;
+    };
+    if !matches!(method_of(method), Method::Asks(_)) {
+        return false;
+    }
+    match text_of(alloc, id) {
+        Ok(text) => reader.has_cancel(alloc, text.as_bytes()),
+        Err(_) => false,
+    }
+}
+
+// Does what JSON has to have.
+fn respond_to<V: Service, W: Sink>(
+    alloc: Global,
+    service: &mut V,
+    server: &mut Server<V::Kept>,
+    reader: &MessageReader,
+    message: &Value,
+    sink: &mut W,
+) -> Result<Option<ExitStatus>, ServeFault>
+    ensures turned { IfOk result (λ over. turned_of over server.new ≡ goes server.old (Some (said (view message.now)))) }
+    ensures tells { OnOk result (Tells V.meaning server.old (Some (said (view message.now))) (W.held sink.old) (W.held sink.new)) }
+    ensures failed { OnErr result (StartsTelling V.meaning server.old (Some (said (view message.now))) (W.held sink.old) (W.held sink.new)) }
+{
+    let is_cancelled = is_cancelled(alloc, reader, message);
+    let heard = hear(alloc, service, server, message, is_cancelled)?;
+    sink.put(heard.out.as_slice())?;
+    Ok(heard.over)
+}
+
+// Answers what isn't JSON.
+fn refuse<V: Service, W: Sink>(
+    alloc: Global,
+    server: &mut Server<V::Kept>,
+    sink: &mut W,
+) -> Result<Option<ExitStatus>, ServeFault>
+    ensures turned { IfOk result (λ over. turned_of over server.new ≡ goes server.old None) }
+    ensures tells { OnOk result (Tells V.meaning server.old None (W.held sink.old) (W.held sink.new)) }
+    ensures failed { OnErr result (StartsTelling V.meaning server.old None (W.held sink.old) (W.held sink.new)) }
+{
+    let out = refused(alloc)?;
+    sink.put(out.as_slice())?;
+    Ok(None)
+}

@@ -1,5 +1,0 @@
-use Rattle.rb_node_laws.proofs.EventLaws.{only_added}
-use Rattle.rb_node_laws.proofs.laws.events_are_only_added.Goals as goal
-
-pub returns : goal.returns
-returns c = only_added

@@ -1,5 +1,0 @@
-use Rattle.rb_node_laws.proofs.CallLaws.{runs}
-use Rattle.rb_node_laws.proofs.laws.leaders_append_only.Goals as goal
-
-pub returns : goal.returns
-returns c = λ cs t sound. ((runs cs t).goes sound).own

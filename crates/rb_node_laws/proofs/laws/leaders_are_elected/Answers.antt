@@ -1,5 +1,0 @@
-use Rattle.rb_node_laws.proofs.CallLaws.{calls}
-use Rattle.rb_node_laws.proofs.laws.leaders_are_elected.Goals as goal
-
-pub returns : goal.returns
-returns c = λ call t sound. ((calls call t).goes sound).led

@@ -1,8 +1,0 @@
-use Rattle.rb_node_laws.proofs.CallLaws.{runs}
-use Rattle.rb_node_laws.proofs.laws.leaders_were_candidates.Goals as goal
-
-pub returns-clause-leader : goal.returns-clause-leader
-returns-clause-leader c = λ cs t sound. ((runs cs t).goes sound).leader
-
-pub returns-clause-candidate : goal.returns-clause-candidate
-returns-clause-candidate c = λ cs t sound. ((runs cs t).goes sound).candidate

@@ -1,5 +1,0 @@
-use Rattle.rb_node_laws.proofs.ChoiceLaws.{leads_to_voters}
-use Rattle.rb_node_laws.proofs.laws.leads_go_to_voters.Goals as goal
-
-pub returns : goal.returns
-returns c = leads_to_voters

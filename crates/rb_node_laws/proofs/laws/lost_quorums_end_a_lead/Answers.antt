@@ -1,5 +1,0 @@
-use Rattle.rb_node_laws.proofs.ChoiceLaws.{lost_quorum_steps_down}
-use Rattle.rb_node_laws.proofs.laws.lost_quorums_end_a_lead.Goals as goal
-
-pub returns : goal.returns
-returns c = λ t. lost_quorum_steps_down t

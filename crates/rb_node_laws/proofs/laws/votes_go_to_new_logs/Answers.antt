@@ -1,5 +1,0 @@
-use Rattle.rb_node_laws.proofs.CallLaws.{calls}
-use Rattle.rb_node_laws.proofs.laws.votes_go_to_new_logs.Goals as goal
-
-pub returns : goal.returns
-returns c = λ call t sound. ((calls call t).goes sound).voted

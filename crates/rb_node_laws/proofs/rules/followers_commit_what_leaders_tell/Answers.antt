@@ -1,5 +1,0 @@
-use Rattle.rb_node_laws.proofs.LearnLaws.{commit_learned}
-use Rattle.rb_node_laws.proofs.rules.followers_commit_what_leaders_tell.Goals as goal
-
-pub returns : goal.returns
-returns c = λ t m. commit_learned t m

@@ -1,5 +1,0 @@
-use Rattle.rb_offers.proofs.IdLaws.{ids_offered}
-use Rattle.rb_offers.proofs.laws.ids_are_those_of_the_nodes.Goals as goal
-
-pub returns : goal.returns
-returns c = ids_offered

@@ -1,5 +1,0 @@
-use Rattle.rb_offers.proofs.OfferLaws.{keys_offered}
-use Rattle.rb_offers.proofs.laws.keys_are_those_of_the_table.Goals as goal
-
-pub returns : goal.returns
-returns c = keys_offered

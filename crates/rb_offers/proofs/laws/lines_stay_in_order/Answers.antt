@@ -1,5 +1,0 @@
-use Rattle.rb_offers.proofs.OrderLaws.{lines_in_order}
-use Rattle.rb_offers.proofs.laws.lines_stay_in_order.Goals as goal
-
-pub returns : goal.returns
-returns c = lines_in_order

@@ -1,5 +1,0 @@
-use Rattle.rb_offers.proofs.OfferLaws.{values_offered}
-use Rattle.rb_offers.proofs.laws.values_are_those_of_the_option.Goals as goal
-
-pub returns : goal.returns
-returns c = values_offered

@@ -1,7 +1,0 @@
--- The line stands among what is left.
-use Rattle.std.proofs.Common.{◌≡◌, drop, map}
-use Rattle.rb_offers.specs.Offers.{line_in}
-use Rattle.rb_offers.proofs.offer.line_in.Given as goal
-
-abbrev pub invariant-loop-page : goal.invariant-loop-page
-invariant-loop-page l = line_in l.name (map (λ p. (p.0.now, p.1.now, p.2.now)) l.pages) ≡ line_in l.name (map (λ p. (p.0.now, p.1.now, p.2.now)) (drop l.page-index l.pages))

@@ -1,5 +1,0 @@
-pub mod EventLaws
-pub mod InertLaws
-pub mod JsonLaws
-pub mod SizeLaws
-pub mod KeptLaws

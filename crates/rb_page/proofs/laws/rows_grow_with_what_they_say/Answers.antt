@@ -1,5 +1,0 @@
-use Rattle.rb_page.proofs.SizeLaws.{rows_short}
-use Rattle.rb_page.proofs.laws.rows_grow_with_what_they_say.Goals as goal
-
-pub returns : goal.returns
-returns c = rows_short

@@ -1,5 +1,0 @@
-use Rattle.rb_page.proofs.SizeLaws.{rows_counted}
-use Rattle.rb_page.proofs.laws.what_happens_has_a_row.Goals as goal
-
-pub returns : goal.returns
-returns c = rows_counted

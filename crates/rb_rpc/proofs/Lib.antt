@@ -1,3 +1,0 @@
-pub mod MessageLaws
-pub mod FrameLaws
-pub mod ReadingLaws

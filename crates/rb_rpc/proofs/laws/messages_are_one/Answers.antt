@@ -1,5 +1,0 @@
-use Rattle.rb_rpc.proofs.MessageLaws.{one_message}
-use Rattle.rb_rpc.proofs.laws.messages_are_one.Goals as goal
-
-pub returns : goal.returns
-returns c = λ bytes a b x y first second. one_message bytes a b x y first second

@@ -1,0 +1,134 @@
+//! The reasons of an output: why nothing came of a message, below the line of it that was printed last.
+
+ghost use Rattle.std.specs.Prelude.{◌≡◌, ◌++◌, [], IfOk, OnOk, None, false};
+ghost use Rattle.rb_texts.specs.declared.reason.Reason.{Reason};
+ghost use Rattle.rb_report.specs.Whys.{reasons_in};
+ghost use Rattle.rb_script_report.specs.Whys.{last_reason, all_reasons, below_line, below_reason, why_at};
+
+use rb_machine::Observer;
+use rb_node::Node;
+use rb_raftlog::RaftLog;
+use rb_report::check::Why;
+use rb_script::Lines;
+use rb_texts::{Item, Reason, is_shown, put_reason, reason_of};
+use rb_vocab::Level;
+use std::alloc::{AllocError, Global};
+
+/// The reasons below the lines that a directive prints, while it runs: why nothing came of a message. A line has one at the most, the first. A
+/// reason before all lines is that of the first, which is `ok` then.
+#[derive(Drop)]
+pub struct LineReasons {
+    pub level: Level,
+    /// Those of the lines before the last; an empty one is none.
+    pub above: Lines,
+    /// Whether there is a line, or a reason.
+    pub has_begun: bool,
+    pub last: Option<Reason>,
+}
+
+// Adds the reason below a line, or an empty one.
+fn push_last(reasons: &mut Lines, level: Level, reason: Option<Reason>) -> Result<(), AllocError>
+    ensures { OnOk result (reasons.new ≡ reasons.old ++ last_reason level reason) }
+{
+    match reason {
+        Some(reason) => put_reason(reasons, level, reason),
+        None => {
+            reasons.push(b"")?;
+            Ok(())
+        }
+    }
+}
+
+impl LineReasons {
+    /// No lines.
+    pub fn new(alloc: Global) -> LineReasons
+        ensures above { result.above ≡ [] }
+        ensures has_begun { result.has_begun ≡ false }
+        ensures last { result.last ≡ None }
+    {
+        LineReasons {
+            level: Level::Debug,
+            above: Lines::new(alloc),
+            has_begun: false,
+            last: None,
+        }
+    }
+
+    /// The reason below each line, in order; an empty one is none.
+    pub fn all(self) -> Result<Lines, AllocError>
+        ensures { IfOk result (λ reasons. reasons ≡ all_reasons self) }
+    {
+        let mut own = self;
+        if own.has_begun {
+            push_last(&mut own.above, own.level, own.last)?;
+        }
+        Ok(own.above)
+    }
+
+    // A line is printed.
+    fn add_line(&mut self) -> Result<(), AllocError>
+        ensures { OnOk result (self.new ≡ below_line self.old) }
+    {
+        if self.has_begun {
+            push_last(&mut self.above, self.level, self.last)?;
+        }
+        self.has_begun = true;
+        self.last = None;
+        Ok(())
+    }
+
+    // A reason was given.
+    fn add_reason(&mut self, reason: Reason)
+        ensures { self.new ≡ below_reason self.old reason }
+    {
+        self.has_begun = true;
+        if self.last.is_none() {
+            self.last = Some(reason);
+        }
+    }
+}
+
+impl<L: RaftLog> Observer<L> for LineReasons {
+    ghost use Rattle.rb_vocab.specs.declared.level.Level.{Level};
+    ghost use Rattle.rb_script_report.specs.declared.reasons.LineReasons.{LineReasons};
+    ghost use Rattle.rb_machine.specs.Observations.{passing};
+    ghost use Rattle.rb_script_report.specs.Whys.{at_level, with_item};
+
+    ghost Meaning = { LineReasons };
+
+    ghost meaning = { λ r. r };
+
+    ghost starting = { at_level };
+
+    ghost taking = { with_item };
+
+    ghost settling = { passing };
+
+    fn start(&mut self, level: Level) {
+        self.level = level;
+    }
+
+    fn observe(&mut self, item: &Item<'_>) -> Result<(), AllocError> {
+        if is_shown(self.level, item) {
+            self.add_line()?;
+        }
+        if let Some(reason) = reason_of(item) {
+            self.add_reason(reason);
+        }
+        Ok(())
+    }
+
+    fn settle(&mut self, _id: u64, _node: &Node<L>) -> Result<(), AllocError> {
+        Ok(())
+    }
+}
+
+/// The reasons of the directive at an index, which counts from 0; where there are no more, none is told.
+pub fn why_at(whys: &[Lines], index: usize) -> Why<'_>
+    ensures { reasons_in result ≡ why_at whys.now index }
+{
+    match whys.get(index) {
+        Some(reasons) => Why::Given(reasons),
+        None => Why::Unasked,
+    }
+}

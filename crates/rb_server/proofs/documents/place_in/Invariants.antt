@@ -1,7 +1,0 @@
--- The document stands behind those that were looked at.
-use Rattle.std.proofs.Common.{◌≡◌, ◌+◌, drop}
-use Rattle.rb_server.specs.Documents.{place_of}
-use Rattle.rb_server.proofs.documents.place_in.Given as goal
-
-abbrev pub invariant-loop-i : goal.invariant-loop-i
-invariant-loop-i g l = l.i + place_of l.uri (drop l.i l.documents) ≡ place_of l.uri l.documents

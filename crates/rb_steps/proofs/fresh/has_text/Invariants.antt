@@ -1,7 +1,0 @@
--- It is none of those so far.
-use Rattle.std.proofs.Common.{◌≡◌, drop}
-use Rattle.rb_steps.specs.Rows.{has_text}
-use Rattle.rb_steps.proofs.fresh.has_text.Given as goal
-
-abbrev pub invariant-loop-i : goal.invariant-loop-i
-invariant-loop-i l = has_text l.olds l.text ≡ has_text (drop l.i l.olds) l.text

@@ -1,5 +1,0 @@
-use Rattle.rb_steps.proofs.ChangeLaws.{no_rows}
-use Rattle.rb_steps.proofs.laws.what_stands_still_has_no_row.Goals as goal
-
-pub returns : goal.returns
-returns c = no_rows

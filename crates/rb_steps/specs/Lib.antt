@@ -1,9 +1,0 @@
-pub mod Rows
-pub mod Logs
-pub mod Committed
-pub mod States
-pub mod Changes
-pub mod Steps
-pub mod Sizes
-pub mod Values
-pub mod Pages

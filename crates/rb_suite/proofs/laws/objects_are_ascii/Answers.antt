@@ -1,5 +1,0 @@
-use Rattle.rb_suite.proofs.LineLaws.{all_printable}
-use Rattle.rb_suite.proofs.laws.objects_are_ascii.Goals as goal
-
-pub returns : goal.returns
-returns c = all_printable

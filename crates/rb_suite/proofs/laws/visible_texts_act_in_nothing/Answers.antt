@@ -1,5 +1,0 @@
-use Rattle.rb_suite.proofs.VisibleLaws.{all_visible}
-use Rattle.rb_suite.proofs.laws.visible_texts_act_in_nothing.Goals as goal
-
-pub returns : goal.returns
-returns c = all_visible

@@ -1,2 +1,0 @@
-pub mod MailLaws
-pub mod TraceLaws

@@ -1,3 +1,0 @@
-pub mod Mail
-pub mod Objects
-pub mod Traces

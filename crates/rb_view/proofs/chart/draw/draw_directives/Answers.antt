@@ -1,0 +1,45 @@
+use Rattle.std.proofs.Common.{◌≡◌, ◌∙◌, ◌+◌, List, drop, ap, sym, arith}
+use Rattle.std.proofs.lemmas.List.{drop_all, take_all}
+use Rattle.rb_machine.specs.Cluster.{Cluster}
+use Rattle.rb_replay.specs.Run.{outputs}
+use Rattle.rb_replay.proofs.RunLaws.{length-outputs, run_next}
+use Rattle.rb_view.specs.declared.chart.part.ChartPhase.{ChartPhase}
+use Rattle.rb_view.specs.Drawn.{entering, view_of, views_from}
+use Rattle.rb_view.proofs.ViewLaws.{views_end, views_more}
+use Rattle.rb_view.proofs.chart.draw.draw_directives.Goals as goal
+
+pub loop-i-init : goal.loop-i-init
+loop-i-init g c = record {
+  drawn = ap (λ (d : Cluster). views_from c.args.part (view_of c.args.both.now.second) d c.args.heads.now c.args.script.now.blocks) c.in_ok-cluster.ensures;
+  here = c.in_ok-cluster.ensures;
+  printed = c.new-printed.ensures;
+  none = c.requires.none;
+}
+
+pub loop-i-preserved : goal.loop-i-preserved
+loop-i-preserved g c =
+    let i = c.loop-i.i in
+    let heads = c.args.heads.now in
+    let bs = c.args.script.now.blocks in
+    let b = c.block_at-block.result.now in
+    let before = c.loop-i.cluster in
+    let on = run_next c.args.script.now i b before c.run.new.cluster c.in_ok-output.output c.loop-i.printed c.push.new.self c.block_at-block.ensures
+    c.loop-i.invariant.here c.in_ok-output.ensures.cluster c.in_ok-output.ensures.output c.loop-i.invariant.printed c.in_ok-push.ensures in
+    record {
+      drawn = views_more c.args.part heads bs i c.number_at-line.result b before c.run.new.cluster (view_of c.loop-i.both.second) (view_of c.enter.new.self) (view_of c.see.new.self)
+          c.number_at-line.ensures c.block_at-block.ensures (c.in_ok-enter.ensures ∙ ap (λ (phase : ChartPhase). entering phase (view_of c.loop-i.both.second)) c.phase_at.ensures) (c.in_ok-see.ensures ∙ c.in_ok-output.ensures.shown) c.in_ok-output.ensures.cluster
+          ∙ c.loop-i.invariant.drawn;
+      here = on.0;
+      printed = on.1;
+      none = c.in_ok-output.ensures.left;
+    }
+
+pub returns-clause-drawn : goal.returns-clause-drawn
+returns-clause-drawn g c =
+    let i = c.loop-i.i in
+    let none = drop_all i c.args.script.now.blocks (omega (arith, c.loop-i-test.false, c.len-i-end.ensures)) in
+    sym (views_end c.args.part (view_of c.loop-i.both.second) c.loop-i.cluster (drop i c.args.heads.now) (drop i c.args.script.now.blocks) none) ∙ c.loop-i.invariant.drawn
+
+pub returns-clause-outputs : goal.returns-clause-outputs
+returns-clause-outputs g c =
+    c.loop-i.invariant.printed ∙ take_all c.loop-i.i (outputs c.args.script.now) (omega (arith, c.loop-i-test.false, c.len-i-end.ensures, length-outputs c.args.script.now))

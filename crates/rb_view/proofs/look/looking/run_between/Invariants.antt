@@ -1,0 +1,10 @@
+use Rattle.std.specs.Prelude.{◌≡◌, ◌+◌, ◌≤◌}
+use Rattle.rb_replay.specs.Run.{state}
+use Rattle.rb_view.proofs.look.looking.run_between.Given as goal
+
+abbrev pub invariant-loop-i : goal.invariant-loop-i
+invariant-loop-i g l = record {
+  here : g.M.Machine.meaning l.machine ≡ state l.script l.i;
+  counted : g.M.Meter.Count.count_of l.meter ≤ g.M.Meter.Count.count_of l.fn.meter + l.i;
+  within : l.i ≤ l.place;
+}

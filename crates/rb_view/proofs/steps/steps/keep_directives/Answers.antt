@@ -1,0 +1,60 @@
+use Rattle.std.proofs.Common.{◌∙◌, ◌++◌, ℕ, List, drop, ap, ap₂, sym, subst, append-nil, arith}
+use Rattle.std.proofs.lemmas.List.{drop_all, take_all}
+use Rattle.std.specs.List.{flat_map}
+use Rattle.rb_machine.specs.Cluster.{Cluster}
+use Rattle.rb_replay.specs.Run.{outputs}
+use Rattle.rb_replay.proofs.RunLaws.{length-outputs, run_next}
+use Rattle.rb_view.specs.Steps.{Step, step, step_texts, steps_from}
+use Rattle.rb_script.specs.Script.{PlainBlock}
+use Rattle.rb_view.specs.Values.{GoOnShowingBytes}
+use Rattle.rb_view.proofs.KeepLaws.{one_part}
+use Rattle.rb_view.proofs.StepLaws.{goes_on_showing, steps_more, steps_end}
+use Rattle.rb_view.proofs.steps.steps.keep_directives.Goals as goal
+
+pub loop-i-init : goal.loop-i-init
+loop-i-init g c = record {
+  here = c.in_ok-machine.ensures;
+  printed = c.new-printed.ensures;
+  rows = ap₂ (λ (n : ℕ) (d : Cluster). c.args.texts.now ++ flat_map step_texts (steps_from n c.args.heads.now d c.args.script.now.blocks)) c.in_ok-table.ensures c.in_ok-machine.ensures;
+  bytes = λ rest. subst (λ (d : Cluster). GoOnShowingBytes d c.args.script.now.blocks) c.in_ok-machine.ensures rest;
+}
+
+pub loop-i-preserved : goal.loop-i-preserved
+loop-i-preserved g c =
+    let i = c.loop-i.i in
+    let heads = c.args.heads.now in
+    let bs = c.args.script.now.blocks in
+    let b = c.block_at-block.result.now in
+    let line = c.number_at-line.result in
+    let left : ℕ = c.loop-i.table.left in
+    let before = g.M.Machine.meaning c.loop-i.machine in
+    let after = g.M.Machine.meaning c.in_ok-ran.ran.machine in
+    let on = run_next c.args.script.now i b before after c.in_ok-ran.ran.output c.loop-i.printed c.push.new.self c.block_at-block.ensures
+    c.loop-i.invariant.here c.in_ok-ran.ensures.machine c.in_ok-ran.ensures.output c.loop-i.invariant.printed c.in_ok-push.ensures in
+    record {
+      here = on.0;
+      printed = on.1;
+      rows = one_part c.loop-i.texts c.keep_step.new.texts (step_texts (step left line before b)) _ _ _
+          (steps_more left c.keep_step.new.table.left heads bs i line b before after c.number_at-line.ensures c.block_at-block.ensures c.in_ok-ran.ensures.machine c.in_ok-ran.ensures.left)
+          c.in_ok-ran.ensures.texts c.loop-i.invariant.rows;
+      bytes = λ rest. c.loop-i.invariant.bytes (goes_on_showing bs i b before after c.block_at-block.ensures c.in_ok-ran.ensures.machine c.in_ok-ran.ensures.bytes rest);
+    }
+
+pub returns-clause-texts : goal.returns-clause-texts
+returns-clause-texts g c =
+    let i = c.loop-i.i in
+    let t = c.loop-i.texts in
+    let heads = drop i c.args.heads.now in
+    let bs = drop i c.args.script.now.blocks in
+    let none = drop_all i c.args.script.now.blocks (omega (arith, c.loop-i-test.false, c.len-i-end.ensures)) in
+    sym (append-nil t) ∙ ap (λ (ss : List Step). t ++ flat_map step_texts ss) (sym (steps_end c.loop-i.table.left heads (g.M.Machine.meaning c.loop-i.machine) bs none)) ∙ c.loop-i.invariant.rows
+
+pub returns-clause-bytes : goal.returns-clause-bytes
+returns-clause-bytes g c =
+    let i = c.loop-i.i in
+    let none = drop_all i c.args.script.now.blocks (omega (arith, c.loop-i-test.false, c.len-i-end.ensures)) in
+    c.loop-i.invariant.bytes (subst (λ (bs : List PlainBlock). GoOnShowingBytes (g.M.Machine.meaning c.loop-i.machine) bs) (sym none) tt)
+
+pub returns-clause-outputs : goal.returns-clause-outputs
+returns-clause-outputs g c =
+    c.loop-i.invariant.printed ∙ take_all c.loop-i.i (outputs c.args.script.now) (omega (arith, c.loop-i-test.false, c.len-i-end.ensures, length-outputs c.args.script.now))

@@ -1,0 +1,83 @@
+-- The messages in flight, as what happens tells it. Of those of one type to one node the earliest is the one that is met, since a node gets
+-- its messages in the order in which they were sent. (docs/FORMATS.md, "The rows of a page".)
+use Rattle.std.specs.Prelude.{ℕ, ◌+◌, Bool, true, false, ◌&&◌, ◌==◌, if◌then◌else◌, List, [], ◌∷◌, ◌++◌, Option, Some, None}
+use Rattle.std.specs.List.{remove}
+use Rattle.std.specs.Option.{option_or}
+use Rattle.std.specs.Str.{bytes_eq}
+use Rattle.rb_vocab.specs.MessageTypes.{type_text}
+use Rattle.rb_message.specs.declared.message.Message.{Message}
+use Rattle.rb_message.specs.Messages.{type_of}
+use Rattle.rb_texts.specs.Items.{PlainItem, ready, send, moved}
+use Rattle.rb_texts.specs.declared.item.Verb.TheVariants as verbs
+use Rattle.rb_view.specs.declared.chart.arrow.Arrow.{Arrow}
+use Rattle.rb_view.specs.declared.chart.css_class.DeliveryState.{DeliveryState}
+use Rattle.rb_view.specs.declared.chart.css_class.DeliveryState.TheVariants as states
+use Rattle.rb_view.specs.declared.chart.in_flight.MessageChange.{MessageChange}
+use Rattle.rb_view.specs.declared.chart.in_flight.MessageChange.TheVariants as changes
+
+-- the messages in flight, in the order in which they were sent; and whether a ready of this directive was shown, with all that it sends
+pub record PlainInFlight : Type 0 where
+  pub messages : List Message
+  pub is_ready : Bool
+
+-- ---- which message is met
+
+-- a message is of the same type, and to the same node
+abbrev pub is_alike : Message → Message → Bool
+is_alike m other = other.to == m.to && bytes_eq (type_text (type_of other.kind)) (type_text (type_of m.kind))
+
+-- the position of the first such one, where that of the first is `at`
+abbrev pub first_alike : Message → ℕ → List Message → Option ℕ
+first_alike m at [] = None
+first_alike m at (other ∷ others) = if is_alike m other then Some at else first_alike m (at + 1) others
+
+-- the position of the last
+abbrev pub last_alike : Message → ℕ → List Message → Option ℕ
+last_alike m at [] = None
+last_alike m at (other ∷ others) = option_or (last_alike m (at + 1) others) (if is_alike m other then Some at else None)
+
+-- ---- what happens
+
+-- the messages in flight after something, and what became of one
+pub record Taken : Type 0 where
+  pub left : PlainInFlight
+  pub change : MessageChange
+
+abbrev pub taken : PlainInFlight → MessageChange → Taken
+taken left change = record { left = left; change = change }
+
+abbrev pub arrow : Message → DeliveryState → Arrow
+arrow m state = record { from = m.from; to = m.to; message_type = type_of m.kind; state = state }
+
+abbrev pub added : PlainInFlight → Message → Taken
+added f m = taken (record f { messages = f.messages ++ m ∷ [] }) (changes.Sent (arrow m states.Waiting))
+
+-- the message at a position ends so
+abbrev pub ended : PlainInFlight → DeliveryState → Option ℕ → Taken
+ended f state None = taken f changes.Nothing
+ended f state (Some at) = taken (record f { messages = remove f.messages at }) (changes.Ended at state)
+
+-- a message finds no room: one that a ready has shown as sent is in flight no longer, and one that was sent by hand never was
+abbrev pub given_up : PlainInFlight → Message → Taken
+given_up f m = if f.is_ready then ended f states.Lost (last_alike m 0 f.messages) else taken f (changes.Refused (arrow m states.Lost))
+
+unfoldable pub taking : PlainInFlight → PlainItem → Taken
+taking f (ready id) = taken (record f { is_ready = true }) changes.Nothing
+taking f (send m) = added f m
+taking f (moved verbs.Queue m) = added f m
+taking f (moved verbs.Deliver m) = ended f states.Delivered (first_alike m 0 f.messages)
+taking f (moved verbs.Drop m) = ended f states.Lost (first_alike m 0 f.messages)
+taking f (moved verbs.NoRoomFor m) = given_up f m
+taking f item = taken f changes.Nothing
+
+-- ---- a directive begins
+
+abbrev pub started : PlainInFlight → PlainInFlight
+started f = record f { is_ready = false }
+
+-- the messages in flight after an item
+abbrev pub flying : PlainInFlight → PlainItem → PlainInFlight
+flying f item = (taking f item).left
+
+abbrev pub none_in_flight : PlainInFlight
+none_in_flight = record { messages = []; is_ready = false }

@@ -1,0 +1,65 @@
+-- What is written while a directive runs: what happens, and what of a node is not as it was written last. (docs/FORMATS.md.)
+use Rattle.std.specs.Prelude.{ℕ, ◌-◌, Bool, true, ◌&&◌, List, [], ◌∷◌, ◌++◌, map, slice_get, slice_set}
+use Rattle.std.specs.List.{flat_map, list_all}
+use Rattle.rb_raftlog.specs.Content.{content_end}
+use Rattle.rb_script.specs.Lines.{Line}
+use Rattle.rb_node.specs.Node.{PlainNode}
+use Rattle.rb_texts.specs.Items.{PlainItem}
+use Rattle.rb_view.specs.ItemRows.{item_rows, item_text}
+use Rattle.rb_view.specs.Json.{is_byte}
+use Rattle.rb_view.specs.Kept.{texts_of}
+use Rattle.rb_view.specs.Rows.{Row}
+use Rattle.rb_machine.specs.Observations.{Observation, Shown, Settled}
+use Rattle.rb_view.specs.States.{node_rows}
+
+-- what of a node is not as it was among these
+abbrev pub rows_since : List PlainNode → ℕ → PlainNode → List Row
+rows_since nodes id n = node_rows (slice_get nodes (id - 1)) n
+
+-- a node is written: the next rows say what is not as it is now
+abbrev pub rewritten : List PlainNode → ℕ → PlainNode → List PlainNode
+rewritten nodes id n = slice_set nodes (id - 1) n
+
+-- ---- by an observer
+
+pub record Watching : Type 0 where
+  pub texts : List Line
+  -- the nodes as they were written last
+  pub nodes : List PlainNode
+  -- what is shown of each content is bytes
+  pub of_bytes : Bool
+
+abbrev pub with_item : Watching → PlainItem → Watching
+with_item w item = record w { texts = w.texts ++ item_text item ∷ [] }
+
+abbrev pub with_node : Watching → ℕ → PlainNode → Watching
+with_node w id n = record {
+  texts = w.texts ++ texts_of (rows_since w.nodes id n);
+  nodes = rewritten w.nodes id n;
+  of_bytes = w.of_bytes && list_all is_byte (content_end n.content);
+}
+
+-- ---- all of it
+
+-- the nodes as they were written last, where they were these
+abbrev pub written_last : List PlainNode → List Observation → List PlainNode
+written_last nodes [] = nodes
+written_last nodes (Shown items ∷ observed) = written_last nodes observed
+written_last nodes (Settled id n ∷ observed) = written_last (rewritten nodes id n) observed
+
+abbrev pub observed_rows : List PlainNode → List Observation → List Row
+observed_rows nodes [] = []
+observed_rows nodes (Shown items ∷ observed) = flat_map item_rows items ++ observed_rows nodes observed
+observed_rows nodes (Settled id n ∷ observed) = rows_since nodes id n ++ observed_rows (rewritten nodes id n) observed
+
+-- the same as texts: one an item, and one a row of a node
+abbrev pub observed_texts : List PlainNode → List Observation → List Line
+observed_texts nodes [] = []
+observed_texts nodes (Shown items ∷ observed) = map item_text items ++ observed_texts nodes observed
+observed_texts nodes (Settled id n ∷ observed) = texts_of (rows_since nodes id n) ++ observed_texts (rewritten nodes id n) observed
+
+-- what is shown of each content is bytes
+abbrev pub shows_bytes : List Observation → Bool
+shows_bytes [] = true
+shows_bytes (Shown items ∷ observed) = shows_bytes observed
+shows_bytes (Settled id n ∷ observed) = list_all is_byte (content_end n.content) && shows_bytes observed

@@ -1,0 +1,535 @@
+//! The layout of a picture.
+//!
+//! Nodes are next to each other and time goes down: a row for each directive, with a slot for each item in it. A message's arrow
+//! begins in the slot in which it is sent, and ends in the slot in which it is received. Which arrows there are isn't decided here.
+
+use crate::chart::arrow::{Arrow, ArrowPlace};
+use crate::chart::chart::Chart;
+use crate::chart::columns::Columns;
+use crate::chart::css_class::CssClass;
+use crate::chart::labels::Label;
+use crate::chart::marks::{
+    committed_words, compacted_words, event_class, event_words, note_class, saved_words,
+};
+use crate::chart::messages::{aim_words, label_words, message_words};
+use crate::chart::part::ChartPhase;
+use crate::chart::row_layout::RowLayout;
+use crate::chart::sentence::{line_of, sentence};
+use crate::chart::shape::Shape;
+use crate::chart::shown::shown;
+use crate::chart::sizes::{
+    ASIDE, HEADING, MOST_HEAD, MOST_MARK, MOST_NOTE, SLOT, least_right, middle, right_edge,
+};
+use crate::chart::source::ScriptSource;
+use crate::chart::telling::Ending;
+use rb_cluster::SharedNode;
+use rb_message::{Event, Message};
+use rb_raftlog::RaftLog;
+use rb_text::Piece;
+use rb_texts::{Item, Verb};
+use std::alloc::{AllocError, Global};
+
+// The right edge of a directive's line number in the gutter, and the left edge of its head.
+const LINE_X: u64 = 42;
+
+const HEAD_X: u64 = 50;
+
+const HEAD_DOWN: u64 = 17;
+// The names of nodes.
+const NAME_Y: u64 = 22;
+// How far the words of a mark are above the middle of their slot.
+const MARK_UP: u64 = 2;
+// How far down the arrow of a message goes that doesn't arrive.
+const DOWN: u64 = 8;
+// Ids are at most 32, and there are 13 types of messages.
+const TYPES: usize = 13;
+
+const QUEUES: usize = 33 * TYPES;
+
+/// A picture that is being drawn, and the state of the run so far.
+#[derive(Drop)]
+pub(crate) struct Canvas<'a> {
+    alloc: Global,
+    chart: Chart,
+    source: ScriptSource<'a>,
+    // whether the line above belongs to a note
+    is_in_note: bool,
+    columns: Columns,
+    slots: RowLayout,
+    has_begun: bool,
+    // the node whose ready is handled, and the first and the last entry that became durable
+    ready: u64,
+    saved: Option<(u64, u64)>,
+    // for each arrow
+    places: Vec<ArrowPlace>,
+    labels: Vec<Label>,
+    // how many more items fit
+    room: u64,
+}
+
+impl<'a> Canvas<'a> {
+    /// Nothing is drawn, and nothing is known but the script's bytes. There is room for this many items.
+    pub(crate) fn new(alloc: Global, bytes: &'a [u8], room: u64) -> Canvas<'a> {
+        Canvas {
+            alloc,
+            chart: Chart::new(alloc),
+            source: ScriptSource::new(bytes),
+            is_in_note: false,
+            columns: Columns::new(alloc),
+            slots: RowLayout::new(0, 0),
+            has_begun: false,
+            ready: 0,
+            saved: None,
+            places: Vec::new(alloc),
+            labels: Vec::new(alloc),
+            room,
+        }
+    }
+
+    /// Whether there were more items than fit.
+    pub(crate) fn is_full(&self) -> bool {
+        self.room == 0
+    }
+
+    /// Draws an item that begins or ends an arrow.
+    pub(crate) fn show(&mut self, item: &Item<'_>, arrow: Option<usize>) -> Result<(), AllocError> {
+        // Entries that become durable in a row have one mark.
+        if !matches!(item, Item::Save(_, _)) {
+            self.end_saves()?;
+        }
+        match item {
+            Item::Ready(id) => {
+                self.ready = *id;
+                Ok(())
+            }
+            Item::Save(index, _) => {
+                self.save(*index);
+                Ok(())
+            }
+            Item::HardState(hard) => {
+                let ready = self.ready;
+                self.see_commit(ready, hard.commit)
+            }
+            Item::Send(message) | Item::Moved(Verb::Queue, message) => self.send(message),
+            Item::Moved(Verb::Deliver, message) => self.deliver(message, arrow),
+            Item::Moved(Verb::Drop, message) => self.lose(message, arrow),
+            Item::Moved(Verb::NoRoomFor, message) => self.give_up(message, arrow),
+            Item::NoMessages | Item::Stopped(_) | Item::Error(_) => self.note(item),
+            Item::Event(event) => self.tell(event),
+            _ => Ok(()),
+        }
+    }
+
+    /// The picture, and the positions of the arrows; the indexes are those of the arrows of messages in flight.
+    pub(crate) fn finish(
+        self,
+        phase: ChartPhase,
+        arrows: &[Arrow],
+        positions: &[usize],
+    ) -> Result<(Chart, Vec<ArrowPlace>), AllocError> {
+        let mut canvas = self;
+        canvas.end_saves()?;
+        if !matches!(phase, ChartPhase::Below) {
+            canvas.tell_rest()?;
+        }
+        canvas.end_row();
+        canvas.tell_waiting(arrows, positions)?;
+        let right = least_right(canvas.columns.len());
+        canvas.chart.reach(right);
+        let bottom = canvas.chart.height;
+        for at in 0..canvas.columns.len() {
+            if let Some(band) = canvas.columns.last_band(at, bottom) {
+                canvas.chart.under.push(band)?;
+            }
+        }
+        let Canvas {
+            alloc: _,
+            chart,
+            source: _,
+            is_in_note: _,
+            columns: _,
+            slots: _,
+            has_begun: _,
+            ready: _,
+            saved: _,
+            places,
+            labels: _,
+            room: _,
+        } = canvas;
+        Ok((chart, places))
+    }
+
+    // ---- rows
+
+    // The middle of the next slot, if there is room for one.
+    fn next_slot(&mut self) -> Result<u64, AllocError> {
+        self.room = self.room.saturating_sub(1);
+        if self.room == 0 {
+            return Err(AllocError);
+        }
+        Ok(self.slots.next())
+    }
+
+    fn end_row(&mut self) {
+        if self.has_begun {
+            self.chart.height = self.slots.bottom();
+        }
+    }
+
+    fn open_row(&mut self, line: u64) -> Result<u64, AllocError> {
+        let top = self.chart.height;
+        self.slots = RowLayout::new(line, top);
+        self.has_begun = true;
+        Ok(top)
+    }
+
+    /// Begins the row of the directive at a line.
+    pub(crate) fn begin(&mut self, line: u64) -> Result<(), AllocError> {
+        self.end_saves()?;
+        self.end_row();
+        self.read_to(line, true)?;
+        let top = self.open_row(line)?;
+        self.chart.under.push(Shape::Edge { y: top })?;
+        self.head(line, top.saturating_add(HEAD_DOWN))
+    }
+
+    fn line_number(&mut self, line: u64, y: u64) -> Result<(), AllocError> {
+        let number = sentence(self.alloc, &[Piece::Number(line)])?;
+        self.chart.add_words(
+            CssClass::LineNumber,
+            LINE_X,
+            y,
+            number.as_slice(),
+            MOST_HEAD,
+        )
+    }
+
+    // The line of a directive and its head.
+    fn head(&mut self, line: u64, y: u64) -> Result<(), AllocError> {
+        self.line_number(line, y)?;
+        let head = shown(self.alloc, self.source.line())?;
+        self.chart
+            .add_words(CssClass::Head, HEAD_X, y, head.as_slice(), MOST_HEAD)?;
+        self.chart.tell(line, &[Piece::Bytes(head.as_slice())])
+    }
+
+    /// Continues to the head at a line, which isn't drawn.
+    pub(crate) fn pass(&mut self, line: u64) -> Result<(), AllocError> {
+        self.read_to(line, false)
+    }
+
+    // Continues to the head at a line, and describes the notes above it if they are wanted.
+    fn read_to(&mut self, line: u64, is_told: bool) -> Result<(), AllocError> {
+        for _ in self.source.number()..line {
+            self.read_line(is_told)?;
+        }
+        self.source.begin_head();
+        Ok(())
+    }
+
+    // Continues to the next line, and describes its comment.
+    fn read_line(&mut self, is_told: bool) -> Result<(), AllocError> {
+        let line = self.source.number();
+        let words = self.source.next_comment();
+        let is_first = !self.is_in_note;
+        self.is_in_note = !words.is_empty();
+        if words.is_empty() || !is_told {
+            return Ok(());
+        }
+        let text = shown(self.alloc, words)?;
+        self.chart.tell_note(line, text.as_slice(), is_first)
+    }
+
+    // Describes the notes after the last directive.
+    fn tell_rest(&mut self) -> Result<(), AllocError> {
+        for _ in 0..self.source.len() {
+            if self.source.len() == 0 {
+                break;
+            }
+            self.read_line(true)?;
+        }
+        Ok(())
+    }
+
+    fn note(&mut self, item: &Item<'_>) -> Result<(), AllocError> {
+        let words = line_of(self.alloc, item)?;
+        let y = self.slots.next_note();
+        self.chart
+            .add_words(note_class(item), HEAD_X, y, words.as_slice(), MOST_NOTE)?;
+        let line = self.slots.line;
+        self.chart.tell(line, &[Piece::Bytes(words.as_slice())])
+    }
+
+    // ---- messages that come in from above
+
+    /// The first drawn directive is at this line, and others are above it: the nodes have their roles.
+    pub(crate) fn come_in<L: RaftLog>(
+        &mut self,
+        line: u64,
+        nodes: &[SharedNode<L>],
+        is_row: bool,
+    ) -> Result<(), AllocError> {
+        self.slots = RowLayout::new(line, HEADING);
+        for shared in nodes {
+            let state = shared.node().status();
+            self.name(state.id)?;
+            let base = state.log.first_index().saturating_sub(1);
+            self.columns
+                .come_in(state.role, HEADING, state.commit, base)?;
+            let is = [
+                Piece::Bytes(b"node "),
+                Piece::Number(state.id),
+                Piece::Bytes(b" is "),
+                Piece::Bytes(crate::rows::role_name(state.role)),
+            ];
+            self.chart.tell(line, &is)?;
+        }
+        if is_row {
+            self.row_above(line)?;
+        }
+        Ok(())
+    }
+
+    // A row of the messages that come in.
+    fn row_above(&mut self, line: u64) -> Result<(), AllocError> {
+        let top = self.open_row(line)?;
+        self.chart.under.push(Shape::Edge { y: top })?;
+        let y = top.saturating_add(HEAD_DOWN);
+        let words = b"on its way before";
+        self.chart
+            .add_words(CssClass::Quiet, HEAD_X, y, words, MOST_NOTE)
+    }
+
+    // ---- nodes
+
+    fn name(&mut self, id: u64) -> Result<(), AllocError> {
+        let name = sentence(self.alloc, &[Piece::Bytes(b"node "), Piece::Number(id)])?;
+        self.chart.add_words(
+            CssClass::Name,
+            middle(id),
+            NAME_Y,
+            name.as_slice(),
+            MOST_HEAD,
+        )
+    }
+
+    fn start(&mut self, id: u64) -> Result<(), AllocError> {
+        self.columns.start(self.slots.top)?;
+        self.name(id)
+    }
+
+    // Marks an event of a node. Returns the middle of its slot.
+    fn mark(&mut self, id: u64, words: &[u8], look: CssClass) -> Result<u64, AllocError> {
+        let y = self.next_slot()?;
+        let x = middle(id).saturating_add(ASIDE);
+        let up = y.saturating_sub(MARK_UP);
+        self.chart.add_words(look, x, up, words, MOST_MARK)?;
+        self.chart.tell_mark(self.slots.line, id, words)?;
+        Ok(y)
+    }
+
+    fn tell(&mut self, event: &Event) -> Result<(), AllocError> {
+        let id = event.node();
+        if let Event::Started { .. } = event {
+            return self.start(id);
+        }
+        if let Event::RefusedVote { .. } = event {
+            return Ok(());
+        }
+        let words = event_words(self.alloc, event)?;
+        let y = self.mark(id, words.as_slice(), event_class(event))?;
+        self.follow(event, id, y)
+    }
+
+    // Updates the state of a node by an event.
+    fn follow(&mut self, event: &Event, id: u64, y: u64) -> Result<(), AllocError> {
+        match event {
+            Event::Became { role, .. } => {
+                if let Some(band) = self.columns.turn(id, *role, y) {
+                    self.chart.under.push(band)?;
+                }
+                Ok(())
+            }
+            Event::Restored { index, .. } => {
+                self.columns.restores(id, *index);
+                Ok(())
+            }
+            _ => Ok(()),
+        }
+    }
+
+    /// Marks the commits and logs that have moved at the end of a directive.
+    pub(crate) fn see<L: RaftLog>(&mut self, nodes: &[SharedNode<L>]) -> Result<(), AllocError> {
+        self.end_saves()?;
+        for shared in nodes {
+            let state = shared.node().status();
+            self.see_commit(state.id, state.commit)?;
+            self.see_base(state.id, state.log.first_index().saturating_sub(1))?;
+        }
+        Ok(())
+    }
+
+    fn see_commit(&mut self, id: u64, index: u64) -> Result<(), AllocError> {
+        if self.columns.commits(id, index) {
+            let words = committed_words(self.alloc, index)?;
+            self.mark(id, words.as_slice(), CssClass::Moved)?;
+        }
+        Ok(())
+    }
+
+    fn see_base(&mut self, id: u64, index: u64) -> Result<(), AllocError> {
+        if self.columns.compacts(id, index) {
+            let words = compacted_words(self.alloc, index)?;
+            self.mark(id, words.as_slice(), CssClass::Installed)?;
+        }
+        Ok(())
+    }
+
+    fn save(&mut self, index: u64) {
+        let first = match self.saved {
+            Some((first, _)) => first,
+            None => index,
+        };
+        self.saved = Some((first, index));
+    }
+
+    fn end_saves(&mut self) -> Result<(), AllocError> {
+        if let Some((first, last)) = self.saved {
+            self.saved = None;
+            let words = saved_words(self.alloc, first, last)?;
+            let ready = self.ready;
+            self.mark(ready, words.as_slice(), CssClass::Quiet)?;
+        }
+        Ok(())
+    }
+
+    // ---- messages
+
+    /// A message is sent, and its arrow begins.
+    pub(crate) fn send(&mut self, message: &Message) -> Result<(), AllocError> {
+        let y = self.next_slot()?;
+        let is_loop = message.to == message.from;
+        let end = y.saturating_add(if is_loop { SLOT } else { DOWN });
+        self.places.push(ArrowPlace {
+            y,
+            end,
+            is_short: true,
+        })?;
+        self.chart.reach(right_edge(message.from, message.to));
+        let label = self.label(message, y)?;
+        self.labels.push(label)?;
+        Ok(())
+    }
+
+    fn label(&mut self, message: &Message, y: u64) -> Result<Label, AllocError> {
+        let words = message_words(self.alloc, message)?;
+        let line = self.slots.line;
+        self.chart
+            .tell_sent(line, message.from, message.to, words.as_slice())?;
+        let aim = aim_words(self.alloc, message)?;
+        let label = label_words(self.alloc, message, words.as_slice())?;
+        Label::add(
+            &mut self.chart,
+            message,
+            y,
+            aim.as_slice(),
+            label.as_slice(),
+        )
+    }
+
+    // An arrow ends in the next slot.
+    fn end_arrow(&mut self, arrow: Option<usize>, end: u64) {
+        let Some(at) = arrow else {
+            return;
+        };
+        if let Some(place) = self.places.get_mut(at) {
+            place.end = end;
+            place.is_short = false;
+        }
+    }
+
+    fn deliver(&mut self, message: &Message, arrow: Option<usize>) -> Result<(), AllocError> {
+        let end = self.next_slot()?;
+        self.end_arrow(arrow, end);
+        if let Some(label) = self.label_of(arrow) {
+            label.drop_aim(&mut self.chart);
+        }
+        self.tell_end(message, Ending::Delivered)
+    }
+
+    fn label_of(&self, arrow: Option<usize>) -> Option<Label> {
+        match self.labels.get(arrow?) {
+            Some(label) => Some(*label),
+            None => None,
+        }
+    }
+
+    fn lose(&mut self, message: &Message, arrow: Option<usize>) -> Result<(), AllocError> {
+        let end = self.next_slot()?;
+        if self.columns.has(message.to) {
+            self.end_arrow(arrow, end);
+        }
+        self.tell_end(message, Ending::Dropped)
+    }
+
+    // An arrow that is new begins here too.
+    fn give_up(&mut self, message: &Message, arrow: Option<usize>) -> Result<(), AllocError> {
+        if arrow == Some(self.places.len()) {
+            self.send(message)?;
+        }
+        self.tell_end(message, Ending::GivenUp)
+    }
+
+    fn tell_end(&mut self, message: &Message, ending: Ending) -> Result<(), AllocError> {
+        let words = message_words(self.alloc, message)?;
+        let line = self.slots.line;
+        self.chart
+            .tell_end(line, message.from, message.to, words.as_slice(), ending)
+    }
+
+    // Describes the messages in flight: by node, and by type.
+    fn tell_waiting(&mut self, arrows: &[Arrow], positions: &[usize]) -> Result<(), AllocError> {
+        for queue in 0..QUEUES {
+            self.tell_queue(arrows, positions, queue)?;
+        }
+        Ok(())
+    }
+
+    fn tell_queue(
+        &mut self,
+        arrows: &[Arrow],
+        positions: &[usize],
+        queue: usize,
+    ) -> Result<(), AllocError> {
+        for at in positions {
+            if let Some(arrow) = arrows.get(*at) {
+                if queue_of(*arrow) == queue {
+                    self.tell_arrow(*arrow, *at)?;
+                }
+            }
+        }
+        Ok(())
+    }
+
+    fn tell_arrow(&mut self, arrow: Arrow, at: usize) -> Result<(), AllocError> {
+        let Some(label) = self.label_of(Some(at)) else {
+            return Ok(());
+        };
+        let words = label.words(self.alloc, &self.chart)?;
+        let line = self.slots.line;
+        self.chart.tell_end(
+            line,
+            arrow.from,
+            arrow.to,
+            words.as_slice(),
+            Ending::Waiting,
+        )
+    }
+}
+
+// The index of a message in flight, by its node and its type.
+fn queue_of(arrow: Arrow) -> usize {
+    (arrow.to as usize)
+        .saturating_mul(TYPES)
+        .saturating_add(arrow.message_type as usize)
+}

@@ -1,0 +1,164 @@
+//! The picture of a run.
+
+ghost use Rattle.std.specs.Prelude.{◌≡◌, ◌<◌, ◌≤◌, ◌++◌, ◌∷◌, [], IfOk, OnOk, Some, fold, length, slice_get, true};
+ghost use Rattle.std.specs.List.{list_all};
+ghost use Rattle.rb_script.specs.declared.limits.TheConstants.{MAX_DIRECTIVES};
+ghost use Rattle.rb_script.specs.Reading.{directive_of};
+ghost use Rattle.rb_machine.specs.Cluster.{empty};
+ghost use Rattle.rb_machine.specs.Outcome.{execution, outcome};
+ghost use Rattle.rb_replay.specs.Run.{outputs};
+ghost use Rattle.rb_view.specs.Drawn.{arrows_of, drawn_arrows, shown, view_of, views_from, without_places};
+ghost use Rattle.rb_view.specs.Titles.{is_printable, title_text};
+
+use crate::chart::builder::ChartBuilder;
+use crate::chart::chart::Chart;
+use crate::chart::part::ChartPart;
+use crate::chart::title::title_of;
+use rb_cluster::Cluster;
+use rb_machine::{Both, Machine, PrintedLines};
+use rb_raftlog::RaftLog;
+use rb_replay::Outputs;
+use rb_script::{Block, Lines, Script};
+use std::alloc::{AllocError, Global};
+use std::mem;
+
+/// The most items of a picture: about as many as a browser opens.
+pub const MAX_EVENTS: u64 = 500_000;
+
+/// Why there is no picture.
+#[derive(Clone, Copy, PartialEq, Eq, Debug)]
+pub enum ChartFault {
+    /// There are more items than fit into a picture.
+    TooLarge,
+    OutOfMemory,
+}
+
+/// A picture, and what the directives of its script printed.
+#[derive(Drop)]
+pub struct DrawnRun {
+    pub chart: Chart,
+    pub printed: Outputs,
+}
+
+// The block of the directive at an index, counted from 0.
+fn block_at(script: &Script, index: usize) -> &Block
+    requires few { length script.now.blocks ≤ MAX_DIRECTIVES }
+    requires within { index < length script.now.blocks }
+    ensures { slice_get script.now.blocks index ≡ Some result.now }
+{
+    script.block(index + 1).unwrap()
+}
+
+// The number at an index, counted from 0.
+fn number_at(numbers: &[usize], index: usize) -> usize
+    requires { index < length numbers.now }
+    ensures { slice_get numbers.now index ≡ Some result }
+{
+    numbers[index]
+}
+
+// Runs a directive with an observer, and returns what it printed.
+#[tactic(auto, unfolding(rb_machine::specs::Outcome::outcome))]
+fn run<L: RaftLog>(
+    alloc: Global,
+    cluster: &mut Cluster<L>,
+    block: &Block,
+    both: &mut Both<PrintedLines, ChartBuilder<'_>>,
+) -> Result<Lines, AllocError>
+    requires { both.old.first.lines ≡ [] }
+    ensures cluster { OnOk result (cluster.new ≡ (outcome cluster.old (directive_of block.now)).cluster) }
+    ensures output { IfOk result (λ output. output ≡ (outcome cluster.old (directive_of block.now)).output) }
+    ensures shown { OnOk result (view_of both.new.second ≡ shown (view_of both.old.second) (execution cluster.old (directive_of block.now))) }
+    ensures left { OnOk result (both.new.first.lines ≡ []) }
+{
+    cluster.run_watched(&block.directive(), both)?;
+    let printed = mem::replace(&mut both.first, PrintedLines::new(alloc));
+    let output = printed.or_ok()?;
+    Ok(output)
+}
+
+// Runs the directives, each once, and draws them. Keeps what they printed.
+fn draw_directives<L: RaftLog>(
+    alloc: Global,
+    both: &mut Both<PrintedLines, ChartBuilder<'_>>,
+    script: &Script,
+    heads: &[usize],
+    part: ChartPart,
+) -> Result<Outputs, AllocError>
+    requires few { length script.now.blocks ≤ MAX_DIRECTIVES }
+    requires count { length heads.now ≡ length script.now.blocks }
+    requires none { both.old.first.lines ≡ [] }
+    ensures drawn { OnOk result (view_of both.new.second ≡ views_from part (view_of both.old.second) empty heads.now script.now.blocks) }
+    ensures outputs { IfOk result (λ printed. printed ≡ outputs script.now) }
+{
+    let mut printed = Outputs::new(alloc);
+    let mut cluster = Cluster::<L>::empty(alloc)?;
+    for i in 0..script.len() {
+        let block = block_at(script, i);
+        let line = number_at(heads, i) as u64;
+        both.second
+            .enter(part.phase_at(line), line, cluster.nodes())?;
+        let output = run(alloc, &mut cluster, block, both)?;
+        both.second.see(cluster.nodes())?;
+        printed.push(output)?;
+    }
+    Ok(printed)
+}
+
+/// Runs a script, each directive once, and draws its picture, or that of a part of it: these are its name, its bytes and the lines on which its
+/// heads begin. Where things are is not stated: docs/FORMATS.md has it.
+///
+/// # Errors
+///
+/// `TooLarge` if there are more than [`MAX_EVENTS`] items, and `OutOfMemory`.
+pub fn chart_of<L: RaftLog>(
+    alloc: Global,
+    name: &[u8],
+    bytes: &[u8],
+    script: &Script,
+    heads: &[usize],
+    part: ChartPart,
+) -> Result<DrawnRun, ChartFault>
+    requires few { length script.now.blocks ≤ MAX_DIRECTIVES }
+    requires count { length heads.now ≡ length script.now.blocks }
+    // A name of printable ASCII is the title, with the lines.
+    ensures title { IfOk result (λ drawn. list_all is_printable name.now ≡ true → drawn.chart.title ≡ title_text name.now part.from part.until) }
+    // Each message has its arrow.
+    ensures arrows { IfOk result (λ drawn. without_places drawn.chart.arrows ≡ drawn_arrows part heads.now script.now) }
+    ensures outputs { IfOk result (λ drawn. drawn.printed ≡ outputs script.now) }
+{
+    let mut both = Both {
+        first: PrintedLines::new(alloc),
+        second: ChartBuilder::new(alloc, bytes, MAX_EVENTS + 1),
+    };
+    let Ok(printed) = draw_directives::<L>(alloc, &mut both, script, heads, part) else {
+        return Err(fault_of(&both.second));
+    };
+    let Both { first: _, second } = both;
+    match chart_with(alloc, name, part, second) {
+        Ok(chart) => Ok(DrawnRun { chart, printed }),
+        Err(_) => Err(ChartFault::OutOfMemory),
+    }
+}
+
+fn fault_of(builder: &ChartBuilder<'_>) -> ChartFault {
+    if builder.is_full() {
+        ChartFault::TooLarge
+    } else {
+        ChartFault::OutOfMemory
+    }
+}
+
+// The picture that is drawn so, with its title.
+fn chart_with(
+    alloc: Global,
+    name: &[u8],
+    part: ChartPart,
+    builder: ChartBuilder<'_>,
+) -> Result<Chart, AllocError>
+    ensures title { IfOk result (λ chart. list_all is_printable name.now ≡ true → chart.title ≡ title_text name.now part.from part.until) }
+    ensures arrows { IfOk result (λ chart. without_places chart.arrows ≡ arrows_of (view_of builder.entry)) }
+{
+    let title = title_of(alloc, name, part)?;
+    builder.finish(alloc, title)
+}

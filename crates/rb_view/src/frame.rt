@@ -1,0 +1,37 @@
+//! What is around the rows of a page (docs/FORMATS.md): its own elements, its style and its code. Made by `tests/page/assemble.py sources`.
+//!
+//! The files are in assets, and the sources are made of them. The page's head names its style and its code by their hashes, so that no other
+//! runs in it.
+
+mod describe;
+mod difference;
+mod dom;
+mod frame;
+mod history;
+mod html;
+mod keys;
+mod layout;
+mod legend;
+mod lines;
+mod logs;
+mod mail;
+mod measure;
+mod page;
+mod paint;
+mod picture;
+mod play;
+mod position;
+mod print;
+mod route;
+mod rows;
+mod script;
+mod search;
+mod sizes;
+mod source;
+mod state;
+mod style;
+mod text;
+mod words;
+mod wrap;
+
+pub use frame::{back, front};

@@ -1,0 +1,27 @@
+//! What the run of a script is, step by step, as a page shows it.
+//!
+//! [`steps_of`] runs the directives of a session once more and keeps, as texts of rows (docs/FORMATS.md), what is in the script, what each
+//! directive printed, what it did whatever the level is, and what is after each event that didn't stand so before. So the rows grow
+//! with what happens, and not with nodes times directives. [`put_page`] writes them, and a page around them. Nothing is written before all
+//! memory is there.
+
+mod fresh;
+mod laws;
+mod log;
+mod node;
+mod page;
+mod rows;
+mod script;
+mod shown;
+mod step;
+mod steps;
+mod stretch;
+
+pub use laws::{
+    changes_grow_with_what_differs, committed_entries_stay, logs_read_back,
+    pages_grow_with_what_happens, steps_are_inert, steps_are_json, steps_are_rows,
+    what_is_not_written_stood, what_stands_still_has_no_row,
+};
+pub use page::{FORMAT, Frame, put_page, put_steps};
+pub use shown::{DirectiveRun, StepMachine};
+pub use steps::steps_of;

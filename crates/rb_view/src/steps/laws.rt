@@ -1,0 +1,91 @@
+//! Laws of steps.
+
+ghost use Rattle.std.specs.Prelude.{◌≡◌, ◌≤◌, ◌+◌, ◌⊎◌, [], ◌∷◌, ℕ, Contains, List, false, length, true};
+ghost use Rattle.std.specs.List.{list_all, sum_by};
+ghost use Rattle.rb_script.specs.Directive.{PlainDirective};
+ghost use Rattle.rb_script.specs.Lines.{Line};
+ghost use Rattle.rb_script.specs.Reads.{Reads};
+ghost use Rattle.rb_script.specs.Script.{PlainScript};
+ghost use Rattle.rb_raftlog.specs.Log.{LogValue, entries_after};
+ghost use Rattle.rb_tracker.specs.Progresses.{PlainProgress};
+ghost use Rattle.rb_tracker.specs.Trackers.{has_view};
+ghost use Rattle.rb_node.specs.Node.{PlainNode};
+ghost use Rattle.rb_texts.specs.Items.{PlainItem};
+ghost use Rattle.rb_machine.specs.Cluster.{Cluster, empty};
+ghost use Rattle.rb_machine.specs.Outcome.{outcome};
+ghost use Rattle.rb_view.specs.Escapes.{is_inert};
+ghost use Rattle.rb_view.specs.Json.{AreRows, is_byte};
+ghost use Rattle.rb_view.specs.Kept.{texts_of};
+ghost use Rattle.rb_view.specs.Rows.{Row, next_text, rows_text};
+ghost use Rattle.rb_view.specs.Sizes.{is_view};
+ghost use Rattle.rb_view.specs.Changes.{node_change, state_change, views_changed, views_gone};
+ghost use Rattle.rb_view.specs.Committed.{AreKept, AreSound};
+ghost use Rattle.rb_view.specs.Pages.{first_row, steps_text};
+ghost use Rattle.rb_view.specs.Logs.{entries_read, is_same_log, stays};
+ghost use Rattle.rb_view.specs.StepSizes.{around_size, item_size, step_size};
+ghost use Rattle.rb_view.specs.NewRows.{has_text};
+ghost use Rattle.rb_view.specs.States.{changed_rows, no_view_row, standing, state_rows};
+ghost use Rattle.rb_view.specs.Steps.{steps};
+ghost use Rattle.rb_view.specs.Values.{GoOnShowingBytes, all_rows};
+
+/// The text of a script's steps is a list of rows, the first of which names the script.
+pub fn steps_are_rows()
+    ensures { (name bytes heads : List ℕ) (s : PlainScript) → (rest : List Row) × (steps_text name bytes heads s ≡ rows_text (first_row name) rest) }
+{}
+
+/// Whatever a script holds, no byte of that text is `<`, `>` or `&`, or past ASCII.
+pub fn steps_are_inert()
+    ensures { (name bytes heads : List ℕ) (s : PlainScript) → list_all is_inert (steps_text name bytes heads s) ≡ true }
+{}
+
+/// Whatever a directive does, the indexes of each node stay in order, and the entries that the node knew to be committed stay as they are, but
+/// for those that are compacted. So it is enough to look at the others.
+pub fn committed_entries_stay()
+    ensures begun { AreSound empty.nodes }
+    ensures sound { (c : Cluster) (d : PlainDirective) → AreSound c.nodes → AreSound (outcome c d).cluster.nodes }
+    ensures kept { (c : Cluster) (d : PlainDirective) → AreSound c.nodes → AreKept c.nodes (outcome c d).cluster.nodes }
+{}
+
+/// Without a change there is no row.
+pub fn what_stands_still_has_no_row()
+    ensures { (nodes : List PlainNode) → state_rows nodes nodes ≡ [] }
+{}
+
+/// There are at most as many rows as parts that differ, over all nodes. A node that is as it was adds nothing, wherever it stands, and neither
+/// does a view; one that differs adds at most a row for its numbers, its configuration and its log, one for each view that differs or is gone,
+/// and one for each entry that its log didn't have.
+pub fn changes_grow_with_what_differs()
+    ensures rows { (olds news : List PlainNode) → length (state_rows olds news) ≤ state_change olds news }
+    ensures node { (n : PlainNode) (olds news : List PlainNode) → state_change (n ∷ olds) (n ∷ news) ≡ state_change olds news }
+    ensures nodes { (nodes : List PlainNode) → state_change nodes nodes ≡ 0 }
+    ensures view { (olds : List (ℕ × PlainProgress)) (v : ℕ × PlainProgress) (news : List (ℕ × PlainProgress)) → Contains olds v → views_changed olds (v ∷ news) ≡ views_changed olds news }
+    ensures most { (old new : PlainNode) → old.id ≡ new.id → node_change old new ≤ 3 + views_changed old.tracker.views new.tracker.views + views_gone old.tracker.views new.tracker.views + length (entries_after new.log (stays old.log new.log)) }
+{}
+
+/// The text is at most as long as what each step says, beside the script's name and bytes and two numbers: where it stands, what it printed, what
+/// happened and what changed. Items that show how a node stands say nothing.
+pub fn pages_grow_with_what_happens()
+    ensures text { (name bytes heads : List ℕ) (s : PlainScript) → length (steps_text name bytes heads s) ≤ around_size name bytes s + sum_by step_size (steps heads s) }
+    ensures views { (i : PlainItem) → is_view i ≡ true → item_size i ≡ 0 }
+{}
+
+/// The text is a text of JSON, by its grammar, and its value is the rows: the script's bytes; for each directive where it stands, what it printed,
+/// the rows of the items that it can show, and what changed; the end. The name and the script are bytes, and so is what is shown of contents:
+/// [`steps_of`](crate::steps::steps_of) ensures that.
+pub fn steps_are_json()
+    ensures { (name bytes heads : List ℕ) (s : PlainScript) → list_all is_byte name ≡ true → list_all is_byte bytes ≡ true → Reads bytes s → GoOnShowingBytes empty s.blocks → AreRows (first_row name) (all_rows bytes heads s) (steps_text name bytes heads s) }
+{}
+
+/// A log can be read back: its entries are those of before, up to the index that is written, and after them the ones that are written. Where nothing
+/// is written of a log, its base and its entries are as they were.
+pub fn logs_read_back()
+    ensures written { (old new : LogValue) → new.entries ≡ entries_read old new.base (stays old new) (entries_after new (stays old new)) }
+    ensures still { (old new : LogValue) → is_same_log old new ≡ true → (new.base ≡ old.base) × (new.base_term ≡ old.base_term) × (new.entries ≡ old.entries) }
+{}
+
+/// What is not written stands as it stood: each row of a node's numbers, configuration and views is written, or it is as one of before; and each
+/// view that is gone is written as gone.
+pub fn what_is_not_written_stood()
+    ensures stands { (old new : PlainNode) (r : Row) → Contains (standing new) r → Contains (changed_rows old new) r ⊎ (has_text (texts_of (standing old)) (next_text r) ≡ true) }
+    ensures gone { (old new : PlainNode) (v : ℕ × PlainProgress) → Contains old.tracker.views v → has_view new.tracker.views v.0 ≡ false → Contains (changed_rows old new) (no_view_row new.id v.0) }
+{}

@@ -1,0 +1,247 @@
+//! Rows for the states of nodes, and for what has changed.
+
+ghost use Rattle.std.specs.Prelude.{◌≡◌, ◌<◌, ◌∷◌, [], ◌++◌, IfOk, OnOk, MatchOption, None, Some, length, slice_get, true};
+ghost use Rattle.std.specs.List.{list_all};
+ghost use Rattle.rb_raftlog.specs.Content.{content_end};
+ghost use Rattle.rb_view.specs.Json.{is_byte};
+ghost use Rattle.rb_view.specs.Kept.{texts_of};
+ghost use Rattle.rb_view.specs.NewRows.{new_rows, new_texts};
+ghost use Rattle.rb_view.specs.States.{added_rows, changed_rows, config_row, gone_of, gone_rows, no_view_row, node_row, node_rows, standing, state_rows, view_row, view_rows};
+ghost use Rattle.rb_view.specs.Values.{ShowBytes};
+
+use crate::rows::{Cell, flag, keep_row, role_name};
+use crate::steps::fresh::keep_new;
+use crate::steps::log::{keep_log, keep_log_from};
+use rb_cluster::SharedNode;
+use rb_node::{Node, State};
+use rb_raftlog::RaftLog;
+use rb_script::Lines;
+use rb_texts::progress_state_name;
+use rb_tracker::{Progress, Tracker};
+use std::alloc::{AllocError, Global};
+
+// ---- what stands
+
+fn keep_node<L: RaftLog>(texts: &mut Lines, state: &State<L>) -> Result<(), AllocError>
+    ensures { OnOk result (texts.new ≡ texts.old ++ texts_of (node_row state.now ∷ [])) }
+{
+    let cells = [
+        Cell::Number(state.id),
+        Cell::Text(role_name(state.role)),
+        Cell::Number(state.term),
+        Cell::Number(state.vote),
+        Cell::Number(state.lead),
+        Cell::Number(state.commit),
+        Cell::Number(state.applied),
+        Cell::Number(state.log.durable()),
+        Cell::Number(state.content.len() as u64),
+        Cell::Text(state.content.end()),
+    ];
+    keep_row(texts, b"node", &cells)
+}
+
+fn keep_config<L: RaftLog>(texts: &mut Lines, state: &State<L>) -> Result<(), AllocError>
+    ensures { OnOk result (texts.new ≡ texts.old ++ texts_of (config_row state.now ∷ [])) }
+{
+    let cells = [Cell::Number(state.id), Cell::Config(state.tracker.config())];
+    keep_row(texts, b"config", &cells)
+}
+
+fn keep_view(texts: &mut Lines, id: u64, member: u64, view: &Progress) -> Result<(), AllocError>
+    ensures { OnOk result (texts.new ≡ texts.old ++ texts_of (view_row id (member, view.now) ∷ [])) }
+{
+    let cells = [
+        Cell::Number(id),
+        Cell::Number(member),
+        Cell::Text(progress_state_name(view.state())),
+        Cell::Number(view.matched()),
+        Cell::Number(view.next()),
+        Cell::Number(view.window().len() as u64),
+        Cell::Number(flag(view.waiting())),
+        Cell::Number(view.pending()),
+        Cell::Number(flag(view.active())),
+    ];
+    keep_row(texts, b"view", &cells)
+}
+
+fn keep_views(texts: &mut Lines, id: u64, tracker: &Tracker) -> Result<(), AllocError>
+    ensures { OnOk result (texts.new ≡ texts.old ++ texts_of (view_rows id tracker.now.views)) }
+{
+    for i in 0..tracker.len() {
+        let (member, view) = tracker.view(i);
+        keep_view(texts, id, member, view)?;
+    }
+    Ok(())
+}
+
+// Adds the rows of all of a node but its log.
+fn keep_standing<L: RaftLog>(texts: &mut Lines, state: &State<L>) -> Result<(), AllocError>
+    ensures { OnOk result (texts.new ≡ texts.old ++ texts_of (standing state.now)) }
+{
+    keep_node(texts, state)?;
+    keep_config(texts, state)?;
+    keep_views(texts, state.id, &state.tracker)
+}
+
+// The rows of all of a node but its log.
+fn standing<L: RaftLog>(alloc: Global, state: &State<L>) -> Result<Lines, AllocError>
+    ensures { IfOk result (λ texts. texts ≡ texts_of (standing state.now)) }
+{
+    let mut texts = Lines::new(alloc);
+    keep_standing(&mut texts, state)?;
+    Ok(texts)
+}
+
+// ---- changes
+
+fn keep_no_view(texts: &mut Lines, id: u64, member: u64) -> Result<(), AllocError>
+    ensures { OnOk result (texts.new ≡ texts.old ++ texts_of (no_view_row id member ∷ [])) }
+{
+    keep_row(texts, b"no-view", &[Cell::Number(id), Cell::Number(member)])
+}
+
+// Adds a row for a member that no longer has a view.
+fn keep_if_gone(texts: &mut Lines, id: u64, member: u64, new: &Tracker) -> Result<(), AllocError>
+    ensures { OnOk result (texts.new ≡ texts.old ++ texts_of (gone_of id new.now.views member)) }
+{
+    if new.has_view(member) {
+        return Ok(());
+    }
+    keep_no_view(texts, id, member)
+}
+
+// Adds rows for the members that no longer have a view.
+fn keep_gone(texts: &mut Lines, id: u64, old: &Tracker, new: &Tracker) -> Result<(), AllocError>
+    ensures { OnOk result (texts.new ≡ texts.old ++ texts_of (gone_rows id old.now.views new.now.views)) }
+{
+    for i in 0..old.len() {
+        let (member, _) = old.view(i);
+        keep_if_gone(texts, id, member, new)?;
+    }
+    Ok(())
+}
+
+// Adds all of a node that wasn't there.
+fn keep_added<L: RaftLog>(texts: &mut Lines, new: &State<L>) -> Result<(), AllocError>
+    ensures { OnOk result (texts.new ≡ texts.old ++ texts_of (added_rows new.now)) }
+{
+    keep_standing(texts, new)?;
+    keep_log_from(texts, new.id, &new.log, new.log.first_index() - 1)
+}
+
+// Adds the rows of a node's numbers, configuration and views that are not among these.
+fn keep_fresh<L: RaftLog>(
+    alloc: Global,
+    texts: &mut Lines,
+    olds: &Lines,
+    new: &State<L>,
+) -> Result<(), AllocError>
+    ensures { OnOk result (texts.new ≡ texts.old ++ new_texts olds.now (texts_of (standing new.now))) }
+{
+    let news = standing(alloc, new)?;
+    keep_new(texts, olds, &news)
+}
+
+// Adds the rows of a node's numbers, configuration and views that have changed.
+fn keep_restated<L: RaftLog>(
+    alloc: Global,
+    texts: &mut Lines,
+    old: &State<L>,
+    new: &State<L>,
+) -> Result<(), AllocError>
+    ensures { OnOk result (texts.new ≡ texts.old ++ texts_of (new_rows (standing old.now) (standing new.now))) }
+{
+    let olds = standing(alloc, old)?;
+    keep_fresh(alloc, texts, &olds, new)?;
+    Ok(())
+}
+
+// Adds what of a node is not as it was.
+fn keep_changed<L: RaftLog>(
+    alloc: Global,
+    texts: &mut Lines,
+    old: &State<L>,
+    new: &State<L>,
+) -> Result<(), AllocError>
+    ensures { OnOk result (texts.new ≡ texts.old ++ texts_of (changed_rows old.now new.now)) }
+{
+    keep_restated(alloc, texts, old, new)?;
+    keep_gone(texts, new.id, &old.tracker, &new.tracker)?;
+    keep_log(texts, new.id, &old.log, &new.log)
+}
+
+// Adds what of a node is not as it was. Usually it is, and then its rows aren't put together to be compared.
+fn keep_if_changed<L: RaftLog>(
+    alloc: Global,
+    texts: &mut Lines,
+    old: &Node<L>,
+    new: &Node<L>,
+) -> Result<(), AllocError>
+    ensures { OnOk result (texts.new ≡ texts.old ++ texts_of (changed_rows old.now new.now)) }
+{
+    if new.same(old) {
+        return Ok(());
+    }
+    keep_changed(alloc, texts, old.status(), new.status())
+}
+
+// The node at an index, if there is one.
+fn old_at<L: RaftLog>(olds: &[SharedNode<L>], index: usize) -> Option<&Node<L>>
+    ensures { MatchOption result (slice_get olds.now index ≡ None) (λ node. slice_get olds.now index ≡ Some node.now) }
+{
+    match olds.get(index) {
+        Some(shared) => Some(shared.node()),
+        None => None,
+    }
+}
+
+/// The same bytes, each of which is one by its type.
+pub(crate) fn as_bytes(bytes: &[u8]) -> &[u8]
+    ensures same { result.now ≡ bytes.now }
+    ensures bytes { list_all is_byte bytes.now ≡ true }
+{
+    bytes
+}
+
+// The node at an index. Its visible content is bytes.
+fn node_at<L: RaftLog>(nodes: &[SharedNode<L>], index: usize) -> &Node<L>
+    requires { index < length nodes.now }
+    ensures node { slice_get nodes.now index ≡ Some result.now }
+    ensures bytes { list_all is_byte (content_end result.now.content) ≡ true }
+{
+    let node = nodes[index].node();
+    let _shown = as_bytes(node.status().content.end());
+    node
+}
+
+/// Adds what of the node at an index is not as it was, or all of it where it wasn't there.
+pub(crate) fn keep_node_at<L: RaftLog>(
+    alloc: Global,
+    texts: &mut Lines,
+    olds: &[SharedNode<L>],
+    index: usize,
+    new: &Node<L>,
+) -> Result<(), AllocError>
+    ensures { OnOk result (texts.new ≡ texts.old ++ texts_of (node_rows (slice_get olds.now index) new.now)) }
+{
+    match old_at(olds, index) {
+        Some(old) => keep_if_changed(alloc, texts, old, new),
+        None => keep_added(texts, new.status()),
+    }
+}
+
+/// Adds what of the nodes is not as it was, where these were before. What is shown of their contents is bytes.
+pub(crate) fn keep_states<L: RaftLog>(
+    alloc: Global,
+    texts: &mut Lines,
+    olds: &[SharedNode<L>],
+    news: &[SharedNode<L>],
+) -> Result<(), AllocError>
+    ensures texts { OnOk result (texts.new ≡ texts.old ++ texts_of (state_rows olds.now news.now)) }
+    ensures bytes { OnOk result (ShowBytes news.now) }
+{
+    for i in 0..news.len() {
+        keep_node_at(alloc, texts, olds, i, node_at(news, i))?;
+    }
+    Ok(())
+}

@@ -1,0 +1,106 @@
+//! The rows of what a directive does.
+
+ghost use Rattle.std.specs.Prelude.{◌≡◌, [], IfOk, OnOk, slice_set, true};
+ghost use Rattle.std.specs.List.{list_all};
+ghost use Rattle.rb_raftlog.specs.Content.{content_end};
+ghost use Rattle.rb_view.specs.Json.{is_byte};
+
+use crate::rows::keep_item;
+use crate::steps::node::{as_bytes, keep_node_at};
+use rb_cluster::{Cluster, SharedNode};
+use rb_machine::Observer;
+use rb_node::Node;
+use rb_raftlog::RaftLog;
+use rb_script::Lines;
+use rb_texts::Item;
+use rb_vocab::Level;
+use std::alloc::{AllocError, Global};
+
+/// The rows of what a directive does, whatever the level is: a text an item, and one a row of what changed at a node that has settled.
+#[derive(Drop)]
+pub(crate) struct EventRows<L: RaftLog> {
+    alloc: Global,
+    pub(crate) texts: Lines,
+    /// The nodes as they were written last.
+    pub(crate) nodes: Vec<SharedNode<L>>,
+}
+
+// Whether what is shown of a node's content is bytes, which it is by its type.
+fn shows_bytes<L: RaftLog>(node: &Node<L>) -> bool
+    ensures value { result ≡ true }
+    ensures bytes { list_all is_byte (content_end node.now.content) ≡ true }
+{
+    let _shown = as_bytes(node.status().content.end());
+    true
+}
+
+// Puts a copy of a node at an index, if there is one.
+fn rewrite<L: RaftLog>(
+    alloc: Global,
+    nodes: &mut Vec<SharedNode<L>>,
+    index: usize,
+    node: &Node<L>,
+) -> Result<(), AllocError>
+    ensures { OnOk result (nodes.new.items ≡ slice_set nodes.old.items index node.now) }
+{
+    let copy = SharedNode::copy_of(alloc, node)?;
+    if index < nodes.len() {
+        nodes[index] = copy;
+    }
+    Ok(())
+}
+
+impl<L: RaftLog> EventRows<L> {
+    /// None. The nodes were written as they are in the cluster.
+    pub(crate) fn new(alloc: Global, cluster: &Cluster<L>) -> Result<EventRows<L>, AllocError>
+        ensures texts { IfOk result (λ rows. rows.texts ≡ []) }
+        ensures nodes { IfOk result (λ rows. rows.nodes.items ≡ cluster.now.nodes) }
+    {
+        Ok(EventRows {
+            alloc,
+            texts: Lines::new(alloc),
+            nodes: cluster.copy_nodes()?,
+        })
+    }
+
+    /// The rows, and the nodes as they were written last.
+    pub(crate) fn into_parts(self) -> (Lines, Vec<SharedNode<L>>)
+        ensures texts { result.0 ≡ self.texts }
+        ensures nodes { result.1 ≡ self.nodes }
+    {
+        let EventRows {
+            alloc: _,
+            texts,
+            nodes,
+        } = self;
+        (texts, nodes)
+    }
+}
+
+impl<L: RaftLog> Observer<L> for EventRows<L> {
+    ghost use Rattle.std.specs.Prelude.{true};
+    ghost use Rattle.rb_view.specs.Watching.{Watching, with_item, with_node};
+
+    ghost Meaning = { Watching };
+
+    ghost meaning = { λ rows. record { texts = rows.texts; nodes = rows.nodes.items; of_bytes = true } };
+
+    ghost starting = { λ w level. w };
+
+    ghost taking = { with_item };
+
+    ghost settling = { with_node };
+
+    fn start(&mut self, _level: Level) {}
+
+    fn observe(&mut self, item: &Item<'_>) -> Result<(), AllocError> {
+        keep_item(&mut self.texts, item)
+    }
+
+    fn settle(&mut self, id: u64, node: &Node<L>) -> Result<(), AllocError> {
+        let index = id.saturating_sub(1) as usize;
+        let _shown = shows_bytes(node);
+        keep_node_at(self.alloc, &mut self.texts, &self.nodes, index, node)?;
+        rewrite(self.alloc, &mut self.nodes, index, node)
+    }
+}

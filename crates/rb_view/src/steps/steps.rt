@@ -1,0 +1,103 @@
+//! All directives of a run.
+
+ghost use Rattle.std.specs.Prelude.{◌≡◌, ◌<◌, ◌≤◌, ◌∷◌, [], ◌++◌, IfOk, OnOk, Some, length, slice_get};
+ghost use Rattle.std.specs.List.{flat_map};
+ghost use Rattle.rb_script.specs.declared.limits.TheConstants.{MAX_DIRECTIVES};
+ghost use Rattle.rb_machine.specs.Cluster.{empty};
+ghost use Rattle.rb_view.specs.Kept.{texts_of};
+ghost use Rattle.rb_replay.specs.Run.{outputs};
+ghost use Rattle.rb_view.specs.Steps.{end_row, source_row, step_texts, steps, steps_texts};
+ghost use Rattle.rb_view.specs.Values.{GoOnShowingBytes};
+
+use crate::rows::{Cell, keep_row};
+use crate::steps::shown::StepMachine;
+use crate::steps::step::keep_step;
+use rb_machine::Machine;
+use rb_replay::{Outputs, Session};
+use rb_report::check::Table;
+use rb_script::{Block, Lines, Script};
+use std::alloc::{AllocError, Global};
+
+// The block of the directive at an index, which counts from 0.
+fn block_at(script: &Script, index: usize) -> &Block
+    requires few { length script.now.blocks ≤ MAX_DIRECTIVES }
+    requires within { index < length script.now.blocks }
+    ensures { slice_get script.now.blocks index ≡ Some result.now }
+{
+    script.block(index + 1).unwrap()
+}
+
+// The number at an index, which counts from 0.
+fn number_at(numbers: &[usize], index: usize) -> usize
+    requires { index < length numbers.now }
+    ensures { slice_get numbers.now index ≡ Some result }
+{
+    numbers[index]
+}
+
+// Runs the directives, each once, and adds their rows. What they printed is given back.
+fn keep_directives<M: StepMachine>(
+    alloc: Global,
+    texts: &mut Lines,
+    script: &Script,
+    heads: &[usize],
+) -> Result<Outputs, AllocError>
+    requires few { length script.now.blocks ≤ MAX_DIRECTIVES }
+    requires count { length heads.now ≡ length script.now.blocks }
+    ensures texts { OnOk result (texts.new ≡ texts.old ++ flat_map step_texts (steps heads.now script.now)) }
+    ensures outputs { IfOk result (λ printed. printed ≡ outputs script.now) }
+    ensures bytes { OnOk result (GoOnShowingBytes empty script.now.blocks) }
+{
+    let mut printed = Outputs::new(alloc);
+    let mut machine = M::empty(alloc)?;
+    let mut table = Table::new(alloc)?;
+    for i in 0..script.len() {
+        let block = block_at(script, i);
+        let line = number_at(heads, i);
+        let ran = keep_step(alloc, texts, &mut table, &machine, block, line)?;
+        printed.push(ran.output)?;
+        machine = ran.machine;
+    }
+    Ok(printed)
+}
+
+// Adds how many directives and mismatches there are.
+fn keep_end<M: Machine>(texts: &mut Lines, session: &Session<M>) -> Result<(), AllocError>
+    ensures { OnOk result (texts.new ≡ texts.old ++ texts_of (end_row session.now.script ∷ [])) }
+{
+    let cells = [
+        Cell::Number(session.len() as u64),
+        Cell::Number(session.mismatches().len() as u64),
+    ];
+    keep_row(texts, b"end", &cells)?;
+    Ok(())
+}
+
+// Adds the bytes of a script.
+fn keep_source(texts: &mut Lines, bytes: &[u8]) -> Result<(), AllocError>
+    ensures { OnOk result (texts.new ≡ texts.old ++ texts_of (source_row bytes.now ∷ [])) }
+{
+    keep_row(texts, b"text", &[Cell::Text(bytes)])
+}
+
+/// Runs a script, each directive once, and gives a session on it and the rows after the first, each as a text: these are its bytes, and the lines
+/// on which its heads begin. After each directive what is shown of a node's content is bytes.
+pub fn steps_of<M: StepMachine>(
+    alloc: Global,
+    script: Script,
+    bytes: &[u8],
+    heads: &[usize],
+) -> Result<(Session<M>, Lines), AllocError>
+    requires few { length script.blocks ≤ MAX_DIRECTIVES }
+    requires count { length heads.now ≡ length script.blocks }
+    ensures script { IfOk result (λ ran. ran.0.script ≡ script) }
+    ensures texts { IfOk result (λ ran. ran.1 ≡ steps_texts bytes.now heads.now script) }
+    ensures bytes { OnOk result (GoOnShowingBytes empty script.blocks) }
+{
+    let mut texts = Lines::new(alloc);
+    keep_source(&mut texts, bytes)?;
+    let printed = keep_directives::<M>(alloc, &mut texts, &script, heads)?;
+    let session = Session::from_outputs(alloc, script, printed)?;
+    keep_end(&mut texts, &session)?;
+    Ok((session, texts))
+}
