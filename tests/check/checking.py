@@ -30,12 +30,13 @@ def run(room: pathlib.Path, *words: bytes | str | pathlib.Path, program: pathlib
     return done.returncode, TIME.sub(b"TIME\n", done.stdout or b""), done.stderr or b""
 
 
-def totals(scripts: int, directives: int, mismatches: int = 0, refused: int = 0, accepted: int = 0, failed: int = 0, errors: int = 0) -> bytes:
+def totals(scripts: int, directives: int, mismatches: int = 0, refused: int = 0, accepted: int = 0, failed: int = 0, errors: int = 0, warnings: int = 0) -> bytes:
     def counted(n: int, one: str, many: str) -> str:
         return f"{n} {one if n == 1 else many}"
     text = ", ".join([counted(scripts, "script", "scripts"), counted(directives, "directive", "directives"),
                       counted(mismatches, "mismatch", "mismatches"), f"{refused} refused"])
     text += f", {counted(errors, 'error', 'errors')}" if errors else ""
+    text += f", {counted(warnings, 'warning', 'warnings')}" if warnings else ""
     text += f", {accepted} accepted" if accepted else ""
     text += f", {failed} failed" if failed else ""
     return f"{text}, TIME\n".encode()

@@ -123,9 +123,9 @@ def test_accepting_one_that_is_not_there(room: pathlib.Path) -> Iterator[str]:
         status, _, came = run(room, "--accept", word)
         if status != 4 or not came.startswith(told) or tree(room) != before:
             yield f"{word}: {status} {came!r}"
-    status, _, came = run(room, "a.txt:2")
-    if status != 4 or not came.startswith(b"a.txt:2: no such file or folder\n"):
-        yield f"without --accept: {status} {came!r}"
+    yield from differs("without --accept", run(room, "a.txt:2"), (1, mismatch("a.txt", 2) + totals(1, 1, 1), b""))
+    yield from differs("above it", run(room, "a.txt:1"), (4, totals(0, 0, failed=1), b"a.txt: no directive is at this line or above it\n"))
+    yield from differs("no file", run(room, "d.txt:1"), (4, b"", None))
 
 
 def test_a_name_that_ends_in_a_line(room: pathlib.Path) -> Iterator[str]:

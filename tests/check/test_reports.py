@@ -5,6 +5,7 @@ import pathlib
 import random
 import re
 import time
+import xml.etree.ElementTree as ElementTree
 from collections.abc import Callable, Iterator
 from typing import Any
 
@@ -140,6 +141,21 @@ def test_too_much_to_compare(room: pathlib.Path) -> Iterator[str]:
             yield f"{count}: {status} after {time.monotonic() - began:.1f} s: {shown[:300]!r}"
 
 
+def test_too_much_to_compare_in_a_script(room: pathlib.Path) -> Iterator[str]:
+    """Lists of 1,990 lines with one in common in the middle: 4 million cells each. Five are compared, and then whole: but a short one still is."""
+    quiet = ["add-nodes 1 voters=(1) index=10 log-level=none", "campaign 1 log-level=none", "stabilize log-level=none", *["propose 1 a"] * 1990, "stabilize log-level=none"]
+    same = b'1/1000 "a"'
+    wrong = b"".join((same if line == 500 else b"%d" % line) + b"\n" for line in range(1990))
+    text = "".join(f"{head}\n----\nok\n\n" for head in quiet).encode() + (b"raft-log 1\n----\n" + wrong + b"\n") * 8
+    (room / "a.txt").write_bytes(text + b"status 1\n----\nx\n\n")
+    began = time.monotonic()
+    status, shown, _ = run(room, "a.txt")
+    lines = shown.split(b"\n")
+    signs = [line[:2] for line in lines if line[2:] == same and line[:2] != b"+ "]
+    if (status, signs) != (1, [b"  "] * 5 + [b"- "] * 3) or time.monotonic() - began > 10:
+        yield f"{status} after {time.monotonic() - began:.1f} s: {signs}"
+
+
 def latin(text: str) -> bytes:
     """The bytes of a text of JSON."""
     return text.encode("latin-1")
@@ -177,6 +193,12 @@ def in_bytes(value: Any) -> Any:
 ODD_PATHS = ("a.txt", "b", "d.txt", "e.txt", "f.txt", "nothing")
 
 
+def totals_object(scripts: int, directives: int, mismatches: int = 0, refused: int = 0, errors: int = 0, warnings: int = 0, failed: int = 0) -> dict[str, Any]:
+    """The last object of JSON."""
+    return {"status": b"totals", "scripts": scripts, "directives": directives, "mismatches": mismatches, "refused": refused, "errors": errors, "warnings": warnings,
+            "accepted": 0, "failed": failed}
+
+
 def test_json(room: pathlib.Path) -> Iterator[str]:
     """What fails comes first, since it is found first; each object is a line, and gives the bytes back."""
     wanted = odd_files(room)
@@ -186,11 +208,13 @@ def test_json(room: pathlib.Path) -> Iterator[str]:
         if (status, lines[-1], told) != (run(room, *ODD_PATHS)[0], b"", b"nothing: no such file or folder\n") or not output.isascii():
             yield f"{words}: {status} {told!r} {output!r}"
         came = [in_bytes(json.loads(line)) for line in lines[:-1]]
-        for here, due in itertools.zip_longest(came, wanted[-1:] + wanted[:-1]):
+        for here, due in itertools.zip_longest(came, [*wanted[-1:], *wanted[:-1], totals_object(5, 5, 3, 1, 2, 1, 1)]):
             if here != due or list(here) != list(due):
                 yield f"{words}: {here}, and not {due}"
     yield from differs("quiet", run(room, "--format=json", "-q", "a.txt"), (1, b"", b""))
-    yield from differs("what matches", run(room, "--format=json", "d.txt"), (0, b"", b""))
+    matches = run(room, "--format=json", "d.txt")
+    if matches[0] != 0 or in_bytes(json.loads(matches[1])) != totals_object(1, 1) or matches[1].count(b"\n") != 1:
+        yield f"what matches: {matches}"
 
 
 def workflow_command(line: bytes) -> tuple[bytes, dict[bytes, bytes], bytes]:
@@ -216,6 +240,8 @@ def test_github(room: pathlib.Path) -> Iterator[str]:
     if status != run(room, *ODD_PATHS)[0]:
         yield f"status {status}"
     lines = output.split(b"\n")
+    # Of a.txt only the first mismatch is told, and that there is another.
+    wanted = [it for it in wanted if it["line"] != 5]
     commands = {b"mismatch": b"error", b"refused": b"error", b"failed": b"error", b"error": b"warning", b"warning": b"warning"}
     for line, due in itertools.zip_longest(lines[:-1], wanted[-1:] + wanted[:-1]):
         command, properties, message = workflow_command(line)
@@ -226,7 +252,8 @@ def test_github(room: pathlib.Path) -> Iterator[str]:
         if due["status"] == b"mismatch":
             shown = run(room, due["script"].decode())[1]
             heading = b"%s:%d: %s\n" % (due["script"], due["line"], title)
-            text = shown.split(heading, 1)[1].split(b"\n\n", 1)[0] + b"\n(- expected, + output)"
+            others = b"; 1 other directive differs" if due["script"] == b"a.txt" else b""
+            text = shown.split(heading, 1)[1].split(b"\n\n", 1)[0] + b"\n(- expected, + output%s)" % others
         else:
             text = due.get("message", due.get("output", [b""])[0])
         if message.replace(b"\r", b"\\x0d") != text:
@@ -239,7 +266,10 @@ def test_github(room: pathlib.Path) -> Iterator[str]:
 def test_accepting_for_programs(room: pathlib.Path) -> Iterator[str]:
     files(room, a_txt=BAD + b"\ncampain 1\n----\n", b_txt=BAD + b"log-level none\n")
     status, output, told = run(room, "--accept", "--format", "json", ".")
-    came = [(it["script"], it["line"], it["status"], it.get("message")) for it in map(json.loads, output.splitlines())]
+    *objects, last = map(json.loads, output.splitlines())
+    came = [(it["script"], it["line"], it["status"], it.get("message")) for it in objects]
+    if [last[name] for name in ("status", "scripts", "directives", "mismatches", "errors", "warnings", "accepted", "failed")] != ["totals", 2, 3, 2, 1, 1, 1, 0]:
+        yield f"{last}"
     wanted = [
         ("./a.txt", 1, "mismatch", None), ("./a.txt", 5, "mismatch", None),
         ("./a.txt", 5, "left", "this new error was not accepted; --accept-errors accepts it too"),
@@ -253,7 +283,80 @@ def test_accepting_for_programs(room: pathlib.Path) -> Iterator[str]:
 
 
 def test_format_that_there_is_not(room: pathlib.Path) -> Iterator[str]:
-    yield from differs("it", run(room, "--format", "xml", "."), (2, b"", b"raftbench: --format xml: text, json or github\n"))
+    yield from differs("it", run(room, "--format", "xml", "."), (2, b"", b"raftbench: --format xml: text, json, github or junit\n"))
+
+
+def junit_cases(output: bytes) -> list[tuple[str, str, str, str]]:
+    """Of each case its name, what is in it, and the message and the text of that, as a parser of XML reads them."""
+    root = ElementTree.fromstring(output)
+    assert root.tag == "testsuites", root.tag
+    came = []
+    for suite in root:
+        (case,) = suite
+        assert (suite.tag, case.tag, suite.get("name")) == ("testsuite", "testcase", case.get("name")) and case.get("classname") == "raftbench"
+        kinds = [part.tag for part in case]
+        assert [suite.get(name) for name in ("tests", "failures", "errors")] == ["1", str(kinds.count("failure")), str(kinds.count("error"))], suite.attrib
+        part = case[0] if kinds else ElementTree.Element("")
+        came.append((case.get("name", ""), part.tag, part.get("message", ""), part.text or ""))
+    return came
+
+
+def by_number(text: bytes) -> str:
+    """All that isn't printable ASCII, a tab or an end of a line by its number, and backslashes too."""
+    return "".join(chr(byte) if byte in b"\t\n" or 32 <= byte <= 126 and byte != 92 else f"\\x{byte:02x}" for byte in text)
+
+
+def test_junit(room: pathlib.Path) -> Iterator[str]:
+    """A case has what the text report shows of its script; it fails where that script alone ends with 1."""
+    odd_files(room)
+    status, output, told = run(room, "--format", "junit", *ODD_PATHS)
+    if (status, told) != (4, b"nothing: no such file or folder\n"):
+        yield f"{status} {told!r}"
+    cases = junit_cases(output)
+    if [(name, kind) for name, kind, _, _ in cases] != [("nothing", "error"), ("a.txt", "failure"), ("b/c.txt", "system-out"), ("d.txt", ""), ("e.txt", "error"), ("f.txt", "failure")]:
+        yield f"{cases}"
+    if [message for _, kind, message, _ in cases if kind == "failure"] != ["mismatches: 2, errors: 1, warnings: 0", "mismatches: 1, errors: 0, warnings: 1"]:
+        yield f"{cases}"
+    for name, kind, _, text in cases:
+        alone, shown, _ = run(room, name)
+        shown = b"".join(shown.splitlines(keepends=True)[:-1])
+        # Where the script would act in a terminal, the text report has numbers already.
+        if kind in ("failure", "system-out", "") and (text not in (by_number(shown), shown.decode()) or (kind == "failure") != (alone == 1)):
+            yield f"{name}: {text!r}, and not {shown!r}"
+
+
+def test_junit_is_xml(room: pathlib.Path) -> Iterator[str]:
+    """Whatever bytes scripts and their names have."""
+    dice = random.Random(1)
+    signs = [b"]]>", b"<!--", b"-->", b"</failure>", b"&", b"&#0;", b"<![CDATA[", b"<?", b"?>", b"\"", b"'", b"\x00", b"\x1b", b"\x7f", b"\xff\xfe", b"\xc3", b"\xef\xbf\xbe", b"\r", b"\t", b"\\", "\ufffe\u202e\u0085".encode()]
+    signs += [bytes([byte]) for byte in range(256) if byte != 10]
+    for round_ in range(60):
+        lines = [b"x" + b"".join(dice.choices(signs, k=dice.randint(1, 12))) for _ in range(4)]
+        name = "a<&\"'>]]\t\u00e9.txt" if round_ % 2 else "a.txt"
+        (room / name).write_bytes(b"log-level info\n----\n----\n" + b"\n".join(lines) + b"\n----\n----\n\ncampaign 1 " + lines[0].replace(b"(", b"") + b"\n----\nok\n")
+        status, output, _ = run(room, "--format", "junit", name)
+        if status not in (1, 3) or any(byte not in (9, 10) and not 32 <= byte <= 126 for byte in output):
+            yield f"{status} {output!r}"
+        ((shown, kind, message, text),) = junit_cases(output)
+        if shown != by_number(name.encode()) or kind not in ("failure", "error"):
+            yield f"{shown!r} {kind} {message}"
+        for line in lines if kind == "failure" else []:
+            if by_number(line.rstrip(b"\r")) not in text:
+                yield f"{line!r} is not in {text!r}"
+
+
+def test_strict_is_of_each_script(room: pathlib.Path) -> Iterator[str]:
+    """In each format, and whatever is shown."""
+    files(room, a_txt=GOOD, b_txt=b"campain 1\n----\n" + UNKNOWN + b"\n", c_txt=b"log-level info\nx\n----\nok\n")
+    for words in ((), ("-q",), ("-v",), ("--brief",), ("--first",), ("--why",), ("--format=json",), ("--format=github",), ("--format=junit",)):
+        for paths, due in ((("a.txt",), 0), (("b.txt",), 1), (("c.txt",), 1), ((".",), 1)):
+            came = run(room, "--strict", *words, *paths)[0], run(room, *words, *paths)[0]
+            if came != (due, 0):
+                yield f"{words} {paths}: {came}"
+    cases = junit_cases(run(room, "--strict", "--format=junit", ".")[1])
+    if [kind for _, kind, _, _ in cases] != ["", "failure", "failure"]:
+        yield f"{cases}"
+    yield from differs("refused", run(room, "--strict", "-q", ".", "nothing"), (4, b"", None))
 
 
 # What acts in a terminal or a log, and what is shown of it: control characters, DEL, a C1 control in UTF-8, marks that turn the direction, ends of
@@ -277,7 +380,7 @@ def test_what_acts_in_a_terminal(room: pathlib.Path) -> Iterator[str]:
         if status != 1 or seen not in output.replace(b"%25", b"%").replace(b"%0D", b"\\x0d") or any(byte != 10 and not 32 <= byte <= 126 for byte in output):
             yield f"github {acting!r}: {output!r}"
         status, output, _ = run(room, "--format", "json", "a.txt")
-        if status != 1 or json.loads(output)["expected"] != [acting.decode("latin-1")] or any(byte != 10 and not 32 <= byte <= 126 for byte in output):
+        if status != 1 or json.loads(output.splitlines()[0])["expected"] != [acting.decode("latin-1")] or any(byte != 10 and not 32 <= byte <= 126 for byte in output):
             yield f"json {acting!r}: {output!r}"
     for still in STILL:
         files(room, a_txt=b"log-level info\n----\n" + still + b"\n")

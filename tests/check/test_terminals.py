@@ -95,7 +95,12 @@ def test_highlights(room: pathlib.Path) -> Iterator[str]:
                 yield f"{expected!r}, {words}: {came!r}"
 
 
-QUESTION = b"accept this output? [y,n,a,q,?] "
+QUESTION = b"accept this output? [y,n,a,s,q,?] "
+
+
+def question(number: int, count: int) -> bytes:
+    """The question about one of so many outputs."""
+    return b"%d of %d: " % (number, count) + QUESTION
 
 
 def reviewed(room: pathlib.Path, answers: tuple[bytes, ...], *words: str, ends: bytes = b"") -> tuple[int, bytes]:
@@ -137,14 +142,14 @@ def first(path: str, differ: int, directives: int, line: int = 1) -> bytes:
 
 
 def test_review(room: pathlib.Path) -> Iterator[str]:
-    """What is said yes to is accepted, and the bytes of all else stay."""
+    """What is said yes to is accepted, and the bytes of all else stay. Each question says which of how many it is, below the directive and the comment above that."""
     blocks = [b"# %d\r\n" % number + BAD.replace(b"\n", b"\r\n") for number in range(4)]
     text = b"\r\n".join(blocks)
     for answers in itertools.product((b"y", b"n"), repeat=4):
         (room / "a.txt").write_bytes(text)
         status, got = reviewed(room, answers, "a.txt")
         yes = answers.count(b"y")
-        wanted = first("a.txt", 4, 4, 2) + b"".join(mismatch("a.txt", 2 + 5 * number) + QUESTION for number in range(4))
+        wanted = first("a.txt", 4, 4, 2) + b"".join(b"# %d\n" % number + mismatch("a.txt", 2 + 5 * number) + question(number + 1, 4) for number in range(4))
         wanted += (b"a.txt: accepted %d output%s\n" % (yes, b"s" * (yes != 1))) * (yes > 0) + totals(1, 4, 4 - yes, accepted=yes)
         due = b"\r\n".join(block.replace(b"no", b"ok") if answer == b"y" else block for block, answer in zip(blocks, answers))
         if (status, got) != (0 if yes == 4 else 1, wanted) or (room / "a.txt").read_bytes() != due:
@@ -155,15 +160,42 @@ def test_review_of_the_rest(room: pathlib.Path) -> Iterator[str]:
     """`a` accepts all that follow in the script, but new errors; the next script is asked about again. `q` leaves all that follow."""
     error = b"campain 1\n----\n"
     text = BAD + b"\n" + BAD + b"\n" + error + b"\n" + BAD
-    for words, came in (((), error), (("--accept-errors",), error + UNKNOWN + b"\n")):
+    for words, came, accepted in (((), error, 3), (("--accept-errors",), error + UNKNOWN + b"\n", 4)):
         files(room, a_txt=text, b_txt=text, c_txt=BAD)
         status, got = reviewed(room, (b"n", b"a", b"y", b"q"), *words, ".")
         wanted = {"a.txt": BAD + b"\n" + GOOD + b"\n" + came + b"\n" + GOOD, "b.txt": GOOD + b"\n" + BAD + b"\n" + error + b"\n" + BAD, "c.txt": BAD}
-        if status != 1 or tree(room) != wanted or got.count(QUESTION) != 4 or b"c.txt" in got:
+        if status != 1 or tree(room) != wanted or got.count(QUESTION) != 4 or b"c.txt" in got or quitted(accepted, 1) not in got:
             yield f"{words}: {status} {got!r} {tree(room)!r}"
     files(room, a_txt=error)
     if reviewed(room, (b"y",), "a.txt")[0] != 0 or (room / "a.txt").read_bytes() != error + UNKNOWN + b"\n":
         yield "an error that was said yes to is left"
+
+
+def test_review_that_skips(room: pathlib.Path) -> Iterator[str]:
+    """`s` leaves all that follow in the script, and the next script is asked about again; only `q` says that the review ends."""
+    three = b"\n".join([BAD] * 3)
+    files(room, a_txt=three, b_txt=BAD)
+    status, got = reviewed(room, (b"y", b"s", b"y"), ".")
+    wanted = {"a.txt": ACCEPTED + b"\n" + BAD + b"\n" + BAD, "b.txt": ACCEPTED}
+    if status != 1 or tree(room) != wanted or b"ends here" in got:
+        yield f"{status} {got!r} {tree(room)!r}"
+    for asked in (question(1, 3), question(2, 3), question(1, 1)):
+        if got.count(asked) != 1:
+            yield f"{asked!r} in {got!r}"
+
+
+def test_review_of_a_comment(room: pathlib.Path) -> Iterator[str]:
+    """The comments directly above a directive are shown, and no other line above it."""
+    files(room, a_txt=b"# far\n\n# near\n  # nearer\n" + BAD)
+    status, got = reviewed(room, (b"q",), "a.txt")
+    wanted = first("a.txt", 1, 1, 5) + b"# near\n  # nearer\n" + mismatch("a.txt", 5) + question(1, 1) + quitted(0, 0) + totals(1, 1, 1)
+    if (status, got) != (1, wanted):
+        yield f"{status} {got!r}"
+
+
+def quitted(accepted: int, left: int) -> bytes:
+    """What is said where a review ends before its end."""
+    return b"the review ends here; accepted so far: %d; scripts not looked at: %d\n" % (accepted, left)
 
 
 def test_review_that_is_asked_again(room: pathlib.Path) -> Iterator[str]:

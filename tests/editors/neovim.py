@@ -1,6 +1,6 @@
 """Opens a script in Neovim without a screen, with the files of editors/vim and editors/nvim, and looks at what is shown: a mismatch is marked when it is
-typed, what came is shown at a key, and the mismatch is gone when it is mended, or accepted at a key. Where an empty line is missing a key puts it in.
-The script is saved.
+typed, what came is shown at a key, and the mismatch is gone when it is mended, or accepted at a key. Where an empty line is missing a key puts it in, and
+where a name is wrong it puts the right one in its place. The script is saved.
 """
 import pathlib
 import subprocess
@@ -67,12 +67,19 @@ wait_for(2)
 vim.api.nvim_win_set_cursor(0, { 4, 0 })
 press('gra')
 wait_for(0)
+-- A name is wrong.
+vim.api.nvim_buf_set_lines(0, 4, 5, true, { 'log-levle debug' })
+wait_for(1)
+vim.api.nvim_win_set_cursor(0, { 5, 0 })
+press('gra')
+wait_for(0)
 say('')
 vim.cmd('silent write | qall!')
 """
 DUE = ["raftbench true", "there 0", "there 1", "2 1 mismatch - no|+ ok", "there 0", "there 1", "2 1 mismatch - another|+ ok",
        "shown ok raft-state ok on their way no messages", "there 0", "there 2", "3 1 mismatch - log-level debug|| ok|- log-level debug|- ----|- ok",
-       "3 2 slip this looks like a directive inside an expectation: an empty line is missing before it", "there 0"]
+       "3 2 slip this looks like a directive inside an expectation: an empty line is missing before it", "there 0", "there 1",
+       '6 1 mismatch - ok|+ error: unknown directive "log-levle"|did you mean "log-level"?', "there 0"]
 
 
 def shown(program: pathlib.Path, room: pathlib.Path) -> Any:
@@ -91,7 +98,7 @@ def look(program: pathlib.Path) -> Iterator[str]:
     """Texts for what is not as it must be."""
     with tempfile.TemporaryDirectory() as room:
         lines, left = shown(program, pathlib.Path(room))
-    if (lines := [line for line in lines if line.split()[0] in ("raftbench", "there", "missing", "0", "1", "2", "3", "shown")]) != DUE:
+    if (lines := [line for line in lines if line.split()[0] in ("raftbench", "there", "missing", "0", "1", "2", "3", "6", "shown")]) != DUE:
         yield f"shown: {lines}"
     if left != f"{SCRIPT}\n{SCRIPT}":
         yield f"left: {left!r}"

@@ -3,11 +3,13 @@
 By docs/SCRIPTS.md and the protocol's specification (LSP 3.17). Texts are Python's: offsets count characters. Scripts are
 read by the plain bench in plain/.
 """
+import functools
 import re
 from collections.abc import Sequence
 from typing import Any
 
 from plain import script
+from plain.cluster import Cluster
 from tests.editors.oracle import line_starts, position
 from tests.harness import TOP, matched
 
@@ -140,34 +142,51 @@ def table_of_directives() -> Any:
     return directives, kept | {"type": [*types, "MsgUnreachable"]}, ids
 
 
+def plainly(text: str) -> str:
+    return CODE.sub(r"\1", text)
+
+
+def table_of_meanings() -> tuple[dict[str, str], list[tuple[str, str]]]:
+    """What each option takes, by the document's table; and the letters of changes, but that which does nothing, with what they do to a node."""
+    lines = (TOP / "docs" / "SCRIPTS.md").read_text().splitlines()
+    at = lines.index("| What | Is |")
+    rows = [cells(line) for line in lines[at + 2:lines.index("", at)]]
+    meanings = {re.sub(r"^an? ", "", name): plainly(is_) for what, is_ in rows for name in plainly(what).split(", ")}
+    at = lines.index("| Word | Means |")
+    changes = [cells(line) for line in lines[at + 2:lines.index("", at)]]
+    return meanings, [(word.strip("`")[0], means.replace("node 4", "the node")) for word, means in changes if means != "nothing"]
+
+
 DIRECTIVES, VALUES, ID_KEYS = table_of_directives()
+MEANINGS, CHANGES = table_of_meanings()
 
 
 def joined(head: Sequence[str]) -> str:
     return "".join(line.rstrip(" \t")[:-1] + " " for line in head[:-1]) + head[-1]
 
 
-def heads_before(lines: list[str], front: str) -> tuple[list[str], str | None]:
-    """The heads in these lines, and the one in which the line stands that begins so, below these, or None: each joined."""
+def place_in(lines: list[str], front: str) -> tuple[str | None, str | None, int]:
+    """Below these lines, on a line that begins so: the head up to there, its lines joined, or None; what there is of the line, if it is input of a
+    change; and how many lines above are of the same block."""
     at = 0
-    heads: list[str] = []
     while True:
         while at < len(lines) and is_lead(lines[at]):
             at += 1
         if at == len(lines):
-            return heads, None if front.lstrip(" \t").startswith("#") else front
+            return None if front.lstrip(" \t").startswith("#") else front, None, 0
         start = at
         while at < len(lines) and is_continued(lines[at]):
             at += 1
         if at == len(lines):
-            return heads, joined(lines[start:] + [front])
+            return joined(lines[start:] + [front]), None, len(lines) - start
         at += 1
-        heads.append(joined(lines[start:at]))
         while at < len(lines) and lines[at].strip(" \t") != "----":
             at += 1
+        if at == len(lines):
+            return None, front if name_of(lines[start]) == "propose-conf-change" else None, len(lines) - start
         behind = behind_expectation(lines, at + 1)
         if behind is None:
-            return heads, None
+            return None, None, 0
         at = behind
 
 
@@ -204,17 +223,28 @@ def first_word(head: str) -> str:
     return ""
 
 
-def ids_by(heads: list[str]) -> list[str]:
-    """The ids of the nodes that there would be by these heads: each `add-nodes` adds as many as it says, unless they would be too many."""
-    nodes = 0
-    for head in heads:
-        more = int(first_word(head)) if name_of(head) == "add-nodes" and NUMBER.match(first_word(head)) else 0
-        nodes += more if nodes + more <= MOST_NODES else 0
+@functools.lru_cache(maxsize=256)
+def nodes_after(text: str) -> int:
+    """How many nodes there are after a text, by the plain bench; none if it is no script."""
+    try:
+        found = script.read_script(text.encode())
+    except script.Fault:
+        return 0
+    cluster = Cluster()
+    for block in found.blocks:
+        cluster.run(block.directive())
+    return len(cluster.nodes)
+
+
+def ids_of(nodes: int, head: str) -> list[str]:
+    """The ids of so many nodes, and of those that the head itself adds, unless they would be too many."""
+    more = int(first_word(head)) if name_of(head) == "add-nodes" and NUMBER.match(first_word(head)) else 0
+    nodes += more if nodes + more <= MOST_NODES else 0
     return [str(id) for id in range(1, nodes + 1)]
 
 
 def wanted(head: str, ids: list[str]) -> tuple[list[tuple[str, int]], str] | None:
-    """What a joined head ends in: the words that may stand there, each with what it is, and what stands of one; None where nothing is known."""
+    """What a joined head ends in: the words that may be there, each with what it is, and what there is of one; None where nothing is known."""
     if found := NAME.match(head):
         return [(name, FUNCTION) for name in DIRECTIVES], found[1]
     if not (name := WHOLE_NAME.match(head)):
@@ -224,12 +254,29 @@ def wanted(head: str, ids: list[str]) -> tuple[list[tuple[str, int]], str] | Non
         at, words = whole.end(), words + ("=" not in whole[0])
     options, _, places = DIRECTIVES.get(name[1], (["log-level"], "", 0))
     if found := ARGUMENT.match(head, at):
-        return [(key, PROPERTY) for key in options] + [(id, VALUE) for id in ids if words < places], found[1]
+        levels = VALUES["log-level"] if name[1] == "log-level" and words == 0 else []
+        return [(key, PROPERTY) for key in options] + [(level, VALUE) for level in levels] + [(id, VALUE) for id in ids if words < places], found[1]
     if found := VALUE_OF.match(head, at) or LIST_OF.match(head, at):
-        prefix = found[2] if found.re is VALUE_OF else re.split(r"[ \t,]", found[2])[-1]
+        *listed, prefix = [found[2]] if found.re is VALUE_OF else re.split(r"[ \t,]", found[2])
         values = ids if found[1] in ID_KEYS else VALUES.get(found[1], [])
-        return [(value, VALUE) for value in values if found[1] in options], prefix
+        return [(value, VALUE) for value in values if found[1] in options and value not in listed], prefix
     return None
+
+
+def help_on(head: str, word: str, kind: int, is_id: bool) -> str:
+    """The line of help on a word, as as_told gives it."""
+    if kind == PROPERTY:
+        return MEANINGS[word]
+    if kind == VALUE and not is_id:
+        return "some"
+    return CODE.sub(r"\1", DIRECTIVES.get(word if kind == FUNCTION else name_of(head), ([], "", 0))[1])
+
+
+def changes(front: str, nodes: int) -> list[tuple[str, str]]:
+    """The words that a line of input of a change can continue with, each with its line of help."""
+    *listed, prefix = re.split(r"[ \t,]", front)
+    words = [(f"{letter}{id}", does) for letter, does in CHANGES for id in range(1, nodes + 1)]
+    return [(word, does) for word, does in words if word.startswith(prefix) and word not in listed]
 
 
 def name_of(head: str) -> str:
@@ -237,29 +284,40 @@ def name_of(head: str) -> str:
 
 
 def completion(text: str, at: int, encoding: str) -> Any:
-    """The items at a place: each with its label, its kind, what it puts there, and what the document says that the directive does."""
+    """The items at a place: each with its label, its kind, what it puts there, and its line of help."""
     start = text.rfind("\n", 0, at) + 1
     lines = [line.rstrip("\r") for line in text[:start].split("\n")[:-1]]
-    above, head = heads_before(lines, text[start:at])
-    asked = None if head is None else wanted(head, ids_by([*above, head]))
-    if head is None or not asked:
-        return []
-    words, prefix = asked
+    head, change, begun = place_in(lines, text[start:at])
+    block = sum(len(line) + 1 for line in text.split("\n")[:len(lines) - begun])
+    found: list[tuple[str, int, str]] = []
+    prefix = ""
+    if change is not None:
+        prefix = re.split(r"[ \t,]", change)[-1]
+        found = [(word, VALUE, does) for word, does in changes(change, nodes_after(text[:block]))]
+    elif head is not None and (asked := wanted(head, [])):
+        prefix = asked[1]
+        ids = ids_of(nodes_after(text[:block]), head)
+        words, prefix = wanted(head, ids) or ([], "")
+        is_ids = [it for it in words if it not in asked[0]]
+        found = [(word, kind, help_on(head, word, kind, (word, kind) in is_ids)) for word, kind in words if word.startswith(prefix)]
     range_ = {"start": position(text, at - len(prefix), encoding), "end": position(text, at, encoding)}
     items = []
-    for word, kind in words:
-        if word.startswith(prefix):
-            label = word + ("=" if kind == PROPERTY else "")
-            does = DIRECTIVES.get(word if kind == FUNCTION else name_of(head), ([], "", 0))[1]
-            items.append({"label": label, "kind": kind, "does": CODE.sub(r"\1", does), "textEdit": {"range": range_, "newText": label}})
+    for word, kind, does in found:
+        label = word + ("=" if kind == PROPERTY else "")
+        items.append({"label": label, "kind": kind, "does": does, "textEdit": {"range": range_, "newText": label}})
     return items
 
 
 def as_told(items: Any) -> Any:
-    """Items as they came, with what the directive does, which stands behind its usage in the documentation."""
+    """Items as they came: of a directive what it does, which stands below its usage; of an option what it takes; of a change what it does; of
+    another value whether anything is said of it."""
     told = []
     for item in items:
         documentation = re.split(r"\n {4}(?! )", item["documentation"])
         does = " ".join(documentation[-1].split()) if len(documentation) > 1 else item["documentation"]
+        if item["kind"] == PROPERTY:
+            does = does.split(": ")[-1]
+        elif item["kind"] == VALUE and len(documentation) == 1 and not re.match(r"[vlr][0-9]", item["label"]):
+            does = "some" if does else ""
         told.append({"label": item["label"], "kind": item["kind"], "does": does, "textEdit": item["textEdit"]})
     return told

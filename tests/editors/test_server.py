@@ -28,6 +28,7 @@ from tests.harness import PROGRAM, TOP, NotHere, Result, result_of
 
 HERE = pathlib.Path(__file__).resolve().parent
 
+from tests.editors import bounds
 from tests.editors import memory
 from tests.editors import metamodel
 from tests.editors import neovim
@@ -326,6 +327,58 @@ def fixes_due(slips: list[tuple[int, str]], text: str, first: int, last: int, en
     return []
 
 
+def hint_of(text: str, line: int) -> str | None:
+    """The word that `check` suggests for the directive whose head begins on a line, which counts from 1."""
+    parts = re.split(r"(?m)^script:(\d+): ", oracle.checked(PROGRAM, text, ["--color", "never", "--verbose"])[1])[1:]
+    said = dict(zip(map(int, parts[::2]), parts[1::2])).get(line, "")
+    found = re.search(r'(?m)^did you mean "(\S+)"\?$', said)
+    return found[1] if found else None
+
+
+def corrected(text: str, encoding: str, action: Any, first: int, last: int) -> Iterator[str]:
+    """A correction is of the first directive on some lines for which `check` suggests a word: that takes the place of a whole word of its head."""
+    found = plainly.read(text)
+    (edit,) = action["edit"]["changes"][URI]
+    word, line = edit["newText"], edit["range"]["start"]["line"]
+    heads = [head for head, _, behind in plainly.extents(text, *found) if head <= last and first < behind and hint_of(text, head + 1)] if found else []
+    if action["title"] != f"Replace with {word}" or action["kind"] != "quickfix" or not heads or hint_of(text, heads[0] + 1) != word:
+        yield f"{action}, for {heads}"
+        return
+    at, end = (plainly.offset_of(text, edit["range"][it], encoding) for it in ("start", "end"))
+    around = text[at - 1:at] + text[end:end + 1]
+    if plainly.line_of(text, edit["range"]["start"], encoding) != heads[0] or re.search(r"[ \t=(),\n]", text[at:end]) or re.search(r"[^ \t=(),\r\n]", around):
+        yield f"{action}: {text[at:end]!r} on line {line}"
+
+
+def wrong_words(_edits: int) -> Iterator[str]:
+    """A wrong name, option, value or level has a quick fix, which puts in the word that was probably meant; what is written otherwise has none."""
+    texts = [("campain 1", "campaign 1"), ("add-nodes 1 voterz=(1) index=10", "add-nodes 1 voters=(1) index=10"), ("add-nodes 1 prevote=tru", "add-nodes 1 prevote=true"),
+             ("deliver-msgs 1 type=(MsgApp,MsgVot)", "deliver-msgs 1 type=(MsgApp,MsgVote)"), ("log-level \t debgu", "log-level \t debug"), ("  stabilise \\\n  1", "  stabilize \\\n  1"),
+             ("campaign 1 2", None), ("add-nodes 1 voters=(1)", None), ("campaign 1", None)]
+    for wrong, right in texts:
+        text = f"# \U0001d11e\nadd-nodes 2\n----\nok\n\n{wrong}\n----\nok\n"
+        for encoding, offered in ENCODINGS:
+            with Client(PROGRAM) as client:
+                client.begin(*offered)
+                client.send(opened(URI, text))
+                client.receive()
+                place = {"line": 5, "character": 0}
+                told = answer_of(client, 1, "codeAction", range={"start": place, "end": place}, context={"diagnostics": []})
+                made = [plainly.applied(text, it["edit"]["changes"][URI], encoding) for it in told if it["title"].startswith("Replace with ")]
+                if made != ([text.replace(wrong, right)] if right else []):
+                    yield f"{wrong}: {told}"
+
+
+def missing_index(_edits: int) -> Iterator[str]:
+    """What add-nodes is missing is said in a sentence of its own."""
+    with Client(PROGRAM) as client:
+        client.begin()
+        client.send(opened(URI, "add-nodes 1 voters=(1)\n----\nok\n"))
+        message = client.receive()["params"]["diagnostics"][0]["message"]
+        if message.split("\n")[-1] != "voters, learners and content need index=N, 2 or more":
+            yield message
+
+
 def other_actions(text: str, start: Any, end: Any, encoding: str, told: Any) -> Iterator[str]:
     """Texts for what is wrong with the actions that are told for a range: of each the edits must make the script that is due. Where a line looks
     like a slip there is its quick fix alone."""
@@ -334,6 +387,9 @@ def other_actions(text: str, start: Any, end: Any, encoding: str, told: Any) -> 
         if (got := [(it["title"], it["kind"], it["edit"]["changes"][URI]) for it in told]) != (fixes := fixes_due(slips, text, first, last, encoding)):
             yield f"{got}, and due is {fixes}"
         return
+    if told and told[0]["title"].startswith("Replace with "):
+        yield from corrected(text, encoding, told[0], first, last)
+        told = told[1:]
     wanted = [("Expect what came", "quickfix", plainly.accepting(text, first, last)), ("Expect what came everywhere", "source", plainly.accepting(text))]
     due = [(title, kind, made) for title, kind, made in wanted if made and made[1]]
     if [(it["title"], it["kind"]) for it in told] != [(title, kind) for title, kind, _ in due]:
@@ -353,6 +409,39 @@ def answer_of(client: Client, number: int, method: str, **params: Any) -> Any:
     return answer["result"] if answer["id"] == number else answer
 
 
+def without_reasons(hover: Any) -> Any:
+    """What is shown of a position, without the lines of reasons, which the plain bench doesn't have."""
+    if not hover:
+        return hover
+    lines = hover["contents"]["value"].split("\n")
+    return hover | {"contents": hover["contents"] | {"value": "\n".join(it for it in lines if not it.startswith("^ "))}}
+
+
+def hover_shows_reasons(_edits: int) -> Iterator[str]:
+    """The reasons that are shown of a directive are those that `check --why` shows of it, where its output is expected."""
+    dice, seen = random.Random(53), 0
+    for path in dice.sample(scripts(), min(len(scripts()), 40)):
+        text = path.read_bytes().decode()
+        if not text.isascii():
+            continue
+        report = oracle.checked(PROGRAM, text, ["--color", "never", "--why", "--verbose"])[1]
+        parts = re.split(r"(?m)^script:(\d+): ", report)[1:]
+        with Client(PROGRAM) as client:
+            client.begin()
+            client.send(opened(URI, text))
+            client.receive()
+            for number, (head, said) in enumerate(zip(parts[::2], parts[1::2]), 1):
+                if re.search(r"(?m)^[-+] ", said):
+                    continue
+                due = [it for it in said.split("\n") if it.startswith("^ ")]
+                told = answer_of(client, number, "hover", position={"line": int(head) - 1, "character": 0})["contents"]["value"]
+                seen += len(due)
+                if (got := [it for it in told.split("\n") if it.startswith("^ ")]) != due:
+                    yield f"{path.name}:{head}: {got}, and due is {due}"
+    if seen < 5:
+        yield f"reasons: {seen}"
+
+
 def questions(edits: int) -> Iterator[str]:
     """What is shown of a position, and what an action makes of a text, are what the plain bench says; of texts that were edited too."""
     dice = random.Random(41)
@@ -368,7 +457,7 @@ def questions(edits: int) -> Iterator[str]:
                 start, end = position(text, first, encoding), position(text, dice.choice([first, last]), encoding)
                 told = answer_of(client, version, "codeAction", range={"start": start, "end": end}, context={"diagnostics": []})
                 yield from (f"{path.name}, version {version}, {start}: {it}" for it in other_actions(text, start, end, encoding, told))
-                if (told := answer_of(client, -version, "hover", position=start)) != (due := plainly.hover(text, start, encoding)):
+                if (told := without_reasons(answer_of(client, -version, "hover", position=start))) != (due := plainly.hover(text, start, encoding)):
                     yield f"{path.name}, version {version}, {start}: {told}, and due is {due}"
                 text, *_ = edited(dice, text)
 
@@ -387,7 +476,7 @@ def questions_between_changes(_edits: int) -> Iterator[str]:
                 place = position(text, len(text) * part // 4, "utf-16-le")
                 told = answer_of(client, version, "codeAction", range={"start": place, "end": place}, context={"diagnostics": []})
                 yield from (f"text {version}, {place}: {it}" for it in other_actions(text, place, place, "utf-16-le", told))
-                if (told := answer_of(client, -version, "hover", position=place)) != (due := plainly.hover(text, place, "utf-16-le")):
+                if (told := without_reasons(answer_of(client, -version, "hover", position=place))) != (due := plainly.hover(text, place, "utf-16-le")):
                     yield f"text {version}, {place}: {told}, and due is {due}"
 
 
@@ -452,7 +541,9 @@ def offered_texts(dice: random.Random, edits: int) -> Iterator[str]:
     yield from ["", "\n", "\r", "# \U0001d11e\rlog-level debug\n----\nno\n", "raft-state \U0001d11e\n----\n----\n\n\U0001d11e\n----\n----", "campaign 1\n", "campaign 1", "(\n----\n",
                 "status 1\n----\na\n----\n----\n", "  log-level \\\n  info \\\n----\n ---- \nok\nok\n\n\n# end", "log-level d\r\r\n----\r\rok\r\n", "propose 1 " + "\U0001d11e" * 100 + "\n----\n",
                 "deliver-msgs type=(MsgApp, \\\n  Msg", "add-nodes prevote=", "campaign 1 type=Msg", "propose-conf-change 1 transition=(im", "campaign log-level=x",
-                "add-nodes 3 voters=(1,", "add-nodes index=(4) 11\n----\nok\n\n# a\nadd-nodes 22\n----\n----\n\n----\n----\nadd-nodes 2\n----\n\ndeliver-msgs 1 log-level=info 2 drop=(3,1", "add-nodes \\\n 2\n\nin\n----\nok\n\nsend-snapshot \\\n1 "]
+                "add-nodes 3 voters=(1,", "log-level ", "log-level debug ", "deliver-msgs type=(MsgApp,Msg", "deliver-msgs type=(MsgApp MsgVote,", "stabilize drop=(1,",
+                "add-nodes 3 voters=(1,2) index=10\n----\nok\n\npropose-conf-change 1\nv1 l", "add-nodes 2\n----\nok\n\npropose-conf-change \\\n1\n\nv1\nr1 l2 ", "propose 1\nv", "propose-conf-change 1\nv",
+                "add-nodes 2\n----\nok\n\nadd-nodes voters=() 1\n----\n\ntransfer-leadership to=", "add-nodes index=(4) 11\n----\nok\n\n# a\nadd-nodes 22\n----\n----\n\n----\n----\nadd-nodes 2\n----\n\ndeliver-msgs 1 log-level=info 2 drop=(3,1", "add-nodes \\\n 2\n\nin\n----\nok\n\nsend-snapshot \\\n1 "]
     for path in dice.sample(scripts(), min(len(scripts()), 25)):
         text = path.read_bytes().decode()
         yield from (text, text.replace("\n", "\r\n"), text.replace("\n\n", "\n\r\n"), text.replace(" ", "\r", 3))
@@ -576,7 +667,7 @@ def by_the_meta_model(_edits: int) -> Iterator[str]:
         yield from (f"{name}: {it}" for it in metamodel.faults(model, talk) if not OWN_CAPABILITY.match(it))
 
 
-FUNCTIONS: list[Callable[[int], Iterator[str]]] = [in_neovim, in_vscode, in_monaco, by_the_meta_model, one_byte_at_a_time, cut_off, no_message, reader_that_goes, many_documents, too_many_documents, other_texts, ends_of_lines, sizes, want_of_memory, refused_allocations, random_edits, editing_lists, what_came, folds, outlines, formatted, completed, questions, questions_between_changes, accepted_by_check, slips_are_mended, later_mismatches]
+FUNCTIONS: list[Callable[[int], Iterator[str]]] = [in_neovim, in_vscode, in_monaco, by_the_meta_model, one_byte_at_a_time, cut_off, no_message, reader_that_goes, many_documents, too_many_documents, bounds.bounded_runs, bounds.cancelled_requests, bounds.versions_that_go_back, other_texts, ends_of_lines, sizes, want_of_memory, refused_allocations, random_edits, editing_lists, what_came, folds, outlines, formatted, completed, questions, hover_shows_reasons, wrong_words, missing_index, questions_between_changes, accepted_by_check, slips_are_mended, later_mismatches]
 
 
 def results(word: str) -> Iterator[Result]:

@@ -12,13 +12,14 @@ from bench.measured import record
 from tests.harness import PROGRAM, Result
 
 MOST_SECONDS = 120
-# In millions, by the name that the script has in bench/cluster.py. docs/MEASURES.md has what they are.
+# In millions, by the name that the script has in bench/cluster.py: a fifth above what docs/MEASURES.md has. So what takes twice as long is noticed, and no
+# function has to be written for its few instructions.
 MOST = {
-    "10,000 single steps": 50,
-    "20,000 single steps": 99,
-    "10,000 single steps, a session": 67,
-    "5,000 proposals, quiet": 160,
-    "5,000 proposals at debug": 280,
+    "10,000 single steps": 56,
+    "20,000 single steps": 112,
+    "10,000 single steps, a session": 78,
+    "5,000 proposals, quiet": 184,
+    "5,000 proposals at debug": 320,
 }
 # Whose outputs are not the expected ones, so that the report has them all.
 DIFFERING = {"5,000 proposals at debug"}

@@ -23,7 +23,7 @@ from collections.abc import Iterator, Sequence
 from nodes.hosted.compare import Comparison, Outcome, run_beside
 from nodes.hosted.dice import steps_of
 from nodes.hosted.judge import Judge
-from nodes.hosted.likes import LIKE, SWITCHES, switches_of
+from nodes.hosted.likes import LIKE
 from nodes.hosted.planted import first_found
 from nodes.hosted.planting import BUGS
 from nodes.hosted.process import Process
@@ -31,6 +31,7 @@ from nodes.hosted.promises import Promises, name_of
 from nodes.hosted.protocol import CALLS, CHANGES, OPTIONS, READY, STATES
 from nodes.hosted.script import Step, blocks_of
 from nodes.hosted.steps import RunnerStep, step_of
+from nodes.hosted.switches import SWITCHES, switches_of
 from plain.cluster import Cluster
 from plain.config import Config
 from plain.node import Node
@@ -418,7 +419,7 @@ def without(*words: str) -> Iterator[Outcome]:
 
 def part_switches() -> Checks:
     names = {name for file in LIKE.glob("*.txt") for name in switches_of(file.read_text())}
-    theirs, others = ((TOP / "docs/NODE.md").read_text().split(title)[1].split("\n## ")[0] for title in ("## Where it isn't etcd's raft", "## Where it isn't other libraries"))
+    theirs, others = (TOP / "docs/NODE.md").read_text().split("## Where it isn't etcd's raft")[1].split("\n## ")[0], (LIKE / "README.md").read_text()
     named, more = ({name for row in re.findall(r"^\| .* \| .* \| ([a-z0-9, -]+) \|$", part, re.MULTILINE) for name in row.split(", ")} for part in (theirs, others))
     yield "docs/NODE.md names each switch of etcd's at its rule", None if named == {name for file in LIKE.glob("etcd*.txt") for name in switches_of(file.read_text())} else f"{named}"
     yield "and those of other libraries", None if named | more == set(SWITCHES) and names <= set(SWITCHES) else f"{(named | more) ^ set(SWITCHES)}"

@@ -18,7 +18,7 @@ from nodes.hosted.compare import Comparison
 from nodes.hosted.dice import steps_of
 from nodes.hosted.explorer import Chosen, Explorer, Found, Spec
 from nodes.hosted.judge import Judge
-from nodes.hosted.likes import Unknown, kind_with
+from nodes.hosted.likes import kind_with
 from nodes.hosted.mutate import Mutator
 from nodes.hosted.plan import asked_at_once, plan_of
 from nodes.hosted.process import Process
@@ -27,11 +27,13 @@ from nodes.hosted.script import Step, blocks_of
 from nodes.hosted.shrink import Shrinker, with_joined_nodes
 from nodes.hosted.stage import Reference
 from nodes.hosted.steps import step_of, steps_above
+from nodes.hosted.switches import Unknown
 from nodes.hosted.watched import WatchedReference
 from plain.config import Change, Config
 from plain.node import Node
 from plain.records import Entry, Message, Options
 from tests.harness import TOP
+from tests.nodes.switched import PARTS as SWITCHED
 
 Checks = Iterator[tuple[str, "str | None"]]
 THREE = Config(frozenset({1, 2, 3}))
@@ -460,5 +462,5 @@ def part_known_failures() -> Checks:
 
 UNITS: list[Callable[[], Checks]] = [
     part_steps, part_network, part_restarts, part_between, part_reads, part_limits, part_promises_of_restarts, part_alone, part_excused, part_exceptions, part_other_switches, part_shrinking, part_children,
-    part_at_once, part_digest, part_memory, part_known_failures,
+    part_at_once, part_digest, part_memory, part_known_failures, *SWITCHED,
 ]

@@ -1,8 +1,8 @@
-"""The page around its JSON text: what stands before it and what stands after it, from the files of crates/rb_frame/assets.
+"""The page around its JSON text: what stands before it and what stands after it, from the files of crates/rb_view/assets.
 
     assemble.py before|after       writes one of the two
     assemble.py page < JSON        writes a whole page
-    assemble.py sources            writes the sources of rb_frame, in which the program has the same
+    assemble.py sources            writes the sources of rb_view's frame, in which the program has the same
 """
 from __future__ import annotations
 
@@ -17,8 +17,9 @@ from collections.abc import Sequence
 sys.dont_write_bytecode = True
 sys.path[:1] = [str(pathlib.Path(__file__).resolve().parents[2])]
 
-CRATE = pathlib.Path(__file__).resolve().parents[2] / "crates" / "rb_frame"
+CRATE = pathlib.Path(__file__).resolve().parents[2] / "crates" / "rb_view"
 ASSETS = CRATE / "assets"
+SOURCES = CRATE / "src" / "frame"
 ENTRY = "page.js"
 # What each file of sources says of itself, the file that it is made of, and its constants, each with what it is.
 HTML = ("The elements of a page.", "page.html", {
@@ -108,7 +109,7 @@ def constant_of(module: str) -> str:
 def order() -> str:
     """Which constants are before the rows and which are after them, in order."""
     names = [constant_of(module) for module in modules()]
-    uses = sorted(["use crate::html::{BETWEEN, BODY, END, HEAD};", *(f"use crate::{name.lower()}::{name};" for name in [*names, "STYLE"])])
+    uses = sorted(["use crate::frame::html::{BETWEEN, BODY, END, HEAD};", *(f"use crate::frame::{name.lower()}::{name};" for name in [*names, "STYLE"])])
 
     def function(said: str, name: str, parts: Sequence[str]) -> str:
         facts = " ∷ ".join(f"{part}.now" for part in parts)
@@ -126,14 +127,13 @@ def order() -> str:
 
 
 def library() -> str:
-    """The root of the crate."""
+    """The module that has them."""
     names = sorted(["frame", "html", "style", *(constant_of(module).lower() for module in modules())])
     return "\n".join([
         "//! What is around the rows of a page (docs/FORMATS.md): its own elements, its style and its code. Made by `tests/page/assemble.py sources`.",
         "//!",
         "//! The files are in assets, and the sources are made of them. The page's head names its style and its code by their hashes, so that no other",
-        "//! runs in it.",
-        "#![tactic(auto)]\n",
+        "//! runs in it.\n",
         *(f"mod {name};" for name in names),
         "\npub use frame::{back, front};\n",
     ])
@@ -141,11 +141,11 @@ def library() -> str:
 
 def sources() -> dict[pathlib.Path, str]:
     """Each source that is made, with its text."""
-    made = {"html": source(HTML, elements()), "style": source(STYLE, [style()]), "frame": order(), "lib": library()}
+    made = {"html": source(HTML, elements()), "style": source(STYLE, [style()]), "frame": order()}
     for module, text in zip(modules(), codes()):
         about = first_comment(module)
         made[module.removesuffix(".js")] = source((about, module, {constant_of(module): "The code."}), [text])
-    return {CRATE / "src" / f"{name}.rt": text for name, text in made.items()}
+    return {SOURCES / f"{name}.rt": text for name, text in made.items()} | {SOURCES.with_suffix(".rt"): library()}
 
 
 def first_comment(module: str) -> str:
@@ -157,7 +157,7 @@ def first_comment(module: str) -> str:
 
 def write_sources() -> str:
     made = sources()
-    for path in (CRATE / "src").glob("*.rt"):
+    for path in SOURCES.glob("*.rt"):
         if path not in made:
             path.unlink()
     for path, text in made.items():

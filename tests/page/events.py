@@ -1,7 +1,9 @@
 """From event to event: what a page shows after each ready and each delivery, beside a cluster of the plain bench that is printed there."""
+import subprocess
 from collections.abc import Iterator, Sequence
 from typing import Any, NamedTuple
 
+from tests.harness import PROGRAM
 from tests.page import standing
 from tests.page.beside import logs_as_printed
 from plain.cluster import Cluster
@@ -16,6 +18,8 @@ from tests.page.told import READY, gist
 
 # The scripts of the tour that are gone through event by event: an election, a repair, a snapshot and changes of members.
 TRIED = (0, 2, 4, 5)
+# The most that the program takes for a page.
+MOST_SECONDS = 120
 # Chooses places by the address, one after another; answers what is shown at each, and what of it is marked.
 SEEN = """async (code, places) => {
   const seen = [];
@@ -114,18 +118,49 @@ def seen_at(reader: Reader, places: Sequence[str]) -> list[dict[str, Any]]:
     return list(reader.browser.value(f"({SEEN})({CODE}, {list(places)!r})"))
 
 
+def scripts_tried() -> dict[str, bytes]:
+    return {**{TOUR[place].stem: TOUR[place].read_bytes() for place in TRIED}, "lost": LOST, "self": SELF, "rare": RARE}
+
+
 def events_are_as_printed(reader: Reader) -> None:
     tried = 0
-    for name, data in {**{TOUR[place].stem: TOUR[place].read_bytes() for place in TRIED}, "lost": LOST, "self": SELF, "rare": RARE}.items():
+    for name, data in scripts_tried().items():
         reader.open(data, name)
-        moments = moments_of(data)
-        wanted = [f"{it.place}.{it.event}" for it in moments]
-        for moment, seen in zip(moments, reader.browser.value(f"({GONE_THROUGH})({CODE}, {wanted!r})"), strict=True):
-            moment_as_printed(f"in {name} at {moment.place}.{moment.event}", seen, moment)
-        tried += len(moments)
-        reader.quiet()
+        tried += goes_as_printed(reader, name, data)
     print(f"readies and deliveries after which all is as it is printed: {tried}")
     same("whether there are many", tried > 200, True)
+
+
+def events_of_the_program_are_as_printed(reader: Reader) -> None:
+    """The same of the pages that the program writes: a `stabilize` of 26 events is 26 steps, with the state after each."""
+    if not PROGRAM.exists():
+        return
+    for name, data in scripts_tried().items():
+        page = subprocess.run([PROGRAM, "page", "-"], input=data, stdout=subprocess.PIPE, timeout=MOST_SECONDS).stdout.decode()
+        reader.open_page(page, f"{name}-written")
+        goes_as_printed(reader, name, data)
+    events = event_counts(TOUR[0].read_bytes())
+    reader.open_page(subprocess.run([PROGRAM, "page", TOUR[0]], stdout=subprocess.PIPE, timeout=MOST_SECONDS).stdout.decode(), "written", "#1")
+    for place, count in events.items():
+        reader.browser.value(f"location.hash = '#{place}.{count + 9}'; 0")
+        reader.browser.settle()
+        same(f"the last event of {place}", reader.browser.value("location.hash"), f"#{place}.{count}")
+
+
+def event_counts(data: bytes) -> dict[int, int]:
+    """How many events each directive has that shows all that it does."""
+    blocks = enumerate(read_script(data).blocks, 1)
+    return {place: len(list(event_lines(block.expected))) for place, block in blocks if block.head[0].split()[0] == b"stabilize" and not LEVEL.search(block.head[0])}
+
+
+def goes_as_printed(reader: Reader, name: str, data: bytes) -> int:
+    """Goes through the page event by event; says after how many readies and deliveries all was as it is printed."""
+    moments = moments_of(data)
+    wanted = [f"{it.place}.{it.event}" for it in moments]
+    for moment, seen in zip(moments, reader.browser.value(f"({GONE_THROUGH})({CODE}, {wanted!r})"), strict=True):
+        moment_as_printed(f"in {name} at {moment.place}.{moment.event}", seen, moment)
+    reader.quiet()
+    return len(moments)
 
 
 def moment_as_printed(where: str, seen: dict[str, Any], moment: Moment) -> None:
@@ -219,6 +254,6 @@ def pages_without_events_step_by_directives(reader: Reader) -> None:
 
 
 TESTS = [
-    events_are_as_printed, each_event_is_marked, entries_become_durable_one_by_one, entries_that_give_way_are_struck_out,
+    events_are_as_printed, events_of_the_program_are_as_printed, each_event_is_marked, entries_become_durable_one_by_one, entries_that_give_way_are_struck_out,
     arrows_go_from_event_to_event, pages_without_events_step_by_directives,
 ]

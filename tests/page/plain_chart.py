@@ -49,7 +49,7 @@ KINDS = {
 # Words, and how they look.
 Mark = tuple[str, str]
 # How things look, and the tips of arrows, of which there is one a kind.
-STYLE = (pathlib.Path(__file__).resolve().parents[2] / "crates" / "rb_chart" / "assets" / "style.svg").read_text()
+STYLE = (pathlib.Path(__file__).resolve().parents[2] / "crates" / "rb_view" / "assets" / "style.svg").read_text()
 
 
 # Characters that have no look of their own, or turn the text around.

@@ -18,7 +18,7 @@ from plain.cluster import Cluster  # noqa: E402
 from plain.node import Node  # noqa: E402
 from plain.script import Directive, read_script, read_with_lines  # noqa: E402
 from plain.texts import body_text, config_text  # noqa: E402
-from tests.page.plain_difference import difference_rows
+from tests.page.plain_difference import MOST_WORK_OF_SCRIPT, difference_rows, work_of
 from plain.records import AnyNode, Entry, Message, ShownView  # noqa: E402
 
 Row = list[Any]
@@ -234,7 +234,7 @@ def common(old: Sequence[Entry], new: Sequence[Entry]) -> int:
 
 def rows_of(data: bytes, name: str, format: int = EVENTS_TOO) -> Iterator[Row]:
     """The rows of a script's page; a Fault where it is refused."""
-    script, cluster, wrong = read_script(data), Watched(format), 0
+    script, cluster, wrong, left = read_script(data), Watched(format), 0, MOST_WORK_OF_SCRIPT
     yield ["raftbench", format, name]
     yield ["text", data]
     for block, line in zip(script.blocks, read_with_lines(data)[1]):
@@ -244,7 +244,8 @@ def rows_of(data: bytes, name: str, format: int = EVENTS_TOO) -> Iterator[Row]:
         if output != block.expected:
             wrong += 1
             yield ["mismatch"]
-            yield from difference_rows(block.expected, output) if format == EVENTS_TOO else (["expected", text] for text in block.expected)
+            yield from difference_rows(block.expected, output, left)
+            left -= work_of(block.expected, output, left)
         yield from cluster.rows
     yield ["end", len(script.blocks), wrong]
 

@@ -8,11 +8,11 @@ import time
 from collections.abc import Sequence
 
 from tests.harness import PROGRAM
-from tests.page.scripts import HOSTILE, LONG, LOST, MANY, TOUR, long_page, mismatched, page_of, same
-from tests.page.plain_steps import DIRECTIVES
+from tests.page.scripts import HOSTILE, LESS, LONG, LOST, MANY, TOUR, long_page, mismatched, page_of, same
+from tests.page.plain_steps import DIRECTIVES, EVENTS_TOO
 
 # The format of the rows that the program writes.
-FORMAT = DIRECTIVES
+FORMAT = EVENTS_TOO
 FAILED = b"raftbench: input or output failed\n"
 MOST_SECONDS = 120
 # Scripts that are refused.
@@ -112,7 +112,14 @@ def twenty_thousand_directives_are_written() -> None:
     print(f"the page of 20,000 directives, {len(page):,} bytes, is written in {seconds:.2f} s")
 
 
+def rows_of_events_take_little() -> None:
+    """What changed after each event, beside what changed after each directive."""
+    for name, data in {**{path.name: path.read_bytes() for path in TOUR}, "many": MANY, "lost": LOST, "less": LESS}.items():
+        events, directives = (len(page_of(data, name, format)) - len(page_of(b"", name, format)) for format in (EVENTS_TOO, DIRECTIVES))
+        same(f"whether the rows of {name} are less than twice as long", events < 2 * directives, True)
+
+
 WRITTEN = [
     pages_are_those_of_the_plain_rows, names_are_told_as_they_are, every_changes_no_page, refusals_are_those_of_run, full_devices_are_told,
-    readers_that_go_away_are_told, twenty_thousand_directives_are_written,
+    readers_that_go_away_are_told, rows_of_events_take_little, twenty_thousand_directives_are_written,
 ]

@@ -44,7 +44,7 @@ ACTING = "|".join([
     "innerHTML", "outerHTML", "insertAdjacentHTML", r"document\.write", "createContextualFragment", "DOMParser", "setHTML", "srcdoc",
     r"\beval\b", r"\bFunction\(", r"\bimport\(", r"\.on[a-z]+ =",
 ])
-CHARTS = TOP / "crates" / "rb_chart"
+CHARTS = TOP / "crates" / "rb_view"
 
 
 @dataclasses.dataclass
@@ -203,7 +203,7 @@ def page_of_documents_is_the_plain_one() -> None:
 
 def style_of_pictures_is_its_file() -> None:
     """What the program writes of how a picture looks is the file that people read and change."""
-    inside = (CHARTS / "src" / "style.rt").read_text().split(' = b"', 1)[1].removesuffix('";\n')
+    inside = (CHARTS / "src" / "chart" / "style.rt").read_text().split(' = b"', 1)[1].removesuffix('";\n')
     same("the style", ast.literal_eval(f'b"""{inside}"""'), (CHARTS / "assets" / "style.svg").read_bytes())
 
 

@@ -1,8 +1,8 @@
-"""Makes the texts of rb_help from docs/SCRIPTS.md: its table as an overview, and a page for each directive.
+"""Makes the texts of rb_report from docs/SCRIPTS.md: its table as an overview, and a page for each directive.
 
 A page has the directive's usage, what the document says of it, what each argument may be, and an example: of the blocks in the document's
-scripts that are this directive, the one that shows most. The texts go into crates/rb_help/src/pages.rt, and the keys of options into
-keys.rt.
+scripts that are this directive, the one that shows most. The texts go into crates/rb_report/src/help/pages.rt, the keys of options into
+keys.rt, and a line on each option into options.rt.
 """
 import dataclasses
 import pathlib
@@ -13,7 +13,7 @@ from collections.abc import Iterator
 from tests.harness import TOP
 
 DOCUMENT = TOP / "docs/SCRIPTS.md"
-SOURCES = TOP / "crates/rb_help/src"
+SOURCES = TOP / "crates/rb_report/src/help"
 WIDTH = 80
 CODE = re.compile(r"`([^`]*)`")
 MORE = "raftbench-directives(7) explains the lines of outputs, and the errors."
@@ -188,7 +188,7 @@ def pages_source() -> str:
         "/// A page for each directive, in the order of the document's table: its name, its line of the overview, and the page.\n"
         "#[rattlefmt::skip]\n"
         f"pub const PAGES: [(&[u8], &[u8], &[u8]); {len(found)}] = [\n{rows}];\n\n"
-        "/// What stands below the overview.\n"
+        "/// What is below the overview.\n"
         "#[rattlefmt::skip]\n"
         f"pub(crate) const CLOSING: &[u8] = {literal(closing())};\n")
 
@@ -203,6 +203,22 @@ def keys_source() -> str:
         f"pub const KEYS: [(&[u8], &[u8]); {len(found)}] = [\n{rows}];\n")
 
 
+def option_line(directive: Directive, option: Argument) -> str:
+    """What the option does, if the section has a table that says so, and what its values may be."""
+    does: list[str] = next((line.split("\n")[1:] for line in directive.said if line.startswith(f"  {option.key}\n")), [])
+    return ": ".join([*([" ".join(" ".join(does).split())] if does else []), option.is_value])
+
+
+def options_source() -> str:
+    found = {argument.key: option_line(it, argument) for it in directives() for argument in it.arguments if argument.is_option}
+    rows = "".join(f'    (b"{key}", b"{line}"),\n' for key, line in found.items())
+    return (
+        "//! What the manual says of each option. Made of docs/SCRIPTS.md by `tests/repository/manual.py`.\n\n"
+        "/// An option's key, and what it does and takes, on one line.\n"
+        "#[rattlefmt::skip]\n"
+        f"pub(crate) const OPTION_LINES: [(&[u8], &[u8]); {len(found)}] = [\n{rows}];\n")
+
+
 def sources() -> dict[pathlib.Path, str]:
     """Each file that is made, with its text."""
-    return {SOURCES / "pages.rt": pages_source(), SOURCES / "keys.rt": keys_source()}
+    return {SOURCES / "pages.rt": pages_source(), SOURCES / "keys.rt": keys_source(), SOURCES / "options.rt": options_source()}

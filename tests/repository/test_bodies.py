@@ -1,6 +1,6 @@
 """Looks for functions of two crates with the same body, of two lines or more. What two crates need is a public function of one of them.
 
-STANDING lists the doubles that there still are, by crate and function. The list may only shrink.
+STANDING lists the doubles that there still are, by crate and function. It is empty, and stays so.
 """
 import re
 from collections import defaultdict
@@ -12,16 +12,7 @@ from tests.repository.test_sources import sources
 HEAD = re.compile(r"^(?P<indent> *)(?:pub(?:\(crate\))? )?(?:const )?fn (?P<name>\w+)", re.MULTILINE)
 FEWEST_LINES = 2
 
-STANDING = frozenset(frozenset(names.split()) for names in (
-    "rb_checked::canonical rb_offers::canonical_text",
-    "rb_checked::is_lead rb_offers::is_lead rb_script::is_lead",
-    "rb_checked::next_line rb_script::next_line",
-    "rb_cluster::push_copies rb_raftlog::push_copies",
-    "rb_directive::is_auto rb_tracker::is_auto",
-    "rb_node::entry_of rb_steps::entry_at",
-    "rb_offers::run_len rb_script::run_len",
-    "rb_steps::state_name rb_texts::progress_state_name",
-))
+STANDING: frozenset[frozenset[str]] = frozenset()
 
 
 def functions(text: str) -> Iterator[tuple[str, str]]:

@@ -10,7 +10,7 @@ from tests.harness import TOP
 MOST_PLACES = 15
 # The directive by its name and its variant. The texts of the manual are made of the document.
 KNOWN = re.compile(r"tick-heartbeat|\bTickHeartbeat\b")
-MADE = "crates/rb_help/src/pages.rt"
+MADE = "crates/rb_report/src/help/pages.rt"
 
 
 def listed() -> list[str]:

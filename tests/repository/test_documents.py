@@ -90,8 +90,11 @@ def test_excerpts_are_of_their_files() -> Iterator[str]:
 
 
 def test_each_law_is_named() -> Iterator[str]:
-    """Each law is named in its crate's part of docs/PROOFS.md, but for `limits_are`."""
-    named = {crate: named_functions(text) for crates, text in parts() for crate in crates}
+    """Each law is named in a part of docs/PROOFS.md on its crate, but for `limits_are`."""
+    named: dict[str, set[str]] = {}
+    for crates, text in parts():
+        for crate in crates:
+            named.setdefault(crate, set()).update(named_functions(text))
     for folder in sorted((TOP / "crates").iterdir()):
         for law in laws_of(folder.name):
             if law.name != "limits_are" and law.name not in named.get(folder.name, set()):

@@ -64,10 +64,10 @@ def test_files_say_what_they_are() -> Iterator[str]:
 
 
 def test_crates_are_named() -> Iterator[str]:
-    """The table of docs/ARCHITECTURE.md names each crate that isn't one of tests, and no other."""
+    """The table of docs/ARCHITECTURE.md names each crate, and no other."""
     rows = (TOP / "docs" / "ARCHITECTURE.md").read_text().split("| Crate | Does |\n|---|---|\n")[1].split("\n\n")[0].splitlines()
     named = {name.strip() for row in rows for name in row.split("|")[1].split(",")}
-    there = {path.name for path in CRATES.iterdir() if not path.name.endswith("_tests")} | {"rb_.._tests"}
+    there = {path.name for path in CRATES.iterdir()}
     for name in sorted(there ^ named):
         yield f"the table of crates and the tree differ in {name}"
 
@@ -234,9 +234,9 @@ def test_public_functions_have_clauses() -> Iterator[str]:
 
 
 def test_files_are_short() -> Iterator[str]:
-    """Files that are written; rb_frame's are made of its assets."""
-    written = [path for path in CRATES.glob("*/src/**/*.rt") if path.parts[-3] != "rb_frame"]
-    for path in sorted([*written, *CRATES.glob("rb_frame/assets/*.js"), *CRATES.glob("*/specs/**/*.antt"), *CRATES.glob("*/proofs/**/*.antt")]):
+    """Files that are written; those of a page's frame are made of assets."""
+    written = [path for path in CRATES.glob("*/src/**/*.rt") if path.parts[-2] != "frame"]
+    for path in sorted([*written, *CRATES.glob("rb_view/assets/*.js"), *CRATES.glob("*/specs/**/*.antt"), *CRATES.glob("*/proofs/**/*.antt")]):
         lines = len(path.read_text().splitlines())
         if lines > MOST_LINES:
             yield f"{path.relative_to(TOP)} has {lines} lines"

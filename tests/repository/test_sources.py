@@ -144,7 +144,7 @@ WRONG_LINES = [
     "use rb_cluster::Meter;",
     "let c: Cluster = x;",
 ]
-WRONG_ROWS = ["rb_replay: rb_machine rb_cluster", "rb_replay: rb_machine rb_document\nrb_document: rb_cluster"]
+WRONG_ROWS = ["rb_replay: rb_machine rb_cluster", "rb_replay: rb_machine rb_lsp\nrb_lsp: rb_cluster"]
 WRONG_NAMES = ["pub(crate) struct Entry {", "trait Machine {"]
 
 

@@ -76,17 +76,18 @@ PART = re.compile(r"^    (?:pub )?(\w+)(?=[:,({ ])", re.MULTILINE)
 
 
 def exports(text: str) -> dict[str, str]:
-    """The names that a lib.rt gives, and the module or crate that each is taken from; of its own it is empty."""
+    """The names that a lib.rt or a module gives, and the path that each is taken from; of its own it is empty."""
     found = {name: "" for name in DECLARED.findall(text)}
     for path, listed in EXPORTED.findall(text):
         names = re.findall(r"\w+", listed) if listed else [path.rpartition("::")[2]]
-        found |= {name: path.partition("::")[0] for name in names}
+        found |= {name: path if listed else path.rpartition("::")[0] for name in names}
     return found
 
 
-def home_of(texts: Texts, crate: str, name: str) -> str:
-    """The crate that declares what this crate gives under this name. Empty if it gives nothing of this name."""
-    given = exports(texts.get(f"{crate}/src/lib.rt", "")).get(name)
+def home_of(texts: Texts, place: str, name: str) -> str:
+    """The crate that declares what this crate, or this module of it, gives under this name. Empty if it gives nothing of this name."""
+    crate, *modules = place.split("::")
+    given = exports(texts.get(f"{crate}/src/{'/'.join(modules) or 'lib'}.rt", "")).get(name)
     if given is None:
         return ""
     return home_of(texts, given, name) if given.startswith("rb_") else crate

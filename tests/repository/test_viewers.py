@@ -9,7 +9,7 @@ from collections.abc import Iterator
 from tests.harness import TOP
 from tests.repository.crate_map import CRATES, files_of
 
-RUN = ["rb_replay", "rb_cluster", "rb_cluster_laws"]
+RUN = ["rb_replay", "rb_cluster", "rb_laws"]
 # Words of what shows a run. `report` is a session's own, and `look` a verb.
 VIEWERS = {
     "chart", "charts", "picture", "pictures", "svg", "html", "css", "browser", "hover", "hovers", "editor", "diagnostic", "diagnostics", "viewer", "viewers",
@@ -18,8 +18,7 @@ VIEWERS = {
 # rb_text writes texts for all, those of JSON too; logs and messages keep entries in pages.
 OWN = {"rb_text": {"json", "page"}, "rb_raftlog": {"page", "pages"}, "rb_message": {"page", "pages"}}
 SHOWS = {
-    "rb_look", "rb_check", "rb_help", "rb_checked", "rb_document", "rb_rpc", "rb_server", "rb_offers", "rb_actions", "rb_page", "rb_steps", "rb_chart",
-    "rb_trace", "rb_args", "rb_bench", "rb_frame", "rb_files", "rb_suite", "rb_program", "raftbench",
+    "rb_view", "rb_report", "rb_script_report", "rb_lsp", "rb_editor", "rb_args", "rb_bench", "rb_files", "rb_check", "rb_program", "raftbench",
 }
 WORD = re.compile(r"[A-Z]?[a-z]+|[A-Z]+(?![a-z])")
 COMMENT = re.compile(r"(?://|-- ).*")

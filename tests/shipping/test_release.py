@@ -378,11 +378,13 @@ def test_carries_out_the_jobs(place: Clone) -> None:
         shutil.copy(archive, theirs / "tools")
         (theirs / "tools/raftbench.sha256").write_text(f"{hashlib.sha256(archive.read_bytes()).hexdigest()}  tools/{archive.name}\n")
         done = carried_out(job, theirs)
-        told = ("", "::error file=tests/one.txt,line=1,") if "--format github" in job else ("1 script, 1 directive, 0 mismatches", "tests/one.txt:1: add-nodes")
-        assert done.returncode == 0 and told[0] in done.stdout, (job, done)
+        # GitLab's job writes its report into a file.
+        xml = theirs / "raftbench.xml"
+        told = ("", "::error file=tests/one.txt,line=1,") if "--format github" in job else ('failures="0"', "tests/one.txt:1: add-nodes")
+        assert done.returncode == 0 and told[0] in done.stdout + (xml.read_text() if xml.exists() else ""), (job, done)
         (theirs / "tests/one.txt").write_text(MATCHING.replace("1/10", "1/11"))
         done = carried_out(job, theirs)
-        assert done.returncode == 1 and told[1] in done.stdout, done
+        assert done.returncode == 1 and told[1] in done.stdout + (xml.read_text() if xml.exists() else ""), done
         (theirs / "tools" / archive.name).write_bytes(b"another archive")
         done = carried_out(job, theirs)
         assert done.returncode == 1 and "FAILED" in done.stdout, done

@@ -1,0 +1,136 @@
+"""What a server does where an editor would wait: a run stops after so much work, cancelled requests aren't done, and a change whose version goes back is
+refused. What is due comes from docs/USING.md and the protocol (LSP 3.17, "Cancellation Support", "VersionedTextDocumentIdentifier").
+"""
+import pathlib
+import subprocess
+from collections.abc import Iterator
+from typing import Any
+
+from tests.editors.client import MOST_SECONDS, Client, changed, framed, notification, opened, request, unframed
+from tests.harness import PROGRAM
+
+URI, OTHER = "file:///script.txt", "file:///other.txt"
+SMALL = "log-level debug\n----\nno\n"
+STOPPED = "the script is not run from here on: an editor waits for 4,000,000 steps; raftbench check runs it all"
+NOT_RUN = {"code": -32803, "message": "the run of this script was stopped"}
+CANCELLED = {"code": -32800, "message": "the request was cancelled"}
+# Processor seconds. A run that stops takes some two; a program without a proof eighty. A letter runs nothing.
+MOST_RUN, MOST_LETTER = 160.0, 3.0
+
+
+def heads_to_and_fro() -> list[str]:
+    """Two followers take each other for the leader, and hand 4,096 proposals to and fro."""
+    heads = ["add-nodes 2 voters=(1,2) index=10", "send-snapshot 1 2", "send-snapshot 2 1", "deliver-msgs 1 2", "log-level none"]
+    return [*heads, "process-ready 1 2", "deliver-msgs 1 2", *["propose 1 x"] * 4096]
+
+
+def script_of(heads: list[str]) -> str:
+    return "".join(f"{head}\n----\nok\n\n" for head in heads)
+
+
+def seconds(client: Client) -> float:
+    """The processor seconds of the server so far."""
+    fields = pathlib.Path(f"/proc/{client.server.pid}/stat").read_text().rpartition(")")[2].split()
+    return (int(fields[11]) + int(fields[12])) / 100
+
+
+def told(client: Client) -> tuple[list[dict[str, Any]], float]:
+    before = seconds(client)
+    message = client.receive()
+    assert message["method"] == "textDocument/publishDiagnostics", message
+    return message["params"]["diagnostics"], seconds(client) - before
+
+
+def stops_at(found: list[dict[str, Any]]) -> list[int]:
+    return [it["range"]["start"]["line"] for it in found if it["code"] == "stopped"]
+
+
+def bounded_runs(_edits: int) -> Iterator[str]:
+    """A script that would run for hours stops: what is above is told as of a text that ends there, and one diagnostic at the directive says where the
+    run stopped. Other documents are answered in their turn. A letter runs nothing anew. Where the work becomes less, all is run."""
+    text = script_of([*heads_to_and_fro(), *["stabilize rounds=1000"] * 3000])
+    with Client(PROGRAM) as client:
+        client.begin()
+        for uri, content in ((URI, text), (OTHER, SMALL)):
+            client.send(opened(uri, content))
+        found, spent = told(client)
+        if spent > MOST_RUN:
+            yield f"{spent} s"
+        lines = stops_at(found)
+        if len(lines) != 1 or found[-1] != {"range": {"start": {"line": lines[0], "character": 0}, "end": {"line": lines[0] + 1, "character": 0}}, "severity": 2,
+                                            "code": "stopped", "source": "raftbench", "message": STOPPED}:
+            yield f"another end: {found[-1:]}"
+            return
+        rows = text.split("\n")
+        if rows[lines[0]] != "stabilize rounds=1000":
+            yield f"it stops at {rows[lines[0]]!r}"
+        if (got := [it["code"] for it in told(client)[0]]) != ["mismatch"]:
+            yield f"another document: {got}"
+        front = "".join(f"{row}\n" for row in rows[:lines[0]])
+        client.send(opened("file:///front.txt", front))
+        if told(client)[0] != found[:-1]:
+            yield "what is above is told otherwise than of a text that ends there"
+        for version, (place, due) in enumerate(((0, lines[0] + 1), (lines[0] + 1, lines[0] + 2), (10_000_000, lines[0] + 2)), 2):
+            at = {"line": place, "character": 0}
+            client.send(changed(URI, version, {"range": {"start": at, "end": at}, "text": "# a comment\n"}))
+            again, spent = told(client)
+            if stops_at(again) != [due]:
+                yield f"a comment at line {place}: it stops at {stops_at(again)}, and {due} is due"
+            if spent > MOST_LETTER:
+                yield f"a comment at line {place}: {spent} s"
+        error = client.ask(1, "textDocument/hover", textDocument={"uri": URI}, position={"line": 0, "character": 0})
+        if error != NOT_RUN:
+            yield f"a hover: {error}"
+        if not isinstance(client.ask(2, "textDocument/foldingRange", textDocument={"uri": URI}), list):
+            yield "folds need no run"
+        client.send(changed(URI, 20_000, {"text": script_of([*heads_to_and_fro(), "stabilize rounds=2"])}))
+        if stops_at(told(client)[0]):
+            yield "a run that fits stops"
+        if (status := client.end()) != 0:
+            yield f"status {status}"
+
+
+def cancelled_requests(_edits: int) -> Iterator[str]:
+    """A request is answered as cancelled if its cancellation was read with it, by number or text; others are done, and so is what changes the server."""
+    place = {"textDocument": {"uri": URI}, "position": {"line": 0, "character": 0}}
+    cancel = [notification("$/cancelRequest", id=it) for it in (1, "b", "2", 99, "end")]
+    ids: list[int | str] = [1, 2, "b", "1"]
+    asked = [request(it, "textDocument/hover", **place) for it in ids]
+    sent = [request(0, "initialize", capabilities={}), opened(URI, SMALL), *asked, *cancel, request(1, "textDocument/hover", **place), request("end", "shutdown"),
+            notification("exit")]
+    done = subprocess.run([PROGRAM, "lsp"], input=b"".join(map(framed, sent)), capture_output=True, timeout=MOST_SECONDS)
+    got = unframed(done.stdout)
+    if [it.get("id") for it in got] != [0, None, 1, 2, "b", "1", 1, "end"]:
+        yield f"other answers: {str(got)[:500]}"
+    errors = [it.get("error") for it in got]
+    if errors != [None, None, CANCELLED, None, CANCELLED, None, None, None]:
+        yield f"errors: {errors}"
+    if done.returncode != 0:
+        yield f"status {done.returncode}"
+
+
+def versions_that_go_back(_edits: int) -> Iterator[str]:
+    """A change whose version doesn't come after the document's is refused, and that is shown; the document stays, and the next version is taken."""
+    with Client(PROGRAM) as client:
+        client.begin()
+        client.send(opened(URI, SMALL, 5))
+        told(client)
+        for version in 5, 4, 0:
+            client.send(changed(URI, version, {"text": "log-level debug\n----\nok\n"}))
+            got = client.receive()
+            text = f"raftbench: a change was refused: its version, {version}, doesn't follow the document's, 5; close the document and open it again"
+            if got != {"jsonrpc": "2.0", "method": "window/showMessage", "params": {"type": 2, "message": text}}:
+                yield f"version {version}: {got}"
+        client.send(changed(URI, 6, {"range": {"start": {"line": 2, "character": 0}, "end": {"line": 2, "character": 0}}, "text": "yes or "}))
+        got = client.receive()["params"]
+        if (got["version"], [it["message"] for it in got["diagnostics"]]) != (6, ["- yes or no\n+ ok"]):
+            yield f"the next version: {got}"
+        # A document that is opened again begins anew.
+        client.send(opened(URI, SMALL, 1))
+        if client.receive()["params"]["version"] != 1:
+            yield "opened again"
+        client.send(changed(URI, 2, {"text": SMALL}))
+        if client.receive()["params"]["version"] != 2:
+            yield "changed after it was opened again"
+        if (status := client.end()) != 0:
+            yield f"status {status}"
