@@ -85,6 +85,11 @@ func (b *bench) run(c call) object {
 		return n.shownLog()
 	default:
 		n.clock.Use()
+		for _, number := range append(c.Numbers, c.Number, c.Message.Own) {
+			if number > 0 && number >= len(b.letters) {
+				return object{"error": "no message of this number was given"}
+			}
+		}
 		if c.Numbers != nil {
 			return object{"states": b.stepped(n, c.Numbers), "events": n.events()}
 		}
@@ -120,7 +125,9 @@ func (b *bench) change(n *node, c call) {
 	case "step":
 		n.step(b.letters[c.Message.Own])
 	case "lost":
-		n.transport.end(b.letters[c.Message.Own+c.Number].rpc, nil, errLost)
+		if lost := b.letters[c.Message.Own+c.Number]; lost.answer == nil {
+			lost.end(nil, errLost)
+		}
 	case "transfer":
 		n.LeadershipTransferToServer(idOf(c.To), raft.ServerAddress(idOf(c.To)))
 	case "compact":

@@ -20,6 +20,7 @@ type rpc struct {
 	take     func(answer interface{})
 	done     chan error
 	ticks    int
+	isOver   bool
 }
 
 // letter is one message between nodes: the request of an RPC, or the answer to it.
@@ -45,33 +46,33 @@ func (t *transport) call(to raft.ServerID, request interface{}, snapshot []byte,
 	if t.isStopped {
 		return errLost
 	}
-	made := &rpc{t.id, to, request, snapshot, take, make(chan error, 1), 0}
+	made := &rpc{from: t.id, to: to, request: request, snapshot: snapshot, take: take, done: make(chan error, 1)}
 	t.waiting = append(t.waiting, made)
 	t.outbox = append(t.outbox, letter{made, to, nil})
 	return <-made.done
 }
 
-// end ends an RPC of this node. An answer to one that has ended is dropped.
-func (t *transport) end(made *rpc, answer interface{}, err error) {
-	for at, other := range t.waiting {
-		if other == made {
-			t.waiting = append(t.waiting[:at:at], t.waiting[at+1:]...)
-			if err == nil {
-				made.take(answer)
-			}
-			made.done <- err
-			return
-		}
+// end ends an RPC. An answer to one that has ended is dropped.
+func (made *rpc) end(answer interface{}, err error) {
+	if made.isOver {
+		return
 	}
+	if made.isOver = true; err == nil {
+		made.take(answer)
+	}
+	made.done <- err
 }
 
 // giveUp ends the RPCs that have waited for `ticks` ticks, ordered by receivers.
 func (t *transport) giveUp(ticks int) {
-	waiting := append([]*rpc{}, t.waiting...)
+	waiting := t.waiting
+	t.waiting = nil
 	sort.SliceStable(waiting, func(i, j int) bool { return waiting[i].to < waiting[j].to })
 	for _, made := range waiting {
 		if made.ticks++; made.ticks >= ticks {
-			t.end(made, nil, errLost)
+			made.end(nil, errLost)
+		} else if !made.isOver {
+			t.waiting = append(t.waiting, made)
 		}
 	}
 }
@@ -79,7 +80,7 @@ func (t *transport) giveUp(ticks int) {
 // deliver gives a letter to this node. Heartbeats go past the main loop, as in the library's NetworkTransport.
 func (t *transport) deliver(given letter) {
 	if given.answer != nil {
-		t.end(given.rpc, given.answer.Response, given.answer.Error)
+		given.end(given.answer.Response, given.answer.Error)
 		return
 	}
 	answer := make(chan raft.RPCResponse, 1)

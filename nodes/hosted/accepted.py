@@ -6,8 +6,8 @@ from __future__ import annotations
 
 import pathlib
 
-from .likes import Unknown
 from .promises import PROMISES
+from .switches import Unknown
 
 
 class Accepted:

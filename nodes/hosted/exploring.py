@@ -16,13 +16,14 @@ from .compare import ASPECTS, Comparison
 from .dice import DICE
 from .explorer import Chosen, Explorer, strictest
 from .judge import Judge, Unjudged
-from .likes import Unknown, kind_like
+from .likes import kind_like
 from .memory import default_folder
 from .process import Failed, Process
 from .results import KindResult, Result, order_of
 from .script import Step, blocks_of
 from .search import Candidate, Kind, Limits, Search, contains, surprise
 from .show import difference_lines
+from .switches import Unknown
 from .workers import Broken, Fleet, interruptible
 
 MINUTES = 1.0

@@ -307,7 +307,7 @@ class Checker:
         for at, name in self.numbers:
             if state.get(name, 0) != wanted[at] and name not in skipped:
                 return False
-        if "content" in self.shows and "content" not in skipped and state.get("content", "") != content_text(wanted.content):
+        if "content" in self.shows and "content" not in skipped and (state.get("content") or "") != content_text(wanted.content):
             return False
         return "config" not in self.shows or self.is_config(wanted.config, state.get("config"))
 
@@ -341,7 +341,7 @@ class Checker:
 
 def is_body(entry: Json, body: object) -> bool:
     if isinstance(body, bytes):
-        return not entry.get("change") and entry.get("data", "") == content_text(body)
+        return not entry.get("change") and (entry.get("data") or "") == content_text(body)
     change = entry.get("change")
     return bool(change) and [change] == [body_out(body)["change"]]  # type: ignore[arg-type]
 

@@ -15,12 +15,13 @@ from .compare import Comparison, Outcome, run_beside
 from .explorer import Chosen, Explorer
 from .exploring import add_common, add_comparing, aspects_of, shown_of
 from .judge import Judge, Unjudged
-from .likes import Unknown, kind_like
+from .likes import kind_like
 from .process import Failed, Process
 from .script import Step
 from .show import Totals, difference_lines
 from .stage import Reference
 from .steps import is_stepped, steps_above
+from .switches import Unknown
 
 
 def words_of(program: str, description: str, words: Sequence[str]) -> argparse.Namespace:

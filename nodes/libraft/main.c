@@ -258,6 +258,8 @@ static json_t *greeting(void)
         json_array_append_new(without, json_string("applied"));
         json_array_append_new(without, json_string("content"));
         json_array_append_new(without, json_string("commit"));
+        /* In term 0, that of a new node, libraft takes no entry for stored. */
+        json_array_append_new(without, json_string("durable"));
     }
     return json_pack("{ss si so s[s] s[s] sb}", "name", "libraft " VERSION, "protocol", 1, "without", without, "calls", "restart",
                      "always", "checkquorum", "open", 1);

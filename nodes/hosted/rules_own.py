@@ -1,0 +1,109 @@
+"""Nodes with switches, and the rules of a node's own vote, its own entries, and what is saved."""
+from __future__ import annotations
+
+from typing import Any
+
+from plain.config import Change, vote_result
+from plain.node import Disk, Node
+from plain.records import Body, Message
+
+
+class Ruled(Node):
+    """A plain node that knows which switches are on. `recount` is for rules of changes."""
+
+    switches: frozenset[str] = frozenset()
+    # While it is true: own answers are of itself; nothing is sent to all.
+    is_own = is_quiet = False
+    ticks = 0
+    lost: frozenset[int] = frozenset()  # members that get an append at the next tick
+
+    def on(self, name: str) -> bool:
+        return name in self.switches
+
+    def recount(self) -> None:
+        """The configuration that the whole log comes to, if changes count when they are appended."""
+
+    def is_unstable(self) -> bool:
+        """Whether the last change isn't known to be committed."""
+        return False
+
+    def has_lost_quorum(self) -> bool:
+        """Whether too many answers are missing, if that is asked at each tick."""
+        return False
+
+    def lose(self, m: Message) -> None:
+        """The bench drops a message of this node."""
+
+
+class OwnRules(Ruled):
+    """Own votes, own entries, and what is saved when."""
+
+    def unsettled(self) -> frozenset[str]:
+        """Parts of the state that can't be compared now."""
+        return frozenset(("applied", "content")) if self.on("applied-when-saved") and self.restored else frozenset()
+
+    def send(self, kind: str, to: int, **parts: Any) -> None:
+        is_at_once = self.on("own-answers-at-once") or self.on("own-vote-at-once") and kind != "MsgAppResp"
+        if is_at_once and to == self.id and self.is_own:
+            return
+        waiting = len(self.waiting)
+        super().send(kind, to, **parts)
+        if self.on("answers-in-order") and len(self.waiting) > waiting:
+            self.sent.append(self.waiting.pop())
+
+    def ask(self, kind: str, term: int, by_transfer: bool) -> None:
+        if self.on("own-answers-at-once") or self.on("own-vote-at-once"):
+            self.votes[self.id] = True
+            if vote_result(self.config, self.votes) == "won":
+                return self.win()
+        self.is_own = True
+        super().ask(kind, term, by_transfer)
+        self.is_own = False
+        return None
+
+    def win(self) -> None:
+        if self.role != "candidate":
+            return self.campaign("elected")
+        self.is_quiet = True
+        self.lead_on()
+        self.is_quiet = False
+        return None
+
+    def tell_all(self) -> None:
+        if not self.is_quiet:
+            super().tell_all()
+
+    def append(self, body: Body) -> bool:
+        self.is_own = True
+        done = super().append(body)
+        self.is_own = False
+        is_change = done and isinstance(body, Change)
+        if is_change and not self.on("own-entry-before-change"):
+            self.recount()
+        view = self.views.get(self.id)
+        if self.on("own-answers-at-once") and done and view:
+            view.match, view.next = self.last(), self.last() + 1
+            before, self.is_quiet = self.is_quiet, True
+            self.commits()
+            self.is_quiet = before
+        if is_change and self.on("own-entry-before-change"):
+            self.recount()
+        return done
+
+    def commits(self) -> bool:
+        before = self.is_quiet
+        self.is_quiet = before or self.on("commit-told-later")
+        moved = super().commits()
+        self.is_quiet = before
+        return moved and not self.on("commit-told-later")
+
+    def restart(self, saved: str = "nothing") -> None:
+        if self.on("saved-at-once"):
+            self.disk = Disk(self.hard_state(), self.base, self.base_term, self.base_content, self.base_config, self.entries, len(self.entries))
+            saved = "nothing"
+        super().restart(saved)
+
+    def new_view(self, id: int, active: bool) -> None:
+        super().new_view(id, active)
+        if self.on("own-answers-at-once") and id == self.id:
+            self.views[id].match = self.last()

@@ -1,0 +1,161 @@
+"""Rules of campaigns, votes, terms, time, and of what is passed on to a leader."""
+from __future__ import annotations
+
+from plain.config import both
+from plain.node import Disk
+from plain.records import Message
+
+from .rules_own import Ruled
+
+FROM_LEADERS = ("MsgApp", "MsgHeartbeat", "MsgSnap")
+ANSWERS = ("MsgAppResp", "MsgVoteResp", "MsgPreVoteResp", "MsgHeartbeatResp")
+
+
+class TermRules(Ruled):
+    """Campaigns, terms, time, transfers."""
+
+    led_at = 0
+    heard: dict[int, int] = {}
+
+    def start_from(self, disk: Disk) -> None:
+        super().start_from(disk)
+        if self.on("lone-voter-leads") and self.config.voters() == {self.id}:
+            self.lead_on()
+
+    def why_not(self) -> str | None:
+        why = super().why_not()
+        is_free = self.on("pending-change-campaigns") or self.on("change-counts-when-appended")
+        if why == "change pending" and is_free or why == "snapshot pending" and self.on("snapshot-always-installed"):
+            return None
+        return None if why == "not a voter" and self.on("unstable-member-campaigns") and self.is_unstable() else why
+
+    def why_not_now(self, kind: str) -> str | None:
+        return None if self.on("won-question-campaigns") and kind == "elected" else super().why_not_now(kind)
+
+    def answer_older(self, m: Message) -> None:
+        if self.on("earlier-vote-refused") and m.kind == "MsgVote":
+            return self.send("MsgVoteResp", m.sender, refused=True)
+        return super().answer_older(m)
+
+    def count_vote(self, m: Message) -> None:
+        if self.on("refused-candidate-stays") and m.refused and self.role in ("candidate", "precandidate"):
+            self.votes.setdefault(m.sender, False)
+            return None
+        return super().count_vote(m)
+
+    def raise_term(self, m: Message) -> None:
+        if self.on("heartbeat-answers-have-no-term") and m.kind == "MsgHeartbeatResp":
+            return
+        if self.on("stale-leader-keeps-term") and m.kind == "MsgAppResp":
+            if self.role == "leader":
+                self.follow(self.term, 0)
+            return
+        lead = self.lead if self.role == "follower" and self.on("lead-is-kept") and m.kind not in FROM_LEADERS else 0
+        super().raise_term(m)
+        if lead and m.term == self.term:
+            self.lead = lead
+
+    def answer_candidate(self, m: Message) -> None:
+        kept = self.lead
+        if self.on("lead-is-kept") and self.vote == 0 and m.kind == "MsgVote":
+            self.lead = 0
+        super().answer_candidate(m)
+        self.lead = kept if self.on("lead-is-kept") else self.lead
+
+    def is_undisturbed(self, m: Message) -> bool:
+        if self.on("known-leader-may-ask") and m.sender == self.lead:
+            return False
+        asks = m.kind in ("MsgVote", "MsgPreVote") and not m.by_transfer and self.lead not in (0, m.sender)
+        return self.on("known-leader-refuses") and asks or super().is_undisturbed(m)
+
+    def campaign(self, kind: str = "usual") -> None:
+        timeout = self.timeout
+        if self.on("candidate-asks-once") and self.role == "candidate" and kind == "usual":
+            kind = "elected"
+        if self.on("declined-campaign-forgets-leader") and self.why_not_now(kind) == "not a voter":
+            self.lead = 0
+        super().campaign(kind)
+        if (self.on("unstable-member-campaigns") or self.on("messages-are-calls")) and self.role == "candidate" and self.id not in self.config.voters():
+            self.vote = 0
+        if self.on("pre-vote-keeps-timeout") and self.role == "precandidate" and kind == "usual":
+            self.timeout = timeout
+
+    def tick(self) -> None:
+        self.ticks += 1
+        if self.on("unsaved-snapshot-waits") and self.role != "leader" and self.restored:
+            self.elapsed += 1
+        elif self.has_lost_quorum():
+            self.follow(self.term, 0)
+        else:
+            super().tick()
+            again, self.lost = frozenset(self.views) - {self.id} if self.on("heartbeats-append") else self.lost, frozenset()
+            for id in sorted(again & self.views.keys() if self.role == "leader" else ()):
+                self.views[id].waiting = False
+                self.sends(id, "tell")
+
+    def lose(self, m: Message) -> None:
+        """What is in flight is forgotten, and what the member lacks goes again."""
+        is_mine = m.kind == "MsgApp" and m.term == self.term and self.role == "leader" and m.to in self.views
+        if self.on("lost-append-goes-again") and is_mine:
+            self.report_unreachable(m.to)
+            self.views[m.to].waiting = True
+            self.lost |= {m.to}
+
+    def lead_on(self) -> None:
+        self.led_at, self.heard = self.ticks, {}
+        super().lead_on()
+
+    def new_view(self, id: int, active: bool) -> None:
+        super().new_view(id, active)
+        self.heard[id] = self.ticks
+
+    def hear(self, m: Message) -> None:
+        """Notes an answer of this leadership. A heartbeat's is one whatever its term is, if that isn't looked at."""
+        is_beat = m.kind == "MsgHeartbeatResp" and m.term > self.term and self.on("heartbeat-answers-have-no-term")
+        if self.role == "leader" and (is_beat or m.kind in ("MsgAppResp", "MsgHeartbeatResp") and m.term == self.term):
+            self.heard[m.sender] = self.ticks
+
+    def has_lost_quorum(self) -> bool:
+        looks = self.on("quorum-by-last-answers") and self.role == "leader" and self.options.checkquorum
+        return looks and not both(self.config, lambda id: id == self.id or self.ticks - self.heard.get(id, self.led_at) <= 3)
+
+    def keeps_lead(self) -> bool:
+        if self.on("quorum-by-last-answers"):
+            self.elapsed = 0
+            self.end_transfer()
+        return self.on("quorum-by-last-answers") or super().keeps_lead()
+
+    def step(self, m: Message) -> None:
+        self.hear(m)
+        if self.on("stranger-ignored") and m.kind in ANSWERS and m.sender not in self.config.members():
+            return self.ignore(m)
+        if m.kind == "MsgTransferLeader" and m.term:
+            if m.term < self.term:
+                return self.ignore(m)
+            if m.term > self.term:
+                self.raise_term(m)
+        if self.on("term-0-is-taken") and m.term == 0:
+            if self.role in ("candidate", "precandidate") and m.kind in FROM_LEADERS:
+                self.follow(0, m.sender)
+            m = m._replace(term=self.term)
+        return super().step(m)
+
+    def pass_proposal(self, m: Message) -> None:
+        if self.on("proposal-refused"):
+            return self.drop(m)
+        super().pass_proposal(m)
+        if self.on("proposal-keeps-sender") and self.lead:
+            self.sent[-1] = self.sent[-1]._replace(sender=m.sender)
+        return None
+
+    def pass_transfer(self, m: Message) -> None:
+        if self.on("transfer-refused"):
+            return self.ignore(m)
+        super().pass_transfer(m._replace(target=self.id) if self.on("transfer-to-passer") else m)
+        if self.on("transfer-has-term") and self.lead:
+            self.sent[-1] = self.sent[-1]._replace(term=self.term)
+
+    def start_transfer(self, m: Message) -> None:
+        if self.on("transfer-to-itself-ends") and m.target == self.id and self.transferee and m.target in self.config.voters():
+            return self.end_transfer()
+        return super().start_transfer(m)
