@@ -5,20 +5,20 @@ use Rattle.std.specs.List.{flat_map}
 use Rattle.std.proofs.lemmas.List.{drop_all, length-take-le}
 use Rattle.std.proofs.lemmas.Option.{get_or_from_slice_get}
 use Rattle.rb_script.specs.Lines.{Line}
-use Rattle.rb_script.specs.Marks.{trim_blanks}
+use Rattle.rb_script.specs.Marks.{is_comment}
 use Rattle.rb_text.proofs.SentLaws.{drop-get}
-use Rattle.rb_check.specs.Reviews.{above_comment, begins_comment, with_end}
+use Rattle.rb_check.specs.Reviews.{above_comment, with_end}
 
 -- one line further up
-pub comment-next : (ls : List Line) (n : ℕ) (line : Line) → slice_get ls n ≡ Some line → begins_comment (trim_blanks line) ≡ true → above_comment ls n ≡ above_comment ls (suc n)
+pub comment-next : (ls : List Line) (n : ℕ) (line : Line) → slice_get ls n ≡ Some line → is_comment line ≡ true → above_comment ls n ≡ above_comment ls (suc n)
 comment-next ls n line got is =
-    sym (ap (λ (l : Line). if begins_comment (trim_blanks l) then above_comment ls n else suc n) (get_or_from_slice_get ls n line [] got)
+    sym (ap (λ (l : Line). if is_comment l then above_comment ls n else suc n) (get_or_from_slice_get ls n line [] got)
     ∙ ap (λ (t : Bool). if t then above_comment ls n else suc n) is)
 
 -- and there it ends
-pub comment-ends : (ls : List Line) (n : ℕ) (line : Line) → slice_get ls n ≡ Some line → begins_comment (trim_blanks line) ≡ false → suc n ≡ above_comment ls (suc n)
+pub comment-ends : (ls : List Line) (n : ℕ) (line : Line) → slice_get ls n ≡ Some line → is_comment line ≡ false → suc n ≡ above_comment ls (suc n)
 comment-ends ls n line got is =
-    sym (ap (λ (l : Line). if begins_comment (trim_blanks l) then above_comment ls n else suc n) (get_or_from_slice_get ls n line [] got)
+    sym (ap (λ (l : Line). if is_comment l then above_comment ls n else suc n) (get_or_from_slice_get ls n line [] got)
     ∙ ap (λ (t : Bool). if t then above_comment ls n else suc n) is)
 
 -- a line of the first n

@@ -5,5 +5,6 @@ pub mod LineLaws
 pub mod PlaceLaws
 pub mod ReasonLaws
 pub mod ReviewLaws
+pub mod SuiteLaws
 pub mod VisibleLaws
 pub mod XmlLaws

@@ -1,4 +1,4 @@
--- Which bytes stand in what programs are told.
+-- Which bytes are in reports for programs.
 use Rattle.std.proofs.Common.{◌≡◌, ℕ, ◌≤◌, Bool, true, false, List, refl, arith}
 use Rattle.std.specs.Prelude.{◌==◌, ◌&&◌, not, nat_le, nat_lt}
 use Rattle.std.specs.List.{flat_map, list_all}

@@ -58,4 +58,3 @@ gone now left end none so_far = sym (ap (λ (qs : List ReviewQuestion). reviewed
 pub length_both : (q : Option ReviewQuestion) (rest : List ReviewQuestion) → length (as_list q ++ rest) ≡ length (as_list q) + length rest
 length_both None rest = omega arith
 length_both (Some q) rest = omega arith
-

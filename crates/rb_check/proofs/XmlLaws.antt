@@ -1,4 +1,4 @@
--- Which bytes stand in XML.
+-- Which bytes are in XML.
 use Rattle.std.proofs.Common.{◌≡◌, ℕ, ◌+◌, ◌/◌, ◌%◌, ◌<◌, Bool, true, false, List, [], ◌∷◌, refl, arith}
 use Rattle.std.specs.Prelude.{◌==◌, ◌&&◌, not, nat_lt, codes, if◌then◌else◌}
 use Rattle.std.specs.List.{flat_map, list_all}

@@ -17,7 +17,7 @@ use Rattle.rb_check.specs.declared.ran.ScriptEnd.{ScriptEnd}
 
 -- n of its mismatches are left, and the others are accepted
 abbrev pub counted_as : Ran → ℕ → Outcome
-counted_as ran left = outcomes.Ran ran.directives left (ran.mismatches - left) ran.told.errors ran.warnings
+counted_as ran left = outcomes.Ran ran.directives left (ran.mismatches - left) ran.summary.errors ran.warnings
 
 -- those of the heads on these lines
 abbrev pub left_as : Ran → List ℕ → Outcome
@@ -37,5 +37,5 @@ with_failure t None = t
 with_failure t (Some failure) = together t (of_outcome (outcomes.Failed failure))
 
 -- the outcomes in a report after a script
-abbrev pub told_after : Totals → Outcome → Option Failure → Totals
-told_after t outcome failure = with_failure (together t (of_outcome outcome)) failure
+abbrev pub counts_after : Totals → Outcome → Option Failure → Totals
+counts_after t outcome failure = with_failure (together t (of_outcome outcome)) failure

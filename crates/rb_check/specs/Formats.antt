@@ -66,7 +66,7 @@ script_text Json strict ls path whys heads s = objects_from ls path whys 0 heads
 script_text Github strict ls path whys heads s = of_first (mismatch_command path whys heads s) (mismatches s) ++ error_commands strict ls path heads s.blocks (outputs s)
 script_text Junit strict ls path whys heads s = script_suite strict ls path whys heads s
 
--- ---- what else is told of a script
+-- ---- notices about a script
 
 abbrev pub status_of : NoticeKind → List ℕ
 status_of kinds.Refused = codes "refused"

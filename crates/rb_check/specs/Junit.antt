@@ -1,4 +1,4 @@
--- What is told of scripts as JUnit's XML, as GitLab and Jenkins read it: for each script a suite of one case. (This project's.)
+-- The report of scripts as JUnit's XML, as GitLab and Jenkins read it: for each script a suite with one case. (This project's.)
 use Rattle.std.specs.Prelude.{ℕ, ◌==◌, Bool, if◌then◌else◌, List, [], ◌++◌, Option, codes, decimal, length}
 use Rattle.std.specs.List.{flat_map}
 use Rattle.rb_script.specs.Lines.{Line}
@@ -30,18 +30,18 @@ counts_of Passes = codes "\" tests=\"1\" failures=\"0\" errors=\"0\">"
 counts_of Fails = codes "\" tests=\"1\" failures=\"1\" errors=\"0\">"
 counts_of Errs = codes "\" tests=\"1\" failures=\"0\" errors=\"1\">"
 
--- what its case has in it: nothing, where it passes and nothing is told
+-- the elements of its case: none, if it passes and there are no details
 abbrev pub body_of : CaseVerdict → List ℕ → List ℕ → List ℕ
-body_of Passes message told = if length told == 0 then [] else codes "<system-out>" ++ (flat_map in_text told ++ codes "</system-out>")
-body_of Fails message told = codes "<failure type=\"mismatch\" message=\"" ++ (flat_map in_value message ++ (codes "\">" ++ (flat_map in_text told ++ codes "</failure>")))
-body_of Errs message told = codes "<error type=\"refused\" message=\"" ++ (flat_map in_value message ++ (codes "\">" ++ (flat_map in_text told ++ codes "</error>")))
+body_of Passes message details = if length details == 0 then [] else codes "<system-out>" ++ (flat_map in_text details ++ codes "</system-out>")
+body_of Fails message details = codes "<failure type=\"mismatch\" message=\"" ++ (flat_map in_value message ++ (codes "\">" ++ (flat_map in_text details ++ codes "</failure>")))
+body_of Errs message details = codes "<error type=\"refused\" message=\"" ++ (flat_map in_value message ++ (codes "\">" ++ (flat_map in_text details ++ codes "</error>")))
 
 abbrev pub suite_front : List ℕ → CaseVerdict → List ℕ
 suite_front path verdict =
     codes "<testsuite name=\"" ++ (flat_map in_value path ++ (counts_of verdict ++ (codes "<testcase classname=\"raftbench\" name=\"" ++ (flat_map in_value path ++ codes "\">"))))
 
 abbrev pub suite_text : List ℕ → CaseVerdict → List ℕ → List ℕ → List ℕ
-suite_text path verdict message told = suite_front path verdict ++ (body_of verdict message told ++ codes "</testcase></testsuite>\n")
+suite_text path verdict message details = suite_front path verdict ++ (body_of verdict message details ++ codes "</testcase></testsuite>\n")
 
 -- ---- a script of these lines that ran, whose heads begin on those
 
@@ -62,20 +62,20 @@ message_of ls heads s = message_with (length (mismatches s)) (error_count ls hea
 abbrev pub warnings_text : List ℕ → List Warning → List ℕ
 warnings_text path ws = flat_map (λ w. warning_text path w.line w.doubt) ws
 
--- what people are told: its warnings, what differs, and its new errors
-abbrev pub told_people : List Line → List ℕ → List (List Line) → List ℕ → PlainScript → List ℕ
-told_people ls path whys heads s = warnings_text path (warnings_in ls heads s) ++ told_text Differing Off ls path whys heads s
+-- the script's report for people: its warnings, its mismatches and its new errors
+abbrev pub details_of : List Line → List ℕ → List (List Line) → List ℕ → PlainScript → List ℕ
+details_of ls path whys heads s = warnings_text path (warnings_in ls heads s) ++ told_text Differing Off ls path whys heads s
 
 abbrev pub script_suite : Bool → List Line → List ℕ → List (List Line) → List ℕ → PlainScript → List ℕ
-script_suite strict ls path whys heads s = suite_text path (verdict_of strict ls heads s) (message_of ls heads s) (told_people ls path whys heads s)
+script_suite strict ls path whys heads s = suite_text path (verdict_of strict ls heads s) (message_of ls heads s) (details_of ls path whys heads s)
 
--- ---- what else is told of a script
+-- ---- notices about a script
 
 -- its line, and the message
 abbrev pub placed : List ℕ → Option ℕ → List ℕ → List ℕ
 placed path line message = path ++ (at_line line ++ (codes ": " ++ (message ++ codes "\n")))
 
--- a warning is among what is told of the script
+-- a warning is in the suite of the script's run
 abbrev pub notice_suite : List ℕ → Option ℕ → NoticeKind → List ℕ → List ℕ
 notice_suite path line kinds.Refused message = suite_text path Errs message (placed path line message)
 notice_suite path line kinds.Failed message = suite_text path Errs message (placed path line message)

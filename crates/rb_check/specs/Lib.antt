@@ -1,13 +1,15 @@
 pub mod Escapes
+pub mod Replaced
 pub mod Objects
 pub mod Commands
 pub mod Counts
+pub mod Findings
 pub mod Xml
 pub mod Junit
 pub mod Formats
 pub mod Endings
 pub mod Place
 pub mod Reasons
-pub mod Came
+pub mod Reported
 pub mod Reviews
 pub mod Visible

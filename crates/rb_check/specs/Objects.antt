@@ -1,10 +1,12 @@
--- What is told of a script as JSON, an object a line. (This project's; RFC 8259, and one object a line as in JSON Lines.)
+-- The report of a script as JSON, an object on each line. (This project's; RFC 8259, and one object a line as in JSON Lines.)
 use Rattle.std.specs.Prelude.{ℕ, ◌==◌, if◌then◌else◌, List, [], ◌++◌, length, Option, Some, None, codes, decimal, map}
 use Rattle.std.specs.List.{flat_map}
 use Rattle.rb_text.specs.Json.{ascii}
 use Rattle.rb_script.specs.Lines.{Line}
 use Rattle.rb_report.specs.Heads.{listed}
 use Rattle.rb_report.specs.declared.check.totals.Totals.{Totals}
+use Rattle.rb_check.specs.declared.totals_object.TotalsPiece.{TotalsPiece}
+use Rattle.rb_check.specs.declared.totals_object.TotalsPiece.TheVariants as pieces
 
 -- a line between quotes
 abbrev pub quoted : Line → List ℕ
@@ -35,19 +37,27 @@ object_end why = reasons_member why ++ codes "]}\n"
 abbrev pub object_text : List ℕ → ℕ → List ℕ → List ℕ → List Line → List Line → List Line → List ℕ
 object_text path line head status expected output why = lines_members path line head status expected output ++ object_end why
 
--- the line of a script that something is told of, if there is one, after the script's path
+-- the line that a notice is about, if there is one, after the script's path
 abbrev pub line_member : Option ℕ → List ℕ
 line_member None = codes "\",\"line\":null"
 line_member (Some line) = codes "\",\"line\":" ++ decimal line
 
--- something else that is told of a script
+-- a notice about a script
 abbrev pub notice_object : List ℕ → Option ℕ → List ℕ → List ℕ → List ℕ
 notice_object path line status message =
     codes "{\"script\":\"" ++ (flat_map ascii path ++ (line_member line ++ (codes ",\"status\":\"" ++ (status ++ (codes "\",\"message\":\"" ++ (flat_map ascii message ++ codes "\"}\n"))))))
 
--- what came of all, the last object
+-- a member with a count, after another member
+abbrev pub count_member : List ℕ → ℕ → List ℕ
+count_member name count = codes ",\"" ++ (name ++ (codes "\":" ++ decimal count))
+
+-- the totals of all paths, the last object
 abbrev pub totals_object : Totals → List ℕ
 totals_object t =
-    codes "{\"status\":\"totals\",\"scripts\":" ++ (decimal t.scripts ++ (codes ",\"directives\":" ++ (decimal t.directives ++ (codes ",\"mismatches\":" ++ (decimal t.mismatches
-    ++ (codes ",\"refused\":" ++ (decimal t.refused ++ (codes ",\"errors\":" ++ (decimal t.errors ++ (codes ",\"warnings\":" ++ (decimal t.warnings
-    ++ (codes ",\"accepted\":" ++ (decimal t.accepted ++ (codes ",\"failed\":" ++ (decimal t.failed ++ codes "}\n")))))))))))))))
+    codes "{\"status\":\"totals\"" ++ (count_member (codes "scripts") t.scripts ++ (count_member (codes "directives") t.directives ++ (count_member (codes "mismatches") t.mismatches
+    ++ (count_member (codes "refused") t.refused ++ (count_member (codes "errors") t.errors ++ (count_member (codes "warnings") t.warnings
+    ++ (count_member (codes "accepted") t.accepted ++ (count_member (codes "failed") t.failed ++ codes "}\n"))))))))
+
+abbrev pub totals_piece : TotalsPiece → List ℕ
+totals_piece (pieces.Bytes bytes) = bytes.now
+totals_piece (pieces.Count name count) = count_member name.now count

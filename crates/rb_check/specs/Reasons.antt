@@ -1,4 +1,4 @@
--- Which reasons of a script's outputs a check tells. (This project's.)
+-- Which reasons of a script's outputs a check shows. (This project's.)
 use Rattle.std.specs.Prelude.{Bool, if◌then◌else◌, List, []}
 use Rattle.rb_script.specs.Lines.{Line}
 use Rattle.rb_script.specs.Script.{PlainScript}

@@ -2,9 +2,8 @@
 use Rattle.std.specs.Prelude.{ℕ, zero, suc, ◌==◌, ◌||◌, ◌-◌, Bool, false, not, if◌then◌else◌, List, [], ◌∷◌, ◌++◌, Option, Some, None, codes, decimal, drop, length, min, slice_index_or, take}
 use Rattle.std.specs.List.{flat_map, fold}
 use Rattle.std.specs.Str.{trim}
-use Rattle.rb_script.specs.Bytes.{number_sign}
 use Rattle.rb_script.specs.Lines.{Line}
-use Rattle.rb_script.specs.Marks.{trim_blanks}
+use Rattle.rb_script.specs.Marks.{is_comment}
 use Rattle.rb_script.specs.Script.{PlainBlock, PlainScript}
 use Rattle.rb_replay.specs.Report.{same_lines}
 use Rattle.rb_replay.specs.Run.{outputs}
@@ -42,14 +41,10 @@ question_text number count = decimal number ++ (codes " of " ++ (decimal count +
 
 -- ---- the comment above a directive
 
-abbrev pub begins_comment : Line → Bool
-begins_comment [] = false
-begins_comment (b ∷ line) = b == number_sign
-
 -- how many of the first n lines are above the comments at their end
 abbrev pub above_comment : List Line → ℕ → ℕ
 above_comment ls zero = 0
-above_comment ls (suc n) = if begins_comment (trim_blanks (slice_index_or ls n [])) then above_comment ls n else suc n
+above_comment ls (suc n) = if is_comment (slice_index_or ls n []) then above_comment ls n else suc n
 
 abbrev pub with_end : Line → List ℕ
 with_end line = line ++ codes "\n"

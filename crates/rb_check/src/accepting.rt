@@ -5,7 +5,7 @@ ghost use Rattle.rb_script.specs.Reads.{Reads};
 ghost use Rattle.rb_replay.specs.Report.{mismatches};
 ghost use Rattle.rb_script_report.specs.Accepting.{accepted};
 ghost use Rattle.rb_script_report.specs.Layouts.{IsLayout};
-ghost use Rattle.rb_check.specs.Counts.{counted_as, told_after};
+ghost use Rattle.rb_check.specs.Counts.{counted_as, counts_after};
 ghost use Rattle.rb_check.specs.Endings.{IsLeft};
 
 use crate::checked_script::CheckedScript;
@@ -31,7 +31,7 @@ pub(crate) fn accept<M: Machine, S: System, W: Write + Drop, E: Write + Drop>(
     report: &mut Report<W, E>,
 ) -> ScriptEnd
     requires { IsLayout subject.now.text.now.bytes.items subject.now.session.now.script subject.now.layout.now }
-    ensures told { report.new.told ≡ told_after report.old.told (counted_as ran.entry result.left) result.failure }
+    ensures counts { report.new.counts ≡ counts_after report.old.counts (counted_as ran.entry result.left) result.failure }
     ensures left { ran.entry.mismatches ≡ length (mismatches subject.now.session.now.script) → IsLeft wanted.entry subject.now.layout.now subject.now.session.now.script result }
 {
     let alloc = system.alloc();
@@ -61,7 +61,7 @@ fn tell_left<M: Machine, W: Write + Drop, E: Write + Drop>(
     report: &mut Report<W, E>,
 )
     requires { IsLayout subject.now.text.now.bytes.items subject.now.session.now.script subject.now.layout.now }
-    ensures { report.new.told ≡ report.old.told }
+    ensures { report.new.counts ≡ report.old.counts }
 {
     if report.is_for_programs() || !report.is_open() {
         return;
@@ -79,7 +79,7 @@ fn tell_echoes<W: Write + Drop, E: Write + Drop>(
     left: &[usize],
     report: &mut Report<W, E>,
 )
-    ensures { report.new.told ≡ report.old.told }
+    ensures { report.new.counts ≡ report.old.counts }
 {
     let AcceptFilter::UpTo(line) = picked else {
         return;
@@ -101,7 +101,7 @@ fn keep<M: Machine, S: System, W: Write + Drop, E: Write + Drop>(
     report: &mut Report<W, E>,
 ) -> ScriptEnd
     requires { Reads made.now.text.items (accepted wanted subject.now.layout.now.text subject.now.layout.now.heads.items subject.now.session.now.script) }
-    ensures told { report.new.told ≡ told_after report.old.told (counted_as ran.entry result.left) result.failure }
+    ensures counts { report.new.counts ≡ counts_after report.old.counts (counted_as ran.entry result.left) result.failure }
     ensures left { MatchOption result.failure (result.left ≡ length made.now.left.items) (λ _. result.left ≡ ran.entry.mismatches) }
 {
     if made.left.len() == ran.mismatches {
@@ -131,7 +131,7 @@ fn fail<W: Write + Drop, E: Write + Drop>(
     fault: AcceptFault,
     report: &mut Report<W, E>,
 ) -> ScriptEnd
-    ensures told { report.new.told ≡ told_after report.old.told (counted_as ran.entry result.left) result.failure }
+    ensures counts { report.new.counts ≡ counts_after report.old.counts (counted_as ran.entry result.left) result.failure }
     ensures left { result.left ≡ ran.entry.mismatches }
     ensures failed { result.failure ≢ None }
 {

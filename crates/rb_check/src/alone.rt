@@ -27,7 +27,7 @@ pub(crate) fn show_alone<M: Machine, W: Write + Drop, E: Write + Drop>(
     report: &mut Report<W, E>,
 ) -> Result<(), PathError>
     requires { IsLayout subject.now.text.now.bytes.items subject.now.session.now.script subject.now.layout.now }
-    ensures { report.new.told ≡ report.old.told }
+    ensures { report.new.counts ≡ report.old.counts }
 {
     for line in lines {
         let Some((place, _)) = place_at(subject.layout.heads.as_slice(), *line) else {
@@ -48,7 +48,7 @@ fn show_directive<M: Machine, W: Write + Drop, E: Write + Drop>(
 ) -> Result<(), PathError>
     requires layout { IsLayout subject.now.text.now.bytes.items subject.now.session.now.script subject.now.layout.now }
     requires within { index < length subject.now.layout.now.heads.items }
-    ensures { report.new.told ≡ report.old.told }
+    ensures { report.new.counts ≡ report.old.counts }
 {
     if !report.is_open() {
         return Ok(());

@@ -18,7 +18,7 @@ pub(crate) enum Answer {
     Quit,
 }
 
-/// What came from the terminal.
+/// A line from the terminal.
 #[derive(Clone, Copy)]
 pub(crate) enum HeardAnswer {
     Answer(Answer),

@@ -1,13 +1,12 @@
 //! Checking one script. Nothing is held longer than its script.
 
-ghost use Rattle.std.specs.Prelude.{◌≡◌, ◌≢◌, ◌<◌, ◌^◌, ℕ, [], IfOk, IfErr, length};
+ghost use Rattle.std.specs.Prelude.{◌≡◌, ◌≢◌, ◌<◌, ℕ, [], IfOk, IfErr, length};
 ghost use Rattle.rb_replay.specs.Report.{mismatches};
-ghost use Rattle.rb_replay.specs.Run.{outputs};
-ghost use Rattle.rb_script_report.specs.Doubts.{all_warnings};
 ghost use Rattle.rb_script_report.specs.Layouts.{IsLayout};
 ghost use Rattle.rb_script_report.specs.Shows.{summary_of};
-ghost use Rattle.rb_check.specs.Counts.{counted_as, ran_as, told_after, warnings_in};
-ghost use Rattle.rb_check.specs.Came.{Came};
+ghost use Rattle.rb_check.specs.Findings.{AreFindings};
+ghost use Rattle.rb_check.specs.Counts.{counted_as, ran_as, counts_after, warnings_in};
+ghost use Rattle.rb_check.specs.Reported.{Reported};
 ghost use Rattle.rb_check.specs.Endings.{AcceptsSaid, AreWanted, EndsAs, ending_at, has_warnings};
 
 use crate::accepting::accept;
@@ -48,10 +47,10 @@ pub(crate) fn check_script<T: Runner, S: System, P: Person, W: Write + Drop, E: 
     reviewer: &mut Reviewer<P>,
     report: &mut Report<W, E>,
 ) -> Result<(), PathError>
-    // What the session of the script that was read says is told, or why it is none.
-    ensures came { IfOk result (λ _. Came asked.now (P.is_known reviewer.old.person) reviewer.old.review (P.left reviewer.old.person) report.old.told report.new.told) }
-    // What failed is still to be told.
-    ensures failed { IfErr result (λ _. report.new.told ≡ report.old.told) }
+    // The report counts the script's run, or why the bytes are not a script.
+    ensures reported { IfOk result (λ _. Reported asked.now (P.is_known reviewer.old.person) reviewer.old.review (P.left reviewer.old.person) report.old.counts report.new.counts) }
+    // A failure is not counted yet.
+    ensures failed { IfErr result (λ _. report.new.counts ≡ report.old.counts) }
 {
     report.heed(path.as_bytes(), None);
     let text = system.read(path)?;
@@ -75,18 +74,19 @@ pub(crate) fn check_script<T: Runner, S: System, P: Person, W: Write + Drop, E: 
     Ok(())
 }
 
-// What is to be told of a script that ran.
+// What is found of a script that ran.
 fn ran_of<'a, M: Machine>(subject: &CheckedScript<'a, M>, warnings: &[Warning]) -> Ran<'a>
     requires layout { IsLayout subject.now.text.now.bytes.items subject.now.session.now.script subject.now.layout.now }
     requires warnings { warnings.now ≡ warnings_in subject.now.layout.now.text subject.now.layout.now.heads.items subject.now.session.now.script }
     ensures counts { (left : ℕ) → counted_as result left ≡ ran_as subject.now.layout.now.text subject.now.layout.now.heads.items subject.now.session.now.script left }
     ensures mismatches { result.mismatches ≡ length (mismatches subject.now.session.now.script) }
+    ensures findings { AreFindings subject.now.text.now.bytes.items subject.now.session.now.script subject.now.layout.now warnings.now result }
 {
     Ran {
         path: subject.path,
         directives: subject.session.len(),
         mismatches: subject.session.mismatches().len(),
-        told: summary_of(subject.session, subject.layout),
+        summary: summary_of(subject.session, subject.layout),
         warnings: warnings.len(),
     }
 }
@@ -100,14 +100,15 @@ fn answer<M: Machine, S: System, P: Person, W: Write + Drop, E: Write + Drop>(
     report: &mut Report<W, E>,
 ) -> Result<ScriptEnd, PathError>
     requires { IsLayout subject.now.text.now.bytes.items subject.now.session.now.script subject.now.layout.now }
-    ensures told { IfOk result (λ end. report.new.told ≡ told_after report.old.told (ran_as subject.now.layout.now.text subject.now.layout.now.heads.items subject.now.session.now.script end.left) end.failure) }
+    ensures counts { IfOk result (λ end. report.new.counts ≡ counts_after report.old.counts (ran_as subject.now.layout.now.text subject.now.layout.now.heads.items subject.now.session.now.script end.left) end.failure) }
     ensures ended { IfOk result (λ end. EndsAs (ending_at asked.now subject.now.layout.now subject.now.session.now.script) asked.now (P.is_known reviewer.old.person) reviewer.old.review (P.left reviewer.old.person) subject.now.layout.now subject.now.session.now.script end) }
-    ensures failed { IfErr result (λ _. report.new.told ≡ report.old.told) }
+    ensures failed { IfErr result (λ _. report.new.counts ≡ report.old.counts) }
 {
     let alloc = system.alloc();
-    let warnings = warnings(alloc, subject.session, subject.layout)?;
-    let ran = ran_of(subject, &warnings);
-    tell(system, asked, subject, ran, &warnings, report)?;
+    let found = warnings(alloc, subject.session, subject.layout)?;
+    let warnings = found.as_slice();
+    let ran = ran_of(subject, warnings);
+    tell(system, asked, subject, ran, warnings, report)?;
     let heads = named_heads(system, asked, subject, report)?;
     let picked = picked_of(alloc, asked, subject, &heads)?;
     match ending_at(asked, !warnings.is_empty(), subject) {
@@ -151,10 +152,8 @@ fn tell<M: Machine, S: System, W: Write + Drop, E: Write + Drop>(
     warnings: &[Warning],
     report: &mut Report<W, E>,
 ) -> Result<(), PathError>
-    requires layout { IsLayout subject.now.text.now.bytes.items subject.now.session.now.script subject.now.layout.now }
-    requires warnings { warnings.now ≡ warnings_in subject.now.layout.now.text subject.now.layout.now.heads.items subject.now.session.now.script }
-    requires ran { counted_as ran ran.mismatches ≡ ran_as subject.now.layout.now.text subject.now.layout.now.heads.items subject.now.session.now.script (length (mismatches subject.now.session.now.script)) }
-    ensures { report.new.told ≡ report.old.told }
+    requires { AreFindings subject.now.text.now.bytes.items subject.now.session.now.script subject.now.layout.now warnings.now ran }
+    ensures { report.new.counts ≡ report.old.counts }
 {
     let alloc = system.alloc();
     if let Some(lines) = lines_alone(system, asked, subject.path)? {
@@ -183,9 +182,9 @@ fn accept_reviewed<M: Machine, S: System, P: Person, W: Write + Drop, E: Write +
     report: &mut Report<W, E>,
 ) -> Result<ScriptEnd, PathError>
     requires { IsLayout subject.now.text.now.bytes.items subject.now.session.now.script subject.now.layout.now }
-    ensures told { IfOk result (λ end. report.new.told ≡ told_after report.old.told (counted_as ran.entry end.left) end.failure) }
+    ensures counts { IfOk result (λ end. report.new.counts ≡ counts_after report.old.counts (counted_as ran.entry end.left) end.failure) }
     ensures ended { ran.entry.mismatches ≡ length (mismatches subject.now.session.now.script) → IfOk result (λ end. AcceptsSaid asked.now (P.is_known reviewer.old.person) reviewer.old.review (P.left reviewer.old.person) subject.now.layout.now subject.now.session.now.script end) }
-    ensures failed { IfErr result (λ _. report.new.told ≡ report.old.told) }
+    ensures failed { IfErr result (λ _. report.new.counts ≡ report.old.counts) }
 {
     let said = reviewed(system.alloc(), asked, subject, picked, reviewer, report)?;
     Ok(accept(system, wanted_of(said.as_slice()), ran, subject, report))
@@ -218,10 +217,8 @@ fn show<M: Machine, W: Write + Drop, E: Write + Drop>(
     warnings: &[Warning],
     report: &mut Report<W, E>,
 ) -> Result<(), PathError>
-    requires layout { IsLayout subject.now.text.now.bytes.items subject.now.session.now.script subject.now.layout.now }
-    requires warnings { warnings.now ≡ warnings_in subject.now.layout.now.text subject.now.layout.now.heads.items subject.now.session.now.script }
-    requires ran { counted_as ran ran.mismatches ≡ ran_as subject.now.layout.now.text subject.now.layout.now.heads.items subject.now.session.now.script (length (mismatches subject.now.session.now.script)) }
-    ensures { report.new.told ≡ report.old.told }
+    requires { AreFindings subject.now.text.now.bytes.items subject.now.session.now.script subject.now.layout.now warnings.now ran }
+    ensures { report.new.counts ≡ report.old.counts }
 {
     if asked.format != Some(Format::Junit) && is_quiet(subject.session, asked.shown) {
         return Ok(());
@@ -248,7 +245,7 @@ fn show_people<M: Machine, W: Write + Drop, E: Write + Drop>(
     report: &mut Report<W, E>,
 ) -> Result<(), PathError>
     requires { IsLayout subject.now.text.now.bytes.items subject.now.session.now.script subject.now.layout.now }
-    ensures { report.new.told ≡ report.old.told }
+    ensures { report.new.counts ≡ report.old.counts }
 {
     if !report.is_open() {
         return Ok(());
@@ -280,10 +277,8 @@ fn show_programs<M: Machine, W: Write + Drop, E: Write + Drop>(
     warnings: &[Warning],
     report: &mut Report<W, E>,
 ) -> Result<(), AllocError>
-    requires layout { IsLayout subject.now.text.now.bytes.items subject.now.session.now.script subject.now.layout.now }
-    requires warnings { warnings.now ≡ warnings_in subject.now.layout.now.text subject.now.layout.now.heads.items subject.now.session.now.script }
-    requires ran { counted_as ran ran.mismatches ≡ ran_as subject.now.layout.now.text subject.now.layout.now.heads.items subject.now.session.now.script (length (mismatches subject.now.session.now.script)) }
-    ensures { report.new.told ≡ report.old.told }
+    requires { AreFindings subject.now.text.now.bytes.items subject.now.session.now.script subject.now.layout.now warnings.now ran }
+    ensures { report.new.counts ≡ report.old.counts }
 {
     let text = formatted(alloc, format, is_strict, subject, ran, warnings)?;
     report.put(&text);

@@ -2,21 +2,11 @@
 
 ghost use Rattle.std.specs.Prelude.{◌≡◌, ◌≤◌, drop, length, take, IsOk};
 ghost use Rattle.std.specs.List.{flat_map};
-ghost use Rattle.rb_script.specs.Marks.{trim_blanks};
 ghost use Rattle.rb_script.specs.Writes.{Writes};
-ghost use Rattle.rb_check.specs.Reviews.{above_comment, begins_comment, comment_text, with_end};
+ghost use Rattle.rb_check.specs.Reviews.{above_comment, comment_text, with_end};
 
-use rb_script::{Lines, Sink, WriteFault, trim_blanks};
+use rb_script::{Lines, Sink, WriteFault, is_comment};
 use rb_text::put_pieces;
-
-fn is_comment(line: &[u8]) -> bool
-    ensures { result ≡ begins_comment (trim_blanks line.now) }
-{
-    match trim_blanks(line) {
-        [] => false,
-        [first, ..] => *first == b'#',
-    }
-}
 
 // How many of the first lines are above the comments at their end.
 fn above_comment(text: &Lines, count: usize) -> usize

@@ -4,6 +4,7 @@ ghost use Rattle.std.specs.Prelude.{IsOk};
 ghost use Rattle.rb_script.specs.Writes.{Writes};
 ghost use Rattle.rb_check.specs.Escapes.{byte_text, in_message, in_property};
 
+use crate::replaced::{Replaced, put_replaced};
 use rb_script::{Sink, WriteFault};
 use rb_text::Escape;
 
@@ -31,27 +32,24 @@ fn put_message_byte<S: Sink>(sink: &mut S, b: u8) -> Result<(), WriteFault>
     ensures wrote { Writes result (S.held sink.old) (S.held sink.new) (in_message b) }
     ensures all { S.takes_all sink.old → IsOk result × S.takes_all sink.new }
 {
-    if b == b'%' {
-        return sink.put(b"%25");
-    }
-    if b == b'\r' {
-        return sink.put(b"%0D");
-    }
-    if b == b'\n' {
-        return sink.put(b"%0A");
-    }
-    sink.put(&[b])
+    let table = [
+        Replaced(b'%', b"%25"),
+        Replaced(b'\r', b"%0D"),
+        Replaced(b'\n', b"%0A"),
+    ];
+    put_replaced(sink, &table, b, &[b])
 }
 
 fn put_property_byte<S: Sink>(sink: &mut S, b: u8) -> Result<(), WriteFault>
     ensures wrote { Writes result (S.held sink.old) (S.held sink.new) (in_property b) }
     ensures all { S.takes_all sink.old → IsOk result × S.takes_all sink.new }
 {
-    if b == b':' {
-        return sink.put(b"%3A");
-    }
-    if b == b',' {
-        return sink.put(b"%2C");
-    }
-    put_message_byte(sink, b)
+    let table = [
+        Replaced(b':', b"%3A"),
+        Replaced(b',', b"%2C"),
+        Replaced(b'%', b"%25"),
+        Replaced(b'\r', b"%0D"),
+        Replaced(b'\n', b"%0A"),
+    ];
+    put_replaced(sink, &table, b, &[b])
 }

@@ -7,8 +7,7 @@ ghost use Rattle.rb_replay.specs.Report.{mismatches};
 ghost use Rattle.rb_report.specs.Heads.{head_text};
 ghost use Rattle.rb_report.specs.Whys.{reasons_in};
 ghost use Rattle.rb_script_report.specs.Checked.{of_first};
-ghost use Rattle.rb_script_report.specs.Layouts.{IsLayout};
-ghost use Rattle.rb_check.specs.Counts.{counted_as, ran_as, warnings_in};
+ghost use Rattle.rb_check.specs.Findings.{AreFindings};
 ghost use Rattle.rb_check.specs.Formats.{differing_command, directive_object, error_command, error_commands, mismatch_command, objects_from, script_text};
 
 use crate::checked_script::CheckedScript;
@@ -40,7 +39,7 @@ fn head_of(alloc: Global, directive: &DirectiveRef<'_>) -> Result<Vec<u8>, Alloc
     }
 }
 
-// Adds what is told of a directive as an object.
+// Adds a directive as an object if its output is a mismatch or a new error.
 fn add_directive(
     alloc: Global,
     text: &mut Vec<u8>,
@@ -64,7 +63,7 @@ fn add_directive(
     Ok(())
 }
 
-// Adds what is told of each directive as an object, where a script's heads begin on these lines.
+// Adds these directives as objects. The script's heads begin on these lines.
 fn add_objects<M: Machine>(
     alloc: Global,
     text: &mut Vec<u8>,
@@ -208,7 +207,7 @@ fn add_first<M: Machine>(
     }
 }
 
-/// What is told of a script that ran, of which so much is known. Where there is nothing it is empty.
+/// The report of a script that ran, in this format. It is empty if there is nothing to report.
 ///
 /// # Errors
 ///
@@ -221,9 +220,7 @@ pub(crate) fn formatted<M: Machine>(
     ran: Ran<'_>,
     warnings: &[Warning],
 ) -> Result<Vec<u8>, AllocError>
-    requires layout { IsLayout subject.now.text.now.bytes.items subject.now.session.now.script subject.now.layout.now }
-    requires warnings { warnings.now ≡ warnings_in subject.now.layout.now.text subject.now.layout.now.heads.items subject.now.session.now.script }
-    requires ran { counted_as ran ran.mismatches ≡ ran_as subject.now.layout.now.text subject.now.layout.now.heads.items subject.now.session.now.script (length (mismatches subject.now.session.now.script)) }
+    requires { AreFindings subject.now.text.now.bytes.items subject.now.session.now.script subject.now.layout.now warnings.now ran }
     ensures { IfOk result (λ made. made.items ≡ script_text format is_strict subject.now.layout.now.text subject.now.path.now subject.now.whys.now subject.now.layout.now.heads.items subject.now.session.now.script) }
 {
     let session = subject.session;

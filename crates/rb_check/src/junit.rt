@@ -1,12 +1,12 @@
-//! What is told of scripts as JUnit's XML: for each script a suite of one case, so that nothing has to be counted before it is written.
+//! The report of scripts as JUnit's XML. Each script is a suite with one case, so nothing has to be counted before it is written.
 
-ghost use Rattle.std.specs.Prelude.{◌≡◌, ◌++◌, [], IfOk, OnOk, length};
-ghost use Rattle.rb_replay.specs.Report.{mismatches};
+ghost use Rattle.std.specs.Prelude.{◌≡◌, ◌++◌, [], IfOk, OnOk};
 ghost use Rattle.rb_report.specs.Notices.{warning_text};
 ghost use Rattle.rb_report.specs.Counts.{nothing, of_outcome, status_of, together};
 ghost use Rattle.rb_script_report.specs.Layouts.{IsLayout};
-ghost use Rattle.rb_check.specs.Counts.{counted_as, ran_as, warnings_in};
-ghost use Rattle.rb_check.specs.Junit.{body_of, counts_of, message_with, notice_suite, placed, script_suite, suite_front, suite_text, told_people, verdict_by, warnings_text};
+ghost use Rattle.rb_check.specs.Findings.{AreFindings};
+ghost use Rattle.rb_check.specs.Counts.{counted_as, warnings_in};
+ghost use Rattle.rb_check.specs.Junit.{body_of, counts_of, message_with, notice_suite, placed, script_suite, suite_front, suite_text, details_of, verdict_by, warnings_text};
 
 use crate::checked_script::CheckedScript;
 use crate::kind::NoticeKind;
@@ -27,13 +27,13 @@ pub(crate) const BEGINNING: &[u8] =
 /// What is after them.
 pub(crate) const END: &[u8] = b"</testsuites>\n";
 
-/// What a case came to.
+/// The verdict of a case.
 #[derive(Clone, Copy, Debug, PartialEq, Eq)]
 pub(crate) enum CaseVerdict {
     Passes,
-    /// Something of the script is not as it should be.
+    /// The script has a mismatch, or, if the check is strict, a new error or a warning.
     Fails,
-    /// There was no run of it.
+    /// The script did not run.
     Errs,
 }
 
@@ -67,19 +67,19 @@ fn add_body<'a>(
     text: &mut Vec<u8>,
     verdict: CaseVerdict,
     message: &'a [u8],
-    told: &'a [u8],
+    details: &'a [u8],
 ) -> Result<(), AllocError>
-    ensures { OnOk result (text.new.items ≡ text.old.items ++ body_of verdict message.now told.now) }
+    ensures { OnOk result (text.new.items ≡ text.old.items ++ body_of verdict message.now details.now) }
 {
     match verdict {
-        CaseVerdict::Passes => add_output(text, told),
+        CaseVerdict::Passes => add_output(text, details),
         CaseVerdict::Fails => add_pieces(
             text,
             &[
                 XmlPiece::Bytes(b"<failure type=\"mismatch\" message=\""),
                 XmlPiece::Value(message),
                 XmlPiece::Bytes(b"\">"),
-                XmlPiece::Text(told),
+                XmlPiece::Text(details),
                 XmlPiece::Bytes(b"</failure>"),
             ],
         ),
@@ -89,25 +89,25 @@ fn add_body<'a>(
                 XmlPiece::Bytes(b"<error type=\"refused\" message=\""),
                 XmlPiece::Value(message),
                 XmlPiece::Bytes(b"\">"),
-                XmlPiece::Text(told),
+                XmlPiece::Text(details),
                 XmlPiece::Bytes(b"</error>"),
             ],
         ),
     }
 }
 
-// What is told of a case that passes.
-fn add_output(text: &mut Vec<u8>, told: &[u8]) -> Result<(), AllocError>
-    ensures { OnOk result (text.new.items ≡ text.old.items ++ body_of CaseVerdict.Passes [] told.now) }
+// The element of a case that passes.
+fn add_output(text: &mut Vec<u8>, details: &[u8]) -> Result<(), AllocError>
+    ensures { OnOk result (text.new.items ≡ text.old.items ++ body_of CaseVerdict.Passes [] details.now) }
 {
-    if told.is_empty() {
+    if details.is_empty() {
         return Ok(());
     }
     add_pieces(
         text,
         &[
             XmlPiece::Bytes(b"<system-out>"),
-            XmlPiece::Text(told),
+            XmlPiece::Text(details),
             XmlPiece::Bytes(b"</system-out>"),
         ],
     )
@@ -119,12 +119,12 @@ fn add_suite(
     path: &[u8],
     verdict: CaseVerdict,
     message: &[u8],
-    told: &[u8],
+    details: &[u8],
 ) -> Result<(), AllocError>
-    ensures { IfOk result (λ _. text.new.items ≡ text.old.items ++ suite_text path.now verdict message.now told.now) }
+    ensures { IfOk result (λ _. text.new.items ≡ text.old.items ++ suite_text path.now verdict message.now details.now) }
 {
     add_front(text, path, verdict)?;
-    add_body(text, verdict, message, told)?;
+    add_body(text, verdict, message, details)?;
     add_pieces(text, &[XmlPiece::Bytes(b"</testcase></testsuite>\n")])?;
     Ok(())
 }
@@ -138,7 +138,7 @@ fn verdict_by(status: Status) -> CaseVerdict
     }
 }
 
-// What a script came to, alone.
+// The verdict of a script by itself.
 fn verdict_of(ran: Ran<'_>, is_strict: bool) -> CaseVerdict
     ensures { result ≡ verdict_by (status_of is_strict (together nothing (of_outcome (counted_as ran.entry ran.entry.mismatches)))) }
 {
@@ -192,15 +192,15 @@ fn add_warnings(text: &mut Vec<u8>, path: &[u8], warnings: &[Warning]) -> Result
     Ok(())
 }
 
-// What people are told of the script.
-fn told_people<M: Machine>(
+// The script's report for people.
+fn details_of<M: Machine>(
     alloc: Global,
     subject: &CheckedScript<'_, M>,
     warnings: &[Warning],
 ) -> Result<Vec<u8>, AllocError>
     requires layout { IsLayout subject.now.text.now.bytes.items subject.now.session.now.script subject.now.layout.now }
     requires warnings { warnings.now ≡ warnings_in subject.now.layout.now.text subject.now.layout.now.heads.items subject.now.session.now.script }
-    ensures { IfOk result (λ made. made.items ≡ told_people subject.now.layout.now.text subject.now.path.now subject.now.whys.now subject.now.layout.now.heads.items subject.now.session.now.script) }
+    ensures { IfOk result (λ made. made.items ≡ details_of subject.now.layout.now.text subject.now.path.now subject.now.whys.now subject.now.layout.now.heads.items subject.now.session.now.script) }
 {
     let path = subject.path.as_bytes();
     let mut text = Vec::new(alloc);
@@ -233,17 +233,15 @@ pub(crate) fn script_suite<M: Machine>(
     warnings: &[Warning],
     is_strict: bool,
 ) -> Result<Vec<u8>, AllocError>
-    requires layout { IsLayout subject.now.text.now.bytes.items subject.now.session.now.script subject.now.layout.now }
-    requires warnings { warnings.now ≡ warnings_in subject.now.layout.now.text subject.now.layout.now.heads.items subject.now.session.now.script }
-    requires ran { counted_as ran ran.mismatches ≡ ran_as subject.now.layout.now.text subject.now.layout.now.heads.items subject.now.session.now.script (length (mismatches subject.now.session.now.script)) }
+    requires { AreFindings subject.now.text.now.bytes.items subject.now.session.now.script subject.now.layout.now warnings.now ran }
     ensures { IfOk result (λ made. made.items ≡ script_suite is_strict subject.now.layout.now.text subject.now.path.now subject.now.whys.now subject.now.layout.now.heads.items subject.now.session.now.script) }
 {
-    let told = told_people(alloc, subject, warnings)?;
-    let message = message(alloc, ran.mismatches, ran.told.errors, ran.warnings)?;
+    let details = details_of(alloc, subject, warnings)?;
+    let message = message(alloc, ran.mismatches, ran.summary.errors, ran.warnings)?;
     let mut text = Vec::new(alloc);
     let path = subject.path.as_bytes();
     let verdict = verdict_of(ran, is_strict);
-    add_suite(&mut text, path, verdict, &message, &told)?;
+    add_suite(&mut text, path, verdict, &message, &details)?;
     Ok(text)
 }
 
@@ -282,7 +280,7 @@ fn placed<'a>(
     Ok(text)
 }
 
-/// Adds the suite by which something else is told of a script. A warning is told with the script itself.
+/// Adds the suite of a notice about a script. A warning is in the suite of the script's run.
 pub(crate) fn add_notice_suite(
     alloc: Global,
     text: &mut Vec<u8>,
@@ -298,7 +296,7 @@ pub(crate) fn add_notice_suite(
         NoticeKind::Left | NoticeKind::Accepted => CaseVerdict::Passes,
         NoticeKind::Warning => return Ok(()),
     };
-    let told = placed(alloc, path, line, message)?;
-    add_suite(text, path, verdict, message, &told)?;
+    let details = placed(alloc, path, line, message)?;
+    add_suite(text, path, verdict, message, &details)?;
     Ok(())
 }

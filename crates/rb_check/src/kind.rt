@@ -32,7 +32,7 @@ impl NoticeKind {
         }
     }
 
-    /// The command by which GitHub is told.
+    /// Its workflow command.
     pub(crate) fn command(self, is_strict: bool) -> &'static [u8]
         ensures { result.now ≡ command_of is_strict self }
     {

@@ -3,9 +3,9 @@
 //! [`check`] does a [`CheckRequest`] over the files, the terminal and the clock of a runtime, and a [`Runner`] runs the scripts. What is found out about scripts goes to standard output, failures and how far the work
 //! goes to a stream of errors. The texts of a report are in rb_report and rb_script_report, accepting in rb_script_report.
 //!
-//! Programs are told in JSON, an object a line, in the workflow commands that GitHub shows beside the lines of a file, or in JUnit's XML: a [`Format`].
-//! `formatted` gives what is said of a script that ran, and `notice` what is said of one that didn't, or beside. What they give is one
-//! definition, `Formats.script_text` and `Formats.notice_text`; it is made in memory, so that want of memory leaves no half of it.
+//! Programs read a [`Format`]: JSON, with an object on each line; workflow commands, which GitHub shows next to the lines of a file; or JUnit's XML.
+//! `formatted` gives the report of a script that ran, and `notice` everything else. Their texts are `Formats.script_text` and
+//! `Formats.notice_text`. A text is made in memory first, so a lack of memory never leaves half of one.
 #![tactic(auto)]
 
 mod accepting;
@@ -35,11 +35,13 @@ mod progress;
 mod question;
 mod ran;
 mod reasons;
+mod replaced;
 mod report;
 mod review;
 mod runner;
 mod system;
 mod target;
+mod totals_object;
 mod visible;
 mod xml;
 

@@ -3,9 +3,9 @@
 ghost use Rattle.std.specs.Prelude.{◌≡◌, ◌++◌, IfOk, OnOk};
 ghost use Rattle.rb_report.specs.Heads.{before_value};
 ghost use Rattle.rb_report.specs.Whys.{reasons_in};
-ghost use Rattle.rb_check.specs.Objects.{lines_members, object_end, object_front, object_text, quoted, reasons_member, strings_from, totals_object};
+ghost use Rattle.rb_check.specs.Objects.{lines_members, object_end, object_front, object_text, quoted, reasons_member, strings_from};
 
-use rb_report::check::{FileLine, Totals, Why};
+use rb_report::check::{FileLine, Why};
 use rb_script::Lines;
 use rb_text::{Json, Piece, add_pieces};
 use std::alloc::{AllocError, Global};
@@ -120,38 +120,4 @@ fn add_reasons(text: &mut Vec<u8>, reasons: &Lines) -> Result<(), AllocError>
     add_pieces(text, &[Piece::Bytes(b"],\"reasons\":[")])?;
     add_strings(text, reasons)?;
     Ok(())
-}
-
-/// What came of all paths, as an object.
-///
-/// # Errors
-///
-/// If memory was refused.
-pub(crate) fn totals_object(alloc: Global, totals: &Totals) -> Result<Vec<u8>, AllocError>
-    ensures { IfOk result (λ made. made.items ≡ totals_object totals.now) }
-{
-    let mut text = Vec::new(alloc);
-    add_pieces(
-        &mut text,
-        &[
-            Piece::Bytes(b"{\"status\":\"totals\",\"scripts\":"),
-            Piece::Number(totals.scripts),
-            Piece::Bytes(b",\"directives\":"),
-            Piece::Number(totals.directives),
-            Piece::Bytes(b",\"mismatches\":"),
-            Piece::Number(totals.mismatches),
-            Piece::Bytes(b",\"refused\":"),
-            Piece::Number(totals.refused),
-            Piece::Bytes(b",\"errors\":"),
-            Piece::Number(totals.errors),
-            Piece::Bytes(b",\"warnings\":"),
-            Piece::Number(totals.warnings),
-            Piece::Bytes(b",\"accepted\":"),
-            Piece::Number(totals.accepted),
-            Piece::Bytes(b",\"failed\":"),
-            Piece::Number(totals.failed),
-            Piece::Bytes(b"}\n"),
-        ],
-    )?;
-    Ok(text)
 }

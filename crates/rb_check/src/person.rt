@@ -25,7 +25,7 @@ pub(crate) trait Person: Drop {
         question: &[u8],
         report: &mut Report<W, E>,
     ) -> HeardAnswer
-        ensures told { report.new.told ≡ report.old.told }
+        ensures counts { report.new.counts ≡ report.old.counts }
         ensures known { is_known self.old → is_known self.new }
         ensures next { is_known self.old → result ≡ first_heard (left self.old) }
         ensures rest { is_known self.old → left self.new ≡ rest_heard (left self.old) };
@@ -63,7 +63,7 @@ pub(crate) fn ask<P: Person, W: Write + Drop, E: Write + Drop>(
     question: &[u8],
     report: &mut Report<W, E>,
 ) -> Answer
-    ensures told { report.new.told ≡ report.old.told }
+    ensures counts { report.new.counts ≡ report.old.counts }
     ensures known { P.is_known person.old → P.is_known person.new }
     ensures few { P.is_known person.old → length (P.left person.old) < 2 ^ 64 → length (P.left person.new) ≤ length (P.left person.old) }
     ensures answered { P.is_known person.old → length (P.left person.old) < 2 ^ 64 → result ≡ answered (P.left person.old) }

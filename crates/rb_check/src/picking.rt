@@ -25,7 +25,7 @@ pub(crate) fn named_heads<M: Machine, S: System, W: Write + Drop, E: Write + Dro
     subject: &CheckedScript<'_, M>,
     report: &mut Report<W, E>,
 ) -> Result<Option<Vec<usize>>, PathError>
-    ensures { report.new.told ≡ report.old.told }
+    ensures { report.new.counts ≡ report.old.counts }
 {
     if !asked.accepts {
         return Ok(None);
@@ -118,7 +118,7 @@ fn heads_at<M: Machine, W: Write + Drop, E: Write + Drop>(
     subject: &CheckedScript<'_, M>,
     report: &mut Report<W, E>,
 ) -> Result<Vec<usize>, PathError>
-    ensures { report.new.told ≡ report.old.told }
+    ensures { report.new.counts ≡ report.old.counts }
 {
     let mut picked = Vec::new(alloc);
     for line in lines {

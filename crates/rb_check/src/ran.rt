@@ -13,7 +13,7 @@ pub(crate) struct Ran<'a> {
     pub(crate) path: &'a str,
     pub(crate) directives: usize,
     pub(crate) mismatches: usize,
-    pub(crate) told: ScriptSummary,
+    pub(crate) summary: ScriptSummary,
     /// How many lines look like a slip.
     pub(crate) warnings: usize,
 }
@@ -47,7 +47,7 @@ pub(crate) fn counted_as(ran: Ran<'_>, left: usize) -> Outcome
         directives: ran.directives,
         mismatches: left,
         accepted: ran.mismatches.saturating_sub(left),
-        errors: ran.told.errors,
+        errors: ran.summary.errors,
         warnings: ran.warnings,
     }
 }

@@ -15,8 +15,8 @@ use crate::junit::{BEGINNING, END};
 use crate::kind::NoticeKind;
 use crate::notes::{put_left_file, put_note, put_quit};
 use crate::notices::notice;
-use crate::object::totals_object;
 use crate::ran::{Ran, counted_as, together};
+use crate::totals_object::totals_object;
 use crate::visible::{Showing, VisibleSink, showing_of, showing_of_script};
 use rb_files::PathError;
 use rb_report::check::{
@@ -53,8 +53,8 @@ pub(crate) struct Report<W: Write + Drop, E: Write + Drop> {
     format: Option<Format>,
     // New errors and warnings count as mismatches for the status.
     is_strict: bool,
-    // what it was told of paths
-    told: Totals,
+    // the counts of the paths so far
+    counts: Totals,
     // its own failures: of its output, and of memory
     own: Totals,
     differing: Vec<Differing>,
@@ -74,7 +74,7 @@ impl<W: Write + Drop, E: Write + Drop> Report<W, E> {
     ) -> io::Result<Report<W, E>>
         ensures begins { IfErr result (λ error. error_kind error ≡ ErrorKind.OutOfMemory) }
         // It has no outcomes yet.
-        ensures empty { IfOk result (λ report. report.told ≡ nothing) }
+        ensures empty { IfOk result (λ report. report.counts ≡ nothing) }
         ensures strict { IfOk result (λ report. report.is_strict ≡ asked.now.is_strict) }
     {
         Ok(Report {
@@ -89,7 +89,7 @@ impl<W: Write + Drop, E: Write + Drop> Report<W, E> {
             },
             format: asked.format,
             is_strict: asked.is_strict,
-            told: Totals::new(),
+            counts: Totals::new(),
             own: Totals::new(),
             differing: Vec::new(alloc),
             is_lost: asked.is_quiet,
@@ -97,9 +97,9 @@ impl<W: Write + Drop, E: Write + Drop> Report<W, E> {
         })
     }
 
-    /// From here on what is told is of the script at the path, of these lines where they are known: it acts in no terminal.
+    /// From here on the report is about the script at the path, with these lines if they are known. None of it acts in a terminal.
     pub(crate) fn heed(&mut self, path: &[u8], lines: Option<&Lines>)
-        ensures { self.new.told ≡ self.old.told }
+        ensures { self.new.counts ≡ self.old.counts }
     {
         let showing = match lines {
             Some(lines) => showing_of_script(path, lines),
@@ -123,16 +123,16 @@ impl<W: Write + Drop, E: Write + Drop> Report<W, E> {
 
     // The totals of all paths, and of the report's own failures.
     fn totals(&self) -> Totals
-        ensures { result ≡ together self.now.told self.now.own }
+        ensures { result ≡ together self.now.counts self.now.own }
     {
-        together(self.told, self.own)
+        together(self.counts, self.own)
     }
 
     /// The program's status.
     pub(crate) fn status(&self) -> Status
         ensures right { result ≢ Status.BadUsage }
-        // It is that of all that was told, strict if that was asked for.
-        ensures told { result ≡ status_of self.now.is_strict (together self.now.told self.now.own) }
+        // It is the status of all counts, strict if that was asked for.
+        ensures counts { result ≡ status_of self.now.is_strict (together self.now.counts self.now.own) }
     {
         self.totals().status(self.is_strict)
     }
@@ -144,7 +144,7 @@ impl<W: Write + Drop, E: Write + Drop> Report<W, E> {
 
     /// Whether something can be written on standard output. How far the work is is there no more then.
     pub(crate) fn is_open(&mut self) -> bool
-        ensures { self.new.told ≡ self.old.told }
+        ensures { self.new.counts ≡ self.old.counts }
     {
         if self.is_lost {
             return false;
@@ -155,7 +155,7 @@ impl<W: Write + Drop, E: Write + Drop> Report<W, E> {
 
     /// Flushes what was written, and records whether that failed.
     pub(crate) fn wrote(&mut self, written: Result<(), WriteFault>)
-        ensures { self.new.told ≡ self.old.told }
+        ensures { self.new.counts ≡ self.old.counts }
     {
         let handed_on = self.output.sink.0.flush();
         if (written.is_err() || handed_on.is_err()) && !self.is_lost {
@@ -169,7 +169,7 @@ impl<W: Write + Drop, E: Write + Drop> Report<W, E> {
     ///
     /// If memory was refused for it.
     pub(crate) fn showed(&mut self, shown: Result<(), ShowFault>) -> Result<(), PathError>
-        ensures { self.new.told ≡ self.old.told }
+        ensures { self.new.counts ≡ self.old.counts }
     {
         match shown {
             Ok(()) => self.wrote(Ok(())),
@@ -183,7 +183,7 @@ impl<W: Write + Drop, E: Write + Drop> Report<W, E> {
 
     // Nothing more goes to standard output.
     fn lose_output(&mut self, handed_on: &io::Result<()>)
-        ensures { self.new.told ≡ self.old.told }
+        ensures { self.new.counts ≡ self.old.counts }
     {
         self.is_lost = true;
         self.own.add(Outcome::Failed(Failure::NotShown));
@@ -196,7 +196,7 @@ impl<W: Write + Drop, E: Write + Drop> Report<W, E> {
 
     // Writes a notice to programs.
     fn notify(&mut self, path: &[u8], line: Option<usize>, kind: NoticeKind, message: &[u8])
-        ensures { self.new.told ≡ self.old.told }
+        ensures { self.new.counts ≡ self.old.counts }
     {
         let Some(format) = self.format else {
             return;
@@ -217,7 +217,7 @@ impl<W: Write + Drop, E: Write + Drop> Report<W, E> {
 
     /// Writes the text on standard output.
     pub(crate) fn put(&mut self, text: &[u8])
-        ensures { self.new.told ≡ self.old.told }
+        ensures { self.new.counts ≡ self.old.counts }
     {
         if self.is_open() {
             let written = self.output.put(text);
@@ -227,7 +227,7 @@ impl<W: Write + Drop, E: Write + Drop> Report<W, E> {
 
     // Records that memory was refused for the report.
     fn fail_for_memory(&mut self, path: &[u8])
-        ensures { self.new.told ≡ self.old.told }
+        ensures { self.new.counts ≡ self.old.counts }
     {
         self.own.add(Outcome::Failed(Failure::OutOfMemory));
         self.clear();
@@ -237,9 +237,9 @@ impl<W: Write + Drop, E: Write + Drop> Report<W, E> {
 
     /// A script that ran, and in which nothing was written.
     pub(crate) fn ran(&mut self, alloc: Global, ran: Ran<'_>)
-        ensures { self.new.told ≡ together self.old.told (of_outcome (counted_as ran.entry ran.entry.mismatches)) }
+        ensures { self.new.counts ≡ together self.old.counts (of_outcome (counted_as ran.entry ran.entry.mismatches)) }
     {
-        self.told.add(counted_as(ran, ran.mismatches));
+        self.counts.add(counted_as(ran, ran.mismatches));
         if self.keep(alloc, ran).is_err() {
             self.fail_for_memory(ran.path.as_bytes());
         }
@@ -247,9 +247,9 @@ impl<W: Write + Drop, E: Write + Drop> Report<W, E> {
 
     // Keeps it for the list of those that differ.
     fn keep(&mut self, alloc: Global, ran: Ran<'_>) -> Result<(), AllocError>
-        ensures { self.new.told ≡ self.old.told }
+        ensures { self.new.counts ≡ self.old.counts }
     {
-        let Some(line) = ran.told.first else {
+        let Some(line) = ran.summary.first else {
             return Ok(());
         };
         self.differing.push(Differing {
@@ -263,15 +263,15 @@ impl<W: Write + Drop, E: Write + Drop> Report<W, E> {
 
     /// A script that ran, and whose outputs were written into it, but those of the heads on these lines.
     pub(crate) fn accepted(&mut self, alloc: Global, ran: Ran<'_>, left: &[usize])
-        ensures { self.new.told ≡ together self.old.told (of_outcome (left_as ran.entry left.now)) }
+        ensures { self.new.counts ≡ together self.old.counts (of_outcome (left_as ran.entry left.now)) }
     {
         let accepted = ran.mismatches.saturating_sub(left.len());
-        self.told.add(counted_as(ran, left.len()));
+        self.counts.add(counted_as(ran, left.len()));
         let now = Ran {
             mismatches: left.len(),
-            told: ScriptSummary {
+            summary: ScriptSummary {
                 first: left.first().copied(),
-                errors: ran.told.errors,
+                errors: ran.summary.errors,
             },
             ..ran
         };
@@ -282,7 +282,7 @@ impl<W: Write + Drop, E: Write + Drop> Report<W, E> {
     }
 
     fn tell_accepted(&mut self, path: &str, accepted: usize)
-        ensures { self.new.told ≡ self.old.told }
+        ensures { self.new.counts ≡ self.old.counts }
     {
         if self.is_for_programs() {
             let noun = if accepted == 1 { "output" } else { "outputs" };
@@ -305,7 +305,7 @@ impl<W: Write + Drop, E: Write + Drop> Report<W, E> {
 
     /// Writes notices to programs of the new errors that are not accepted, of the picked heads on these lines.
     pub(crate) fn leave(&mut self, path: &str, picked: AcceptFilter<'_>, left: &[usize])
-        ensures { self.new.told ≡ self.old.told }
+        ensures { self.new.counts ≡ self.old.counts }
     {
         for line in left {
             if is_picked(picked, *line) {
@@ -317,7 +317,7 @@ impl<W: Write + Drop, E: Write + Drop> Report<W, E> {
 
     /// Writes to standard output; returns whether that worked.
     pub(crate) fn say(&mut self, text: &[u8]) -> bool
-        ensures { self.new.told ≡ self.old.told }
+        ensures { self.new.counts ≡ self.old.counts }
     {
         self.put(text);
         !self.is_lost
@@ -325,10 +325,10 @@ impl<W: Write + Drop, E: Write + Drop> Report<W, E> {
 
     /// A review ends here, and so many scripts aren't looked at.
     pub(crate) fn tell_quit(&mut self, left: usize)
-        ensures { self.new.told ≡ self.old.told }
+        ensures { self.new.counts ≡ self.old.counts }
     {
         if self.is_open() {
-            let accepted = self.told.accepted;
+            let accepted = self.counts.accepted;
             let written = put_quit(&mut self.output, accepted, left);
             self.wrote(written);
         }
@@ -336,7 +336,7 @@ impl<W: Write + Drop, E: Write + Drop> Report<W, E> {
 
     /// A directive that was to be accepted, and whose output is the expected one.
     pub(crate) fn tell_expected(&mut self, path: &str, line: usize)
-        ensures { self.new.told ≡ self.old.told }
+        ensures { self.new.counts ≡ self.old.counts }
     {
         self.tell_left_at(
             path,
@@ -347,7 +347,7 @@ impl<W: Write + Drop, E: Write + Drop> Report<W, E> {
 
     /// A new error, below which nothing is accepted.
     pub(crate) fn tell_echoes(&mut self, path: &str, line: usize)
-        ensures { self.new.told ≡ self.old.told }
+        ensures { self.new.counts ≡ self.old.counts }
     {
         let message =
             b"nothing below this error was accepted, since it may follow from it; --accept-errors accepts it too";
@@ -356,7 +356,7 @@ impl<W: Write + Drop, E: Write + Drop> Report<W, E> {
 
     // Says of a directive why something is not accepted.
     fn tell_left_at(&mut self, path: &str, line: usize, message: &[u8])
-        ensures { self.new.told ≡ self.old.told }
+        ensures { self.new.counts ≡ self.old.counts }
     {
         if self.is_for_programs() {
             return self.notify(path.as_bytes(), Some(line), NoticeKind::Left, message);
@@ -369,7 +369,7 @@ impl<W: Write + Drop, E: Write + Drop> Report<W, E> {
 
     /// Lines of a script that look like a slip.
     pub(crate) fn warn(&mut self, path: &str, warnings: &[Warning])
-        ensures { self.new.told ≡ self.old.told }
+        ensures { self.new.counts ≡ self.old.counts }
     {
         for warning in warnings {
             self.warn_of(path.as_bytes(), *warning);
@@ -377,7 +377,7 @@ impl<W: Write + Drop, E: Write + Drop> Report<W, E> {
     }
 
     fn warn_of(&mut self, path: &[u8], warning: Warning)
-        ensures { self.new.told ≡ self.old.told }
+        ensures { self.new.counts ≡ self.old.counts }
     {
         if self.is_for_programs() {
             let message = warning_sentence(warning.doubt);
@@ -391,14 +391,14 @@ impl<W: Write + Drop, E: Write + Drop> Report<W, E> {
 
     /// A script that ran, and into which nothing is written because it has warnings.
     pub(crate) fn refuse_to_accept(&mut self, alloc: Global, ran: Ran<'_>)
-        ensures { self.new.told ≡ together self.old.told (of_outcome (counted_as ran.entry ran.entry.mismatches)) }
+        ensures { self.new.counts ≡ together self.old.counts (of_outcome (counted_as ran.entry ran.entry.mismatches)) }
     {
         self.ran(alloc, ran);
         self.tell_unaccepted(ran.path);
     }
 
     fn tell_unaccepted(&mut self, path: &str)
-        ensures { self.new.told ≡ self.old.told }
+        ensures { self.new.counts ≡ self.old.counts }
     {
         if self.is_for_programs() {
             let message =
@@ -413,7 +413,7 @@ impl<W: Write + Drop, E: Write + Drop> Report<W, E> {
 
     // The scripts with mismatches, a line each, and an empty line; nothing, if there are none.
     fn list_differing(&mut self)
-        ensures { self.new.told ≡ self.old.told }
+        ensures { self.new.counts ≡ self.old.counts }
     {
         if self.is_lost || self.is_for_programs() || self.differing.is_empty() {
             return;
@@ -424,7 +424,7 @@ impl<W: Write + Drop, E: Write + Drop> Report<W, E> {
     }
 
     fn put_differing(&mut self) -> Result<(), WriteFault>
-        ensures { self.new.told ≡ self.old.told }
+        ensures { self.new.counts ≡ self.old.counts }
     {
         put_each_differing(&mut self.output, self.differing.as_slice())?;
         self.output.put(b"\n")
@@ -432,9 +432,9 @@ impl<W: Write + Drop, E: Write + Drop> Report<W, E> {
 
     /// Bytes that are no script.
     pub(crate) fn refused(&mut self, path: &str, fault: ScriptFault)
-        ensures { self.new.told ≡ together self.old.told (of_outcome (Refused fault)) }
+        ensures { self.new.counts ≡ together self.old.counts (of_outcome (Refused fault)) }
     {
-        self.told.add(Outcome::Refused(fault));
+        self.counts.add(Outcome::Refused(fault));
         if self.is_for_programs() {
             return self.notify(
                 path.as_bytes(),
@@ -451,9 +451,9 @@ impl<W: Write + Drop, E: Write + Drop> Report<W, E> {
 
     /// A path that failed. If standard error fails too, that can't be reported; the status has the path's failure.
     pub(crate) fn fail(&mut self, path: &[u8], error: PathError)
-        ensures { self.new.told ≡ together self.old.told (of_outcome (Failed error.failure)) }
+        ensures { self.new.counts ≡ together self.old.counts (of_outcome (Failed error.failure)) }
     {
-        self.told.add(Outcome::Failed(error.failure));
+        self.counts.add(Outcome::Failed(error.failure));
         self.clear();
         let _ = self.tell(path, error);
         let _ = self.errors.sink.0.flush();
@@ -466,7 +466,7 @@ impl<W: Write + Drop, E: Write + Drop> Report<W, E> {
     }
 
     fn tell(&mut self, path: &[u8], error: PathError) -> Result<(), WriteFault>
-        ensures { self.new.told ≡ self.old.told }
+        ensures { self.new.counts ≡ self.old.counts }
     {
         put_failure(&mut self.errors, path, error.failure)?;
         match error.cause {
@@ -483,7 +483,7 @@ impl<W: Write + Drop, E: Write + Drop> Report<W, E> {
 
     /// A new file that could be neither used nor removed. Its failure is counted where it is reported.
     pub(crate) fn tell_left(&mut self, path: &str)
-        ensures { self.new.told ≡ self.old.told }
+        ensures { self.new.counts ≡ self.old.counts }
     {
         self.clear();
         let _ = put_left_file(&mut self.errors, path.as_bytes());
@@ -492,7 +492,7 @@ impl<W: Write + Drop, E: Write + Drop> Report<W, E> {
 
     /// The line of an output that no script can expect.
     pub(crate) fn tell_bad_output(&mut self, path: &str, line: usize)
-        ensures { self.new.told ≡ self.old.told }
+        ensures { self.new.counts ≡ self.old.counts }
     {
         self.clear();
         let note = b"this output has a line of more than 65,536 bytes, which no script can expect";
@@ -502,7 +502,7 @@ impl<W: Write + Drop, E: Write + Drop> Report<W, E> {
 
     /// Shows how far the work is.
     pub(crate) fn show_progress(&mut self, done: usize, all: usize)
-        ensures { self.new.told ≡ self.old.told }
+        ensures { self.new.counts ≡ self.old.counts }
     {
         let _ = self.put_progress(done, all);
         let _ = self.errors.sink.0.flush();
@@ -510,7 +510,7 @@ impl<W: Write + Drop, E: Write + Drop> Report<W, E> {
     }
 
     fn put_progress(&mut self, done: usize, all: usize) -> Result<(), WriteFault>
-        ensures { self.new.told ≡ self.old.told }
+        ensures { self.new.counts ≡ self.old.counts }
     {
         self.errors.sink.put(CLEARED)?;
         put_number(&mut self.errors, done as u64)?;
@@ -521,7 +521,7 @@ impl<W: Write + Drop, E: Write + Drop> Report<W, E> {
 
     // Removes the progress line.
     fn clear(&mut self)
-        ensures { self.new.told ≡ self.old.told }
+        ensures { self.new.counts ≡ self.old.counts }
     {
         if self.shows_progress {
             let _ = self.errors.sink.put(CLEARED);
@@ -530,18 +530,18 @@ impl<W: Write + Drop, E: Write + Drop> Report<W, E> {
         }
     }
 
-    /// Tells programs that what follows is a report.
+    /// Writes the beginning of a report for programs.
     pub(crate) fn begin(&mut self)
-        ensures { self.new.told ≡ self.old.told }
+        ensures { self.new.counts ≡ self.old.counts }
     {
         if self.format == Some(Format::Junit) {
             self.put(BEGINNING);
         }
     }
 
-    // Tells programs what came of all.
+    // Writes the end of a report for programs.
     fn end_for_programs(&mut self, totals: &Totals)
-        ensures { self.new.told ≡ self.old.told }
+        ensures { self.new.counts ≡ self.old.counts }
     {
         match self.format {
             Some(Format::Json) => match totals_object(self.alloc, totals) {
@@ -555,7 +555,7 @@ impl<W: Write + Drop, E: Write + Drop> Report<W, E> {
 
     /// The end: the scripts that differ, where they are to be listed, and the last line.
     pub(crate) fn end(&mut self, lists_differing: bool, milliseconds: u64)
-        ensures { self.new.told ≡ self.old.told }
+        ensures { self.new.counts ≡ self.old.counts }
     {
         if lists_differing {
             self.list_differing();
@@ -592,7 +592,7 @@ fn put_each_differing<W: Write + Drop>(
     Ok(())
 }
 
-// Whether nobody reads any more: who has read enough need not be told.
+// Whether the reader closed the pipe, which is no failure to report.
 fn is_reader_gone(handed_on: &io::Result<()>) -> bool {
     match handed_on {
         Ok(()) => false,

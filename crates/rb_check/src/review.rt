@@ -93,7 +93,7 @@ impl<P: Person> Reviewer<P> {
         question: ReviewQuestion,
         report: &mut Report<W, E>,
     ) -> Result<(), AllocError>
-        ensures told { report.new.told ≡ report.old.told }
+        ensures counts { report.new.counts ≡ report.old.counts }
         ensures known { P.is_known self.old.person → P.is_known self.new.person }
         ensures few { P.is_known self.old.person → length (P.left self.old.person) < 2 ^ 64 → length (P.left self.new.person) ≤ length (P.left self.old.person) }
         ensures asked { P.is_known self.old.person → length (P.left self.old.person) < 2 ^ 64
@@ -138,7 +138,7 @@ pub(crate) fn reviewed<M: Machine, P: Person, W: Write + Drop, E: Write + Drop>(
     report: &mut Report<W, E>,
 ) -> Result<Vec<usize>, PathError>
     requires { IsLayout subject.now.text.now.bytes.items subject.now.session.now.script subject.now.layout.now }
-    ensures told { report.new.told ≡ report.old.told }
+    ensures counts { report.new.counts ≡ report.old.counts }
     ensures known { P.is_known reviewer.old.person → P.is_known reviewer.new.person }
     ensures few { P.is_known reviewer.old.person → length (P.left reviewer.old.person) < 2 ^ 64 → length (P.left reviewer.new.person) ≤ length (P.left reviewer.old.person) }
     // Of a person of whom it is known what comes: what is accepted is the review of the questions by that.
@@ -214,7 +214,7 @@ fn go_over<M: Machine, P: Person, W: Write + Drop, E: Write + Drop>(
     report: &mut Report<W, E>,
 ) -> Result<(), PathError>
     requires { IsLayout subject.now.text.now.bytes.items subject.now.session.now.script subject.now.layout.now }
-    ensures told { report.new.told ≡ report.old.told }
+    ensures counts { report.new.counts ≡ report.old.counts }
     ensures known { P.is_known reviewer.old.person → P.is_known reviewer.new.person }
     ensures few { P.is_known reviewer.old.person → length (P.left reviewer.old.person) < 2 ^ 64 → length (P.left reviewer.new.person) ≤ length (P.left reviewer.old.person) }
     ensures reviewed { P.is_known reviewer.old.person → length (P.left reviewer.old.person) < 2 ^ 64
@@ -240,7 +240,7 @@ fn review_one<M: Machine, P: Person, W: Write + Drop, E: Write + Drop>(
 ) -> Result<(), PathError>
     requires layout { IsLayout subject.now.text.now.bytes.items subject.now.session.now.script subject.now.layout.now }
     requires within { index < length subject.now.session.now.script.blocks }
-    ensures told { report.new.told ≡ report.old.told }
+    ensures counts { report.new.counts ≡ report.old.counts }
     ensures known { P.is_known reviewer.old.person → P.is_known reviewer.new.person }
     ensures few { P.is_known reviewer.old.person → length (P.left reviewer.old.person) < 2 ^ 64 → length (P.left reviewer.new.person) ≤ length (P.left reviewer.old.person) }
     ensures reviewed { P.is_known reviewer.old.person → length (P.left reviewer.old.person) < 2 ^ 64
@@ -298,7 +298,7 @@ fn show<M: Machine, W: Write + Drop, E: Write + Drop>(
 ) -> Result<(), PathError>
     requires layout { IsLayout subject.now.text.now.bytes.items subject.now.session.now.script subject.now.layout.now }
     requires within { index < length subject.now.session.now.script.blocks }
-    ensures { report.new.told ≡ report.old.told }
+    ensures { report.new.counts ≡ report.old.counts }
 {
     if !report.is_open() {
         return Ok(());

@@ -42,7 +42,7 @@ pub(crate) trait System {
         report: &mut Report<W, E>,
     ) -> Result<(), PathError>
         requires { Reads text.now (accepted wanted subject.now.layout.now.text subject.now.layout.now.heads.items subject.now.session.now.script) }
-        ensures { report.new.told ≡ report.old.told };
+        ensures { report.new.counts ≡ report.old.counts };
 
     /// Whether both paths lead to one script.
     fn is_one_script(&self, path: &str, other: &str) -> bool;
@@ -92,7 +92,7 @@ fn put<R: Files + AllocGlobal, W: Write + Drop, E: Write + Drop>(
     text: &[u8],
     report: &mut Report<W, E>,
 ) -> Result<(), PathError>
-    ensures { report.new.told ≡ report.old.told }
+    ensures { report.new.counts ≡ report.old.counts }
 {
     match replace(place, text) {
         Ok(()) => Ok(()),

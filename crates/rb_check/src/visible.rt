@@ -4,12 +4,12 @@
 //! UTF-8, all of it but printable ASCII is shown by numbers, as `\x1b`, and without colours: then the only bytes that act are line ends, which the
 //! program itself writes, and tabs.
 
-ghost use Rattle.std.specs.Prelude.{◌≡◌, false, not, None, IfOk, IsOk, IsTrue};
+ghost use Rattle.std.specs.Prelude.{◌≡◌, false, if◌then◌else◌, not, None, IfOk, IsOk, IsTrue};
 ghost use Rattle.std.specs.List.{list_any};
 ghost use Rattle.rb_script.specs.Writes.{Writes};
 ghost use Rattle.rb_check.specs.declared.visible.Showing.{Showing};
 ghost use Rattle.rb_check.specs.declared.visible.Showing.TheVariants.{AsIs};
-ghost use Rattle.rb_check.specs.Visible.{acts, stays, visible_byte, json_byte, byte_shown, text_shown};
+ghost use Rattle.rb_check.specs.Visible.{acts, by_number, stays, visible_byte, json_byte, byte_shown, text_shown};
 
 use rb_script::{Lines, Sink, Through, WriteFault};
 use rb_text::{Escape, hex_digit, put_escaped};
@@ -45,16 +45,25 @@ fn stays(b: u8) -> bool
     b == b'\n' || b == b'\t' || (b' ' <= b && b <= b'~' && b != b'\\')
 }
 
-/// Writes a byte, by its number where it isn't printable.
-pub(crate) fn put_visible_byte<S: Sink>(sink: &mut S, b: u8) -> Result<(), WriteFault>
+/// A byte by its number.
+pub(crate) fn by_number(b: u8) -> [u8; 4]
+    ensures { result ≡ by_number b }
+{
+    [b'\\', b'x', hex_digit(b / 16), hex_digit(b % 16)]
+}
+
+/// The byte itself, or its number if it isn't printable.
+pub(crate) fn visible_text<'a>(b: u8, itself: &'a [u8], number: &'a [u8]) -> &'a [u8]
+    ensures { result.now ≡ (if stays b then itself.now else number.now) }
+{
+    if stays(b) { itself } else { number }
+}
+
+fn put_visible_byte<S: Sink>(sink: &mut S, b: u8) -> Result<(), WriteFault>
     ensures wrote { Writes result (S.held sink.old) (S.held sink.new) (visible_byte b) }
     ensures all { S.takes_all sink.old → IsOk result × S.takes_all sink.new }
 {
-    if stays(b) {
-        sink.put(&[b])
-    } else {
-        sink.put(&[b'\\', b'x', hex_digit(b / 16), hex_digit(b % 16)])
-    }
+    sink.put(visible_text(b, &[b], &by_number(b)))
 }
 
 fn put_json_byte<S: Sink>(sink: &mut S, b: u8) -> Result<(), WriteFault>

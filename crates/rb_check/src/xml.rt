@@ -4,7 +4,8 @@ ghost use Rattle.std.specs.Prelude.{IsOk};
 ghost use Rattle.rb_script.specs.Writes.{Writes};
 ghost use Rattle.rb_check.specs.Xml.{byte_text, in_text, in_value, piece_text};
 
-use crate::visible::put_visible_byte;
+use crate::replaced::{Replaced, put_replaced};
+use crate::visible::{by_number, visible_text};
 use rb_script::{Sink, WriteFault};
 use rb_text::{Escape, WrittenPiece, put_escaped, put_number};
 
@@ -32,32 +33,28 @@ fn put_text_byte<S: Sink>(sink: &mut S, b: u8) -> Result<(), WriteFault>
     ensures wrote { Writes result (S.held sink.old) (S.held sink.new) (in_text b) }
     ensures all { S.takes_all sink.old → IsOk result × S.takes_all sink.new }
 {
-    if b == b'&' {
-        return sink.put(b"&amp;");
-    }
-    if b == b'<' {
-        return sink.put(b"&lt;");
-    }
-    if b == b'>' {
-        return sink.put(b"&gt;");
-    }
-    if b == b'"' {
-        return sink.put(b"&quot;");
-    }
-    put_visible_byte(sink, b)
+    let table = [
+        Replaced(b'&', b"&amp;"),
+        Replaced(b'<', b"&lt;"),
+        Replaced(b'>', b"&gt;"),
+        Replaced(b'"', b"&quot;"),
+    ];
+    put_replaced(sink, &table, b, visible_text(b, &[b], &by_number(b)))
 }
 
 fn put_value_byte<S: Sink>(sink: &mut S, b: u8) -> Result<(), WriteFault>
     ensures wrote { Writes result (S.held sink.old) (S.held sink.new) (in_value b) }
     ensures all { S.takes_all sink.old → IsOk result × S.takes_all sink.new }
 {
-    if b == b'\n' {
-        return sink.put(b"&#10;");
-    }
-    if b == b'\t' {
-        return sink.put(b"&#9;");
-    }
-    put_text_byte(sink, b)
+    let table = [
+        Replaced(b'\n', b"&#10;"),
+        Replaced(b'\t', b"&#9;"),
+        Replaced(b'&', b"&amp;"),
+        Replaced(b'<', b"&lt;"),
+        Replaced(b'>', b"&gt;"),
+        Replaced(b'"', b"&quot;"),
+    ];
+    put_replaced(sink, &table, b, visible_text(b, &[b], &by_number(b)))
 }
 
 /// A piece of XML.

@@ -19,6 +19,7 @@ use Rattle.rb_editor.specs.declared.actions.extent.Extent.{Extent}
 use Rattle.rb_editor.specs.declared.actions.extent.LineSpan.{LineSpan}
 use Rattle.rb_editor.specs.Extents.{extent_of}
 use Rattle.rb_replay.specs.Run.{outputs}
+use Rattle.rb_script_report.specs.declared.accept_options.AcceptFilter.{AcceptFilter}
 use Rattle.rb_editor.specs.Heads.{behind_block, heads_at, heads_of}
 use Rattle.rb_editor.proofs.BlockLaws.{block_front}
 use Rattle.rb_editor.proofs.OrderLaws.{feed_grows}
@@ -279,11 +280,11 @@ picked_len picks heads [] os = refl
 picked_len picks (line ∷ heads) (b ∷ bs) (output ∷ os) = ap (λ (k : ℕ). suc k) (picked_len picks heads bs os)
 picked_len picks heads bs os = refl
 
-pub edited_text : (encoding : Encoding) (bytes : List ℕ) (s : PlainScript) (span : Option LineSpan) → Reads bytes s → AllByRecursion (λ output. AllByRecursion IsSolid output) (outputs s)
-    → ((n : ℕ) → begins (drop (feed_start n bytes) bytes) ≡ true) → AreShort (edits_made encoding bytes (edits_asked encoding bytes s span)) (with_wanted bytes s span)
-    → Reads (edits_made encoding bytes (edits_asked encoding bytes s span)) (with_wanted bytes s span)
-edited_text encoding bytes s span reads solid begun short =
-    let picks = is_wanted span (lines bytes) in
+pub edited_text : (encoding : Encoding) (bytes : List ℕ) (s : PlainScript) (picked : AcceptFilter) (span : Option LineSpan) → Reads bytes s → AllByRecursion (λ output. AllByRecursion IsSolid output) (outputs s)
+    → ((n : ℕ) → begins (drop (feed_start n bytes) bytes) ≡ true) → AreShort (edits_made encoding bytes (edits_asked encoding bytes s picked span)) (with_wanted bytes s picked span)
+    → Reads (edits_made encoding bytes (edits_asked encoding bytes s picked span)) (with_wanted bytes s picked span)
+edited_text encoding bytes s picked span reads solid begun short =
+    let picks = is_wanted picked span (lines bytes) in
     let heads = heads_of bytes s in
     let ns = numbered 0 (1 + length (lines bytes)) (lines bytes) s.tail s.blocks reads.parts.0 (omega arith) in
     let claim = all_claim picks bytes s.tail heads s.blocks (outputs s) [] (lines bytes) refl reads.parts.0 ns solid in

@@ -1,5 +1,5 @@
 -- Where a word begins in a line, and the first correction of some.
-use Rattle.std.proofs.Common.{◌≡◌, ◌∙◌, ℕ, ◌+◌, ◌-◌, ◌<◌, ◌≤◌, Bool, true, false, List, [], ◌∷◌, ◌++◌, length, drop, take, get_or, Option, Some, None, refl, ap, ap₂, sym, arith}
+use Rattle.std.proofs.Common.{◌≡◌, ◌∙◌, ℕ, ◌+◌, ◌-◌, ◌<◌, ◌≤◌, Bool, true, false, List, [], ◌∷◌, ◌++◌, length, drop, take, get_or, Option, Some, ap, ap₂, sym, arith}
 use Rattle.std.specs.Prelude.{if◌then◌else◌, ◌==◌, slice_get, slice_range}
 use Rattle.std.specs.Str.{bytes_eq}
 use Rattle.std.proofs.lemmas.List.{drop_all, drop_more, length-drop, length-take-le}
@@ -35,11 +35,6 @@ column_ends word line from i t total within ends is so_far =
     ∙ sym (ap (column_in word from piece) (drop_more line i 0 within))
     ∙ so_far
 
-pub column_found : (word line : List ℕ) (from i : ℕ) (t : Bool) (total : Option ℕ) → i < length line → ends_word (get_or line i 0) ≡ true → t ≡ bytes_eq (slice_range line from i) word → t ≡ true
-    → column_in word from (slice_range line from i) (drop i line) ≡ total → Some from ≡ total
-column_found word line from i t total within ends is held so_far =
-    sym (ap (λ (x : Bool). if x then Some from else column_in word (from + length (slice_range line from i) + 1) [] (drop (i + 1) line)) held) ∙ column_ends word line from i t total within ends is so_far
-
 range_length : (line : List ℕ) (from i : ℕ) → from ≤ i → i ≤ length line → length (slice_range line from i) ≡ i - from
 range_length line from i le within = length-take-le (i - from) (drop from line) (omega (arith, le, within, length-drop from line))
 
@@ -51,10 +46,6 @@ column_passed word line from i t total le within ends is other so_far =
     ap (λ (p : List ℕ). column_in word (i + 1) p rest) (range_none line (i + 1))
     ∙ sym (ap (λ (n : ℕ). column_in word n [] rest) len)
     ∙ sym (ap (λ (x : Bool). if x then Some from else column_in word (from + length (slice_range line from i) + 1) [] rest) other) ∙ column_ends word line from i t total within ends is so_far
-
--- the last word of a line
-pub column_last : (word line piece : List ℕ) (from i : ℕ) → length line ≤ i → column_in word from piece (drop i line) ≡ (if bytes_eq piece word then Some from else None)
-column_last word line piece from i past = ap (column_in word from piece) (drop_all i line past)
 
 -- that of one directive, and those after it
 corrections_step : (encoding : Encoding) (uri text : List ℕ) (span : LineSpan) (heads : List ℕ) (bs : List PlainBlock) (i line : ℕ) (b : PlainBlock) → slice_get heads i ≡ Some line → slice_get bs i ≡ Some b

@@ -1,8 +1,8 @@
 -- What is shown of a line, directive by directive.
-use Rattle.std.proofs.Common.{◌≡◌, ◌∙◌, ℕ, ◌+◌, ◌≤◌, Bool, true, false, List, [], ◌∷◌, ◌++◌, length, drop, refl, ap, sym}
+use Rattle.std.proofs.Common.{◌≡◌, ◌∙◌, ℕ, ◌+◌, ◌≤◌, Bool, true, false, List, [], ◌∷◌, ◌++◌, length, drop, refl, ap, ap₂, sym, append_assoc}
 use Rattle.std.proofs.lemmas.List.{drop_all}
 use Rattle.std.specs.Prelude.{if◌then◌else◌, slice_get, Some, codes}
-use Rattle.rb_script.specs.Lines.{Line, lines}
+use Rattle.rb_script.specs.Lines.{Line, lines, text_of}
 use Rattle.rb_script.specs.Script.{PlainBlock, PlainScript}
 use Rattle.rb_script.specs.Reads.{Reads}
 use Rattle.rb_script.proofs.ScriptLaws.{read_complete}
@@ -118,3 +118,11 @@ pub seen_after : (s : PlainScript) (i : ℕ) (b : PlainBlock) (d : PlainDirectiv
 unfolding looked
 seen_after s i b d before after seen there here is next shows =
     shows ∙ ap looked_in (machine_next s i b before after there here (next ∙ ap (λ (x : PlainDirective). (outcome before x).cluster) is))
+
+-- ---- the text that is shown
+
+pub text_shown : (output reasons reasons' seen seen' : List Line) (t0 t1 t2 t : List ℕ) → t0 ≡ explained reasons 0 output → t1 ≡ t0 ++ 10 ∷ [] → t2 ≡ t1 ++ t → t ≡ text_of seen → reasons ≡ reasons' → seen ≡ seen'
+    → t2 ≡ shown output reasons' seen'
+text_shown output reasons reasons' seen seen' t0 t1 t2 t first second third is why looks =
+    third ∙ ap₂ (λ (a b : List ℕ). a ++ b) second is ∙ append_assoc t0 (10 ∷ []) (text_of seen) ∙ ap (λ (a : List ℕ). a ++ (10 ∷ text_of seen)) first
+    ∙ ap₂ (λ (rs ls : List Line). explained rs 0 output ++ (10 ∷ text_of ls)) why looks

@@ -1,8 +1,8 @@
 -- The bytes between two places, one more at a time, and the values among them.
-use Rattle.std.proofs.Common.{◌≡◌, ◌∙◌, ℕ, ◌+◌, ◌-◌, ◌<◌, ◌≤◌, Bool, true, false, List, [], ◌∷◌, ◌++◌, length, drop, take, get_or, refl, ap, sym, arith}
+use Rattle.std.proofs.Common.{◌≡◌, ◌∙◌, ℕ, ◌+◌, ◌-◌, ◌<◌, ◌≤◌, Bool, true, false, List, [], ◌∷◌, ◌++◌, length, drop, take, get_or, ap, sym, arith}
 use Rattle.std.specs.Prelude.{◌||◌, if◌then◌else◌, slice_range}
 use Rattle.std.specs.Str.{bytes_eq}
-use Rattle.std.proofs.lemmas.List.{drop_all, drop_more, get_or-drop, length-drop, take_more}
+use Rattle.std.proofs.lemmas.List.{drop_more, get_or-drop, length-drop, take_more}
 use Rattle.rb_script.specs.Directive.{is_gap}
 use Rattle.rb_editor.specs.Unfinished.{has_piece}
 
@@ -42,16 +42,8 @@ piece_ends word bytes from i t total within gap is so_far =
     ∙ sym (ap (has_piece word piece) (drop_more bytes i 0 within))
     ∙ so_far
 
-pub piece_found : (word bytes : List ℕ) (from i : ℕ) (t total : Bool) → i < length bytes → is_gap (get_or bytes i 0) ≡ true → t ≡ bytes_eq (slice_range bytes from i) word → t ≡ true
-    → has_piece word (slice_range bytes from i) (drop i bytes) ≡ total → true ≡ total
-piece_found word bytes from i t total within gap is held so_far =
-    sym (ap (λ (x : Bool). x || has_piece word [] (drop (i + 1) bytes)) held) ∙ piece_ends word bytes from i t total within gap is so_far
-
 pub piece_passed : (word bytes : List ℕ) (from i : ℕ) (t total : Bool) → i < length bytes → is_gap (get_or bytes i 0) ≡ true → t ≡ bytes_eq (slice_range bytes from i) word → t ≡ false
     → has_piece word (slice_range bytes from i) (drop i bytes) ≡ total → has_piece word (slice_range bytes (i + 1) (i + 1)) (drop (i + 1) bytes) ≡ total
 piece_passed word bytes from i t total within gap is other so_far =
     ap (λ (p : List ℕ). has_piece word p (drop (i + 1) bytes)) (range_none bytes (i + 1))
     ∙ sym (ap (λ (x : Bool). x || has_piece word [] (drop (i + 1) bytes)) other) ∙ piece_ends word bytes from i t total within gap is so_far
-
-pub piece_last : (word bytes piece : List ℕ) (i : ℕ) → length bytes ≤ i → has_piece word piece (drop i bytes) ≡ false
-piece_last word bytes piece i past = ap (has_piece word piece) (drop_all i bytes past)

@@ -1,10 +1,9 @@
 -- What a line of a text is, by the lines above it, and the head up to a place. (docs/SCRIPTS.md, "A block". The text needn't be a script:
 -- an unfinished head has no line `----` below it.)
 use Rattle.std.specs.Prelude.{ℕ, zero, suc, ◌+◌, ◌-◌, Bool, true, false, ◌==◌, not, if◌then◌else◌, List, [], ◌∷◌, ◌++◌, slice_index, Option, Some, None}
-use Rattle.rb_script.specs.Bytes.{space, line_feed, number_sign}
+use Rattle.rb_script.specs.Bytes.{space, line_feed}
 use Rattle.rb_script.specs.Lines.{Line}
-use Rattle.rb_script.specs.Marks.{is_blank, is_lead, is_rule, is_separator, continues, trim_blanks}
-use Rattle.rb_script.specs.Directive.{begins}
+use Rattle.rb_script.specs.Marks.{is_blank, is_comment, is_lead, is_rule, is_separator, continues}
 use Rattle.rb_script.specs.Joined.{body}
 use Rattle.rb_editor.specs.declared.offers.part.Part.{Part}
 use Rattle.rb_editor.specs.declared.offers.part.Part.TheVariants.{Lead, Head, Input, First, Plain, Double, Closing}
@@ -32,10 +31,6 @@ kept part line head = []
 unfoldable pub behind_lines : Part → List ℕ → List Line → Part × List ℕ
 behind_lines part head [] = (part, head)
 behind_lines part head (line ∷ ls) = behind_lines (next part line) (kept (next part line) line head) ls
-
--- the line is a comment, as far as it goes
-abbrev pub is_comment : Line → Bool
-is_comment line = begins number_sign (trim_blanks line)
 
 -- a line of this part that begins so can be one of a head
 abbrev pub goes_on : Part → Line → Bool

@@ -1,5 +1,5 @@
 -- What holds of what an editor is shown. (This project's.)
-use Rattle.std.specs.Prelude.{◌≡◌, ◌≢◌, ℕ, ◌≤◌, Bool, true, false, min, List, ◌∷◌, ◌++◌, [], codes, decimal, filter, length, map, take, drop, slice_index, Option, Some, Ok}
+use Rattle.std.specs.Prelude.{◌≡◌, ◌≢◌, ℕ, ◌≤◌, true, false, min, List, ◌∷◌, ◌++◌, [], codes, decimal, filter, length, map, take, drop, slice_index, Option, Some, None, Ok}
 use Rattle.std.specs.List.{AllByRecursion, list_any}
 use Rattle.serde_json.specs.Data.{Data}
 use Rattle.rb_script.specs.declared.limits.TheConstants.{MAX_SCRIPT, MAX_LINE}
@@ -21,7 +21,8 @@ use Rattle.rb_lsp.specs.declared.server.reach.Reach.{Reach}
 use Rattle.rb_lsp.specs.Methods.{method_of}
 use Rattle.rb_lsp.specs.Notices.{notice_of}
 use Rattle.rb_lsp.specs.Laws.{IsPublished}
-use Rattle.rb_script_report.specs.Accepting.{accepted_lines}
+use Rattle.rb_script_report.specs.declared.accept_options.AcceptFilter.{AcceptFilter}
+use Rattle.rb_script_report.specs.Accepting.{accepted, accepted_lines, picked_unnamed}
 use Rattle.rb_script_report.specs.Errors.{is_error}
 use Rattle.rb_editor.specs.declared.actions.extent.Extent.{Extent}
 use Rattle.rb_editor.specs.declared.actions.extent.LineSpan.{LineSpan}
@@ -32,7 +33,7 @@ use Rattle.rb_editor.specs.Offers.{fits}
 use Rattle.rb_editor.specs.Places.{PlainPlace}
 use Rattle.rb_editor.specs.Unfinished.{name_of, wanted_of}
 use Rattle.rb_editor.specs.Completing.{nodes_at}
-use Rattle.rb_editor.specs.Actions.{all_but_new_errors, edits_asked, form, is_accepted, lines_range}
+use Rattle.rb_editor.specs.Actions.{but_new_errors, edits_asked, form, is_accepted, lines_range, picked_of}
 use Rattle.rb_editor.specs.Findings.{slips_of}
 use Rattle.rb_editor.specs.Edits.{edits_made, with_wanted}
 use Rattle.rb_editor.specs.Meanings.{meaning}
@@ -62,8 +63,13 @@ IdsAreOfTheCluster = (text head : List ℕ) (p : PlainPlace) (s : PlainScript) �
 
 -- a directive expects its output where that is accepted, and else what it did, as `check --accept` has it
 abbrev pub AcceptsAsCheckDoes : Type 0
-AcceptsAsCheckDoes = (ls : List Line) (line : ℕ) (b : PlainBlock) (output : List Line)
-    → (is_accepted ls line b output ≡ true → accepted_lines all_but_new_errors ls line b output ≡ output) × (is_accepted ls line b output ≡ false → accepted_lines all_but_new_errors ls line b output ≡ b.expected)
+AcceptsAsCheckDoes = (picked : AcceptFilter) (ls : List Line) (line : ℕ) (b : PlainBlock) (output : List Line)
+    → (is_accepted picked ls line b output ≡ true → accepted_lines (but_new_errors picked) ls line b output ≡ output) × (is_accepted picked ls line b output ≡ false → accepted_lines (but_new_errors picked) ls line b output ≡ b.expected)
+
+-- The script that the edits of all are to make is the one that `check --accept` writes, where no directive is named.
+abbrev pub MakesWhatCheckWrites : Type 0
+MakesWhatCheckWrites = (bytes : List ℕ) (s : PlainScript) (heads : List ℕ) → Reads bytes s → AreHeadLines 1 (lines bytes) s.blocks heads
+    → with_wanted bytes s (picked_of bytes s) None ≡ accepted (but_new_errors (picked_unnamed false (lines bytes) heads s)) (lines bytes) heads s
 
 -- An editor that puts a text in the place of such a range puts it in the place of these lines, and of nothing else, where each line begins with
 -- a character, as in UTF-8.
@@ -92,7 +98,7 @@ pub record AreShort (bytes : List ℕ) (s : PlainScript) : Type 0 where
 -- The text that an editor makes by an action's edits reads as the script in which each directive that is wanted expects what came of it, and the
 -- others what they did, where each line begins with a character, as in UTF-8, and the text doesn't become too long.
 abbrev pub EditedTextsRead : Type 0
-EditedTextsRead = (encoding : Encoding) (bytes : List ℕ) (s : PlainScript) (span : Option LineSpan)
+EditedTextsRead = (encoding : Encoding) (bytes : List ℕ) (s : PlainScript) (picked : AcceptFilter) (span : Option LineSpan)
     → Reads bytes s → AllByRecursion (λ output. AllByRecursion IsSolid output) (outputs s) → ((n : ℕ) → begins (drop (feed_start n bytes) bytes) ≡ true)
-    → AreShort (edits_made encoding bytes (edits_asked encoding bytes s span)) (with_wanted bytes s span)
-    → Reads (edits_made encoding bytes (edits_asked encoding bytes s span)) (with_wanted bytes s span)
+    → AreShort (edits_made encoding bytes (edits_asked encoding bytes s picked span)) (with_wanted bytes s picked span)
+    → Reads (edits_made encoding bytes (edits_asked encoding bytes s picked span)) (with_wanted bytes s picked span)

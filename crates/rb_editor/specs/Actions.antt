@@ -12,9 +12,10 @@ use Rattle.rb_replay.specs.Report.{same_lines}
 use Rattle.rb_report.specs.declared.check.warning_kind.WarningKind.{WarningKind}
 use Rattle.rb_report.specs.declared.check.warning_kind.WarningKind.TheVariants.{InExpectation, InInput, Unread}
 use Rattle.rb_script_report.specs.declared.warning.Warning.{Warning}
+use Rattle.rb_script_report.specs.declared.accept_options.AcceptFilter.{AcceptFilter}
 use Rattle.rb_script_report.specs.declared.accept_options.AcceptFilter.TheVariants as picks
 use Rattle.rb_script_report.specs.declared.accept_options.AcceptOptions.{AcceptOptions}
-use Rattle.rb_script_report.specs.Accepting.{is_left}
+use Rattle.rb_script_report.specs.Accepting.{is_left, picked_unnamed}
 use Rattle.rb_script_report.specs.Checked.{of_each}
 use Rattle.rb_text.specs.Json.{escaped}
 use Rattle.rb_lsp.specs.declared.document.position.Encoding.{Encoding}
@@ -29,21 +30,21 @@ use Rattle.rb_editor.specs.Findings.{slips_of}
 use Rattle.rb_editor.specs.Layouts.{line_at}
 use Rattle.rb_editor.specs.Extents.{extent_of, has_line}
 
--- the outputs of all directives but new errors
-abbrev pub all_but_new_errors : AcceptOptions
-all_but_new_errors = record { picked = picks.All; errors = false }
+-- the outputs of the picked directives but new errors
+abbrev pub but_new_errors : AcceptFilter → AcceptOptions
+but_new_errors picked = record { picked = picked; errors = false }
 
--- whether the output isn't the expected one and is accepted, of a head that begins on the line
-abbrev pub is_accepted : List Line → ℕ → PlainBlock → List Line → Bool
-is_accepted ls line b output = not (same_lines b.expected output || is_left all_but_new_errors ls line b output)
+-- whether the output isn't the expected one and is accepted, of a directive whose head begins on the line
+abbrev pub is_accepted : AcceptFilter → List Line → ℕ → PlainBlock → List Line → Bool
+is_accepted picked ls line b output = not (same_lines b.expected output || is_left (but_new_errors picked) ls line b output)
 
 -- whether a directive stands among some lines, or anywhere where none are given
 abbrev pub is_among : Option LineSpan → Extent → Bool
 is_among None e = not false
 is_among (Some span) e = has_line span.first span.last e
 
-unfoldable pub is_wanted : Option LineSpan → List Line → ℕ → PlainBlock → List Line → Bool
-is_wanted span ls line b output = is_accepted ls line b output && is_among span (extent_of ls line b)
+unfoldable pub is_wanted : AcceptFilter → Option LineSpan → List Line → ℕ → PlainBlock → List Line → Bool
+is_wanted picked span ls line b output = is_accepted picked ls line b output && is_among span (extent_of ls line b)
 
 -- ---- the edit of one expectation
 
@@ -96,9 +97,9 @@ abbrev pub comma_if : Bool → List ℕ
 comma_if later = if later then codes "," else []
 
 -- of a directive, if it is wanted
-unfoldable pub one_edit : Encoding → List ℕ → Option LineSpan → Bool → ℕ → PlainBlock → List Line → List ℕ
-one_edit encoding text span later line b output =
-    if is_wanted span (lines text) line b output
+unfoldable pub one_edit : Encoding → List ℕ → AcceptFilter → Option LineSpan → Bool → ℕ → PlainBlock → List Line → List ℕ
+one_edit encoding text picked span later line b output =
+    if is_wanted picked span (lines text) line b output
     then comma_if later ++ edit_text encoding text (extent_of (lines text) line b) (new_text text (lines text) (extent_of (lines text) line b) output)
     else []
 
@@ -117,8 +118,8 @@ listed later [] = []
 listed later (e ∷ es) = comma_if later ++ (member_of e ++ listed true es)
 
 -- those of an action
-abbrev pub edits_asked : Encoding → List ℕ → PlainScript → Option LineSpan → List PlainEdit
-edits_asked encoding text s span = edits_in (is_wanted span (lines text)) encoding text (heads_of text s) s.blocks (outputs s)
+abbrev pub edits_asked : Encoding → List ℕ → PlainScript → AcceptFilter → Option LineSpan → List PlainEdit
+edits_asked encoding text s picked span = edits_in (is_wanted picked span (lines text)) encoding text (heads_of text s) s.blocks (outputs s)
 
 -- ---- actions
 
@@ -131,21 +132,18 @@ action_head None = codes "{\"title\":\"Expect what came everywhere\",\"kind\":\"
 unfoldable pub action_text : List ℕ → Option LineSpan → List ℕ → List ℕ
 action_text uri span edits = action_head span ++ (flat_map escaped uri ++ (codes "\":[" ++ (edits ++ codes "]}}}")))
 
--- if there are any
-abbrev pub action_if : List ℕ → Option LineSpan → List ℕ → List ℕ
-action_if uri span edits = if length edits == 0 then [] else action_text uri span edits
+-- if there are any, where others are before
+abbrev pub action_if : List ℕ → Option LineSpan → Bool → List ℕ → List ℕ
+action_if uri span later edits = if length edits == 0 then [] else comma_if later ++ action_text uri span edits
 
--- a comma between two texts, if there are both
-abbrev pub comma_between : List ℕ → List ℕ → List ℕ
-comma_between one other = if length one == 0 || length other == 0 then [] else codes ","
-
--- A correction, and the actions with the edits of some lines and those of all. Where there are edits of some lines there are edits of all.
+-- The list of a correction, and the actions with the edits of some lines and those of all, as far as there are any. There may be edits of some lines and
+-- none of all, where the lines stand below a new error.
 unfoldable pub actions_text : List ℕ → List ℕ → LineSpan → List ℕ → List ℕ → List ℕ
 actions_text uri correction span here all =
-    codes "[" ++ (correction ++ (comma_between correction all ++ (action_if uri (Some span) here ++ (comma_between here all ++ (action_if uri None all ++ codes "]")))))
+    codes "[" ++ (correction ++ (action_if uri (Some span) (not (length correction == 0)) here ++ (action_if uri None (not (length correction == 0) || not (length here == 0)) all ++ codes "]")))
 
-abbrev pub edits_of : Encoding → List ℕ → PlainScript → Option LineSpan → List ℕ
-edits_of encoding text s span = listed false (edits_asked encoding text s span)
+abbrev pub edits_of : Encoding → List ℕ → PlainScript → AcceptFilter → Option LineSpan → List ℕ
+edits_of encoding text s picked span = listed false (edits_asked encoding text s picked span)
 
 -- ---- quick fixes of lines that look like a mistake
 
@@ -190,10 +188,14 @@ fixes_text encoding uri text found = codes "[" ++ (fix_if encoding uri text foun
 abbrev pub span_of : Encoding → Range → List ℕ → LineSpan
 span_of encoding range text = record { first = line_at encoding range.start text; last = line_at encoding range.end text }
 
--- of a script no line of which looks like a mistake
+-- what `check --accept` of a script picks, where no directive is named: nothing below the first new error
+abbrev pub picked_of : List ℕ → PlainScript → AcceptFilter
+picked_of text s = picked_unnamed false (lines text) (heads_of text s) s
+
+-- Of a script no line of which looks like a mistake. Some lines are accepted below a new error too, as `check --accept` does it of named directives.
 abbrev pub accepting : Encoding → List ℕ → List ℕ → PlainScript → LineSpan → List ℕ
 accepting encoding uri text s span =
-    actions_text uri (corrections encoding uri text span (heads_of text s) s.blocks) span (edits_of encoding text s (Some span)) (edits_of encoding text s None)
+    actions_text uri (corrections encoding uri text span (heads_of text s) s.blocks) span (edits_of encoding text s picks.All (Some span)) (edits_of encoding text s (picked_of text s) None)
 
 -- Of a text that is read so. If a line looks like a mistake nothing is accepted, as by `check --accept`: the expectation around it may contain
 -- directives.

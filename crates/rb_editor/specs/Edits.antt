@@ -3,6 +3,7 @@ use Rattle.std.specs.Prelude.{ℕ, if◌then◌else◌, List, [], ◌∷◌, Opt
 use Rattle.rb_script.specs.Lines.{Line, lines}
 use Rattle.rb_script.specs.Script.{PlainBlock, PlainScript, expecting}
 use Rattle.rb_replay.specs.Run.{outputs}
+use Rattle.rb_script_report.specs.declared.accept_options.AcceptFilter.{AcceptFilter}
 use Rattle.rb_lsp.specs.declared.document.position.Encoding.{Encoding}
 use Rattle.rb_lsp.specs.Places.{offset}
 use Rattle.rb_lsp.specs.Changes.{spliced}
@@ -23,5 +24,5 @@ edits_made encoding text [] = text
 edits_made encoding text (e ∷ es) = spliced (offset encoding e.range.start text) (offset encoding e.range.end text) e.new (edits_made encoding text es)
 
 -- the script that they are to make
-abbrev pub with_wanted : List ℕ → PlainScript → Option LineSpan → PlainScript
-with_wanted text s span = record { blocks = with_picked (is_wanted span (lines text)) (heads_of text s) s.blocks (outputs s); tail = s.tail }
+abbrev pub with_wanted : List ℕ → PlainScript → AcceptFilter → Option LineSpan → PlainScript
+with_wanted text s picked span = record { blocks = with_picked (is_wanted picked span (lines text)) (heads_of text s) s.blocks (outputs s); tail = s.tail }

@@ -23,10 +23,10 @@ pub record PlainRun : Type 0 where
 -- the layout of bytes that are the script
 pub record IsLayout (encoding : Encoding) (bytes : List ℕ) (s : PlainScript) (layout : ScriptLayout) : Type 0 where
   pub reads : Reads bytes s
-  pub lines_are : layout.lines ≡ lines bytes
-  pub heads : AreHeadLines 1 layout.lines s.blocks layout.heads.items
-  pub heads_are : layout.heads.items ≡ heads_of bytes s
-  pub count : length layout.heads.items ≡ length s.blocks
+  pub lines_are : layout.script.text ≡ lines bytes
+  pub heads : AreHeadLines 1 layout.script.text s.blocks layout.script.heads.items
+  pub heads_are : layout.script.heads.items ≡ heads_of bytes s
+  pub count : length layout.script.heads.items ≡ length s.blocks
   pub table : IsTable encoding bytes layout.table
   pub slips_are : layout.slips.items ≡ slips_of bytes s
 

@@ -26,6 +26,7 @@ mod publication;
 mod query;
 mod question;
 mod reach;
+mod request;
 mod server;
 mod service;
 mod serving;

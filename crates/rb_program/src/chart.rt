@@ -1,13 +1,10 @@
 //! `raftbench chart FILE [--from LINE] [--until LINE]`: the picture of a script.
 
-use crate::chart_over::chart_over;
-use crate::job::{Job, run_job};
-use crate::page::name_of;
+use crate::document::{DocumentKind, write_document};
 use crate::program_error::ProgramError;
 use crate::usage_error::{UsageError, misused};
-use rb_bench::{BenchFault, Outlet};
 use rb_report::check::Status;
-use rb_text::{Source, number_of};
+use rb_text::number_of;
 use rb_view::chart::ChartPart;
 use std::alloc::Global;
 use std::rt::Files;
@@ -19,36 +16,15 @@ pub(crate) fn chart<R: Files + Input + Print + AllocGlobal>(
     from: Option<&str>,
     until: Option<&str>,
 ) -> Result<Status, ProgramError> {
-    let charting = Charting {
-        name: name_of(file).as_bytes(),
-        part: ChartPart {
-            from: first_line(rt.alloc(), from)?,
-            until: last_line(rt.alloc(), until)?,
-        },
+    let part = ChartPart {
+        from: first_line(rt.alloc(), from)?,
+        until: last_line(rt.alloc(), until)?,
     };
-    let status = run_job(rt, file, &charting)?;
+    let status = write_document(rt, file, DocumentKind::Chart(part))?;
     if status == Status::Refused {
         return Err(ProgramError::TooLarge);
     }
     Ok(status)
-}
-
-// The picture of a part of a script, under this name.
-#[derive(Drop)]
-struct Charting<'a> {
-    name: &'a [u8],
-    part: ChartPart,
-}
-
-impl<'a> Job for Charting<'a> {
-    fn run<S: Source, W: Outlet>(
-        &self,
-        alloc: Global,
-        source: &mut S,
-        writer: &mut W,
-    ) -> Result<Status, BenchFault> {
-        chart_over(alloc, source, writer, self.name, self.part)
-    }
 }
 
 // The line after `--from`, if it is given.

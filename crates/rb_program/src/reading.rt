@@ -17,6 +17,7 @@ use std::alloc::Global;
 // Reads the script of the bytes.
 fn script_of(alloc: Global, bytes: &[u8]) -> Result<ScriptWithLines, StartFault>
     ensures read { IfOk result (λ read. Reads bytes.now read.script) }
+    ensures lines { IfOk result (λ read. read.lines ≡ lines bytes.now) }
     ensures heads { IfOk result (λ read. AreHeadLines 1 (lines bytes.now) read.script.blocks read.heads.items) }
     ensures only { (s : PlainScript) → Reads bytes.now s → IfErr result (λ fault. fault ≡ StartFault.OutOfMemory) }
     ensures refused { IfErr result (λ fault. TellsStartFault fault (read_of bytes.now)) }
@@ -34,6 +35,7 @@ fn script_of(alloc: Global, bytes: &[u8]) -> Result<ScriptWithLines, StartFault>
 /// `Script` where the bytes are no script, and `OutOfMemory`.
 pub(crate) fn read_script(alloc: Global, bytes: &[u8]) -> Result<ScriptWithLines, BenchFault>
     ensures read { IfOk result (λ read. Reads bytes.now read.script) }
+    ensures lines { IfOk result (λ read. read.lines ≡ lines bytes.now) }
     ensures heads { IfOk result (λ read. AreHeadLines 1 (lines bytes.now) read.script.blocks read.heads.items) }
     // What is a script is refused for want of memory alone.
     ensures only { (s : PlainScript) → Reads bytes.now s → IfErr result (λ fault. fault ≡ BenchFault.OutOfMemory) }

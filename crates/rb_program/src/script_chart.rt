@@ -1,6 +1,6 @@
 //! The picture of the script that some bytes are.
 
-ghost use Rattle.std.specs.Prelude.{◌≡◌, ◌≤◌, IfOk, IfSome, length};
+ghost use Rattle.std.specs.Prelude.{◌≡◌, ◌≤◌, IfOk, MatchOption, length};
 ghost use Rattle.rb_script.specs.declared.limits.TheConstants.{MAX_DIRECTIVES};
 ghost use Rattle.rb_script.specs.HeadLines.{AreHeadLines};
 ghost use Rattle.rb_script.specs.Lines.{lines};
@@ -8,7 +8,7 @@ ghost use Rattle.rb_script.specs.Reads.{Reads};
 ghost use Rattle.rb_replay.specs.Report.{mismatches};
 ghost use Rattle.rb_replay.specs.Run.{outputs};
 ghost use Rattle.rb_bench.specs.Runs.{status_of};
-ghost use Rattle.rb_program.specs.Drawn.{IsPicture, IsPictureOf};
+ghost use Rattle.rb_program.specs.Drawn.{HasNoRoomFor, IsPicture, IsPictureOf, IsTooLarge};
 
 use crate::script_steps::status;
 use rb_cluster::Cluster;
@@ -36,7 +36,7 @@ fn status_after(alloc: Global, script: Script, printed: Outputs) -> Result<Statu
     Ok(status(&session))
 }
 
-// The picture of the script, or of a part of it; none where more happens than a picture has room for.
+// The picture of the script, or of a part of it; none only if it has too little room.
 fn drawn(
     alloc: Global,
     name: &[u8],
@@ -47,7 +47,7 @@ fn drawn(
 ) -> Result<Option<DrawnRun>, AllocError>
     requires reads { Reads bytes.now script.now }
     requires heads { AreHeadLines 1 (lines bytes.now) script.now.blocks heads.now }
-    ensures { IfOk result (λ picture. IfSome picture (λ run. IsPictureOf bytes.now part script.now run.chart × (run.printed ≡ outputs script.now))) }
+    ensures { IfOk result (λ picture. MatchOption picture (HasNoRoomFor bytes.now part script.now) (λ run. IsPictureOf bytes.now part script.now run.chart × (run.printed ≡ outputs script.now))) }
 {
     match chart_of::<SplitLog>(alloc, name, bytes, script, heads, part) {
         Ok(run) => Ok(Some(run)),
@@ -56,8 +56,7 @@ fn drawn(
     }
 }
 
-/// Runs the script, which the bytes are, each directive once, and gives its picture, or that of a part of it; none where more happens than a
-/// picture has room for.
+/// Runs the script, which the bytes are, each directive once, and gives its picture, or that of a part of it; none only if it has too little room.
 pub(crate) fn picture_of(
     alloc: Global,
     name: &[u8],
@@ -67,7 +66,7 @@ pub(crate) fn picture_of(
 ) -> Result<Option<ScriptChart>, AllocError>
     requires reads { Reads bytes.now read.script }
     requires heads { AreHeadLines 1 (lines bytes.now) read.script.blocks read.heads.items }
-    ensures { IfOk result (λ picture. IfSome picture (λ p. IsPicture bytes.now part p.chart p.status)) }
+    ensures { IfOk result (λ picture. MatchOption picture (IsTooLarge bytes.now part) (λ p. IsPicture bytes.now part p.chart p.status)) }
 {
     let ScriptWithLines {
         script,

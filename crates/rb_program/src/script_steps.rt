@@ -7,16 +7,16 @@ ghost use Rattle.rb_script.specs.Script.{PlainScript};
 ghost use Rattle.rb_script.specs.Reads.{Reads};
 ghost use Rattle.rb_script.specs.Reading.{early_fault, read_of};
 ghost use Rattle.rb_replay.specs.Report.{mismatches};
-ghost use Rattle.rb_replay.specs.Start.{TellsStartFault};
 ghost use Rattle.rb_bench.specs.Faults.{TellsFault};
 ghost use Rattle.rb_bench.specs.Runs.{status_of};
 ghost use Rattle.rb_program.specs.Written.{AreRowsOf, AreStepsOf};
 
+use crate::reading::read_script;
 use rb_bench::BenchFault;
 use rb_cluster::Cluster;
 use rb_machine::Machine;
 use rb_raftlog::SplitLog;
-use rb_replay::{Session, StartFault};
+use rb_replay::Session;
 use rb_report::check::Status;
 use rb_script::{Lines, ScriptWithLines};
 use rb_view::steps::{StepMachine, steps_of};
@@ -36,11 +36,12 @@ fn rows<M: StepMachine>(
     bytes: &[u8],
 ) -> Result<(Session<M>, Lines), AllocError>
     requires reads { Reads bytes.now read.script }
+    requires lines { read.lines ≡ lines bytes.now }
     requires heads { AreHeadLines 1 (lines bytes.now) read.script.blocks read.heads.items }
     ensures script { IfOk result (λ ran. ran.0.script ≡ read.script) }
     ensures rows { IfOk result (λ ran. AreRowsOf bytes.now read.script ran.1) }
 {
-    let ran = steps_of(alloc, read.script, bytes, read.heads.as_slice())?;
+    let ran = steps_of(alloc, read, bytes)?;
     Ok(ran)
 }
 
@@ -53,22 +54,6 @@ pub(crate) fn status<M: Machine>(session: &Session<M>) -> Status
     } else {
         Status::Mismatched
     }
-}
-
-// Reads the script of the bytes, runs it once, and returns its steps.
-fn steps_on<M: StepMachine>(alloc: Global, bytes: &[u8]) -> Result<ScriptSteps, StartFault>
-    ensures read { IfOk result (λ steps. AreStepsOf bytes.now steps.texts steps.status) }
-    ensures only { (s : PlainScript) → Reads bytes.now s → IfErr result (λ fault. fault ≡ StartFault.OutOfMemory) }
-    ensures refused { IfErr result (λ fault. TellsStartFault fault (read_of bytes.now)) }
-    ensures early { IfSome (early_fault bytes.now) (λ fault. result ≡ Err (StartFault.Script fault)) }
-    ensures spaced { result ≢ Err StartFault.BadSpacing }
-{
-    let read = ScriptWithLines::read(alloc, bytes)?;
-    let (session, texts) = rows::<M>(alloc, read, bytes)?;
-    Ok(ScriptSteps {
-        texts,
-        status: status(&session),
-    })
 }
 
 /// Reads the script of the bytes, runs it once, and gives its steps.
@@ -86,6 +71,12 @@ pub(crate) fn read_steps(alloc: Global, bytes: &[u8]) -> Result<ScriptSteps, Ben
     // Nothing else is read or written, and no spacing is looked at.
     ensures own { IfErr result (λ fault. (fault ≢ BenchFault.Io) × (fault ≢ BenchFault.Spacing)) }
 {
-    let steps = steps_on::<Cluster<SplitLog>>(alloc, bytes)?;
-    Ok(steps)
+    let read = read_script(alloc, bytes)?;
+    let Ok((session, texts)) = rows::<Cluster<SplitLog>>(alloc, read, bytes) else {
+        return Err(BenchFault::OutOfMemory);
+    };
+    Ok(ScriptSteps {
+        texts,
+        status: status(&session),
+    })
 }

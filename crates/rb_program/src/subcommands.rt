@@ -4,12 +4,11 @@ ghost use Rattle.std.specs.Prelude.{◌≡◌, None, Err};
 
 use crate::chart::chart;
 use crate::checking::Terminals;
+use crate::document::{DocumentKind, write_document};
 use crate::look::look_at;
-use crate::page::page;
 use crate::program_error::ProgramError;
 use crate::rewriting::rewrite;
 use crate::running::{run, session};
-use crate::trace::trace;
 use crate::usage_error::{UsageError, usage_error_of_every};
 use crate::work::{Work, work_of};
 use rb_args::{CommandChoice, ScriptCommand};
@@ -64,8 +63,8 @@ fn done<R: Files + Input + Print + AllocGlobal>(
         Work::Rewriting(every) => run(rt, file, Mode::Rewrite, every),
         Work::Session(every) => session(rt, file, every),
         Work::Look => look_at(rt, file),
-        Work::Page => page(rt, file),
+        Work::Page => write_document(rt, file, DocumentKind::Page),
         Work::Chart => chart(rt, file, choice.from.as_deref(), choice.until.as_deref()),
-        Work::Trace => trace(rt, file),
+        Work::Trace => write_document(rt, file, DocumentKind::Trace),
     }
 }

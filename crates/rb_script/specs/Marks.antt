@@ -25,6 +25,13 @@ is_empty_or_comment (b ∷ line) = b == number_sign
 unfoldable pub is_lead : Line → Bool
 is_lead line = is_empty_or_comment (trim_blanks line)
 
+abbrev pub begins_comment : Line → Bool
+begins_comment [] = false
+begins_comment (b ∷ line) = b == number_sign
+
+unfoldable pub is_comment : Line → Bool
+is_comment line = begins_comment (trim_blanks line)
+
 -- the line ----
 abbrev pub rule : Line
 rule = hyphen ∷ hyphen ∷ hyphen ∷ hyphen ∷ []

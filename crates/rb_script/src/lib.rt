@@ -51,7 +51,9 @@ pub use laws::{
 pub use limits::{MAX_ARGUMENTS, MAX_DIRECTIVES, MAX_LINE, MAX_SCRIPT, MAX_VALUES, limits_are};
 pub use line_text::LineText;
 pub use lines::{Lines, lines_of, next_line, without_returns};
-pub use marks::{continues, is_blank, is_lead, is_rule, is_separator, is_space, trim_blanks};
+pub use marks::{
+    continues, is_blank, is_comment, is_lead, is_rule, is_separator, is_space, trim_blanks,
+};
 pub use script::Script;
 pub use sink::{Sink, Through, WriteFault};
 pub use span::Span;

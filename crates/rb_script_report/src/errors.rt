@@ -34,7 +34,7 @@ pub fn first_line(output: &Lines) -> &[u8]
 }
 
 /// Whether the output is an error.
-pub(crate) fn is_error(output: &Lines) -> bool
+pub fn is_error(output: &Lines) -> bool
     ensures { result ≡ is_error output.now }
 {
     begins_error(first_line(output))

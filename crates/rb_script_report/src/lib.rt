@@ -31,7 +31,7 @@ pub use accept_options::{AcceptFilter, AcceptOptions, is_picked};
 pub use accepting::put_left_errors;
 pub use alone::put_alone;
 pub use answers::{block_at, number_at, output_at};
-pub use errors::{first_line, has_errors, is_unexpected};
+pub use errors::{first_line, has_errors, is_error, is_unexpected};
 pub use fault::ShowFault;
 pub use laws::{
     accepted_scripts_are, called_lines_look_like_directives, echoes_are_left,

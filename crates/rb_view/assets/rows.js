@@ -261,8 +261,9 @@ const READERS = {
   actual({ step }, [count]) {
     step.pieces?.push({ kind: "actual", count });
   },
-  warning({ step }, [line, text]) {
-    step.warnings.push(`line ${line}: ${shown(text)}`);
+  warning({ model }, [line, text]) {
+    const step = model.steps.findLast((it) => it.line <= line);
+    step?.warnings.push(`line ${line}: ${shown(text)}`);
   },
   hint(reader, [text]) {
     (reader.last().hints ||= []).push(shown(text));

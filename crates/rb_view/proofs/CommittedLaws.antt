@@ -1,5 +1,5 @@
 -- Whatever a directive does to nodes, each is sound as before, and what it knew to be committed stays.
-use Rattle.std.proofs.Common.{◌≡◌, ◌∙◌, ℕ, ◌≤◌, false, List, [], ◌∷◌, ◌++◌, length, length-append, Some, refl, sym, subst, arith}
+use Rattle.std.proofs.Common.{◌≡◌, ◌∙◌, ℕ, ◌≤◌, false, List, [], ◌∷◌, ◌++◌, length, length-append, Some, take, refl, sym, subst, arith}
 use Rattle.std.specs.Prelude.{slice_get, slice_set}
 use Rattle.std.proofs.lemmas.Bool.{false≢true}
 use Rattle.std.proofs.lemmas.List.{length-set}
@@ -14,20 +14,22 @@ use Rattle.rb_laws.specs.Sound.{IsSound}
 use Rattle.rb_laws.proofs.CallLaws.{calls}
 use Rattle.rb_machine.specs.Cluster.{Cluster, empty}
 use Rattle.rb_machine.specs.Outcome.{outcome}
+use Rattle.rb_script.specs.Script.{PlainScript}
+use Rattle.rb_replay.specs.Run.{directives, led, state}
 use Rattle.rb_laws.proofs.DirectiveLaws.{Lasts, by_directive}
 use Rattle.rb_laws.proofs.ListLaws.{each_set, each_push}
 use Rattle.rb_view.specs.Committed.{AreKept, AreSound, IsKept}
 
 -- ---- a node
 
-record HasGoneOn (old new : PlainNode) : Type 0 where
-  commit : old.commit ≤ new.commit
-  kept : IsKept old.log new.log old.commit
+pub record HasGoneOn (old new : PlainNode) : Type 0 where
+  pub commit : old.commit ≤ new.commit
+  pub kept : IsKept old.log new.log old.commit
 
-still : (n : PlainNode) → IsSound n → HasGoneOn n n
+pub still : (n : PlainNode) → IsSound n → HasGoneOn n n
 still n sound = record { commit = omega arith; kept = record { base = omega arith; held = sound.is_held; entries = λ i _ _. refl } }
 
-further : (a b c : PlainNode) → HasGoneOn a b → HasGoneOn b c → HasGoneOn a c
+pub further : (a b c : PlainNode) → HasGoneOn a b → HasGoneOn b c → HasGoneOn a c
 further a b c first second = record {
   commit = omega (arith, first.commit, second.commit);
   kept = record {
@@ -40,13 +42,13 @@ further a b c first second = record {
 -- ---- nodes
 
 -- the node at a place is sound, and has gone on where it was there before
-record IsOf (olds : List PlainNode) (k : ℕ) (n : PlainNode) : Type 0 where
-  sound : IsSound n
-  gone : (old : PlainNode) → slice_get olds k ≡ Some old → HasGoneOn old n
+pub record IsOf (olds : List PlainNode) (k : ℕ) (n : PlainNode) : Type 0 where
+  pub sound : IsSound n
+  pub gone : (old : PlainNode) → slice_get olds k ≡ Some old → HasGoneOn old n
 
-record HaveGoneOn (olds nodes : List PlainNode) : Type 0 where
-  many : length olds ≤ length nodes
-  each : (k : ℕ) (n : PlainNode) → slice_get nodes k ≡ Some n → IsOf olds k n
+pub record HaveGoneOn (olds nodes : List PlainNode) : Type 0 where
+  pub many : length olds ≤ length nodes
+  pub each : (k : ℕ) (n : PlainNode) → slice_get nodes k ≡ Some n → IsOf olds k n
 
 one_called : (olds nodes : List PlainNode) (k : ℕ) (call : Call) (t : NodeStep) → slice_get nodes k ≡ Some t.node → HaveGoneOn olds nodes → HaveGoneOn olds (slice_set nodes k (after call t).node)
 one_called olds nodes k call t at h =
@@ -59,7 +61,7 @@ one_called olds nodes k call t at h =
       each = each_set (IsOf olds) nodes k t.node new at (record { sound = g.ordered; gone = λ old was. further old t.node new (n.gone old was) on }) (λ j x _ there. h.each j x there);
     }
 
-one_joins : (olds nodes : List PlainNode) (id : ℕ) (from : Snapshot) (given : Options) → HaveGoneOn olds nodes → HaveGoneOn olds (nodes ++ started id from given ∷ [])
+pub one_joins : (olds nodes : List PlainNode) (id : ℕ) (from : Snapshot) (given : Options) → HaveGoneOn olds nodes → HaveGoneOn olds (nodes ++ started id from given ∷ [])
 one_joins olds nodes id from given h =
     let n = started id from given in
     record {
@@ -96,3 +98,10 @@ are_kept c d sound k old new was is = (((goes_on c d sound).each k new is).gone 
 pub begin_sound : AreSound empty.nodes
 unfolding empty
 begin_sound k n is = absurd (none-some n is)
+
+led_sound : (c : Cluster) (ds : List PlainDirective) → AreSound c.nodes → AreSound (led c ds).nodes
+led_sound c [] sound = sound
+led_sound c (d ∷ ds) sound = led_sound (outcome c d).cluster ds (stay_sound c d sound)
+
+pub state_sound : (s : PlainScript) (i : ℕ) → AreSound (state s i).nodes
+state_sound s i = led_sound empty (take i (directives s)) begin_sound

@@ -15,11 +15,13 @@ pub mod StretchRowLaws
 pub mod LogLaws
 pub mod ReadBackLaws
 pub mod CommittedLaws
+pub mod GoneOnLaws
 pub mod StateLaws
 pub mod ChangeLaws
 pub mod StepLaws
 pub mod StepSizeLaws
 pub mod LineByteLaws
+pub mod ReasonLaws
 pub mod RowByteLaws
 pub mod WatchLaws
 pub mod ValueLaws

@@ -27,7 +27,7 @@ use Rattle.rb_view.specs.Rows.{next_text}
 use Rattle.rb_view.proofs.KeptLaws.{left_some}
 use Rattle.rb_laws.proofs.ListLaws.{some_at}
 use Rattle.rb_view.proofs.KeepLaws.{one_part}
-use Rattle.rb_view.specs.Logs.{common, entry_rows, is_same_log, same_word, same_body, same_entry, stays}
+use Rattle.rb_view.specs.Logs.{common, entry_rows, is_same_log, nearest, same_up_to, same_word, same_body, same_entry, stays, stays_since}
 
 -- ---- which entries are the same
 
@@ -132,17 +132,50 @@ stays_over old new whole i x y above past got other is_other inv =
     let here : common (entries_after old i) (entries_after new i) ≡ 0 = ap₂ common (after_first old i x above got) (after_first new i y past other) ∙ (rw is_other refl) in
     omega (arith, here, inv)
 
--- nothing is of before where the base was lowered
-pub stays_none : (old new : LogValue) → new.base < old.base → stays old new ≡ new.base
-stays_none old new low =
-    let no : nat_le old.base new.base ≡ false = grind (arith, nat_tests) in
-    ap (λ (t : Bool). new.base + common (if t then entries_after old new.base else []) new.entries) no ∙ (let e : new.base + 0 ≡ new.base = omega arith in e)
+-- where the old log has entries past an index, and where it begins above it
+pub past_is : (old new : LogValue) (index : ℕ) → old.base ≤ index → same_up_to old new index ≡ index + common (entries_after old index) (entries_after new index)
+past_is old new index le = ap (λ (t : Bool). index + common (if t then entries_after old index else []) (entries_after new index)) (le-leb old.base index le)
+
+pub past_none : (old new : LogValue) (index : ℕ) → index < old.base → same_up_to old new index ≡ index
+past_none old new index low =
+    let no : nat_le old.base index ≡ false = grind (arith, nat_tests) in
+    ap (λ (t : Bool). index + common (if t then entries_after old index else []) (entries_after new index)) no ∙ (let e : index + 0 ≡ index = omega arith in e)
 
 -- where one of the logs ends
 pub stays_end : (old new : LogValue) (whole i : ℕ) → min (last new) (last old) ≤ i → whole ≡ i + common (entries_after old i) (entries_after new i) → i ≡ whole
 stays_end old new whole i past inv =
     let few = common_prefix_len-le same_entry (entries_after old i) (entries_after new i) in
     omega (arith, past, inv, few.0, few.1, length-drop (i - old.base) old.entries, length-drop (i - new.base) new.entries)
+
+-- ---- where the first entries are known to be the same
+
+-- the comparison passes an entry that is the same
+pub stays_known : (old new : LogValue) (i : ℕ) → old.base ≤ i → new.base ≤ i → i < last new → entry_at new (i + 1) ≡ entry_at old (i + 1)
+    → stays old new ≡ i + common (entries_after old i) (entries_after new i) → stays old new ≡ i + 1 + common (entries_after old (i + 1)) (entries_after new (i + 1))
+stays_known old new i above past held same inv =
+    let there = some_at new.entries (i + 1 - new.base - 1) (omega arith) in
+    let x = there.0 in
+    let is_new : entry_at new (i + 1) ≡ Ok x = entry_past new (i + 1) (omega arith) ∙ ap found there.1 in
+    let was : slice_get old.entries (i + 1 - old.base - 1) ≡ Some x = entry_there old (i + 1) x (omega arith) (sym same ∙ is_new) in
+    stays_on old new (stays old new) i x x above past was there.1 (same_entry-refl x) inv
+
+stays_far : (old new : LogValue) (to d : ℕ) → old.base ≤ new.base → ((i : ℕ) → i ≤ to → new.base < i → entry_at new i ≡ entry_at old i) → new.base + d ≤ to → to ≤ last new
+    → stays old new ≡ new.base + d + common (entries_after old (new.base + d)) (entries_after new (new.base + d))
+stays_far old new to zero le known at held = let same : new.base ≡ new.base + 0 = omega arith in subst (λ (i : ℕ). stays old new ≡ i + common (entries_after old i) (entries_after new i)) same (stays_from old new le)
+stays_far old new to (suc d) le known at held =
+    let i = new.base + d in
+    let next : i + 1 ≡ new.base + suc d = omega arith in
+    subst (λ (j : ℕ). stays old new ≡ j + common (entries_after old j) (entries_after new j)) next
+    (stays_known old new i (omega (arith, le)) (omega arith) (omega (arith, at, held)) (known (i + 1) (omega (arith, at)) (omega arith)) (stays_far old new to d le known (omega (arith, at)) held))
+
+pub since_known : (old new : LogValue) (known : ℕ) → old.base ≤ new.base → ((i : ℕ) → i ≤ known → new.base < i → entry_at new i ≡ entry_at old i) → stays_since old new known ≡ stays old new
+since_known old new known le same =
+    let to = nearest new known in
+    let d = to - new.base in
+    let back : new.base + d ≡ to = omega arith in
+    let all = stays_far old new to d le (λ i low past. same i (omega (arith, low, past)) past) (omega (arith, back)) (omega arith) in
+    past_is old new to (omega (arith, le))
+    ∙ sym (subst (λ (j : ℕ). stays old new ≡ j + common (entries_after old j) (entries_after new j)) back all)
 
 -- one entry more is there, and one less is left
 pub entries_more : (v : LogValue) (i : ℕ) (e : Entry) (before after all : List Line) → v.base < i → slice_get v.entries (i - v.base - 1) ≡ Some e → after ≡ before ++ next_text (entry_row (codes "entry") i e) ∷ []

@@ -1,5 +1,5 @@
 -- The rows of steps are of bytes.
-use Rattle.std.proofs.Common.{◌≡◌, ◌∙◌, ℕ, zero, suc, ◌+◌, Bool, true, false, List, [], ◌∷◌, ◌++◌, drop, length, refl, ap, sym, arith, codes}
+use Rattle.std.proofs.Common.{◌≡◌, ◌∙◌, ℕ, zero, suc, ◌+◌, Bool, true, false, List, [], ◌∷◌, ◌++◌, Option, Some, None, drop, length, refl, ap, sym, arith, codes}
 use Rattle.std.specs.Prelude.{◌&&◌, ◌==◌, not, nat_le, if◌then◌else◌}
 use Rattle.std.specs.List.{flat_map, list_all}
 use Rattle.std.proofs.lemmas.Bool.{and_from, and_parts, leb-true, lt-ltb}
@@ -22,6 +22,8 @@ use Rattle.rb_script.specs.Lines.{Line}
 use Rattle.rb_script.specs.Marks.{is_blank, is_rule}
 use Rattle.rb_texts.specs.declared.item.Verb.{Verb}
 use Rattle.rb_texts.specs.declared.item.Verb.TheVariants as verbs
+use Rattle.rb_texts.specs.declared.reason.Reason.{Reason}
+use Rattle.rb_texts.specs.Reasons.{reason_of, reason_text}
 use Rattle.rb_texts.specs.Configs.{config_text}
 use Rattle.rb_texts.specs.Entries.{body_text}
 use Rattle.rb_texts.specs.Errors.{error_text}
@@ -47,9 +49,11 @@ use Rattle.rb_view.specs.States.{added_rows, changed_rows, config_row, gone_of, 
 use Rattle.rb_report.specs.Diffs.{Stretch, parts_within}
 use Rattle.rb_view.specs.Steps.{count_rows, mismatch_rows, script_rows, stretch_rows}
 use Rattle.rb_view.specs.Values.{ShowBytes}
+use Rattle.rb_view.specs.Watching.{reason_row, reason_rows, shown_rows}
 use Rattle.rb_report.proofs.StretchLaws.{expected_in}
 use Rattle.rb_report.proofs.DiffLaws.{parts-expected}
 use Rattle.rb_view.proofs.LineByteLaws.{of_bytes}
+use Rattle.rb_view.proofs.ReasonLaws.{reason_one_line}
 
 -- ---- texts
 
@@ -128,8 +132,17 @@ item_bytes _ = refl
 pub all_both : (a b : List Row) → list_all has_bytes a ≡ true → list_all has_bytes b ≡ true → list_all has_bytes (a ++ b) ≡ true
 all_both a b p q = joined_of has_bytes a b p q
 
-pub items_bytes : (is : List PlainItem) → list_all has_bytes (flat_map item_rows is) ≡ true
-items_bytes is = flat_of has_bytes item_rows item_bytes is
+reason_bytes : (reason : Option Reason) → list_all has_bytes (reason_rows reason) ≡ true
+reason_bytes None = refl
+reason_bytes (Some reason) =
+    let line = line_bytes (reason_text reason) (reason_one_line reason) in
+    one_row (reason_row reason) (alone (drop 2 (reason_text reason)) (dropped_bytes 2 (reason_text reason) line))
+
+shown_bytes : (item : PlainItem) → list_all has_bytes (shown_rows item) ≡ true
+shown_bytes item = all_both (item_rows item) (reason_rows (reason_of item)) (item_bytes item) (reason_bytes (reason_of item))
+
+pub items_bytes : (is : List PlainItem) → list_all has_bytes (flat_map shown_rows is) ≡ true
+items_bytes is = flat_of has_bytes shown_rows shown_bytes is
 
 -- ---- where a directive stands, and what it printed
 

@@ -8,8 +8,11 @@ use Rattle.rb_script.specs.Lines.{Line}
 use Rattle.rb_view.specs.Kept.{texts_of}
 use Rattle.rb_view.specs.Rows.{Row}
 use Rattle.rb_view.proofs.KeptLaws.{left_some}
-use Rattle.rb_view.specs.States.{changed_rows, node_rows, state_rows}
+use Rattle.rb_view.specs.Committed.{IsKept}
+use Rattle.rb_view.specs.Logs.{stays, stays_since}
+use Rattle.rb_view.specs.States.{changed_rows, changed_since, changed_to, node_rows, node_since, state_rows}
 use Rattle.rb_view.proofs.ChangeLaws.{no_row}
+use Rattle.rb_view.proofs.LogLaws.{since_known}
 
 past_all : {X : Type 0} → (xs : List X) (i : ℕ) → slice_get xs i ≡ None → length xs ≤ i
 past_all xs i h = elim (slice_get_cases xs i).1 [ inl w ↦ absurd (let none : slice_get xs i ≡ None = h in let some : slice_get xs i ≡ Some w.0 = w.2 in cc) | inr w ↦ w.0 ]
@@ -27,7 +30,17 @@ state_done [] [] e = refl
 state_done (old ∷ olds) [] e = refl
 state_done olds (n ∷ ns) e = absurd cc
 
+-- ---- where what a node knew to be committed stays
+
+changed_by : (old new : PlainNode) → stays_since old.log new.log old.commit ≡ stays old.log new.log → changed_since old new ≡ changed_rows old new
+changed_by old new same = ap (changed_to old new) same
+
+pub since_is : (o : Option PlainNode) (n : PlainNode) → ((old : PlainNode) → o ≡ Some old → IsKept old.log n.log old.commit) → node_since o n ≡ node_rows o n
+since_is None n kept = refl
+since_is (Some old) n kept = let k = kept old refl in changed_by old n (since_known old.log n.log old.commit k.base k.entries)
+
 -- nothing is added of a node that is as it was
-pub none_kept_of_same : (old new : PlainNode) (texts : List Line) → new ≡ old → texts ≡ texts ++ texts_of (changed_rows old new)
+pub none_kept_of_same : (old new : PlainNode) (texts : List Line) → new ≡ old → texts ≡ texts ++ texts_of (changed_since old new)
 none_kept_of_same old new texts e =
-    sym (ap (λ (rs : List Row). texts ++ texts_of rs) (ap (λ (n : PlainNode). changed_rows old n) e ∙ no_row old) ∙ append-nil texts)
+    let own : stays_since old.log old.log old.commit ≡ stays old.log old.log = since_known old.log old.log old.commit (omega arith) (λ i _ _. refl) in
+    sym (ap (λ (rs : List Row). texts ++ texts_of rs) (ap (λ (n : PlainNode). changed_since old n) e ∙ (changed_by old old own ∙ no_row old)) ∙ append-nil texts)

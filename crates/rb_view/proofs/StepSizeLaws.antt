@@ -1,6 +1,5 @@
 -- How long the text of steps is at the most.
-use Rattle.std.proofs.Common.{◌≡◌, ◌∙◌, ℕ, ◌+◌, ◌*◌, ◌≤◌, Bool, true, List, [], ◌∷◌, ◌++◌, length, map, decimal, codes, refl, ap, arith, length-append}
-use Rattle.std.specs.Prelude.{if◌then◌else◌}
+use Rattle.std.proofs.Common.{◌≡◌, ◌∙◌, ℕ, ◌+◌, ◌*◌, ◌≤◌, Bool, true, List, [], ◌∷◌, ◌++◌, length, decimal, codes, refl, ap, arith, length-append}
 use Rattle.std.specs.Fmt.{digits}
 use Rattle.std.specs.List.{flat_map, sum_by}
 use Rattle.std.proofs.lemmas.List.Concat.{flat_map-append}
@@ -9,20 +8,21 @@ use Rattle.rb_script.specs.Lines.{Line}
 use Rattle.rb_script.specs.Script.{PlainScript}
 use Rattle.rb_node.specs.Node.{PlainNode}
 use Rattle.rb_texts.specs.Items.{PlainItem}
+use Rattle.rb_texts.specs.Items as items
 use Rattle.rb_machine.specs.Observations.{Observation, Shown, Settled}
-use Rattle.rb_view.specs.ItemRows.{item_rows, item_text}
+use Rattle.rb_view.specs.ItemRows.{item_rows}
 use Rattle.rb_view.specs.Kept.{joined, texts_of}
 use Rattle.rb_view.specs.Rows.{number, text, Row, row, next_text, row_text, before}
 use Rattle.rb_view.specs.declared.rows.row.RowPlace.TheVariants.{First}
 use Rattle.rb_view.specs.Sizes.{cell_size, row_size, is_view}
-use Rattle.rb_view.proofs.SizeLaws.{rows_counted, rows_short}
+use Rattle.rb_view.proofs.SizeLaws.{rows_short}
 use Rattle.rb_replay.specs.Report.{mismatches}
 use Rattle.rb_view.specs.declared.steps.page.TheConstants.{FORMAT}
 use Rattle.rb_view.specs.Pages.{first_row, steps_text}
 use Rattle.rb_view.specs.StepSizes.{around_size, item_size, observed_size, step_size}
-use Rattle.rb_view.specs.Steps.{Step, end_row, script_rows, source_row, step_texts, steps, steps_texts}
-use Rattle.rb_view.specs.Watching.{observed_texts, rewritten, rows_since}
-use Rattle.rb_view.proofs.StepLaws.{rows_joined}
+use Rattle.rb_view.specs.Steps.{Step, end_row, hints, script_rows, source_row, step_texts, steps, steps_texts, warning_rows}
+use Rattle.rb_view.specs.Watching.{observed_texts, rewritten, rows_since, shown_rows, shown_texts}
+use Rattle.rb_view.proofs.StepLaws.{rows_joined, shown_joined}
 
 -- ---- rows and texts
 
@@ -52,20 +52,19 @@ both_long a b = ap (λ (l : List ℕ). length l) (flat_map-append (λ (t : Line)
 
 -- ---- what happened
 
-item_short : (i : PlainItem) → length (item_text i) ≤ item_size i
-unfolding item_text
-item_short i = next_short (item_rows i)
+item_short : (i : PlainItem) → length (joined (shown_texts i)) ≤ item_size i
+item_short i = omega (arith, ap (λ (l : List ℕ). length l) (shown_joined i), next_short (shown_rows i))
 
-items_short : (items : List PlainItem) → length (joined (map item_text items)) ≤ sum_by item_size items
+items_short : (items : List PlainItem) → length (joined (flat_map shown_texts items)) ≤ sum_by item_size items
 items_short [] = omega arith
 items_short (i ∷ items) =
-    omega (arith, length-append (item_text i) (joined (map item_text items)), sum_by-cons item_size i items, item_short i, items_short items)
+    omega (arith, both_long (shown_texts i) (flat_map shown_texts items), sum_by-cons item_size i items, item_short i, items_short items)
 
 -- what is observed
 observed_short : (nodes : List PlainNode) (observed : List Observation) → length (joined (observed_texts nodes observed)) ≤ observed_size nodes observed
 observed_short nodes [] = omega arith
 observed_short nodes (Shown items ∷ observed) =
-    omega (arith, both_long (map item_text items) (observed_texts nodes observed), items_short items, observed_short nodes observed)
+    omega (arith, both_long (flat_map shown_texts items) (observed_texts nodes observed), items_short items, observed_short nodes observed)
 observed_short nodes (Settled id n ∷ observed) =
     let here = rows_since nodes id n in
     let on = rewritten nodes id n in
@@ -78,11 +77,13 @@ step_short s =
     let script = script_rows s.left s.line s.block.expected s.output in
     omega (
       arith,
-      both_long (texts_of script) (observed_texts s.before s.observed ++ texts_of s.changes),
-      both_long (observed_texts s.before s.observed) (texts_of s.changes),
+      both_long (texts_of script) (observed_texts s.before s.observed ++ (texts_of s.changes ++ texts_of (hints s))),
+      both_long (observed_texts s.before s.observed) (texts_of s.changes ++ texts_of (hints s)),
+      both_long (texts_of s.changes) (texts_of (hints s)),
       kept_short script,
       observed_short s.before s.observed,
       kept_short s.changes,
+      kept_short (hints s),
     )
 
 steps_short : (ss : List Step) → length (joined (flat_map step_texts ss)) ≤ sum_by step_size ss
@@ -116,10 +117,11 @@ first_short name =
       first_size name,
     )
 
-pub text_short : (name bytes heads : List ℕ) (s : PlainScript) → length (steps_text name bytes heads s) ≤ around_size name bytes s + sum_by step_size (steps heads s)
+pub text_short : (name bytes heads : List ℕ) (s : PlainScript) → length (steps_text name bytes heads s) ≤ around_size name bytes s + sum_by step_size (steps heads s) + sum_by row_size (warning_rows bytes heads s)
 text_short name bytes heads s =
     let source = texts_of (source_row bytes ∷ []) in
     let last = texts_of (end_row s ∷ []) in
+    let doubts = texts_of (warning_rows bytes heads s) in
     let all = flat_map step_texts (steps heads s) in
     let texts = steps_texts bytes heads s in
     omega (
@@ -127,8 +129,10 @@ text_short name bytes heads s =
       length-append (before First ++ row_text (first_row name)) (joined texts ++ codes "]\n"),
       length-append (joined texts) (codes "]\n"),
       first_short name,
-      both_long source (all ++ last),
-      both_long all last,
+      both_long source (all ++ (doubts ++ last)),
+      both_long all (doubts ++ last),
+      both_long doubts last,
+      kept_short (warning_rows bytes heads s),
       one_short (source_row bytes),
       source_size bytes,
       one_short (end_row s),
@@ -137,9 +141,12 @@ text_short name bytes heads s =
     )
 
 -- what shows how a node stands has no row
-none_said : (rs : List Row) → length rs ≡ 0 → sum_by row_size rs ≡ 0
-none_said [] e = refl
-none_said (r ∷ rs) e = absurd (omega (arith, e))
-
 pub view_said : (i : PlainItem) → is_view i ≡ true → item_size i ≡ 0
-view_said i is = none_said (item_rows i) (rows_counted i ∙ ap (λ (t : Bool). if t then 0 else 1) is)
+unfolding item_rows
+view_said items.nothing_else is = refl
+view_said (items.raft_state node) is = refl
+view_said (items.raft_log log) is = refl
+view_said (items.entry index e unsaved) is = refl
+view_said (items.config c) is = refl
+view_said (items.progress id view) is = refl
+view_said item is = absurd cc

@@ -1,5 +1,5 @@
 -- What an observer writes of a directive is what is observed of it, as rows.
-use Rattle.std.proofs.Common.{◌≡◌, ◌∙◌, ℕ, ◌-◌, Bool, true, false, List, [], ◌∷◌, ◌++◌, map, Option, Some, None, refl, ap, ap₂, sym, append_assoc, append-nil}
+use Rattle.std.proofs.Common.{◌≡◌, ◌∙◌, ℕ, ◌-◌, Bool, true, false, List, [], ◌∷◌, ◌++◌, Option, Some, None, refl, ap, ap₂, sym, append_assoc, append-nil}
 use Rattle.std.specs.Prelude.{◌&&◌, fold, slice_get}
 use Rattle.std.specs.List.{flat_map, list_all}
 use Rattle.std.proofs.lemmas.Bool.{and_parts}
@@ -7,7 +7,6 @@ use Rattle.rb_raftlog.specs.Content.{content_end}
 use Rattle.rb_script.specs.Lines.{Line}
 use Rattle.rb_node.specs.Node.{PlainNode}
 use Rattle.rb_texts.specs.Items.{PlainItem}
-use Rattle.rb_view.specs.ItemRows.{item_rows, item_text}
 use Rattle.rb_view.specs.Json.{has_bytes, is_byte}
 use Rattle.rb_view.specs.Kept.{texts_of}
 use Rattle.rb_machine.specs.Observations.{Observation, Shown, Settled, observing, passing}
@@ -16,7 +15,10 @@ use Rattle.rb_machine.specs.Outcome.{Execution, shown_items}
 use Rattle.rb_machine.specs.Printing as printing
 use Rattle.rb_machine.proofs.EffectLaws.{each_observed, items_seen}
 use Rattle.rb_view.specs.States.{node_rows}
-use Rattle.rb_view.specs.Watching.{Watching, observed_rows, observed_texts, rewritten, rows_since, shows_bytes, with_item, with_node, written_last}
+use Rattle.rb_view.specs.Rows.{Row}
+use Rattle.rb_view.specs.Watching.{Watching, compared_rows, compared_texts, observed_rows, observed_texts, rewritten, rows_since, shown_rows, shown_texts, shows_bytes, with_item, with_node, written_last}
+use Rattle.rb_view.proofs.GoneOnLaws.{GoOn}
+use Rattle.rb_view.proofs.StateLaws.{since_is}
 use Rattle.rb_view.proofs.RowByteLaws.{added_bytes, all_both, changed_bytes, items_bytes}
 
 and_end : (b : Bool) → b ≡ (b && true)
@@ -27,27 +29,34 @@ and_assoc : (a b c : Bool) → ((a && b) && c) ≡ (a && (b && c))
 and_assoc true b c = refl
 and_assoc false b c = refl
 
-items_watched : (w : Watching) (items : List PlainItem) → fold with_item w items ≡ record w { texts = w.texts ++ map item_text items }
+items_watched : (w : Watching) (items : List PlainItem) → fold with_item w items ≡ record w { texts = w.texts ++ flat_map shown_texts items }
 items_watched w [] = ap (λ (ts : List Line). record w { texts = ts }) (sym (append-nil w.texts))
 items_watched w (i ∷ items) =
-    items_watched (with_item w i) items ∙ ap (λ (ts : List Line). record w { texts = ts }) (append_assoc w.texts (item_text i ∷ []) (map item_text items))
+    items_watched (with_item w i) items ∙ ap (λ (ts : List Line). record w { texts = ts }) (append_assoc w.texts (shown_texts i) (flat_map shown_texts items))
 
 -- after texts, where the nodes were these and bytes were shown so far
 abbrev watched_all : List Line → List PlainNode → Bool → List Observation → Watching
-watched_all texts nodes bytes observed = record { texts = texts ++ observed_texts nodes observed; nodes = written_last nodes observed; of_bytes = bytes && shows_bytes observed }
+watched_all texts nodes bytes observed = record { texts = texts ++ compared_texts nodes observed; nodes = written_last nodes observed; of_bytes = bytes && shows_bytes observed }
 
 pub all_watched : (w : Watching) (observed : List Observation) → fold (observing with_item with_node) w observed ≡ watched_all w.texts w.nodes w.of_bytes observed
 all_watched w [] = ap₂ (λ (ts : List Line) (b : Bool). record w { texts = ts; of_bytes = b }) (sym (append-nil w.texts)) (and_end w.of_bytes)
 all_watched w (Shown items ∷ observed) =
     ap (λ (x : Watching). fold (observing with_item with_node) x observed) (items_watched w items)
-    ∙ all_watched (record w { texts = w.texts ++ map item_text items }) observed
-    ∙ ap (λ (ts : List Line). record (watched_all w.texts w.nodes w.of_bytes observed) { texts = ts }) (append_assoc w.texts (map item_text items) (observed_texts w.nodes observed))
+    ∙ all_watched (record w { texts = w.texts ++ flat_map shown_texts items }) observed
+    ∙ ap (λ (ts : List Line). record (watched_all w.texts w.nodes w.of_bytes observed) { texts = ts }) (append_assoc w.texts (flat_map shown_texts items) (compared_texts w.nodes observed))
 all_watched w (Settled id n ∷ observed) =
     let nodes = rewritten w.nodes id n in
     let here = list_all is_byte (content_end n.content) in
     all_watched (with_node w id n) observed
     ∙ ap₂ (λ (ts : List Line) (b : Bool). record { texts = ts; nodes = written_last nodes observed; of_bytes = b })
-    (append_assoc w.texts (texts_of (rows_since w.nodes id n)) (observed_texts nodes observed)) (and_assoc w.of_bytes here (shows_bytes observed))
+    (append_assoc w.texts (texts_of (compared_rows w.nodes id n)) (compared_texts nodes observed)) (and_assoc w.of_bytes here (shows_bytes observed))
+
+-- where nodes keep what they knew to be committed, the comparisons miss nothing
+compared_is : (nodes : List PlainNode) (observed : List Observation) → GoOn nodes observed → compared_texts nodes observed ≡ observed_texts nodes observed
+compared_is nodes [] on = refl
+compared_is nodes (Shown items ∷ observed) on = ap (λ (ts : List Line). flat_map shown_texts items ++ ts) (compared_is nodes observed on)
+compared_is nodes (Settled id n ∷ observed) on =
+    ap₂ (λ (rs : List Row) (ts : List Line). texts_of rs ++ ts) (since_is (slice_get nodes (id - 1)) n on.0) (compared_is (rewritten nodes id n) observed on.1)
 
 -- what two observers have of a run: of its lines, and of its rows
 pub record IsSeen (before last : PrintedLines) (t0 t1 : List Line) (n0 n1 : List PlainNode) (h : Execution) : Type 0 where
@@ -62,13 +71,13 @@ so_far texts nodes = record { texts = texts; nodes = nodes; of_bytes = true }
 pub run_seen : (before last : PrintedLines) (t0 t1 : List Line) (n0 n1 : List PlainNode) (h : Execution)
     → (last, so_far t1 n1) ≡ fold (observing (λ (m : PrintedLines × Watching) (item : PlainItem). (printing.with_item m.0 item, with_item m.1 item))
     (λ (m : PrintedLines × Watching) (id : ℕ) (n : PlainNode). (passing m.0 id n, with_node m.1 id n))) (printing.at_level before h.level, so_far t0 n0) h.observed
-    → IsSeen before last t0 t1 n0 n1 h
-run_seen before last t0 t1 n0 n1 h seen =
+    → GoOn n0 h.observed → IsSeen before last t0 t1 n0 n1 h
+run_seen before last t0 t1 n0 n1 h seen on =
     let each = each_observed printing.with_item passing with_item with_node (printing.at_level before h.level) last (so_far t0 n0) (so_far t1 n1) h.observed seen in
     let rows = each.1 ∙ all_watched (so_far t0 n0) h.observed in
     record {
       printed = each.0 ∙ items_seen printing.with_item (printing.at_level before h.level) h.observed;
-      texts = ap (λ (w : Watching). w.texts) rows;
+      texts = ap (λ (w : Watching). w.texts) rows ∙ ap (λ (ts : List Line). t0 ++ ts) (compared_is n0 h.observed on);
       nodes = ap (λ (w : Watching). w.nodes) rows;
       bytes = sym (ap (λ (w : Watching). w.of_bytes) rows);
     }
@@ -81,7 +90,7 @@ node_bytes (Some old) n h = changed_bytes old n h
 
 pub observed_bytes : (nodes : List PlainNode) (observed : List Observation) → shows_bytes observed ≡ true → list_all has_bytes (observed_rows nodes observed) ≡ true
 observed_bytes nodes [] h = refl
-observed_bytes nodes (Shown items ∷ observed) h = all_both (flat_map item_rows items) (observed_rows nodes observed) (items_bytes items) (observed_bytes nodes observed h)
+observed_bytes nodes (Shown items ∷ observed) h = all_both (flat_map shown_rows items) (observed_rows nodes observed) (items_bytes items) (observed_bytes nodes observed h)
 observed_bytes nodes (Settled id n ∷ observed) h =
     let p = and_parts (list_all is_byte (content_end n.content)) (shows_bytes observed) h in
     all_both (rows_since nodes id n) (observed_rows (rewritten nodes id n) observed) (node_bytes (slice_get nodes (id - 1)) n p.0) (observed_bytes (rewritten nodes id n) observed p.1)

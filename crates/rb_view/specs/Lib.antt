@@ -23,6 +23,7 @@ pub mod ItemRows
 pub mod Kept
 pub mod NewRows
 pub mod Logs
+pub mod Meant
 pub mod Committed
 pub mod States
 pub mod Watching

@@ -1,5 +1,5 @@
 -- What of a node's log is not as it was, as rows. (docs/FORMATS.md.)
-use Rattle.std.specs.Prelude.{ℕ, ◌+◌, ◌-◌, Bool, false, ◌&&◌, ◌==◌, nat_le, if◌then◌else◌, codes, List, [], ◌∷◌, ◌++◌, take}
+use Rattle.std.specs.Prelude.{ℕ, ◌+◌, ◌-◌, Bool, false, ◌&&◌, ◌==◌, max, min, nat_le, if◌then◌else◌, codes, List, [], ◌∷◌, ◌++◌, take}
 use Rattle.std.specs.Cmp.Lexicographic.{pointwise}
 use Rattle.std.specs.List.{common_prefix_len}
 use Rattle.std.specs.Str.{bytes_eq}
@@ -53,12 +53,33 @@ entry_rows index (e ∷ es) = entry_row (codes "entry") index e ∷ entry_rows (
 abbrev pub log_from : ℕ → LogValue → ℕ → List Row
 log_from id v index = log_row id v index ∷ entry_rows (index + 1) (entries_after v index)
 
--- nothing was dropped and nothing came
+-- nothing was dropped and nothing came, where the entries up to an index are those of before
+abbrev pub is_same_to : LogValue → LogValue → ℕ → Bool
+is_same_to old new kept = old.base == new.base && old.base_term == new.base_term && kept == last old && kept == last new
+
 abbrev pub is_same_log : LogValue → LogValue → Bool
-is_same_log old new = old.base == new.base && old.base_term == new.base_term && stays old new == last old && stays old new == last new
+is_same_log old new = is_same_to old new (stays old new)
+
+-- what is not as it was
+abbrev pub log_changes_to : ℕ → LogValue → LogValue → ℕ → List Row
+log_changes_to id old new kept = if is_same_to old new kept then [] else log_from id new kept
 
 abbrev pub log_changes : ℕ → LogValue → LogValue → List Row
-log_changes id old new = if is_same_log old new then [] else log_from id new (stays old new)
+log_changes id old new = log_changes_to id old new (stays old new)
+
+-- ---- where the first entries are known to be the same
+
+-- the index, or the nearest one that the log has
+abbrev pub nearest : LogValue → ℕ → ℕ
+nearest v index = max v.base (min index (last v))
+
+-- up to which index the entries past an index are those of before
+abbrev pub same_up_to : LogValue → LogValue → ℕ → ℕ
+same_up_to old new index = index + common (held_after old index) (entries_after new index)
+
+-- up to which index the entries are those of before, where those up to an index are known to be
+abbrev pub stays_since : LogValue → LogValue → ℕ → ℕ
+stays_since old new known = same_up_to old new (nearest new known)
 
 -- ---- as it is read
 

@@ -14,7 +14,7 @@ cell_size (text bytes) = 3 + 6 * length bytes
 abbrev pub row_size : Row → ℕ
 row_size r = 6 + 6 * length r.name + sum_by cell_size r.cells
 
--- an item that shows how a node stands, that nothing happened, or that a vote is refused, which the answer shows
+-- an item that shows how a node stands, or that nothing happened
 abbrev pub is_view : PlainItem → Bool
 is_view items.nothing_else = true
 is_view (items.raft_state node) = true
@@ -22,9 +22,13 @@ is_view (items.raft_log log) = true
 is_view (items.entry index e unsaved) = true
 is_view (items.config c) = true
 is_view (items.progress id view) = true
-is_view (items.event (events.RefusedVote id type from why)) = true
 is_view _ = false
 
--- how many rows an item has
+-- that a vote is refused has no row of its own either: the answer shows it
+abbrev pub has_no_row : PlainItem → Bool
+has_no_row (items.event (events.RefusedVote id type from why)) = true
+has_no_row item = is_view item
+
+-- how many rows an item has, without its reason
 abbrev pub count_of : PlainItem → ℕ
-count_of item = if is_view item then 0 else 1
+count_of item = if has_no_row item then 0 else 1

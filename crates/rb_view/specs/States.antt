@@ -11,7 +11,7 @@ use Rattle.rb_texts.specs.States.{role_text, progress_state_text}
 use Rattle.rb_view.specs.MessageRows.{flag}
 use Rattle.rb_view.specs.Rows.{Row, row, number, text}
 use Rattle.rb_view.specs.NewRows.{new_rows}
-use Rattle.rb_view.specs.Logs.{log_from, log_changes}
+use Rattle.rb_view.specs.Logs.{log_from, log_changes_to, stays, stays_since}
 
 -- ---- what stands
 
@@ -54,10 +54,13 @@ gone_rows id olds news = flat_map (λ (view : ℕ × PlainProgress). gone_of id 
 abbrev pub added_rows : PlainNode → List Row
 added_rows n = standing n ++ log_from n.id n.log n.log.base
 
--- a node that was
+-- a node that was, whose log has the entries of before up to an index
+abbrev pub changed_to : PlainNode → PlainNode → ℕ → List Row
+changed_to old new kept =
+    new_rows (standing old) (standing new) ++ (gone_rows new.id old.tracker.views new.tracker.views ++ log_changes_to new.id old.log new.log kept)
+
 abbrev pub changed_rows : PlainNode → PlainNode → List Row
-changed_rows old new =
-    new_rows (standing old) (standing new) ++ (gone_rows new.id old.tracker.views new.tracker.views ++ log_changes new.id old.log new.log)
+changed_rows old new = changed_to old new (stays old.log new.log)
 
 abbrev pub node_rows : Option PlainNode → PlainNode → List Row
 node_rows None n = added_rows n
@@ -68,3 +71,12 @@ abbrev pub state_rows : List PlainNode → List PlainNode → List Row
 state_rows olds [] = []
 state_rows [] (n ∷ ns) = node_rows None n ++ state_rows [] ns
 state_rows (old ∷ olds) (n ∷ ns) = node_rows (Some old) n ++ state_rows olds ns
+
+-- ---- the same, where what a node knew to be committed is known to stay
+
+abbrev pub changed_since : PlainNode → PlainNode → List Row
+changed_since old new = changed_to old new (stays_since old.log new.log old.commit)
+
+abbrev pub node_since : Option PlainNode → PlainNode → List Row
+node_since None n = added_rows n
+node_since (Some old) n = changed_since old n

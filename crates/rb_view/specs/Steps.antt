@@ -1,18 +1,23 @@
 -- What the run of a script is, as steps: what a page shows. (docs/FORMATS.md.)
-use Rattle.std.specs.Prelude.{ℕ, ◌==◌, if◌then◌else◌, codes, List, [], ◌∷◌, ◌++◌, length}
+use Rattle.std.specs.Prelude.{ℕ, ◌==◌, if◌then◌else◌, codes, List, [], ◌∷◌, ◌++◌, length, map}
 use Rattle.std.specs.List.{flat_map}
-use Rattle.rb_script.specs.Lines.{Line}
+use Rattle.rb_script.specs.Lines.{Line, lines}
 use Rattle.rb_script.specs.Script.{PlainBlock, PlainScript}
 use Rattle.rb_script.specs.Reading.{directive_of}
 use Rattle.rb_report.specs.declared.check.table.TheConstants.{MAX_SCRIPT_CELLS}
 use Rattle.rb_report.specs.Diffs.{Stretch, parts_within, left_after}
+use Rattle.rb_report.specs.Notices.{warning_sentence}
 use Rattle.rb_machine.specs.Cluster.{Cluster, empty}
 use Rattle.rb_machine.specs.Outcome.{execution, outcome}
 use Rattle.rb_replay.specs.Report.{same_lines, mismatches}
+use Rattle.rb_replay.specs.Run.{outputs}
+use Rattle.rb_script_report.specs.Doubts.{all_warnings}
+use Rattle.rb_script_report.specs.declared.warning.Warning.{Warning}
 use Rattle.rb_node.specs.Node.{PlainNode}
 use Rattle.rb_script.specs.Directive.{PlainDirective}
 use Rattle.rb_machine.specs.Observations.{Observation}
 use Rattle.rb_view.specs.Kept.{texts_of, line_rows}
+use Rattle.rb_view.specs.Meant.{hint_rows, meant_by}
 use Rattle.rb_view.specs.Rows.{Row, row, number, text}
 use Rattle.rb_view.specs.States.{state_rows}
 use Rattle.rb_view.specs.Watching.{observed_texts, written_last}
@@ -86,17 +91,30 @@ mismatch_rows left expected output =
 abbrev pub script_rows : ℕ → ℕ → List Line → List Line → List Row
 script_rows left line expected output = row (codes "step") (number line ∷ []) ∷ (line_rows (codes "output") output ++ mismatch_rows left expected output)
 
+-- what was probably meant
+abbrev pub hints : Step → List Row
+hints s = hint_rows (meant_by s.block s.output)
+
 abbrev pub step_texts : Step → List Line
-step_texts s = texts_of (script_rows s.left s.line s.block.expected s.output) ++ (observed_texts s.before s.observed ++ texts_of s.changes)
+step_texts s =
+    texts_of (script_rows s.left s.line s.block.expected s.output) ++ (observed_texts s.before s.observed ++ (texts_of s.changes ++ texts_of (hints s)))
 
 -- how many directives and mismatches there are
 abbrev pub end_row : PlainScript → Row
 end_row s = row (codes "end") (number (length s.blocks) ∷ number (length (mismatches s)) ∷ [])
 
+-- a line that is probably a mistake, and why
+abbrev pub warning_row : Warning → Row
+warning_row w = row (codes "warning") (number w.line ∷ text (warning_sentence w.doubt) ∷ [])
+
+-- those of `check` in a script of these bytes
+abbrev pub warning_rows : List ℕ → List ℕ → PlainScript → List Row
+warning_rows bytes heads s = map warning_row (all_warnings (lines bytes) heads s.blocks (outputs s))
+
 -- the bytes of a script, as they are
 abbrev pub source_row : List ℕ → Row
 source_row bytes = row (codes "text") (text bytes ∷ [])
 
--- the rows after the first, as texts: the bytes of a script, its steps, and how many there are
+-- the rows after the first, as texts: the bytes of a script, its steps, what is probably a mistake, and how many there are
 abbrev pub steps_texts : List ℕ → List ℕ → PlainScript → List Line
-steps_texts bytes heads s = texts_of (source_row bytes ∷ []) ++ (flat_map step_texts (steps heads s) ++ texts_of (end_row s ∷ []))
+steps_texts bytes heads s = texts_of (source_row bytes ∷ []) ++ (flat_map step_texts (steps heads s) ++ (texts_of (warning_rows bytes heads s) ++ texts_of (end_row s ∷ [])))

@@ -3,6 +3,7 @@
 //! The files are in assets, and the sources are made of them. The page's head names its style and its code by their hashes, so that no other
 //! runs in it.
 
+mod after_style;
 mod describe;
 mod difference;
 mod dom;
@@ -14,17 +15,22 @@ mod layout;
 mod legend;
 mod lines;
 mod logs;
+mod logs_style;
 mod mail;
 mod measure;
+mod narrow_style;
 mod page;
 mod paint;
+mod paper_style;
 mod picture;
+mod picture_style;
 mod play;
 mod position;
 mod print;
 mod route;
 mod rows;
 mod script;
+mod script_style;
 mod search;
 mod sizes;
 mod source;

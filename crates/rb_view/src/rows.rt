@@ -11,6 +11,7 @@ mod kept;
 mod laws;
 mod message;
 mod names;
+mod reason;
 mod row;
 mod span;
 
@@ -23,4 +24,5 @@ pub use laws::{
 };
 pub use message::flag;
 pub use rb_texts::role_name;
+pub(crate) use reason::{past, reason_line};
 pub use row::{RowPlace, put_end, put_row};

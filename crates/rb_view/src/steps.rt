@@ -8,6 +8,7 @@
 mod fresh;
 mod laws;
 mod log;
+mod meant;
 mod node;
 mod page;
 mod rows;

@@ -6,7 +6,7 @@ ghost use Rattle.rb_lsp.specs.declared.document.limits.TheConstants.{MAX_TEXT};
 ghost use Rattle.rb_lsp.specs.Tables.{IsTable};
 ghost use Rattle.rb_editor.specs.BlockLines.{StandsIn};
 ghost use Rattle.rb_editor.specs.Layouts.{IsLayout};
-ghost use Rattle.rb_editor.specs.Actions.{accepting, action_head, action_if, action_text, actions, actions_text, comma_between, comma_if, edit_text, edits_of, is_accepted, is_among, is_wanted, one_edit, span_of};
+ghost use Rattle.rb_editor.specs.Actions.{accepting, action_head, action_if, action_text, actions, actions_text, comma_if, edit_text, edits_of, is_accepted, is_among, is_wanted, one_edit, picked_of, span_of};
 
 use crate::actions::correction::corrections;
 use crate::actions::document::AskedDocument;
@@ -20,15 +20,25 @@ use rb_lsp::document::{Encoding, LineTable, Range};
 use rb_machine::{Count, Machine};
 use rb_replay::Session;
 use rb_script::{Block, Lines};
-use rb_script_report::{block_at, is_same, is_unexpected, number_at, output_at};
+use rb_script_report::{
+    AcceptFilter, block_at, is_picked, is_same, is_unexpected, number_at, output_at, picked_unnamed,
+};
 use rb_text::{Json, Piece, add_pieces};
 use std::alloc::{AllocError, Global};
 
-// Whether the output differs, and is no new error.
-fn is_accepted(lines: &Lines, line: usize, block: &Block, output: &Lines) -> bool
-    ensures { result ≡ is_accepted lines.now line block.now output.now }
+// Whether the directive is picked, and its output differs and is no new error.
+fn is_accepted(
+    picked: AcceptFilter<'_>,
+    lines: &Lines,
+    line: usize,
+    block: &Block,
+    output: &Lines,
+) -> bool
+    ensures { result ≡ is_accepted picked.entry lines.now line block.now output.now }
 {
-    !is_same(block.expected(), output) && !is_unexpected(lines, line, output)
+    is_picked(picked, line)
+        && !is_same(block.expected(), output)
+        && !is_unexpected(lines, line, output)
 }
 
 // Whether a directive has one of these lines; true if none are given.
@@ -43,6 +53,7 @@ fn is_among(span: Option<LineSpan>, extent: Extent) -> bool
 
 #[tactic(auto, unfolding(crate::specs::Actions::is_wanted))]
 fn is_wanted(
+    picked: AcceptFilter<'_>,
     span: Option<LineSpan>,
     lines: &Lines,
     line: usize,
@@ -50,9 +61,9 @@ fn is_wanted(
     output: &Lines,
 ) -> bool
     requires { StandsIn lines.now line block.now }
-    ensures { result ≡ is_wanted span lines.now line block.now output.now }
+    ensures { result ≡ is_wanted picked.entry span lines.now line block.now output.now }
 {
-    is_accepted(lines, line, block, output) && is_among(span, extent_of(lines, line, block))
+    is_accepted(picked, lines, line, block, output) && is_among(span, extent_of(lines, line, block))
 }
 
 // Adds an edit that replaces an expectation.
@@ -87,12 +98,13 @@ fn comma_if(later: bool) -> &'static [u8]
     if later { b"," } else { b"" }
 }
 
-/// The script of a document, and the lines of it that are asked about; all, if none are.
+/// The script of a document, which of its directives are picked, and the lines of it that are asked about; all, if none are.
 #[derive(Clone, Copy)]
 struct Selection<'a> {
     encoding: Encoding,
     text: &'a [u8],
     layout: &'a ScriptLayout,
+    picked: AcceptFilter<'a>,
     span: Option<LineSpan>,
 }
 
@@ -113,16 +125,17 @@ fn add_one(
     later: bool,
     ran: RanBlock<'_>,
 ) -> Result<bool, AllocError>
-    requires lines { selected.layout.now.lines ≡ lines selected.text.now }
+    requires lines { selected.layout.now.script.text ≡ lines selected.text.now }
     requires table { IsTable selected.encoding selected.text.now selected.layout.now.table }
-    requires stands { StandsIn selected.layout.now.lines ran.line ran.block.now }
-    ensures out { OnOk result (out.new.items ≡ out.old.items ++ one_edit selected.entry.encoding selected.entry.text.now selected.entry.span later ran.entry.line ran.entry.block.now ran.entry.output.now) }
-    ensures later { IfOk result (λ behind. behind ≡ (later || is_wanted selected.entry.span (lines selected.entry.text.now) ran.entry.line ran.entry.block.now ran.entry.output.now)) }
+    requires stands { StandsIn selected.layout.now.script.text ran.line ran.block.now }
+    ensures out { OnOk result (out.new.items ≡ out.old.items ++ one_edit selected.entry.encoding selected.entry.text.now selected.entry.picked selected.entry.span later ran.entry.line ran.entry.block.now ran.entry.output.now) }
+    ensures later { IfOk result (λ behind. behind ≡ (later || is_wanted selected.entry.picked selected.entry.span (lines selected.entry.text.now) ran.entry.line ran.entry.block.now ran.entry.output.now)) }
 {
     let layout = selected.layout;
     if !is_wanted(
+        selected.picked,
         selected.span,
-        &layout.lines,
+        &layout.script.text,
         ran.line,
         ran.block,
         ran.output,
@@ -130,8 +143,8 @@ fn add_one(
         return Ok(later);
     }
     let text = selected.text;
-    let extent = extent_of(&layout.lines, ran.line, ran.block);
-    let new = new_text(alloc, text, &layout.lines, extent, ran.output)?;
+    let extent = extent_of(&layout.script.text, ran.line, ran.block);
+    let new = new_text(alloc, text, &layout.script.text, extent, ran.output)?;
     out.extend_from_slice(comma_if(later))?;
     add_edit(
         out,
@@ -151,13 +164,13 @@ fn edits<M: Machine>(
     selected: Selection<'_>,
 ) -> Result<Vec<u8>, AllocError>
     requires { IsLayout selected.encoding selected.text.now session.now.script selected.layout.now }
-    ensures { IfOk result (λ edits. edits.items ≡ edits_of selected.entry.encoding selected.entry.text.now session.now.script selected.entry.span) }
+    ensures { IfOk result (λ edits. edits.items ≡ edits_of selected.entry.encoding selected.entry.text.now session.now.script selected.entry.picked selected.entry.span) }
 {
     let mut out = Vec::new(alloc);
     let mut later = false;
     for i in 0..session.len() {
         let ran = RanBlock {
-            line: number_at(selected.layout.heads.as_slice(), i),
+            line: number_at(selected.layout.script.heads.as_slice(), i),
             block: block_at(session, i),
             output: output_at(session, i),
         };
@@ -201,30 +214,21 @@ fn add_action<'a>(
     )
 }
 
-// Adds an action of these edits, if there are any.
+// Adds an action of these edits after others, if there are any.
 fn add_if(
     out: &mut Vec<u8>,
     uri: &[u8],
     span: Option<LineSpan>,
+    later: bool,
     edits: &[u8],
 ) -> Result<(), AllocError>
-    ensures { OnOk result (out.new.items ≡ out.old.items ++ action_if uri.now span edits.now) }
+    ensures { OnOk result (out.new.items ≡ out.old.items ++ action_if uri.now span later edits.now) }
 {
     if edits.is_empty() {
         return Ok(());
     }
+    out.extend_from_slice(comma_if(later))?;
     add_action(out, uri, span, edits)
-}
-
-// The comma between two texts, if there are both.
-fn comma_between(one: &[u8], other: &[u8]) -> &'static [u8]
-    ensures { result.now ≡ comma_between one.now other.now }
-{
-    if one.is_empty() || other.is_empty() {
-        b""
-    } else {
-        b","
-    }
 }
 
 // Adds a list of actions: the correction, and those that accept the edits of some lines and those of all.
@@ -239,12 +243,11 @@ fn add_list(
 ) -> Result<(), AllocError>
     ensures { OnOk result (out.new.items ≡ out.old.items ++ actions_text uri.now correction.now span here.now all.now) }
 {
+    let later = !correction.is_empty();
     out.extend_from_slice(b"[")?;
     out.extend_from_slice(correction)?;
-    out.extend_from_slice(comma_between(correction, all))?;
-    add_if(out, uri, Some(span), here)?;
-    out.extend_from_slice(comma_between(here, all))?;
-    add_if(out, uri, None, all)?;
+    add_if(out, uri, Some(span), later, here)?;
+    add_if(out, uri, None, later || !here.is_empty(), all)?;
     out.extend_from_slice(b"]")
 }
 
@@ -255,6 +258,17 @@ fn span_of(encoding: Encoding, range: Range, text: &[u8]) -> LineSpan
         first: line_at(encoding, range.start, text),
         last: line_at(encoding, range.end, text),
     }
+}
+
+// The directives that `check --accept` picks, if none is named: up to the first new error.
+#[tactic(auto, using(crate::proofs::ActionLaws::picked_by))]
+fn picked_of<M: Machine>(
+    alloc: Global,
+    run: &DocumentRun<M>,
+) -> Result<AcceptFilter<'static>, AllocError>
+    ensures { IfOk result (λ picked. picked ≡ picked_of run.now.bytes run.now.script) }
+{
+    picked_unnamed(alloc, run.session(), &run.layout().script, false)
 }
 
 // Adds the correction of these lines, and the actions that accept outputs.
@@ -278,12 +292,14 @@ fn add_accepting<M: Machine>(
         encoding,
         text,
         layout,
+        picked: picked_of(alloc, run)?,
         span: None,
     };
     let selected = Selection {
         encoding,
         text,
         layout,
+        picked: AcceptFilter::All,
         span: Some(span),
     };
     let document = AskedDocument {

@@ -147,17 +147,17 @@ fn correction(
     line: usize,
     block: &Block,
 ) -> Result<Vec<u8>, AllocError>
-    requires lines { layout.now.lines ≡ lines document.text.now }
+    requires lines { layout.now.script.text ≡ lines document.text.now }
     requires table { IsTable document.encoding document.text.now layout.now.table }
-    requires stands { StandsIn layout.now.lines line block.now }
+    requires stands { StandsIn layout.now.script.text line block.now }
     requires bounded { length document.text.now ≤ MAX_TEXT }
     ensures { IfOk result (λ text. text.items ≡ correction document.entry.encoding document.entry.uri.now document.entry.text.now span line block.now) }
 {
-    if !has_line(span, extent_of(&layout.lines, line, block)) {
+    if !has_line(span, extent_of(&layout.script.text, line, block)) {
         return Ok(Vec::new(alloc));
     }
     let index = line.saturating_sub(1);
-    let front = line_or_none(&layout.lines, index);
+    let front = line_or_none(&layout.script.text, index);
     directive_correction(
         alloc,
         document,
@@ -192,7 +192,7 @@ pub(crate) fn corrections<M: Machine>(
     ensures { IfOk result (λ text. text.items ≡ corrections document.entry.encoding document.entry.uri.now document.entry.text.now span (heads_of document.entry.text.now session.now.script) session.now.script.blocks) }
 {
     for i in 0..session.len() {
-        let line = number_at(layout.heads.as_slice(), i);
+        let line = number_at(layout.script.heads.as_slice(), i);
         let block = block_at(session, i);
         let text = correction(alloc, document, layout, span, line, block)?;
         let made = text.as_slice();

@@ -164,8 +164,8 @@ fn of_read<M: Machine>(
 {
     let run = DocumentRun::of_read(alloc, encoding, kept.take(), bytes, read, meter)?;
     let layout = run.layout();
-    let heads = layout.heads.as_slice();
-    let mut list = of_session(alloc, table, run.session(), &layout.lines, heads)?;
+    let heads = layout.script.heads.as_slice();
+    let mut list = of_session(alloc, table, run.session(), &layout.script.text, heads)?;
     add_slips(alloc, &mut list, layout.slips.as_slice())?;
     *kept = Some(run);
     Ok(list)

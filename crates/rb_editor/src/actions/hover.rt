@@ -149,10 +149,10 @@ fn add_line<M: Explains>(
         last: line,
     };
     for i in 0..run.session.len() {
-        let head = number_at(run.layout.heads.as_slice(), i);
+        let head = number_at(run.layout.script.heads.as_slice(), i);
         let block = block_at(run.session, i);
         let output = output_at(run.session, i);
-        let extent = extent_of(&run.layout.lines, head, block);
+        let extent = extent_of(&run.layout.script.text, head, block);
         if has_line(span, extent) {
             let shown = shown_at(alloc, run.session, i, block, output, meter)?;
             let table = &run.layout.table;

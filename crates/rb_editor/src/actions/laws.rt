@@ -2,7 +2,7 @@
 
 ghost use Rattle.std.specs.Prelude.{◌≡◌, List, ℕ, None, codes};
 ghost use Rattle.rb_lsp.specs.declared.server.client.Client.{Client};
-ghost use Rattle.rb_editor.specs.ActionLaws.{AcceptsAsCheckDoes, EditedLinesRead, EditedTextsRead, EditsReplaceLines, IdsAreOfTheCluster, IsQuietText, TextsHaveOneRun};
+ghost use Rattle.rb_editor.specs.ActionLaws.{AcceptsAsCheckDoes, EditedLinesRead, EditedTextsRead, EditsReplaceLines, IdsAreOfTheCluster, IsQuietText, MakesWhatCheckWrites, TextsHaveOneRun};
 ghost use Rattle.rb_editor.specs.Published.{diagnose};
 
 /// A script whose outputs are the expected ones, and no errors, has no diagnostics if no line looks like a mistake.
@@ -24,10 +24,11 @@ pub fn ids_are_those_of_the_cluster()
     ensures { IdsAreOfTheCluster }
 {}
 
-/// What an action accepts is what `check --accept` does.
-#[tactic(auto, using(crate::proofs::ActionLaws::as_check_does))]
+/// What an action accepts of a directive is what `check --accept` does, and the edits of all make the script that `check --accept` writes.
+#[tactic(auto, using(crate::proofs::ActionLaws::as_check_does, crate::proofs::ActionLaws::as_check_writes))]
 pub fn accepts_as_check_does()
-    ensures { AcceptsAsCheckDoes }
+    ensures one { AcceptsAsCheckDoes }
+    ensures all { MakesWhatCheckWrites }
 {}
 
 /// An editor that makes an action's edit puts the new text in place of the expectation's lines, and of nothing else.

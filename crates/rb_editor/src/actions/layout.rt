@@ -4,14 +4,12 @@ ghost use Rattle.std.specs.Prelude.{◌≡◌};
 ghost use Rattle.rb_editor.specs.Layouts.{line_at};
 
 use rb_lsp::document::{Encoding, LineTable, Position, offset};
-use rb_script::Lines;
-use rb_script_report::Warning;
+use rb_script_report::{Layout, Warning};
 
-/// A script's lines, the lines of its heads, where each line begins in an editor, and the lines that look like a mistake.
+/// A script's lines and those of its heads, where each line begins in an editor, and the lines that look like a mistake.
 #[derive(Drop)]
 pub(crate) struct ScriptLayout {
-    pub(crate) lines: Lines,
-    pub(crate) heads: Vec<usize>,
+    pub(crate) script: Layout,
     pub(crate) table: LineTable,
     pub(crate) slips: Vec<Warning>,
 }

@@ -155,16 +155,15 @@ impl<M: Machine> DocumentRun<M> {
             None => begun(alloc, meter)?,
         };
         session.replace_script(read.script, meter)?;
-        let read = Layout {
+        let script = Layout {
             text: read.lines,
             heads: read.heads,
         };
-        let slips = warnings(alloc, &session, &read)?;
+        let slips = warnings(alloc, &session, &script)?;
         let table = LineTable::new(alloc, encoding, bytes)?;
         let text = Vec::from_slice(alloc, bytes)?;
         let layout = ScriptLayout {
-            lines: read.text,
-            heads: read.heads,
+            script,
             table,
             slips,
         };

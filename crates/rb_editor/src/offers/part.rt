@@ -1,9 +1,9 @@
 //! What a line of a text is, by the lines above it.
 
 ghost use Rattle.std.specs.Prelude.{◌≡◌};
-ghost use Rattle.rb_editor.specs.Above.{begins_head, is_comment, goes_on, next};
+ghost use Rattle.rb_editor.specs.Above.{begins_head, goes_on, next};
 
-use rb_script::{continues, is_blank, is_lead, is_rule, is_separator, trim_blanks};
+use rb_script::{continues, is_blank, is_comment, is_lead, is_rule, is_separator};
 
 /// What a line may be.
 #[derive(Clone, Copy, Debug, PartialEq, Eq)]
@@ -22,16 +22,6 @@ pub(crate) enum Part {
     Double,
     /// A line in the double form below a line `----`.
     Closing,
-}
-
-// Whether a line is a comment, as far as it is written.
-fn is_comment(line: &[u8]) -> bool
-    ensures { result ≡ is_comment line.now }
-{
-    match trim_blanks(line) {
-        [] => false,
-        [first, ..] => *first == b'#',
-    }
 }
 
 // What follows a line of a head.

@@ -15,6 +15,7 @@ use crate::server::method::Method;
 use crate::server::outgoing::{OutgoingText, framed_answer};
 use crate::server::phase::Phase;
 use crate::server::question::question_told;
+use crate::server::request::ClientRequest;
 use crate::server::service::Service;
 use serde_json::Value;
 use std::alloc::{AllocError, Global};
@@ -94,12 +95,10 @@ pub(crate) fn answer_told<V: Service>(
     documents: &Documents<V::Kept>,
     phase: Phase,
     method: Method,
-    params: Option<&Value>,
-    id: &Value,
-    is_cancelled: bool,
+    request: &ClientRequest<'_>,
 ) -> Result<OutgoingText, AllocError>
-    requires { has_float (view id.now) ≡ false }
-    ensures { IfOk result (λ told. told.out.items ≡ frame (body_in V.meaning told.reach documents.now phase method (option_map (λ v. view v.now) params.entry) (view id.now))) }
+    requires { has_float (view request.now.id.now) ≡ false }
+    ensures { IfOk result (λ told. told.out.items ≡ frame (body_in V.meaning told.reach documents.now phase method (option_map (λ v. view v.now) request.now.params) (view request.now.id.now))) }
 {
     match (phase, method) {
         (Phase::Running(client), Method::Asks(question)) => question_told(
@@ -108,11 +107,9 @@ pub(crate) fn answer_told<V: Service>(
             documents,
             client.encoding,
             question,
-            params,
-            id,
-            is_cancelled,
+            request,
         ),
-        _ => Ok(OutgoingText::whole(own_answer(alloc, phase, method, params, id)?)),
+        _ => Ok(OutgoingText::whole(own_answer(alloc, phase, method, request.params, request.id)?)),
     }
 }
 

@@ -64,24 +64,32 @@ fn with_list(
     framed(alloc, body.as_slice())
 }
 
+/// The document that something is published for.
+#[derive(Drop)]
+pub(crate) struct Published<'a> {
+    pub(crate) client: Client,
+    pub(crate) uri: &'a [u8],
+    pub(crate) version: Option<u64>,
+    /// Whether it isn't open since too many others are.
+    pub(crate) is_crowded: bool,
+}
+
 // With the diagnostics that the service gives of a text, as far as it was run, as it goes out.
 #[tactic(auto, unfolding(crate::specs::Notices::list_publication))]
 fn diagnosed<V: Service>(
     alloc: Global,
     service: &mut V,
-    client: Client,
-    uri: &[u8],
-    version: Option<u64>,
+    document: &Published<'_>,
     text: &[u8],
     kept: &mut V::Kept,
 ) -> Result<OutgoingText, AllocError>
     requires { length text.now ≤ MAX_TEXT }
-    ensures { IfOk result (λ told. told.out.items ≡ frame (list_publication uri.now version (list_by V.meaning told.reach client uri.now text.now))) }
+    ensures { IfOk result (λ told. told.out.items ≡ frame (list_publication document.now.uri.now document.now.version (list_by V.meaning told.reach document.now.client document.now.uri.now text.now))) }
 {
     let mut body = Vec::new(alloc);
-    add_head(&mut body, uri)?;
-    add_middle(&mut body, version)?;
-    let stop = service.add_diagnostics(client, uri, text, kept, &mut body)?;
+    add_head(&mut body, document.uri)?;
+    add_middle(&mut body, document.version)?;
+    let stop = service.add_diagnostics(document.client, document.uri, text, kept, &mut body)?;
     body.extend_from_slice(b"}}")?;
     Ok(OutgoingText {
         out: framed(alloc, body.as_slice())?,
@@ -112,30 +120,30 @@ fn closed_list(is_crowded: bool) -> &'static [u8]
     if is_crowded { crowded_list() } else { b"[]" }
 }
 
-/// What is published of the document with this URI: the diagnostics of its text, as far as it was run, or that there was no memory for them. If it isn't open, none,
-/// or that there is no room for it. If memory was refused, what the service kept of the document goes first, so that there is memory to say so.
+/// What is published of a document: the diagnostics of its text, as far as it was run, or that there was no memory for them. If it isn't open,
+/// none, or that there is no room for it. If memory was refused, what the service kept of the document goes first, so that there is memory to
+/// say so.
 pub(crate) fn publication<V: Service>(
     alloc: Global,
     service: &mut V,
-    client: Client,
-    uri: &[u8],
-    version: Option<u64>,
-    is_crowded: bool,
+    document: &Published<'_>,
     text: Option<&[u8]>,
     kept: &mut V::Kept,
 ) -> Result<OutgoingText, AllocError>
     requires { IfSome text (λ text. length text.now ≤ MAX_TEXT) }
-    ensures { IfOk result (λ told. told.out.items ≡ frame (publication V.meaning told.reach client uri.now version is_crowded (option_map (λ text. text.now) text.entry))) }
+    ensures { IfOk result (λ told. told.out.items ≡ frame (publication V.meaning told.reach document.now.client document.now.uri.now document.now.version document.now.is_crowded (option_map (λ text. text.now) text.entry))) }
 {
     let Some(text) = text else {
-        return Ok(OutgoingText::whole(with_list(alloc, uri, version, closed_list(is_crowded))?));
+        let list = closed_list(document.is_crowded);
+        let out = with_list(alloc, document.uri, document.version, list)?;
+        return Ok(OutgoingText::whole(out));
     };
-    match diagnosed(alloc, service, client, uri, version, text, kept) {
+    match diagnosed(alloc, service, document, text, kept) {
         Ok(told) => Ok(told),
         Err(AllocError) => {
             *kept = service.nothing();
             Ok(OutgoingText {
-                out: with_list(alloc, uri, version, no_memory_list())?,
+                out: with_list(alloc, document.uri, document.version, no_memory_list())?,
                 reach: Reach::NoMemory,
             })
         }

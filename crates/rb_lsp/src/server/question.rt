@@ -14,8 +14,9 @@ use crate::rpc::{ErrorCode, failure, text_below, text_of};
 use crate::server::documents::Documents;
 use crate::server::method::Question;
 use crate::server::outgoing::{OutgoingText, framed, framed_answer};
-use crate::server::query::{Query, asked_of};
+use crate::server::query::asked_of;
 use crate::server::reach::Reach;
+use crate::server::request::{ClientRequest, DocumentRequest};
 use crate::server::service::Service;
 use serde_json::Value;
 use std::alloc::{AllocError, Global};
@@ -104,24 +105,29 @@ fn add_id(alloc: Global, out: &mut Vec<u8>, id: &Value) -> Result<(), AllocError
 fn answered<V: Service>(
     alloc: Global,
     service: &mut V,
-    encoding: Encoding,
-    asked: Query,
-    uri: &[u8],
+    request: &DocumentRequest<'_>,
     text: &[u8],
     kept: &V::Kept,
-    id: &Value,
 ) -> Result<OutgoingText, AllocError>
-    requires plain { has_float (view id.now) ≡ false }
+    requires plain { has_float (view request.now.id.now) ≡ false }
     requires bounded { length text.now ≤ MAX_TEXT }
-    ensures { IfOk result (λ told. told.out.items ≡ frame (text_by V.meaning told.reach encoding asked uri.now (view id.now) text.now)) }
+    ensures { IfOk result (λ told. told.out.items ≡ frame (text_by V.meaning told.reach request.now.encoding request.now.query request.now.uri.now (view request.now.id.now) text.now)) }
 {
     let mut body = Vec::new(alloc);
     body.extend_from_slice(b"{\"id\":")?;
-    add_id(alloc, &mut body, id)?;
+    add_id(alloc, &mut body, request.id)?;
     body.extend_from_slice(b",\"jsonrpc\":\"2.0\",\"result\":")?;
-    if let Some(line) = service.add_answer(encoding, asked, uri, text, kept, &mut body)? {
+    let stop = service.add_answer(
+        request.encoding,
+        request.query,
+        request.uri,
+        text,
+        kept,
+        &mut body,
+    )?;
+    if let Some(line) = stop {
         return Ok(OutgoingText {
-            out: stopped_for(alloc, id)?,
+            out: stopped_for(alloc, request.id)?,
             reach: Reach::Stopped(line),
         });
     }
@@ -133,25 +139,21 @@ fn answered<V: Service>(
 fn of_text<V: Service>(
     alloc: Global,
     service: &mut V,
-    encoding: Encoding,
-    asked: Query,
-    uri: &[u8],
+    request: &DocumentRequest<'_>,
     text: &[u8],
     kept: &V::Kept,
-    id: &Value,
-    is_cancelled: bool,
 ) -> Result<OutgoingText, AllocError>
-    requires plain { has_float (view id.now) ≡ false }
+    requires plain { has_float (view request.now.id.now) ≡ false }
     requires bounded { length text.now ≤ MAX_TEXT }
-    ensures { IfOk result (λ told. told.out.items ≡ frame (of_text V.meaning told.reach encoding asked uri.now (view id.now) (Some text.now))) }
+    ensures { IfOk result (λ told. told.out.items ≡ frame (of_text V.meaning told.reach request.now.encoding request.now.query request.now.uri.now (view request.now.id.now) (Some text.now))) }
 {
-    if is_cancelled {
-        return cancelled_for(alloc, id);
+    if request.is_cancelled {
+        return cancelled_for(alloc, request.id);
     }
-    match answered(alloc, service, encoding, asked, uri, text, kept, id) {
+    match answered(alloc, service, request, text, kept) {
         Ok(told) => Ok(told),
         Err(AllocError) => Ok(OutgoingText {
-            out: no_memory_for(alloc, id)?,
+            out: no_memory_for(alloc, request.id)?,
             reach: Reach::NoMemory,
         }),
     }
@@ -162,62 +164,44 @@ fn of_document<V: Service>(
     alloc: Global,
     service: &mut V,
     documents: &Documents<V::Kept>,
-    encoding: Encoding,
-    asked: Query,
-    uri: &[u8],
-    id: &Value,
-    is_cancelled: bool,
+    request: &DocumentRequest<'_>,
 ) -> Result<OutgoingText, AllocError>
-    requires { has_float (view id.now) ≡ false }
-    ensures { IfOk result (λ told. told.out.items ≡ frame (of_text V.meaning told.reach encoding asked uri.now (view id.now) (text_of uri.now documents.now))) }
+    requires { has_float (view request.now.id.now) ≡ false }
+    ensures { IfOk result (λ told. told.out.items ≡ frame (of_text V.meaning told.reach request.now.encoding request.now.query request.now.uri.now (view request.now.id.now) (text_of request.now.uri.now documents.now))) }
 {
-    match documents.get(uri) {
-        Some((text, kept)) => of_text(
-            alloc,
-            service,
-            encoding,
-            asked,
-            uri,
-            text,
-            kept,
-            id,
-            is_cancelled,
-        ),
-        None => not_open(alloc, id),
+    match documents.get(request.uri) {
+        Some((text, kept)) => of_text(alloc, service, request, text, kept),
+        None => not_open(alloc, request.id),
     }
 }
 
-/// The answer to what is asked of a document, by what is given to the method. It is not done if it is cancelled.
+/// The answer to what is asked of a document, by the method's parameters. It is not done if it is cancelled.
 pub(crate) fn question_told<V: Service>(
     alloc: Global,
     service: &mut V,
     documents: &Documents<V::Kept>,
     encoding: Encoding,
     question: Question,
-    params: Option<&Value>,
-    id: &Value,
-    is_cancelled: bool,
+    request: &ClientRequest<'_>,
 ) -> Result<OutgoingText, AllocError>
-    requires { has_float (view id.now) ≡ false }
-    ensures { IfOk result (λ told. told.out.items ≡ frame (question_body V.meaning told.reach encoding documents.now question (option_map (λ v. view v.now) params.entry) (view id.now))) }
+    requires { has_float (view request.now.id.now) ≡ false }
+    ensures { IfOk result (λ told. told.out.items ≡ frame (question_body V.meaning told.reach encoding documents.now question (option_map (λ v. view v.now) request.now.params) (view request.now.id.now))) }
 {
-    let Some(params) = params else {
-        return unfit(alloc, id);
+    let Some(params) = request.params else {
+        return unfit(alloc, request.id);
     };
     let Some(uri) = text_below(params, "textDocument", "uri") else {
-        return unfit(alloc, id);
+        return unfit(alloc, request.id);
     };
-    let Some(asked) = asked_of(question, params) else {
-        return unfit(alloc, id);
+    let Some(query) = asked_of(question, params) else {
+        return unfit(alloc, request.id);
     };
-    of_document(
-        alloc,
-        service,
-        documents,
+    let asked = DocumentRequest {
         encoding,
-        asked,
-        uri.as_bytes(),
-        id,
-        is_cancelled,
-    )
+        query,
+        uri: uri.as_bytes(),
+        id: request.id,
+        is_cancelled: request.is_cancelled,
+    };
+    of_document(alloc, service, documents, &asked)
 }

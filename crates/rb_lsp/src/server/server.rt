@@ -17,8 +17,9 @@ use crate::server::documents::Documents;
 use crate::server::method::{Method, is_of_documents, method_of};
 use crate::server::outgoing::{OutgoingText, framed_answer};
 use crate::server::phase::{ExitStatus, Phase, status_of};
-use crate::server::publication::publication;
+use crate::server::publication::{Published, publication};
 use crate::server::reach::Reach;
+use crate::server::request::ClientRequest;
 use crate::server::service::Service;
 use crate::server::stale::{refused_change, stale_by};
 use serde_json::Value;
@@ -75,21 +76,19 @@ fn silent(alloc: Global, over: Option<ExitStatus>) -> ServerReply
     }
 }
 
-// Hears a request, which is cancelled or isn't.
+// Hears a request.
 #[tactic(auto, unfolding(crate::specs::Replies::sent))]
 fn hear_request<V: Service>(
     alloc: Global,
     service: &mut V,
     server: &mut Server<V::Kept>,
-    id: &Value,
     method: Method,
-    params: Option<&Value>,
-    is_cancelled: bool,
+    request: &ClientRequest<'_>,
 ) -> Result<ServerReply, AllocError>
-    requires { has_float (view id.now) ≡ false }
-    ensures out { IfOk result (λ heard. heard.out.items ≡ sent (Some (answer_body V.meaning heard.reach server.old method (option_map (λ v. view v.now) params.entry) (view id.now)))) }
+    requires { has_float (view request.now.id.now) ≡ false }
+    ensures out { IfOk result (λ heard. heard.out.items ≡ sent (Some (answer_body V.meaning heard.reach server.old method (option_map (λ v. view v.now) request.now.params) (view request.now.id.now)))) }
     ensures over { IfOk result (λ heard. heard.over ≡ None) }
-    ensures server { OnOk result (server.new ≡ with_phase server.old (after server.old.phase method (option_map (λ v. view v.now) params.entry))) }
+    ensures server { OnOk result (server.new ≡ with_phase server.old (after server.old.phase method (option_map (λ v. view v.now) request.now.params))) }
 {
     let told = answer_told(
         alloc,
@@ -97,11 +96,9 @@ fn hear_request<V: Service>(
         &server.documents,
         server.phase,
         method,
-        params,
-        id,
-        is_cancelled,
+        request,
     )?;
-    server.phase = after(server.phase, method, params);
+    server.phase = after(server.phase, method, request.params);
     Ok(ServerReply {
         out: told.out,
         reach: told.reach,
@@ -109,34 +106,51 @@ fn hear_request<V: Service>(
     })
 }
 
-// Takes a notification of the document with this URI, unless it is a change whose version doesn't come after the document's.
+// A notification of the document with this URI.
+#[derive(Drop)]
+struct DocumentNotice<'a> {
+    client: Client,
+    method: Method,
+    uri: &'a [u8],
+    params: &'a Value,
+}
+
+// Takes a notification of a document, unless it is a change whose version doesn't come after the document's.
 fn notice<V: Service>(
     alloc: Global,
     service: &mut V,
     documents: &mut Documents<V::Kept>,
-    client: Client,
-    method: Method,
-    params: &Value,
-    uri: &[u8],
+    notice: &DocumentNotice<'_>,
 ) -> Result<OutgoingText, AllocError>
-    ensures documents { OnOk result (documents.new ≡ documents_after (Some (record { client = client; method = method; uri = uri.now; given = view params.now })) documents.old) }
-    ensures out { IfOk result (λ told. told.out.items ≡ notice_text V.meaning told.reach (Some (record { client = client; method = method; uri = uri.now; given = view params.now })) documents.old documents.new) }
+    ensures documents { OnOk result (documents.new ≡ documents_after (Some (record { client = notice.now.client; method = notice.now.method; uri = notice.now.uri.now; given = view notice.now.params.now })) documents.old) }
+    ensures out { IfOk result (λ told. told.out.items ≡ notice_text V.meaning told.reach (Some (record { client = notice.now.client; method = notice.now.method; uri = notice.now.uri.now; given = view notice.now.params.now })) documents.old documents.new) }
 {
-    let version = number_below(params, "textDocument", "version");
-    if let Some((known, told)) = stale_by(method, documents.version(uri), version) {
+    let uri = notice.uri;
+    let version = number_below(notice.params, "textDocument", "version");
+    if let Some((known, told)) = stale_by(notice.method, documents.version(uri), version) {
         return Ok(OutgoingText::whole(refused_change(alloc, known, told)?));
     }
     let (old, mut kept) = match documents.take(uri) {
         Some((document, kept)) => (Some(document), kept),
         None => (None, service.nothing()),
     };
-    let new = document_after(alloc, client.encoding, method, params, old)?;
+    let new = document_after(
+        alloc,
+        notice.client.encoding,
+        notice.method,
+        notice.params,
+        old,
+    )?;
     let is_crowded = new.is_some() && !documents.has_room();
     documents.keep(uri, version, new, service.nothing())?;
+    let published = Published {
+        client: notice.client,
+        uri,
+        version,
+        is_crowded,
+    };
     let text = documents.text(uri);
-    let told = publication(
-        alloc, service, client, uri, version, is_crowded, text, &mut kept,
-    )?;
+    let told = publication(alloc, service, &published, text, &mut kept)?;
     documents.set_kept(uri, kept);
     Ok(told)
 }
@@ -165,15 +179,13 @@ fn take_notice<V: Service>(
     let Some(uri) = text_below(params, "textDocument", "uri") else {
         return Ok(OutgoingText::whole(Vec::new(alloc)));
     };
-    notice(
-        alloc,
-        service,
-        &mut server.documents,
+    let told = DocumentNotice {
         client,
         method,
+        uri: uri.as_bytes(),
         params,
-        uri.as_bytes(),
-    )
+    };
+    notice(alloc, service, &mut server.documents, &told)
 }
 
 // Handles a notification.
@@ -212,8 +224,12 @@ pub(crate) fn hear<V: Service>(
 {
     match incoming_of(message) {
         Incoming::Request(id, method, params) => {
-            let method = method_of(method);
-            hear_request(alloc, service, server, id, method, params, is_cancelled)
+            let request = ClientRequest {
+                id,
+                params,
+                is_cancelled,
+            };
+            hear_request(alloc, service, server, method_of(method), &request)
         }
         Incoming::Notification(method, params) => {
             hear_notification(alloc, service, server, method_of(method), params)

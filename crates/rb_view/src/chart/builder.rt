@@ -25,6 +25,8 @@ pub(crate) struct ChartBuilder<'a> {
     phase: ChartPhase,
     arrows: Arrows,
     canvas: Canvas<'a>,
+    // how many more items fit; 0 if there was one too many
+    room: u64,
 }
 
 // The place of an arrow.
@@ -74,33 +76,38 @@ fn resend(
 }
 
 impl<'a> ChartBuilder<'a> {
-    ghost use Rattle.std.specs.Prelude.{◌≡◌, IfOk, OnOk};
+    ghost use Rattle.std.specs.Prelude.{◌≡◌, ◌-◌, IfOk, OnOk, length};
     ghost use Rattle.rb_texts.specs.Items.{plain_item};
-    ghost use Rattle.rb_view.specs.Drawn.{arrows_of, entering, no_view, view_of, without_places};
-    ghost use Rattle.rb_view.specs.Arrows.{coming_in};
+    ghost use Rattle.rb_view.specs.Drawn.{arrows_of, entering, has_room, no_view, view_of, without_places};
+    ghost use Rattle.rb_view.specs.Arrows.{coming_in, drawing};
 
-    /// Nothing is drawn. There is room for this many items.
+    /// Nothing is drawn. There is room for one item less.
     pub(crate) fn new(alloc: Global, bytes: &'a [u8], room: u64) -> ChartBuilder<'a>
-        ensures { view_of result ≡ no_view }
+        ensures { view_of result ≡ no_view room }
     {
         ChartBuilder {
             phase: ChartPhase::Above,
             arrows: Arrows::new(alloc),
-            canvas: Canvas::new(alloc, bytes, room),
+            canvas: Canvas::new(alloc, bytes),
+            room,
         }
     }
 
-    /// Whether there were more items than fit.
-    pub(crate) fn is_full(&self) -> bool {
-        self.canvas.is_full()
+    /// Whether all items fit so far.
+    pub(crate) fn has_room(&self) -> bool
+        ensures { result ≡ has_room (view_of self.now) }
+    {
+        self.room > 0
     }
 
     // The first drawn directive begins: messages come in from above.
     fn come_in<L: RaftLog>(&mut self, line: u64, nodes: &[SharedNode<L>]) -> Result<(), AllocError>
         ensures arrows { OnOk result (self.new.arrows ≡ coming_in self.old.arrows.in_flight.messages) }
         ensures phase { OnOk result (self.new.phase ≡ self.old.phase) }
+        ensures room { OnOk result (self.new.room ≡ self.old.room - length self.old.arrows.in_flight.messages) }
     {
         let messages = self.arrows.take_messages();
+        self.room = self.room.saturating_sub(messages.len() as u64);
         self.canvas.come_in(line, nodes, !messages.is_empty())?;
         resend(&mut self.arrows, &mut self.canvas, &messages)
     }
@@ -125,6 +132,21 @@ impl<'a> ChartBuilder<'a> {
         }
     }
 
+    // Draws an item, as long as all fit.
+    fn draw(&mut self, item: &Item<'_>) -> Result<(), AllocError>
+        ensures arrows { OnOk result (self.new.arrows ≡ drawing self.old.arrows (plain_item item.now)) }
+        ensures phase { self.new.phase ≡ self.old.phase }
+        ensures room { OnOk result (self.new.room ≡ self.old.room - 1) }
+    {
+        let arrow = self.arrows.draw(item)?;
+        self.room = self.room.saturating_sub(1);
+        if self.room == 0 {
+            Ok(())
+        } else {
+            self.canvas.show(item, arrow)
+        }
+    }
+
     /// Marks the commits and logs that have moved after a directive.
     pub(crate) fn see<L: RaftLog>(&mut self, nodes: &[SharedNode<L>]) -> Result<(), AllocError>
         ensures { OnOk result (view_of self.new ≡ view_of self.old) }
@@ -144,6 +166,7 @@ impl<'a> ChartBuilder<'a> {
             phase,
             arrows,
             canvas,
+            room: _,
         } = self;
         let (chart, places) = canvas.finish(phase, arrows.arrows(), arrows.positions())?;
         let drawn = placed(alloc, arrows.arrows(), places.as_slice())?;
@@ -172,10 +195,7 @@ impl<'a, L: RaftLog> Observer<L> for ChartBuilder<'a> {
     fn observe(&mut self, item: &Item<'_>) -> Result<(), AllocError> {
         match self.phase {
             ChartPhase::Above => self.arrows.fly(item),
-            ChartPhase::Within => {
-                let arrow = self.arrows.draw(item)?;
-                self.canvas.show(item, arrow)
-            }
+            ChartPhase::Within => self.draw(item),
             ChartPhase::Below => Ok(()),
         }
     }

@@ -63,13 +63,11 @@ pub(crate) struct Canvas<'a> {
     // for each arrow
     places: Vec<ArrowPlace>,
     labels: Vec<Label>,
-    // how many more items fit
-    room: u64,
 }
 
 impl<'a> Canvas<'a> {
-    /// Nothing is drawn, and nothing is known but the script's bytes. There is room for this many items.
-    pub(crate) fn new(alloc: Global, bytes: &'a [u8], room: u64) -> Canvas<'a> {
+    /// Nothing is drawn, and nothing is known but the script's bytes.
+    pub(crate) fn new(alloc: Global, bytes: &'a [u8]) -> Canvas<'a> {
         Canvas {
             alloc,
             chart: Chart::new(alloc),
@@ -82,13 +80,7 @@ impl<'a> Canvas<'a> {
             saved: None,
             places: Vec::new(alloc),
             labels: Vec::new(alloc),
-            room,
         }
-    }
-
-    /// Whether there were more items than fit.
-    pub(crate) fn is_full(&self) -> bool {
-        self.room == 0
     }
 
     /// Draws an item that begins or ends an arrow.
@@ -154,21 +146,11 @@ impl<'a> Canvas<'a> {
             saved: _,
             places,
             labels: _,
-            room: _,
         } = canvas;
         Ok((chart, places))
     }
 
     // ---- rows
-
-    // The middle of the next slot, if there is room for one.
-    fn next_slot(&mut self) -> Result<u64, AllocError> {
-        self.room = self.room.saturating_sub(1);
-        if self.room == 0 {
-            return Err(AllocError);
-        }
-        Ok(self.slots.next())
-    }
 
     fn end_row(&mut self) {
         if self.has_begun {
@@ -320,7 +302,7 @@ impl<'a> Canvas<'a> {
 
     // Marks an event of a node. Returns the middle of its slot.
     fn mark(&mut self, id: u64, words: &[u8], look: CssClass) -> Result<u64, AllocError> {
-        let y = self.next_slot()?;
+        let y = self.slots.next();
         let x = middle(id).saturating_add(ASIDE);
         let up = y.saturating_sub(MARK_UP);
         self.chart.add_words(look, x, up, words, MOST_MARK)?;
@@ -407,7 +389,7 @@ impl<'a> Canvas<'a> {
 
     /// A message is sent, and its arrow begins.
     pub(crate) fn send(&mut self, message: &Message) -> Result<(), AllocError> {
-        let y = self.next_slot()?;
+        let y = self.slots.next();
         let is_loop = message.to == message.from;
         let end = y.saturating_add(if is_loop { SLOT } else { DOWN });
         self.places.push(ArrowPlace {
@@ -449,7 +431,7 @@ impl<'a> Canvas<'a> {
     }
 
     fn deliver(&mut self, message: &Message, arrow: Option<usize>) -> Result<(), AllocError> {
-        let end = self.next_slot()?;
+        let end = self.slots.next();
         self.end_arrow(arrow, end);
         if let Some(label) = self.label_of(arrow) {
             label.drop_aim(&mut self.chart);
@@ -465,7 +447,7 @@ impl<'a> Canvas<'a> {
     }
 
     fn lose(&mut self, message: &Message, arrow: Option<usize>) -> Result<(), AllocError> {
-        let end = self.next_slot()?;
+        let end = self.slots.next();
         if self.columns.has(message.to) {
             self.end_arrow(arrow, end);
         }

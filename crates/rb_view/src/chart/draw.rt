@@ -1,13 +1,13 @@
 //! The picture of a run.
 
-ghost use Rattle.std.specs.Prelude.{◌≡◌, ◌<◌, ◌≤◌, ◌++◌, ◌∷◌, [], IfOk, OnOk, Some, fold, length, slice_get, true};
+ghost use Rattle.std.specs.Prelude.{◌≡◌, ◌<◌, ◌≤◌, ◌++◌, ◌∷◌, [], Err, IfOk, IfSome, MatchOption, OnOk, Some, false, fold, length, slice_get, true};
 ghost use Rattle.std.specs.List.{list_all};
 ghost use Rattle.rb_script.specs.declared.limits.TheConstants.{MAX_DIRECTIVES};
 ghost use Rattle.rb_script.specs.Reading.{directive_of};
 ghost use Rattle.rb_machine.specs.Cluster.{empty};
 ghost use Rattle.rb_machine.specs.Outcome.{execution, outcome};
 ghost use Rattle.rb_replay.specs.Run.{outputs};
-ghost use Rattle.rb_view.specs.Drawn.{arrows_of, drawn_arrows, shown, view_of, views_from, without_places};
+ghost use Rattle.rb_view.specs.Drawn.{arrows_of, drawn_arrows, fits, has_room, shown, view_of, views_from, without_places};
 ghost use Rattle.rb_view.specs.Titles.{is_printable, title_text};
 
 use crate::chart::builder::ChartBuilder;
@@ -22,7 +22,7 @@ use rb_script::{Block, Lines, Script};
 use std::alloc::{AllocError, Global};
 use std::mem;
 
-/// The most items of a picture: about as many as a browser opens.
+/// The most items of a picture, with the messages that come in: about as many as a browser opens.
 pub const MAX_EVENTS: u64 = 500_000;
 
 /// Why there is no picture.
@@ -77,23 +77,27 @@ fn run<L: RaftLog>(
     Ok(output)
 }
 
-// Runs the directives, each once, and draws them. Keeps what they printed.
+// Runs the directives, each once, and draws them, as long as all items fit. Keeps what they printed.
 fn draw_directives<L: RaftLog>(
     alloc: Global,
     both: &mut Both<PrintedLines, ChartBuilder<'_>>,
     script: &Script,
     heads: &[usize],
     part: ChartPart,
-) -> Result<Outputs, AllocError>
+) -> Result<Option<Outputs>, AllocError>
     requires few { length script.now.blocks ≤ MAX_DIRECTIVES }
     requires count { length heads.now ≡ length script.now.blocks }
     requires none { both.old.first.lines ≡ [] }
-    ensures drawn { OnOk result (view_of both.new.second ≡ views_from part (view_of both.old.second) empty heads.now script.now.blocks) }
-    ensures outputs { IfOk result (λ printed. printed ≡ outputs script.now) }
+    ensures room { IfOk result (λ drawn. let fits = has_room (views_from part (view_of both.old.second) empty heads.now script.now.blocks) in MatchOption drawn (fits ≡ false) (λ _. fits ≡ true)) }
+    ensures drawn { IfOk result (λ drawn. IfSome drawn (λ _. view_of both.new.second ≡ views_from part (view_of both.old.second) empty heads.now script.now.blocks)) }
+    ensures outputs { IfOk result (λ drawn. IfSome drawn (λ printed. printed ≡ outputs script.now)) }
 {
     let mut printed = Outputs::new(alloc);
     let mut cluster = Cluster::<L>::empty(alloc)?;
     for i in 0..script.len() {
+        if !both.second.has_room() {
+            return Ok(None);
+        }
         let block = block_at(script, i);
         let line = number_at(heads, i) as u64;
         both.second
@@ -102,7 +106,11 @@ fn draw_directives<L: RaftLog>(
         both.second.see(cluster.nodes())?;
         printed.push(output)?;
     }
-    Ok(printed)
+    if both.second.has_room() {
+        Ok(Some(printed))
+    } else {
+        Ok(None)
+    }
 }
 
 /// Runs a script, each directive once, and draws its picture, or that of a part of it: these are its name, its bytes and the lines on which its
@@ -110,7 +118,7 @@ fn draw_directives<L: RaftLog>(
 ///
 /// # Errors
 ///
-/// `TooLarge` if there are more than [`MAX_EVENTS`] items, and `OutOfMemory`.
+/// `TooLarge` if the directives of the part show more than [`MAX_EVENTS`] items, and `OutOfMemory`.
 pub fn chart_of<L: RaftLog>(
     alloc: Global,
     name: &[u8],
@@ -121,6 +129,9 @@ pub fn chart_of<L: RaftLog>(
 ) -> Result<DrawnRun, ChartFault>
     requires few { length script.now.blocks ≤ MAX_DIRECTIVES }
     requires count { length heads.now ≡ length script.now.blocks }
+    // There is a picture only if it has room, and too little room is the reason only if there is too little.
+    ensures room { IfOk result (λ _. fits part heads.now script.now ≡ true) }
+    ensures large { result ≡ Err ChartFault.TooLarge → fits part heads.now script.now ≡ false }
     // A name of printable ASCII is the title, with the lines.
     ensures title { IfOk result (λ drawn. list_all is_printable name.now ≡ true → drawn.chart.title ≡ title_text name.now part.from part.until) }
     // Each message has its arrow.
@@ -131,21 +142,16 @@ pub fn chart_of<L: RaftLog>(
         first: PrintedLines::new(alloc),
         second: ChartBuilder::new(alloc, bytes, MAX_EVENTS + 1),
     };
-    let Ok(printed) = draw_directives::<L>(alloc, &mut both, script, heads, part) else {
-        return Err(fault_of(&both.second));
+    let Ok(drawn) = draw_directives::<L>(alloc, &mut both, script, heads, part) else {
+        return Err(ChartFault::OutOfMemory);
+    };
+    let Some(printed) = drawn else {
+        return Err(ChartFault::TooLarge);
     };
     let Both { first: _, second } = both;
     match chart_with(alloc, name, part, second) {
         Ok(chart) => Ok(DrawnRun { chart, printed }),
         Err(_) => Err(ChartFault::OutOfMemory),
-    }
-}
-
-fn fault_of(builder: &ChartBuilder<'_>) -> ChartFault {
-    if builder.is_full() {
-        ChartFault::TooLarge
-    } else {
-        ChartFault::OutOfMemory
     }
 }
 

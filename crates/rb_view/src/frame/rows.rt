@@ -197,8 +197,9 @@ const READERS = {\n\
 \x20 actual({ step }, [count]) {\n\
 \x20   step.pieces?.push({ kind: \"actual\", count });\n\
 \x20 },\n\
-\x20 warning({ step }, [line, text]) {\n\
-\x20   step.warnings.push(`line ${line}: ${shown(text)}`);\n\
+\x20 warning({ model }, [line, text]) {\n\
+\x20   const step = model.steps.findLast((it) => it.line <= line);\n\
+\x20   step?.warnings.push(`line ${line}: ${shown(text)}`);\n\
 \x20 },\n\
 \x20 hint(reader, [text]) {\n\
 \x20   (reader.last().hints ||= []).push(shown(text));\n\

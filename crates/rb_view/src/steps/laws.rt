@@ -17,7 +17,7 @@ ghost use Rattle.rb_view.specs.Escapes.{is_inert};
 ghost use Rattle.rb_view.specs.Json.{AreRows, is_byte};
 ghost use Rattle.rb_view.specs.Kept.{texts_of};
 ghost use Rattle.rb_view.specs.Rows.{Row, next_text, rows_text};
-ghost use Rattle.rb_view.specs.Sizes.{is_view};
+ghost use Rattle.rb_view.specs.Sizes.{is_view, row_size};
 ghost use Rattle.rb_view.specs.Changes.{node_change, state_change, views_changed, views_gone};
 ghost use Rattle.rb_view.specs.Committed.{AreKept, AreSound};
 ghost use Rattle.rb_view.specs.Pages.{first_row, steps_text};
@@ -25,7 +25,7 @@ ghost use Rattle.rb_view.specs.Logs.{entries_read, is_same_log, stays};
 ghost use Rattle.rb_view.specs.StepSizes.{around_size, item_size, step_size};
 ghost use Rattle.rb_view.specs.NewRows.{has_text};
 ghost use Rattle.rb_view.specs.States.{changed_rows, no_view_row, standing, state_rows};
-ghost use Rattle.rb_view.specs.Steps.{steps};
+ghost use Rattle.rb_view.specs.Steps.{steps, warning_rows};
 ghost use Rattle.rb_view.specs.Values.{GoOnShowingBytes, all_rows};
 
 /// The text of a script's steps is a list of rows, the first of which names the script.
@@ -39,7 +39,7 @@ pub fn steps_are_inert()
 {}
 
 /// Whatever a directive does, the indexes of each node stay in order, and the entries that the node knew to be committed stay as they are, but
-/// for those that are compacted. So it is enough to look at the others.
+/// for those that are compacted. So comparisons of logs begin after them.
 pub fn committed_entries_stay()
     ensures begun { AreSound empty.nodes }
     ensures sound { (c : Cluster) (d : PlainDirective) → AreSound c.nodes → AreSound (outcome c d).cluster.nodes }
@@ -63,9 +63,9 @@ pub fn changes_grow_with_what_differs()
 {}
 
 /// The text is at most as long as what each step says, beside the script's name and bytes and two numbers: where it stands, what it printed, what
-/// happened and what changed. Items that show how a node stands say nothing.
+/// happened and what changed, and its warnings. Items that show how a node stands say nothing.
 pub fn pages_grow_with_what_happens()
-    ensures text { (name bytes heads : List ℕ) (s : PlainScript) → length (steps_text name bytes heads s) ≤ around_size name bytes s + sum_by step_size (steps heads s) }
+    ensures text { (name bytes heads : List ℕ) (s : PlainScript) → length (steps_text name bytes heads s) ≤ around_size name bytes s + sum_by step_size (steps heads s) + sum_by row_size (warning_rows bytes heads s) }
     ensures views { (i : PlainItem) → is_view i ≡ true → item_size i ≡ 0 }
 {}
 

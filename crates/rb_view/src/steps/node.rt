@@ -1,12 +1,13 @@
 //! Rows for the states of nodes, and for what has changed.
 
-ghost use Rattle.std.specs.Prelude.{◌≡◌, ◌<◌, ◌∷◌, [], ◌++◌, IfOk, OnOk, MatchOption, None, Some, length, slice_get, true};
+ghost use Rattle.std.specs.Prelude.{◌≡◌, ◌<◌, ◌∷◌, [], ◌++◌, IfOk, IsTrue, OnOk, MatchOption, None, Some, length, slice_get, true};
 ghost use Rattle.std.specs.List.{list_all};
 ghost use Rattle.rb_raftlog.specs.Content.{content_end};
+ghost use Rattle.rb_view.specs.Committed.{AreKept};
 ghost use Rattle.rb_view.specs.Json.{is_byte};
 ghost use Rattle.rb_view.specs.Kept.{texts_of};
 ghost use Rattle.rb_view.specs.NewRows.{new_rows, new_texts};
-ghost use Rattle.rb_view.specs.States.{added_rows, changed_rows, config_row, gone_of, gone_rows, no_view_row, node_row, node_rows, standing, state_rows, view_row, view_rows};
+ghost use Rattle.rb_view.specs.States.{added_rows, changed_since, config_row, gone_of, gone_rows, no_view_row, node_row, node_since, standing, state_rows, view_row, view_rows};
 ghost use Rattle.rb_view.specs.Values.{ShowBytes};
 
 use crate::rows::{Cell, flag, keep_row, role_name};
@@ -19,6 +20,9 @@ use rb_script::Lines;
 use rb_texts::progress_state_name;
 use rb_tracker::{Progress, Tracker};
 use std::alloc::{AllocError, Global};
+
+// A log with fewer entries is short.
+const SHORT_LOG: u64 = 64;
 
 // ---- what stands
 
@@ -156,18 +160,30 @@ fn keep_restated<L: RaftLog>(
     Ok(())
 }
 
-// Adds what of a node is not as it was.
+// Adds what of a node is not as it was. The entries that it knew to be committed aren't compared.
 fn keep_changed<L: RaftLog>(
     alloc: Global,
     texts: &mut Lines,
     old: &State<L>,
     new: &State<L>,
 ) -> Result<(), AllocError>
-    ensures { OnOk result (texts.new ≡ texts.old ++ texts_of (changed_rows old.now new.now)) }
+    ensures { OnOk result (texts.new ≡ texts.old ++ texts_of (changed_since old.now new.now)) }
 {
     keep_restated(alloc, texts, old, new)?;
     keep_gone(texts, new.id, &old.tracker, &new.tracker)?;
-    keep_log(texts, new.id, &old.log, &new.log)
+    keep_log(texts, new.id, &old.log, &new.log, old.commit)
+}
+
+// Whether a comparison with all entries of the log costs less than the rows of the node.
+fn has_short_log<L: RaftLog>(state: &State<L>) -> bool {
+    state.log.last_index() < state.log.first_index().saturating_add(SHORT_LOG)
+}
+
+// Whether a node is as it was, where that is quick to see.
+fn is_seen_same<L: RaftLog>(old: &Node<L>, new: &Node<L>) -> bool
+    ensures { IsTrue result → new.now ≡ old.now }
+{
+    has_short_log(new.status()) && new.same(old)
 }
 
 // Adds what of a node is not as it was. Usually it is, and then its rows aren't put together to be compared.
@@ -177,9 +193,9 @@ fn keep_if_changed<L: RaftLog>(
     old: &Node<L>,
     new: &Node<L>,
 ) -> Result<(), AllocError>
-    ensures { OnOk result (texts.new ≡ texts.old ++ texts_of (changed_rows old.now new.now)) }
+    ensures { OnOk result (texts.new ≡ texts.old ++ texts_of (changed_since old.now new.now)) }
 {
-    if new.same(old) {
+    if is_seen_same(old, new) {
         return Ok(());
     }
     keep_changed(alloc, texts, old.status(), new.status())
@@ -214,7 +230,8 @@ fn node_at<L: RaftLog>(nodes: &[SharedNode<L>], index: usize) -> &Node<L>
     node
 }
 
-/// Adds what of the node at an index is not as it was, or all of it where it wasn't there.
+/// Adds what of the node at an index is not as it was, or all of it where it wasn't there. The entries that it knew to be committed aren't
+/// compared.
 pub(crate) fn keep_node_at<L: RaftLog>(
     alloc: Global,
     texts: &mut Lines,
@@ -222,7 +239,7 @@ pub(crate) fn keep_node_at<L: RaftLog>(
     index: usize,
     new: &Node<L>,
 ) -> Result<(), AllocError>
-    ensures { OnOk result (texts.new ≡ texts.old ++ texts_of (node_rows (slice_get olds.now index) new.now)) }
+    ensures { OnOk result (texts.new ≡ texts.old ++ texts_of (node_since (slice_get olds.now index) new.now)) }
 {
     match old_at(olds, index) {
         Some(old) => keep_if_changed(alloc, texts, old, new),
@@ -230,13 +247,15 @@ pub(crate) fn keep_node_at<L: RaftLog>(
     }
 }
 
-/// Adds what of the nodes is not as it was, where these were before. What is shown of their contents is bytes.
+/// Adds what of the nodes is not as it was, where these were before, and each has what it knew to be committed. What is shown of their
+/// contents is bytes.
 pub(crate) fn keep_states<L: RaftLog>(
     alloc: Global,
     texts: &mut Lines,
     olds: &[SharedNode<L>],
     news: &[SharedNode<L>],
 ) -> Result<(), AllocError>
+    requires { AreKept olds.now news.now }
     ensures texts { OnOk result (texts.new ≡ texts.old ++ texts_of (state_rows olds.now news.now)) }
     ensures bytes { OnOk result (ShowBytes news.now) }
 {

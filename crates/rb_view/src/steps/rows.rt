@@ -1,20 +1,25 @@
 //! The rows of what a directive does.
 
-ghost use Rattle.std.specs.Prelude.{◌≡◌, [], IfOk, OnOk, slice_set, true};
+ghost use Rattle.std.specs.Prelude.{◌≡◌, ◌++◌, [], IfOk, OnOk, slice_set, true};
 ghost use Rattle.std.specs.List.{list_all};
 ghost use Rattle.rb_raftlog.specs.Content.{content_end};
 ghost use Rattle.rb_view.specs.Json.{is_byte};
+ghost use Rattle.rb_view.specs.Kept.{texts_of};
+ghost use Rattle.rb_view.specs.Watching.{reason_rows};
 
-use crate::rows::keep_item;
+use crate::rows::{Cell, keep_item, keep_row, past, reason_line};
 use crate::steps::node::{as_bytes, keep_node_at};
 use rb_cluster::{Cluster, SharedNode};
 use rb_machine::Observer;
 use rb_node::Node;
 use rb_raftlog::RaftLog;
 use rb_script::Lines;
-use rb_texts::Item;
+use rb_texts::{Item, Reason, reason_of};
 use rb_vocab::Level;
 use std::alloc::{AllocError, Global};
+
+// The blanks that a reason's line begins with.
+const INDENTATION: usize = 2;
 
 /// The rows of what a directive does, whatever the level is: a text an item, and one a row of what changed at a node that has settled.
 #[derive(Drop)]
@@ -48,6 +53,18 @@ fn rewrite<L: RaftLog>(
         nodes[index] = copy;
     }
     Ok(())
+}
+
+// Adds why nothing came of a message, or why a vote was refused.
+fn keep_reason(alloc: Global, texts: &mut Lines, reason: Option<Reason>) -> Result<(), AllocError>
+    ensures { OnOk result (texts.new ≡ texts.old ++ texts_of (reason_rows reason)) }
+{
+    let Some(reason) = reason else {
+        return Ok(());
+    };
+    let lines = reason_line(alloc, reason)?;
+    let said = past(lines.line(0), INDENTATION);
+    keep_row(texts, b"reason", &[Cell::Text(said)])
 }
 
 impl<L: RaftLog> EventRows<L> {
@@ -94,7 +111,8 @@ impl<L: RaftLog> Observer<L> for EventRows<L> {
     fn start(&mut self, _level: Level) {}
 
     fn observe(&mut self, item: &Item<'_>) -> Result<(), AllocError> {
-        keep_item(&mut self.texts, item)
+        keep_item(&mut self.texts, item)?;
+        keep_reason(self.alloc, &mut self.texts, reason_of(item))
     }
 
     fn settle(&mut self, id: u64, node: &Node<L>) -> Result<(), AllocError> {

@@ -4,12 +4,14 @@ ghost use Rattle.std.specs.Prelude.{◌≡◌, ◌++◌, IfOk, OnOk, true};
 ghost use Rattle.rb_script.specs.Reading.{directive_of};
 ghost use Rattle.rb_view.specs.Kept.{texts_of};
 ghost use Rattle.rb_machine.specs.Outcome.{execution, outcome};
+ghost use Rattle.rb_view.specs.Committed.{AreKept, AreSound};
 ghost use Rattle.rb_view.specs.States.{state_rows};
 ghost use Rattle.rb_view.specs.Steps.{done_texts, left_next, step, step_texts};
-ghost use Rattle.rb_view.specs.Values.{DoneShowsBytes, ShowBytes};
+ghost use Rattle.rb_view.specs.Values.{BlockShowsBytes, ShowBytes};
 ghost use Rattle.rb_view.specs.Watching.{observed_texts, shows_bytes, written_last};
 
 use crate::rows::keep_texts;
+use crate::steps::meant::{keep_hint, meant_by};
 use crate::steps::node::keep_states;
 use crate::steps::rows::EventRows;
 use crate::steps::script::keep_script;
@@ -37,6 +39,7 @@ fn run<L: RaftLog>(
     cluster: &Cluster<L>,
     block: &Block,
 ) -> Result<WatchedRun<L>, AllocError>
+    requires { AreSound cluster.now.nodes }
     ensures cluster { IfOk result (λ ran. ran.cluster ≡ (outcome cluster.now (directive_of block.now)).cluster) }
     ensures output { IfOk result (λ ran. ran.output ≡ (outcome cluster.now (directive_of block.now)).output) }
     ensures texts { IfOk result (λ ran. ran.texts ≡ observed_texts cluster.now.nodes (execution cluster.now (directive_of block.now)).observed) }
@@ -69,6 +72,7 @@ fn keep_changes<L: RaftLog>(
     written: &[SharedNode<L>],
     after: &Cluster<L>,
 ) -> Result<(), AllocError>
+    requires { AreKept written.now after.now.nodes }
     ensures texts { OnOk result (texts.new ≡ texts.old ++ texts_of (state_rows written.now after.now.nodes)) }
     ensures bytes { OnOk result (ShowBytes after.now.nodes) }
 {
@@ -108,15 +112,17 @@ pub(crate) fn keep_step<M: StepMachine>(
     block: &Block,
     line: usize,
 ) -> Result<DirectiveRun<M>, AllocError>
+    requires { AreSound (M.meaning machine.now).nodes }
     ensures texts { OnOk result (texts.new ≡ texts.old ++ step_texts (step table.old.left line (M.meaning machine.now) block.now)) }
     ensures left { OnOk result (table.new.left ≡ left_next table.old.left block.now.expected (outcome (M.meaning machine.now) (directive_of block.now)).output) }
     ensures machine { IfOk result (λ run. M.meaning run.machine ≡ (outcome (M.meaning machine.now) (directive_of block.now)).cluster) }
     ensures output { IfOk result (λ run. run.output ≡ (outcome (M.meaning machine.now) (directive_of block.now)).output) }
-    ensures bytes { IfOk result (λ run. DoneShowsBytes (M.meaning machine.now) (directive_of block.now)) }
+    ensures bytes { IfOk result (λ run. BlockShowsBytes (M.meaning machine.now) block.now) }
 {
     let ran = machine.run_on_copy(alloc, block)?;
     let expected = block.expected();
     keep_script(alloc, texts, table, line, expected, &ran.output)?;
     keep_texts(texts, &ran.rows)?;
+    keep_hint(texts, meant_by(block, &ran.output))?;
     Ok(ran)
 }

@@ -4,12 +4,11 @@ ghost use Rattle.std.specs.Prelude.{◌≡◌, ◌++◌, ◌∷◌, [], codes, d
 ghost use Rattle.rb_vocab.specs.MessageTypes.{type_text};
 ghost use Rattle.rb_message.specs.Messages.{type_of};
 ghost use Rattle.rb_texts.specs.Items.{plain_item};
-ghost use Rattle.rb_texts.specs.Reasons.{reason_text};
 ghost use Rattle.rb_texts.specs.Texts as texts;
 ghost use Rattle.rb_view.specs.ItemRows as rows;
 ghost use Rattle.rb_view.specs.Objects.{about, first_object, front, kind_members, message_members, message_of, moved_node, node_member, node_of, number_member, object, reason_member, row_member, said, text_member, way_members};
 
-use crate::rows::keep_item;
+use crate::rows::{keep_item, past, reason_line};
 use rb_message::Message;
 use rb_script::Lines;
 use rb_text::{Json, Piece, add_pieces};
@@ -158,22 +157,6 @@ fn add_line(alloc: Global, text: &mut Vec<u8>, item: &Item<'_>) -> Result<(), Al
 {
     let lines = line_of(alloc, item)?;
     add_text(text, b"text", lines.line(0))
-}
-
-// The line of a reason.
-fn reason_line(alloc: Global, reason: Reason) -> Result<Lines, AllocError>
-    ensures { IfOk result (λ lines. lines ≡ reason_text reason ∷ []) }
-{
-    let mut lines = Lines::new(alloc);
-    lines.push_written(&reason)?;
-    Ok(lines)
-}
-
-// The bytes past the first few.
-fn past(bytes: &[u8], few: usize) -> &[u8]
-    ensures { result.now ≡ drop few bytes.now }
-{
-    &bytes[few.min(bytes.len())..]
 }
 
 fn add_reason(alloc: Global, text: &mut Vec<u8>, reason: Option<Reason>) -> Result<(), AllocError>

@@ -8,7 +8,7 @@ invariant-loop-turns g l =
     let is_known = g.P.Person.is_known in
     let left = g.P.Person.left in
     record {
-      told : l.report.told ≡ l.fn.report.told;
+      counts : l.report.counts ≡ l.fn.report.counts;
       known : is_known l.fn.person → is_known l.person;
       same : is_known l.fn.person → answered (left l.person) ≡ answered (left l.fn.person);
       rest : is_known l.fn.person → after_answer (left l.person) ≡ after_answer (left l.fn.person);

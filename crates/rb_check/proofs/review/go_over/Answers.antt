@@ -11,7 +11,7 @@ pub loop-index-preserved : goal.loop-index-preserved
 loop-index-preserved g c =
     let left = g.P.Person.left in
     record {
-      told = c.in_ok-review_one.ensures.told ∙ c.loop-index.invariant.told;
+      counts = c.in_ok-review_one.ensures.counts ∙ c.loop-index.invariant.counts;
       known = λ k. c.in_ok-review_one.ensures.known (c.loop-index.invariant.known k);
       few = λ k f. omega (arith, c.in_ok-review_one.ensures.few (c.loop-index.invariant.known k) (omega (arith, f, c.loop-index.invariant.few k f)), c.loop-index.invariant.few k f);
       goes = λ k f. goes_on _ _ c.question_at-question.result _ _ _

@@ -12,7 +12,7 @@ invariant-loop-index g l =
     let layout = l.subject.layout.now in
     let questions = questions_of l.asked.accepts_errors l.picked layout.text in
     record {
-      told : l.report.told ≡ l.fn.report.told;
+      counts : l.report.counts ≡ l.fn.report.counts;
       known : is_known l.fn.reviewer.person → is_known l.reviewer.person;
       few : is_known l.fn.reviewer.person → length (left l.fn.reviewer.person) < 2 ^ 64 → length (left l.reviewer.person) ≤ length (left l.fn.reviewer.person);
       goes : is_known l.fn.reviewer.person → length (left l.fn.reviewer.person) < 2 ^ 64

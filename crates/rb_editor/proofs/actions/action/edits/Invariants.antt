@@ -8,5 +8,5 @@ use Rattle.rb_editor.proofs.actions.action.edits.Given as goal
 
 abbrev pub invariant-loop-i : goal.invariant-loop-i
 invariant-loop-i g l =
-    l.out.items ++ listed l.later (edits_in (is_wanted l.selected.span (lines l.selected.text.now)) l.selected.encoding l.selected.text.now (drop l.i (heads_of l.selected.text.now l.session.script)) (drop l.i l.session.script.blocks) (drop l.i (outputs l.session.script)))
-    ≡ edits_of l.selected.encoding l.selected.text.now l.session.script l.selected.span
+    l.out.items ++ listed l.later (edits_in (is_wanted l.selected.picked l.selected.span (lines l.selected.text.now)) l.selected.encoding l.selected.text.now (drop l.i (heads_of l.selected.text.now l.session.script)) (drop l.i l.session.script.blocks) (drop l.i (outputs l.session.script)))
+    ≡ edits_of l.selected.encoding l.selected.text.now l.session.script l.selected.picked l.selected.span

@@ -7,7 +7,7 @@ use Rattle.rb_editor.proofs.actions.correction.corrections.Goals as goal
 
 pub correction-requires-clause-stands : goal.correction-requires-clause-stands
 correction-requires-clause-stands g c =
-    stands_by c.args.layout.now.lines c.args.session.now.script.blocks c.args.layout.now.heads.items c.as_slice.result.now c.loop-i.i c.number_at-line.result c.block_at-block.result.now c.requires.layout.heads c.as_slice.ensures.value
+    stands_by c.args.layout.now.script.text c.args.session.now.script.blocks c.args.layout.now.script.heads.items c.as_slice.result.now c.loop-i.i c.number_at-line.result c.block_at-block.result.now c.requires.layout.heads c.as_slice.ensures.value
     c.number_at-line.ensures c.block_at-block.ensures
 
 pub returns-then-not-is_empty : goal.returns-then-not-is_empty

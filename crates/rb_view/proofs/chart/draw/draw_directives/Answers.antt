@@ -4,8 +4,8 @@ use Rattle.rb_machine.specs.Cluster.{Cluster}
 use Rattle.rb_replay.specs.Run.{outputs}
 use Rattle.rb_replay.proofs.RunLaws.{length-outputs, run_next}
 use Rattle.rb_view.specs.declared.chart.part.ChartPhase.{ChartPhase}
-use Rattle.rb_view.specs.Drawn.{entering, view_of, views_from}
-use Rattle.rb_view.proofs.ViewLaws.{views_end, views_more}
+use Rattle.rb_view.specs.Drawn.{entering, has_room, view_of, views_from}
+use Rattle.rb_view.proofs.ViewLaws.{stays_full, views_end, views_more}
 use Rattle.rb_view.proofs.chart.draw.draw_directives.Goals as goal
 
 pub loop-i-init : goal.loop-i-init
@@ -34,12 +34,34 @@ loop-i-preserved g c =
       none = c.in_ok-output.ensures.left;
     }
 
-pub returns-clause-drawn : goal.returns-clause-drawn
-returns-clause-drawn g c =
+pub returns-then-not-has_room-clause-room : goal.returns-then-not-has_room-clause-room
+returns-then-not-has_room-clause-room g c =
+    let i = c.loop-i.i in
+    let v = view_of c.loop-i.both.second in
+    ap has_room (sym c.loop-i.invariant.drawn)
+    ∙ stays_full c.args.part v c.loop-i.cluster (drop i c.args.heads.now) (drop i c.args.script.now.blocks) (sym c.has_room.ensures ∙ c.if-not-has_room.true)
+
+-- there is no directive any more
+pub returns-then-has_room-clause-room : goal.returns-then-has_room-clause-room
+returns-then-has_room-clause-room g c =
+    let i = c.loop-i.i in
+    let v = view_of c.loop-i.both.second in
+    let none = drop_all i c.args.script.now.blocks (omega (arith, c.loop-i-test.false, c.len-i-end.ensures)) in
+    ap has_room (sym c.loop-i.invariant.drawn ∙ views_end c.args.part v c.loop-i.cluster (drop i c.args.heads.now) (drop i c.args.script.now.blocks) none) ∙ sym c.has_room-2.ensures ∙ c.if-has_room.true
+
+pub returns-then-has_room-clause-drawn : goal.returns-then-has_room-clause-drawn
+returns-then-has_room-clause-drawn g c =
     let i = c.loop-i.i in
     let none = drop_all i c.args.script.now.blocks (omega (arith, c.loop-i-test.false, c.len-i-end.ensures)) in
     sym (views_end c.args.part (view_of c.loop-i.both.second) c.loop-i.cluster (drop i c.args.heads.now) (drop i c.args.script.now.blocks) none) ∙ c.loop-i.invariant.drawn
 
-pub returns-clause-outputs : goal.returns-clause-outputs
-returns-clause-outputs g c =
+pub returns-then-has_room-clause-outputs : goal.returns-then-has_room-clause-outputs
+returns-then-has_room-clause-outputs g c =
     c.loop-i.invariant.printed ∙ take_all c.loop-i.i (outputs c.args.script.now) (omega (arith, c.loop-i-test.false, c.len-i-end.ensures, length-outputs c.args.script.now))
+
+pub returns-else-has_room-clause-room : goal.returns-else-has_room-clause-room
+returns-else-has_room-clause-room g c =
+    let i = c.loop-i.i in
+    let v = view_of c.loop-i.both.second in
+    let none = drop_all i c.args.script.now.blocks (omega (arith, c.loop-i-test.false, c.len-i-end.ensures)) in
+    ap has_room (sym c.loop-i.invariant.drawn ∙ views_end c.args.part v c.loop-i.cluster (drop i c.args.heads.now) (drop i c.args.script.now.blocks) none) ∙ sym c.has_room-2.ensures ∙ c.if-has_room.false

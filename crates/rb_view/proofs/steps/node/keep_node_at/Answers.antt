@@ -2,7 +2,7 @@ use Rattle.std.proofs.Common.{◌≡◌, ◌++◌, Option, sym, subst₂}
 use Rattle.std.specs.Prelude.{OnOk}
 use Rattle.rb_node.specs.Node.{PlainNode}
 use Rattle.rb_view.specs.Kept.{texts_of}
-use Rattle.rb_view.specs.States.{node_rows}
+use Rattle.rb_view.specs.States.{node_since}
 use Rattle.rb_view.proofs.steps.node.keep_node_at.Goals as goal
 
 pub returns-in-Some : goal.returns-in-Some
@@ -10,5 +10,5 @@ returns-in-Some g c = rw c.in-Some.ensures c.keep_if_changed.ensures
 
 pub returns-in-None : goal.returns-in-None
 returns-in-None g c =
-    subst₂ (λ (old : Option PlainNode) (new : PlainNode). OnOk c.keep_added.result (c.keep_added.new.texts ≡ c.args.texts.now ++ texts_of (node_rows old new)))
+    subst₂ (λ (old : Option PlainNode) (new : PlainNode). OnOk c.keep_added.result (c.keep_added.new.texts ≡ c.args.texts.now ++ texts_of (node_since old new)))
     (sym c.in-None.ensures) c.status.ensures c.keep_added.ensures

@@ -1,5 +1,6 @@
-use Rattle.std.proofs.Common.{◌∙◌, ◌++◌, List, ap, subst}
+use Rattle.std.proofs.Common.{◌∙◌, ◌++◌, List, ap, subst, sym}
 use Rattle.rb_node.specs.Node.{PlainNode}
+use Rattle.rb_view.specs.Committed.{AreKept}
 use Rattle.rb_view.specs.Kept.{texts_of}
 use Rattle.rb_view.specs.States.{state_rows}
 use Rattle.rb_view.specs.Values.{ShowBytes}
@@ -10,3 +11,6 @@ returns-clause-bytes g c = subst ShowBytes c.nodes.ensures c.in_ok-keep_states.e
 
 pub returns-clause-texts : goal.returns-clause-texts
 returns-clause-texts g c = c.in_ok-keep_states.ensures.texts ∙ ap (λ (news : List PlainNode). c.args.texts.now ++ texts_of (state_rows c.args.written.now news)) c.nodes.ensures
+
+pub keep_states-requires : goal.keep_states-requires
+keep_states-requires g c = subst (AreKept c.args.written.now) (sym c.nodes.ensures) c.requires

@@ -1,11 +1,16 @@
-use Rattle.std.proofs.Common.{◌≡◌, ◌∙◌, ◌++◌, List, ap₂, subst, rules}
+use Rattle.std.proofs.Common.{◌≡◌, ◌∙◌, ◌++◌, List, ap₂, subst, sym, rules}
 use Rattle.rb_script.specs.Lines.{Line}
+use Rattle.rb_script.specs.Reading.{directive_of}
 use Rattle.rb_node.specs.Node.{PlainNode}
 use Rattle.rb_machine.specs.Cluster.{Cluster}
+use Rattle.rb_machine.specs.Outcome.{execution}
+use Rattle.rb_view.specs.Committed.{AreKept}
 use Rattle.rb_view.specs.Kept.{texts_of}
 use Rattle.rb_view.specs.Rows.{Row}
 use Rattle.rb_view.specs.States.{state_rows}
 use Rattle.rb_view.specs.Values.{ShowBytes}
+use Rattle.rb_view.specs.Watching.{written_last}
+use Rattle.rb_view.proofs.GoneOnLaws.{kept_after}
 use Rattle.rb_view.proofs.steps.step.ClusterStepMachine.run_on_copy.Goals as goal
 
 pub returns-clause-rows : goal.returns-clause-rows
@@ -17,3 +22,10 @@ returns-clause-rows g c =
 
 pub returns-clause-bytes : goal.returns-clause-bytes
 returns-clause-bytes g c = (c.in_ok-ran.ensures.bytes, subst (λ (x : Cluster). ShowBytes x.nodes) c.in_ok-ran.ensures.cluster c.in_ok-keep_changes.ensures.bytes)
+
+pub keep_changes-requires : goal.keep_changes-requires
+keep_changes-requires g c =
+    let d = directive_of c.args.block.now in
+    let written : c.deref.result.now ≡ c.in_ok-ran.ran.nodes.items = search rules in
+    subst (λ (ns : List PlainNode). AreKept ns c.in_ok-ran.ran.cluster.nodes) (sym (written ∙ c.in_ok-ran.ensures.nodes))
+    (subst (λ (x : Cluster). AreKept (written_last c.args.self.now.nodes (execution c.args.self.now d).observed) x.nodes) (sym c.in_ok-ran.ensures.cluster) (kept_after c.args.self.now d c.requires))

@@ -12,11 +12,11 @@ use Rattle.rb_check.specs.declared.answer.HeardAnswer.{HeardAnswer}
 use Rattle.rb_check.specs.declared.check_request.CheckRequest.{CheckRequest}
 use Rattle.rb_check.specs.declared.ran.ScriptEnd.{ScriptEnd}
 use Rattle.rb_check.specs.declared.review.Review.{Review}
-use Rattle.rb_check.specs.Counts.{ran_as, told_after}
+use Rattle.rb_check.specs.Counts.{ran_as, counts_after}
 use Rattle.rb_check.specs.Endings.{EndsAs, ending_at}
 
 -- the bytes are a script, and the report has its run, with what happened to its outputs; or they are not a script, and the report has why
-pub data Came (asked : CheckRequest) (is_known : Type 0) (before : Review) (coming : List HeardAnswer) (old new : Totals) : Type 0 where
+pub data Reported (asked : CheckRequest) (is_known : Type 0) (before : Review) (coming : List HeardAnswer) (old new : Totals) : Type 0 where
   ran : (bytes : List ℕ) → (s : PlainScript) → (layout : Layout) → (end : ScriptEnd) → IsLayout bytes s layout → EndsAs (ending_at asked layout s) asked is_known before coming layout s end
-      → new ≡ told_after old (ran_as layout.text layout.heads.items s end.left) end.failure → Came asked is_known before coming old new
-  refused : (bytes : List ℕ) → (fault : ScriptFault) → Refuses fault (read_of bytes) → new ≡ together old (of_outcome (outcomes.Refused fault)) → Came asked is_known before coming old new
+      → new ≡ counts_after old (ran_as layout.text layout.heads.items s end.left) end.failure → Reported asked is_known before coming old new
+  refused : (bytes : List ℕ) → (fault : ScriptFault) → Refuses fault (read_of bytes) → new ≡ together old (of_outcome (outcomes.Refused fault)) → Reported asked is_known before coming old new

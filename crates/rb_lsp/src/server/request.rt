@@ -1,0 +1,25 @@
+//! A request, as its message has it.
+
+use crate::document::Encoding;
+use crate::server::query::Query;
+use serde_json::Value;
+
+/// What a request says beside its method.
+#[derive(Drop)]
+pub(crate) struct ClientRequest<'a> {
+    pub(crate) id: &'a Value,
+    pub(crate) params: Option<&'a Value>,
+    /// Whether its client has cancelled it. What it asks of a document is then not done.
+    pub(crate) is_cancelled: bool,
+}
+
+/// A request about the document with this URI.
+#[derive(Drop)]
+pub(crate) struct DocumentRequest<'a> {
+    pub(crate) encoding: Encoding,
+    pub(crate) query: Query,
+    pub(crate) uri: &'a [u8],
+    pub(crate) id: &'a Value,
+    /// As in [`ClientRequest`].
+    pub(crate) is_cancelled: bool,
+}
