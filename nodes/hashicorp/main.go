@@ -8,6 +8,8 @@ import (
 	"runtime"
 	"runtime/debug"
 
+	"adapter/goroutines"
+
 	"github.com/hashicorp/raft"
 )
 
@@ -21,26 +23,26 @@ var without = []string{
 }
 
 type call struct {
-	Call string
-	Node uint64
-	Base struct {
+	Call            string
+	Node, To, Index uint64
+	Ticks           int64
+	Data            []byte
+	Number          int // in place of a message
+	Numbers         []int
+	Message         struct{ Own int }
+	Change          struct{ Words []string }
+	Base            struct {
 		Index, Term uint64
 		Content     []byte
 		Config      struct{ Voters, Learners []uint64 }
 	}
-	Data      []byte
-	Change    struct{ Words []string }
-	Message   struct{ Own int }
-	Number    int // in place of a message
-	Numbers   []int
-	To, Index uint64
-	Ticks     int64
 }
 
-type bench struct {
+// What a script began: its nodes, and all letters that they sent.
+var (
 	nodes   map[uint64]*node
 	letters []letter
-}
+)
 
 func main() {
 	// One goroutine at a time, and no collection of garbage within a script, so that each run is the same.
@@ -49,20 +51,37 @@ func main() {
 	if len(os.Args) > 1 {
 		without = without[1:]
 	}
-	in, out, b := json.NewDecoder(os.Stdin), json.NewEncoder(os.Stdout), &bench{}
+	in, out := json.NewDecoder(os.Stdin), json.NewEncoder(os.Stdout)
 	for {
 		var asked call
-		if in.Decode(&asked) != nil {
+		if in.Decode(&asked) != nil || out.Encode(run(asked)) != nil {
 			return
-		}
-		if err := out.Encode(b.run(asked)); err != nil {
-			panic(err)
 		}
 	}
 }
 
-func (b *bench) run(c call) object {
-	n := b.nodes[c.Node]
+// What calls do to their nodes.
+var calls = map[string]func(*node, call){
+	"advance":        func(n *node, _ call) { n.takeApplied() },
+	"campaign":       func(n *node, _ call) { n.campaign() },
+	"compact":        func(n *node, c call) { n.compact(c.Index) },
+	"lost":           func(_ *node, c call) { letters[c.Message.Own+c.Number].lose() },
+	"propose":        func(n *node, c call) { go n.Apply(c.Data, 0) },
+	"propose_change": func(n *node, c call) { n.proposeChange(c.Change.Words) },
+	"restart":        func(n *node, _ call) { n.stop(); n.open() },
+	"set_timeout":    func(n *node, c call) { n.timeout = c.Ticks },
+	"step":           func(n *node, c call) { n.step(letters[c.Message.Own]) },
+	"tick":           func(n *node, _ call) { n.tick() },
+	"transfer":       func(n *node, c call) { n.LeadershipTransferToServer(idOf(c.To), raft.ServerAddress(idOf(c.To))) },
+}
+
+func run(c call) object {
+	n := nodes[c.Node]
+	for _, number := range append(c.Numbers, c.Number, c.Message.Own) {
+		if number > 0 && number >= len(letters) {
+			return object{"error": "no message of this number was given"}
+		}
+	}
 	switch c.Call {
 	case "hello":
 		return object{
@@ -70,72 +89,28 @@ func (b *bench) run(c call) object {
 			"ordered": len(os.Args) == 1, "batch": true, "always": []string{"checkquorum", "inflight=1"},
 		}
 	case "reset":
-		for _, n := range b.nodes {
+		for _, n := range nodes {
 			n.stop()
 		}
-		b.nodes, b.letters, asked = map[uint64]*node{}, nil, map[[2]uint64][]string{}
+		nodes, letters, changes = map[uint64]*node{}, nil, map[[2]uint64][]string{}
 		runtime.GC()
 		return object{}
-	case "start":
-		n = start(c)
-		b.nodes[c.Node] = n
 	case "ready":
-		return object{"ready": object{"messages": b.takeOutbox(n)}}
+		return object{"ready": object{"messages": n.takeOutbox()}}
 	case "log":
 		return n.shownLog()
+	case "start":
+		n = start(c)
+		nodes[c.Node] = n
 	default:
-		n.clock.Use()
-		for _, number := range append(c.Numbers, c.Number, c.Message.Own) {
-			if number > 0 && number >= len(b.letters) {
-				return object{"error": "no message of this number was given"}
-			}
+		if calls[c.Call] == nil || n == nil {
+			return object{"error": "there is no such call, or no such node"}
 		}
+		goroutines.Current = &n.clock
 		if c.Numbers != nil {
-			return object{"states": b.stepped(n, c.Numbers), "events": n.events()}
+			return object{"states": n.stepped(c.Numbers), "events": n.events()}
 		}
-		b.change(n, c)
+		calls[c.Call](n, c)
 	}
-	n.settleLeader()
-	return object{"state": n.shownState(), "events": n.events()}
-}
-
-// stepped delivers several messages, with a state after each.
-func (b *bench) stepped(n *node, numbers []int) (states []object) {
-	for _, number := range numbers {
-		n.step(b.letters[number])
-		n.settleLeader()
-		states = append(states, n.shownState())
-	}
-	return states
-}
-
-// change carries out a call that may change the node.
-func (b *bench) change(n *node, c call) {
-	switch c.Call {
-	case "campaign":
-		n.campaign()
-	case "propose":
-		go n.Apply(c.Data, 0)
-	case "propose_change":
-		n.proposeChange(c.Change.Words)
-	case "tick":
-		n.tick()
-	case "set_timeout":
-		n.timeout = c.Ticks
-	case "step":
-		n.step(b.letters[c.Message.Own])
-	case "lost":
-		if lost := b.letters[c.Message.Own+c.Number]; lost.answer == nil {
-			lost.end(nil, errLost)
-		}
-	case "transfer":
-		n.LeadershipTransferToServer(idOf(c.To), raft.ServerAddress(idOf(c.To)))
-	case "compact":
-		n.compact(c.Index)
-	case "restart":
-		n.stop()
-		n.open(idOf(c.Node))
-	case "advance":
-		n.takeApplied()
-	}
+	return object{"state": n.settledState(), "events": n.events()}
 }

@@ -21,33 +21,31 @@ func (n *node) shownState() object {
 	}
 	if voted, _ := n.store.GetUint64([]byte("LastVoteTerm")); voted == term {
 		candidate, _ := n.store.Get([]byte("LastVoteCand"))
-		vote = number(string(candidate))
+		vote = number(candidate)
 	}
 	return object{
-		"role": strings.ToLower(n.State().String()), "term": term, "vote": vote, "lead": number(string(n.Leader())), "commit": commit,
+		"role": strings.ToLower(n.State().String()), "term": term, "vote": vote, "lead": number(n.Leader()), "commit": commit,
 		"applied": n.applied, "content": n.content, "config": shownConfig(n.GetConfiguration().Configuration()),
-		"ready": len(n.transport.outbox) > 0 || n.applied != n.AppliedIndex(),
+		"ready": len(n.outbox) > 0 || n.applied != n.AppliedIndex(),
 	}
 }
 
 // takeOutbox is what was sent, ordered by receivers: the library's goroutines send to each of them on their own.
-func (b *bench) takeOutbox(n *node) []object {
-	sent, messages := n.transport.outbox, []object{}
-	n.transport.outbox = nil
+func (n *node) takeOutbox() []object {
+	sent, messages := n.outbox, []object{}
+	n.outbox = nil
 	sort.SliceStable(sent, func(i, j int) bool { return sent[i].receiver < sent[j].receiver })
 	for _, one := range sent {
-		messages = append(messages, shownLetter(one, len(b.letters)))
-		b.letters = append(b.letters, one)
+		messages = append(messages, shownLetter(one, len(letters)))
+		letters = append(letters, one)
 	}
 	return messages
 }
 
 // shownLog is the end of the log that has no holes, or the last snapshot if that is newer.
 func (n *node) shownLog() object {
-	index, term := n.stat("last_snapshot_index"), n.stat("last_snapshot_term")
-	last, _ := n.store.LastIndex()
-	logs := []*raft.Log{}
-	for at := last; at > 0 && last >= index; at-- {
+	index, term, logs := n.stat("last_snapshot_index"), n.stat("last_snapshot_term"), []*raft.Log{}
+	for at, _ := n.store.LastIndex(); at > 0 && at >= index; at-- {
 		log := new(raft.Log)
 		if n.store.GetLog(at, log) != nil {
 			break
@@ -60,15 +58,15 @@ func (n *node) shownLog() object {
 	return object{"base": object{"index": index, "term": term}, "durable": n.LastIndex(), "entries": shownEntries(logs)}
 }
 
-// asked has the words of each change that was appended, by its term and index: an entry of the library holds the whole configuration.
-var asked = map[[2]uint64][]string{}
+// changes has the words of each change that was appended, by its term and index. The library's entry has the whole configuration.
+var changes map[[2]uint64][]string
 
 func shownEntries(logs []*raft.Log) []object {
 	shown := []object{}
 	for _, log := range logs {
 		entry := object{"index": log.Index, "term": log.Term, "data": log.Data}
 		if log.Type == raft.LogConfiguration {
-			words := append([]string{}, asked[[2]uint64{log.Term, log.Index}]...)
+			words := append([]string{}, changes[[2]uint64{log.Term, log.Index}]...)
 			entry = object{"index": log.Index, "term": log.Term, "change": object{"transition": "auto", "words": words}}
 		}
 		shown = append(shown, entry)
@@ -78,39 +76,19 @@ func shownEntries(logs []*raft.Log) []object {
 
 // shownLetter is a message; its `own` is the number of the letter, which this process keeps.
 func shownLetter(given letter, own int) object {
-	shown := object{}
-	switch asked := given.request.(type) {
-	case *raft.RequestVoteRequest:
-		shown = object{"type": "MsgVote", "term": asked.Term, "index": asked.LastLogIndex, "logTerm": asked.LastLogTerm, "transfer": asked.LeadershipTransfer}
-	case *raft.AppendEntriesRequest:
-		shown = object{"type": "MsgApp", "term": asked.Term, "index": asked.PrevLogEntry, "logTerm": asked.PrevLogTerm, "commit": asked.LeaderCommitIndex}
-		shown["entries"] = shownEntries(asked.Entries)
-		if isOnlyHeartbeat(asked) {
-			shown["type"] = "MsgHeartbeat"
-		}
-	case *raft.InstallSnapshotRequest:
-		shown = object{"type": "MsgSnap", "term": asked.Term, "snapshot": object{
-			"index": asked.LastLogIndex, "term": asked.LastLogTerm, "content": given.snapshot, "config": shownConfig(raft.DecodeConfiguration(asked.Configuration)),
-		}}
-	case *raft.TimeoutNowRequest:
-		shown = object{"type": "MsgTimeoutNow"}
+	shown := shownRequest(given)
+	shown["own"], shown["from"], shown["to"] = own, number(given.from), number(given.to)
+	if given.answer == nil {
+		return shown
 	}
-	shown["own"], shown["from"], shown["to"] = own, number(string(given.from)), number(string(given.to))
-	if given.answer != nil {
-		shown = shownAnswer(given, shown)
-	}
-	return shown
-}
-
-func shownAnswer(given letter, asked object) object {
-	shown := object{"own": asked["own"], "from": asked["to"], "to": asked["from"], "type": asked["type"].(string) + "Resp", "reject": given.answer.Error != nil}
+	shown = object{"own": own, "from": shown["to"], "to": shown["from"], "type": shown["type"].(string) + "Resp", "reject": given.answer.Error != nil}
 	switch said := given.answer.Response.(type) {
 	case *raft.RequestVoteResponse:
 		shown["term"], shown["reject"] = said.Term, !said.Granted
 	case *raft.AppendEntriesResponse:
 		request := given.request.(*raft.AppendEntriesRequest)
 		shown["term"], shown["reject"], shown["index"] = said.Term, !said.Success, request.PrevLogEntry+uint64(len(request.Entries))
-		if !said.Success && asked["type"] == "MsgApp" {
+		if !said.Success && !isOnlyHeartbeat(request) {
 			shown["index"], shown["rejectHint"] = request.PrevLogEntry, said.LastLog
 		}
 	case *raft.InstallSnapshotResponse:
@@ -120,20 +98,34 @@ func shownAnswer(given letter, asked object) object {
 	return shown
 }
 
-func shownConfig(c raft.Configuration) map[string][]uint64 {
-	shown := map[string][]uint64{"voters": {}, "learners": {}}
-	for _, server := range c.Servers {
-		set := map[bool]string{true: "voters", false: "learners"}[server.Suffrage == raft.Voter]
-		shown[set] = append(shown[set], number(string(server.ID)))
+func shownRequest(given letter) object {
+	switch asked := given.request.(type) {
+	case *raft.RequestVoteRequest:
+		return object{"type": "MsgVote", "term": asked.Term, "index": asked.LastLogIndex, "logTerm": asked.LastLogTerm, "transfer": asked.LeadershipTransfer}
+	case *raft.AppendEntriesRequest:
+		kind := map[bool]string{true: "MsgHeartbeat", false: "MsgApp"}[isOnlyHeartbeat(asked)]
+		return object{"type": kind, "term": asked.Term, "index": asked.PrevLogEntry, "logTerm": asked.PrevLogTerm, "commit": asked.LeaderCommitIndex, "entries": shownEntries(asked.Entries)}
+	case *raft.InstallSnapshotRequest:
+		config := shownConfig(raft.DecodeConfiguration(asked.Configuration))
+		snapshot := object{"index": asked.LastLogIndex, "term": asked.LastLogTerm, "content": given.snapshot, "config": config}
+		return object{"type": "MsgSnap", "term": asked.Term, "snapshot": snapshot}
+	default:
+		return object{"type": "MsgTimeoutNow"}
 	}
-	return shown
+}
+
+func shownConfig(c raft.Configuration) object {
+	ids := map[raft.ServerSuffrage][]uint64{raft.Voter: {}, raft.Nonvoter: {}}
+	for _, server := range c.Servers {
+		ids[server.Suffrage] = append(ids[server.Suffrage], number(server.ID))
+	}
+	return object{"voters": ids[raft.Voter], "learners": ids[raft.Nonvoter]}
 }
 
 func configurationOf(c call) (made raft.Configuration) {
 	for suffrage, ids := range [][]uint64{raft.Voter: c.Base.Config.Voters, raft.Nonvoter: c.Base.Config.Learners} {
 		for _, id := range ids {
-			server := raft.Server{Suffrage: raft.ServerSuffrage(suffrage), ID: idOf(id), Address: raft.ServerAddress(idOf(id))}
-			made.Servers = append(made.Servers, server)
+			made.Servers = append(made.Servers, raft.Server{Suffrage: raft.ServerSuffrage(suffrage), ID: idOf(id), Address: raft.ServerAddress(idOf(id))})
 		}
 	}
 	return made
@@ -157,7 +149,7 @@ func (n *node) stat(name string) uint64 { return number(n.Stats()[name]) }
 func idOf(id uint64) raft.ServerID { return raft.ServerID(strconv.FormatUint(id, 10)) }
 
 // number is an id or a figure of the library; 0 where it has none.
-func number(text string) uint64 {
-	value, _ := strconv.ParseUint(text, 10, 64)
+func number[T ~string | ~[]byte](text T) uint64 {
+	value, _ := strconv.ParseUint(string(text), 10, 64)
 	return value
 }

@@ -5,6 +5,7 @@ import (
 	"errors"
 	"io"
 	"io/ioutil"
+	"reflect"
 	"sort"
 
 	"github.com/hashicorp/raft"
@@ -17,10 +18,8 @@ type rpc struct {
 	from, to raft.ServerID
 	request  interface{}
 	snapshot []byte
-	take     func(answer interface{})
-	done     chan error
+	done     chan raft.RPCResponse
 	ticks    int
-	isOver   bool
 }
 
 // letter is one message between nodes: the request of an RPC, or the answer to it.
@@ -42,25 +41,34 @@ type transport struct {
 	isStopped bool
 }
 
-func (t *transport) call(to raft.ServerID, request interface{}, snapshot []byte, take func(interface{})) error {
+// call sends a request, waits until the RPC ends, and copies the response into `answer`.
+func (t *transport) call(to raft.ServerID, request, answer interface{}, snapshot []byte) error {
 	if t.isStopped {
 		return errLost
 	}
-	made := &rpc{from: t.id, to: to, request: request, snapshot: snapshot, take: take, done: make(chan error, 1)}
+	made := &rpc{t.id, to, request, snapshot, make(chan raft.RPCResponse, 1), 0}
 	t.waiting = append(t.waiting, made)
 	t.outbox = append(t.outbox, letter{made, to, nil})
-	return <-made.done
+	said := <-made.done
+	if said.Error == nil {
+		reflect.ValueOf(answer).Elem().Set(reflect.ValueOf(said.Response).Elem())
+	}
+	return said.Error
 }
 
-// end ends an RPC. An answer to one that has ended is dropped.
-func (made *rpc) end(answer interface{}, err error) {
-	if made.isOver {
-		return
+// lose ends the RPC of a request that won't arrive.
+func (given letter) lose() {
+	if given.answer == nil {
+		given.end(raft.RPCResponse{Error: errLost})
 	}
-	if made.isOver = true; err == nil {
-		made.take(answer)
+}
+
+// end ends an RPC. Nobody reads what comes after that.
+func (made *rpc) end(said raft.RPCResponse) {
+	select {
+	case made.done <- said:
+	default:
 	}
-	made.done <- err
 }
 
 // giveUp ends the RPCs that have waited for `ticks` ticks, ordered by receivers.
@@ -70,8 +78,8 @@ func (t *transport) giveUp(ticks int) {
 	sort.SliceStable(waiting, func(i, j int) bool { return waiting[i].to < waiting[j].to })
 	for _, made := range waiting {
 		if made.ticks++; made.ticks >= ticks {
-			made.end(nil, errLost)
-		} else if !made.isOver {
+			made.end(raft.RPCResponse{Error: errLost})
+		} else {
 			t.waiting = append(t.waiting, made)
 		}
 	}
@@ -80,12 +88,11 @@ func (t *transport) giveUp(ticks int) {
 // deliver gives a letter to this node. Heartbeats go past the main loop, as in the library's NetworkTransport.
 func (t *transport) deliver(given letter) {
 	if given.answer != nil {
-		given.end(given.answer.Response, given.answer.Error)
+		given.end(*given.answer)
 		return
 	}
-	answer := make(chan raft.RPCResponse, 1)
-	request := raft.RPC{Command: given.request, Reader: bytes.NewReader(given.snapshot), RespChan: answer}
-	t.asked[given.rpc] = answer
+	t.asked[given.rpc] = make(chan raft.RPCResponse, 1)
+	request := raft.RPC{Command: given.request, Reader: bytes.NewReader(given.snapshot), RespChan: t.asked[given.rpc]}
 	if isOnlyHeartbeat(given.request) {
 		t.heartbeat(request)
 	} else {
@@ -111,30 +118,30 @@ func isOnlyHeartbeat(request interface{}) bool {
 	return is && r.Term != 0 && r.PrevLogEntry == 0 && r.PrevLogTerm == 0 && len(r.Entries) == 0 && r.LeaderCommitIndex == 0
 }
 
-func (t *transport) Consumer() <-chan raft.RPC                               { return t.requests }
-func (t *transport) LocalAddr() raft.ServerAddress                           { return raft.ServerAddress(t.id) }
-func (t *transport) EncodePeer(_ raft.ServerID, a raft.ServerAddress) []byte { return []byte(a) }
-func (t *transport) DecodePeer(address []byte) raft.ServerAddress            { return raft.ServerAddress(address) }
-func (t *transport) SetHeartbeatHandler(handler func(raft.RPC))              { t.heartbeat = handler }
+func (t *transport) Consumer() <-chan raft.RPC                                { return t.requests }
+func (t *transport) LocalAddr() raft.ServerAddress                            { return raft.ServerAddress(t.id) }
+func (t *transport) EncodePeer(_ raft.ServerID, to raft.ServerAddress) []byte { return []byte(to) }
+func (t *transport) DecodePeer(to []byte) raft.ServerAddress                  { return raft.ServerAddress(to) }
+func (t *transport) SetHeartbeatHandler(handler func(raft.RPC))               { t.heartbeat = handler }
 
 func (t *transport) AppendEntriesPipeline(raft.ServerID, raft.ServerAddress) (raft.AppendPipeline, error) {
 	return nil, raft.ErrPipelineReplicationNotSupported
 }
 
 func (t *transport) AppendEntries(to raft.ServerID, _ raft.ServerAddress, asked *raft.AppendEntriesRequest, said *raft.AppendEntriesResponse) error {
-	request := *asked
-	return t.call(to, &request, nil, func(answer interface{}) { *said = *answer.(*raft.AppendEntriesResponse) })
+	request := *asked // The library uses it again.
+	return t.call(to, &request, said, nil)
 }
 
 func (t *transport) RequestVote(to raft.ServerID, _ raft.ServerAddress, asked *raft.RequestVoteRequest, said *raft.RequestVoteResponse) error {
-	return t.call(to, asked, nil, func(answer interface{}) { *said = *answer.(*raft.RequestVoteResponse) })
+	return t.call(to, asked, said, nil)
 }
 
-func (t *transport) TimeoutNow(to raft.ServerID, _ raft.ServerAddress, asked *raft.TimeoutNowRequest, _ *raft.TimeoutNowResponse) error {
-	return t.call(to, asked, nil, func(interface{}) {})
+func (t *transport) TimeoutNow(to raft.ServerID, _ raft.ServerAddress, asked *raft.TimeoutNowRequest, said *raft.TimeoutNowResponse) error {
+	return t.call(to, asked, said, nil)
 }
 
 func (t *transport) InstallSnapshot(to raft.ServerID, _ raft.ServerAddress, asked *raft.InstallSnapshotRequest, said *raft.InstallSnapshotResponse, data io.Reader) error {
 	content, _ := ioutil.ReadAll(data)
-	return t.call(to, asked, content, func(answer interface{}) { *said = *answer.(*raft.InstallSnapshotResponse) })
+	return t.call(to, asked, said, content)
 }

@@ -227,11 +227,11 @@ def searched(words: Words, is_stopped: Callable[[], bool]) -> Result:
     try:
         search.run(is_stopped, progress.look)
         seconds = time.monotonic() - begun
-        try:
-            kinds = shrunk_kinds(fleet, search.sorted_kinds())
-            is_through = True
-        except KeyboardInterrupt:
-            kinds = [unshrunk(kind) for kind in search.sorted_kinds()]
+        kinds = shrunk_kinds(fleet, search.sorted_kinds())
+        is_through = True
+    except KeyboardInterrupt:
+        seconds = time.monotonic() - begun
+        kinds = [unshrunk(kind) for kind in search.sorted_kinds()]
     finally:
         progress.end()
         fleet.end(is_through)

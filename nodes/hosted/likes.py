@@ -19,8 +19,12 @@ from .switches import Unknown, switches_of
 LIKE = pathlib.Path(__file__).resolve().parents[1] / "like"
 
 
-class Switched(CallRules, TermRules, ViewRules, ChangeRules, OwnRules):
+class Switched(TermRules, ViewRules, ChangeRules, OwnRules):
     """The plain node with the rules of its switches."""
+
+
+class Calling(CallRules, Switched):
+    """One whose messages may be calls."""
 
 
 def kind_like(name: str) -> type[Node]:
@@ -36,4 +40,5 @@ def kind_like(name: str) -> type[Node]:
 
 
 def kind_with(switches: Iterable[str]) -> type[Switched]:
-    return type("SwitchedNode", (Switched,), {"switches": frozenset(switches)})
+    names = frozenset(switches)
+    return type("SwitchedNode", (Calling if "messages-are-calls" in names else Switched,), {"switches": names})

@@ -30,6 +30,8 @@ from nodes.hosted.process import Process  # noqa: E402
 from nodes.hosted.search import Limits, Search, surprise  # noqa: E402
 
 PLAIN = [sys.executable, str(TOP / "nodes" / "plain")]
+# The time for an answer and for a script: no bug makes a node slow, but a machine may be busy.
+SECONDS, SCRIPT_SECONDS = 60.0, 600.0
 
 
 class Shows(Exception):
@@ -45,6 +47,9 @@ class InPlace:
 
     def give(self, task: object, chunk: object) -> None:
         self.chunks.append(chunk)
+
+    def drop(self) -> None:
+        self.chunks = [[] for _ in self.chunks]
 
     def take(self) -> list[Found]:
         found = []
@@ -73,7 +78,7 @@ def processor_seconds() -> float:
 
 def first_found(bug: str, most: int, compare: str) -> Row:
     """The first script of the default search that shows a bug, but by a promise that any Raft breaks in clusters joined by hand."""
-    process = Process([*PLAIN, "--bug", bug] if bug else PLAIN)
+    process = Process([*PLAIN, "--bug", bug] if bug else PLAIN, SECONDS, SCRIPT_SECONDS)
     comparison = Comparison()
     try:
         aspects = strictest(process, comparison) if compare == "auto" else frozenset(compare.split(","))

@@ -303,7 +303,13 @@ def message_in(parts: Parts) -> Wired:
     return message
 
 
+# Parts of a state that nodes may be without.
+OPTIONAL = ("vote", "lead", "commit", "applied", "content", "config")
+
+
 def state_in(parts: Parts, without: frozenset[str]) -> State:
+    if missing := [name for name in OPTIONAL if name not in parts.value and name not in without]:
+        raise Wrong(f"parts of {parts.path} are missing, and not in `without`: {', '.join(missing)}")
     numbers = (parts.number(name, needed=name not in without) for name in ("vote", "lead", "commit", "applied"))
     role, term = parts.word("role", ROLES), parts.number("term", needed=True)
     vote, lead, commit, applied = numbers

@@ -66,6 +66,7 @@ class CallRules(Ruled):
     def __init__(self, *given: Any) -> None:
         self.members: dict[int, Member] = {}
         self.left: list[Member] = []  # of earlier leaderships, which still call
+        self.gone: dict[int, int] = {}  # the calls at members that were removed, with the ticks at which they were
         self.commits_sent: dict[int, int] = {}
         super().__init__(*given)
 
@@ -108,7 +109,7 @@ class CallRules(Ruled):
     # A leader's calls
 
     def lead_on(self) -> None:
-        self.members, waiting = {}, self.postponed
+        self.members, self.gone, waiting = {}, {}, self.postponed
         super().lead_on()
         if waiting:
             self.start_transfer(waiting)
@@ -131,6 +132,7 @@ class CallRules(Ruled):
             member = self.members.pop(id)
             if self.are_calls() and member.is_free():
                 self.go_on(member)
+            self.gone[member.call] = self.ticks
 
     def append(self, body: Body) -> bool:
         done = super().append(body)
@@ -191,6 +193,8 @@ class CallRules(Ruled):
             return self.role == "candidate" and m.context == self.asked and self.asked_ticks < MOST_TICKS
         if m.kind == "MsgTimeoutNowResp":
             return m.context == self.handed
+        if m.kind == "MsgAppResp" and m.term > self.term and self.ticks - self.gone.get(m.context, -MOST_TICKS) < MOST_TICKS:
+            return self.role == "leader"
         member = self.members.get(m.sender) if self.role == "leader" else None
         return member is not None and m.context == (member.beat if m.kind == "MsgHeartbeatResp" else member.call)
 
@@ -218,7 +222,7 @@ class CallRules(Ruled):
 
     def is_undisturbed(self, m: Message) -> bool:
         is_it = super().is_undisturbed(m)
-        if is_it and self.are_calls():
+        if is_it and self.are_calls() and not self.on("known-leader-refuses"):
             self.send("MsgVoteResp", m.sender, refused=True)
         return is_it
 

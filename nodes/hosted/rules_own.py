@@ -43,13 +43,20 @@ class OwnRules(Ruled):
         return frozenset(("applied", "content")) if self.on("applied-when-saved") and self.restored else frozenset()
 
     def send(self, kind: str, to: int, **parts: Any) -> None:
+        if kind == "MsgTimeoutNow" and self.on("transfer-needs-whole-log"):
+            parts |= {"index": self.last(), "log_term": self.last_term()}
         is_at_once = self.on("own-answers-at-once") or self.on("own-vote-at-once") and kind != "MsgAppResp"
         if is_at_once and to == self.id and self.is_own:
             return
         waiting = len(self.waiting)
         super().send(kind, to, **parts)
-        if self.on("answers-in-order") and len(self.waiting) > waiting:
+        if to != self.id and len(self.waiting) > waiting and self.is_in_order(self.waiting[-1]):
             self.sent.append(self.waiting.pop())
+
+    def is_in_order(self, m: Message) -> bool:
+        """Whether an answer doesn't wait until all else is sent."""
+        rests = m.kind == "MsgAppResp" and not m.refused and m.index > self.durable
+        return self.on("answers-in-order") or self.on("saved-answers-in-order") and not rests
 
     def ask(self, kind: str, term: int, by_transfer: bool) -> None:
         if self.on("own-answers-at-once") or self.on("own-vote-at-once"):

@@ -1,13 +1,14 @@
 """Rules of campaigns, votes, terms, time, and of what is passed on to a leader."""
 from __future__ import annotations
 
-from plain.config import both
+from plain.config import both, vote_result
 from plain.node import Disk
 from plain.records import Message
 
 from .rules_own import Ruled
 
 FROM_LEADERS = ("MsgApp", "MsgHeartbeat", "MsgSnap")
+ASKING = ("candidate", "precandidate")
 ANSWERS = ("MsgAppResp", "MsgVoteResp", "MsgPreVoteResp", "MsgHeartbeatResp")
 
 
@@ -38,13 +39,15 @@ class TermRules(Ruled):
         return super().answer_older(m)
 
     def count_vote(self, m: Message) -> None:
-        if self.on("refused-candidate-stays") and m.refused and self.role in ("candidate", "precandidate"):
-            self.votes.setdefault(m.sender, False)
+        self.votes.setdefault(m.sender, not m.refused)
+        if self.on("refused-candidate-stays") and vote_result(self.config, self.votes) == "lost":
             return None
         return super().count_vote(m)
 
     def raise_term(self, m: Message) -> None:
         if self.on("heartbeat-answers-have-no-term") and m.kind == "MsgHeartbeatResp":
+            return
+        if self.on("answers-need-their-role") and m.kind in ANSWERS and self.role not in (ASKING if "Vote" in m.kind else ("leader",)):
             return
         if self.on("stale-leader-keeps-term") and m.kind == "MsgAppResp":
             if self.role == "leader":
@@ -56,17 +59,27 @@ class TermRules(Ruled):
             self.lead = lead
 
     def answer_candidate(self, m: Message) -> None:
-        kept = self.lead
+        lead, vote = self.lead, self.vote
+        if self.on("pre-vote-ignores-vote") and m.kind == "MsgPreVote":
+            self.lead = self.vote = 0
+            super().answer_candidate(m)
+            self.lead, self.vote = lead, vote
+            return
         if self.on("lead-is-kept") and self.vote == 0 and m.kind == "MsgVote":
             self.lead = 0
         super().answer_candidate(m)
-        self.lead = kept if self.on("lead-is-kept") else self.lead
+        self.lead = lead if self.on("lead-is-kept") else self.lead
 
     def is_undisturbed(self, m: Message) -> bool:
         if self.on("known-leader-may-ask") and m.sender == self.lead:
             return False
         asks = m.kind in ("MsgVote", "MsgPreVote") and not m.by_transfer and self.lead not in (0, m.sender)
-        return self.on("known-leader-refuses") and asks or super().is_undisturbed(m)
+        if not self.on("known-leader-refuses"):
+            return super().is_undisturbed(m)
+        is_it = asks or super().is_undisturbed(m)
+        if is_it:
+            self.send(f"{m.kind}Resp", m.sender, refused=True)
+        return is_it
 
     def campaign(self, kind: str = "usual") -> None:
         timeout = self.timeout
@@ -155,7 +168,21 @@ class TermRules(Ruled):
         if self.on("transfer-has-term") and self.lead:
             self.sent[-1] = self.sent[-1]._replace(term=self.term)
 
+    def campaign_by_transfer(self, m: Message) -> None:
+        """Told of the last entry of the leader's log, a node may compare it with its own."""
+        is_whole = m.sender == self.lead and (m.index, m.log_term) == (self.last(), self.last_term()) and self.durable == self.last()
+        if self.on("transfer-needs-whole-log") and not is_whole:
+            return self.ignore(m)
+        return super().campaign_by_transfer(m)
+
     def start_transfer(self, m: Message) -> None:
         if self.on("transfer-to-itself-ends") and m.target == self.id and self.transferee and m.target in self.config.voters():
             return self.end_transfer()
+        if self.on("one-transfer-at-a-time") and self.transferee:
+            return self.ignore(m)
+        view = self.views.get(m.target)
+        if view and self.on("transfer-goes-by-sent") and m.target in self.config.voters() - {self.id, self.transferee} and view.next > self.last():
+            self.end_transfer()
+            self.elapsed, self.transferee = 0, m.target
+            return self.send("MsgTimeoutNow", m.target)
         return super().start_transfer(m)

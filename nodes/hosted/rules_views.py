@@ -21,9 +21,9 @@ class ViewRules(Ruled):
         super().lead_on()
 
     def append(self, body: Body) -> bool:
-        """A new leader may send its members an empty append before it has an entry of its term."""
+        """A new leader may send its members an empty append before it has an entry of its term. A lone voter sends none."""
         is_new, self.is_new_leader = self.is_new_leader, False
-        if is_new and self.on("new-leader-asks-first"):
+        if is_new and self.on("new-leader-asks-first") and self.config.voters() != {self.id}:
             self.tell_all()
         return super().append(body)
 
@@ -63,6 +63,11 @@ class ViewRules(Ruled):
 
     def take_beat_answer(self, m: Message) -> None:
         view = self.views.get(m.sender)
+        if view and self.on("heartbeats-append"):
+            waiting, self.is_held = view.waiting, True
+            super().take_beat_answer(m)
+            view.waiting, self.is_held = waiting, False
+            return None
         if view is None or not self.on("full-window-frees"):
             return super().take_beat_answer(m)
         view.active, view.waiting = True, False

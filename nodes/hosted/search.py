@@ -69,13 +69,18 @@ class Search:
             while len(under_way) < AHEAD and self.goes_on(is_stopped):
                 under_way.append(self.give_round())
             for _ in range(under_way.pop(0)):
+                if self.is_over(is_stopped):
+                    self.fleet.drop()
                 for found in self.fleet.take():
                     self.add(found)
             look(self)
 
+    def is_over(self, is_stopped: Callable[[], bool]) -> bool:
+        return time.monotonic() >= self.limits.until or is_stopped()
+
     def goes_on(self, is_stopped: Callable[[], bool]) -> bool:
         has_more = self.limits.most is None or self.numbered < self.limits.most
-        return has_more and time.monotonic() < self.limits.until and not is_stopped()
+        return has_more and not self.is_over(is_stopped)
 
     def give_round(self) -> int:
         """Gives the workers a round; answers in how many chunks."""

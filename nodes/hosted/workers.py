@@ -65,6 +65,7 @@ class Fleet:
         self.workers = [FORKED.Process(target=work, args=(make, self.items, self.results)) for _ in range(jobs)]
         self.name, self.given, self.taken = "", 0, 0
         self.back: dict[int, list[Any]] = {}
+        self.dropped: set[int] = set()
         for worker in self.workers:
             worker.start()
 
@@ -73,11 +74,17 @@ class Fleet:
         self.given += 1
 
     def take(self) -> list[Any]:
-        """The results of the next chunk, in the order in which they were given."""
-        while self.taken not in self.back:
+        """The results of the next chunk, in the order in which they were given; none if it was dropped."""
+        while self.taken not in self.back and self.taken not in self.dropped:
             self.look()
         self.taken += 1
-        return self.back.pop(self.taken - 1)
+        return self.back.pop(self.taken - 1, [])
+
+    def drop(self) -> None:
+        """Takes back the chunks that no worker has begun."""
+        with contextlib.suppress(queue.Empty):
+            while True:
+                self.dropped.add(self.items.get(timeout=LOOK_SECONDS / 4)[0])
 
     def look(self) -> None:
         """Takes one report of a worker, if there is one in time."""
@@ -102,6 +109,8 @@ class Fleet:
             if worker.is_alive():
                 worker.terminate()
                 worker.join(2)
+        # Nobody reads what was given and not begun: this process doesn't wait for that when it ends.
+        self.items.cancel_join_thread()
 
 
 @contextlib.contextmanager

@@ -336,8 +336,11 @@ static json_t *answered(const json_t *call)
 
 int main(int count, char **words)
 {
-    (void)words;
-    shows_all = count > 1;
+    for (int at = 1; at < count; at++) {
+        bool cures = strcmp(words[at], "--cured") == 0;
+        node_is_cured = node_is_cured || cures;
+        shows_all = shows_all || !cures;
+    }
     char *line = NULL;
     size_t room = 0;
     while (getline(&line, &room, stdin) > 0) {

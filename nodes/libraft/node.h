@@ -76,7 +76,12 @@ struct node {
     raft_index shown_stored;
     bool led;
     struct raft_transfer transfer;
+    /* Where the append that is being received ends, or 0. */
+    raft_index compared;
 };
+
+/* Whether acknowledgements end where the append did: docs/FOUND.md, libraft, 1. */
+extern bool node_is_cured;
 
 /* A node that begins with a snapshot, in a term of its own; `members` and `content` are copied. */
 struct node *node_start(raft_id id, raft_term term, raft_index base, raft_term base_term, const struct raft_configuration *members,

@@ -121,7 +121,7 @@ BAD = {
     "floods-errors": flood_errors, "drips": drip, "leaves-child": leave_child, "babbles": said("INFO 1 became leader"), "list": said("[1, 2]"),
     "nothing": said(""), "nested": said("[" * 100_000), "huge-number": said('{"state": ' + "9" * 5000 + "}"), "not-utf8": lambda _: os.write(1, b'{"a": "\xff"}\n'),
     "twice": twice, "errs": said('{"error": "not today"}'), "odd-error": said('{"error": {"a": "\\u0007\\ud800"}}'), "no-state": said("{}"),
-    "lacks-term": state_without("term"), "lacks-ready": state_without("ready"), "text-term": state_with(term="1"), "true-term": state_with(term=True),
+    "lacks-term": state_without("term"), "lacks-ready": state_without("ready"), "lacks-vote": state_without("vote"), "text-term": state_with(term="1"), "true-term": state_with(term=True),
     "negative-commit": state_with(commit=-1), "great-commit": state_with(commit=1 << 63), "float-vote": state_with(vote=1.0), "odd-role": state_with(role="boss"),
     "number-config": state_with(config=5), "text-voters": state_with(config={"voters": ["1"]}), "no-base64": state_with(content="?"),
     "odd-events": lambda answer: print(json.dumps({**answer, "events": [["LOUD", "x"]]}), flush=True),

@@ -3,10 +3,11 @@ from __future__ import annotations
 
 from collections.abc import Iterator
 
-from nodes.hosted.likes import kind_with
+from nodes.hosted.likes import LIKE, kind_with
 from nodes.hosted.script import Step, blocks_of
 from nodes.hosted.stage import Reference
 from nodes.hosted.steps import step_of, steps_above
+from nodes.hosted.switches import switches_of
 from plain.records import Entry, Message, Snapshot
 
 Checks = Iterator[tuple[str, "str | None"]]
@@ -50,6 +51,9 @@ def part_calls() -> Checks:
     yield "a call without an answer fails after two ticks", is_equal(pending(ran(CALLS, *silent, "tick-heartbeat 1", "process-ready 1"), 2)[-2:], [("MsgApp", 1, 11), ("MsgHeartbeat", 0, 0)])
     late = ran(CALLS, *silent, "deliver-msgs 2", "process-ready 2", "deliver-msgs 1")
     yield "its late answer counts for nothing", is_equal(late.nodes[1].commit, 11)
+    hashicorp = tuple(switches_of((LIKE / "hashicorp.txt").read_text()))
+    gone = ran(hashicorp, *two, "campaign 2", "propose-conf-change 1 | r2", "process-ready 1", "deliver-msgs 2", "process-ready 2", "deliver-msgs 1")
+    yield "a later term in the answer of a member that was removed ends the lead", is_equal((gone.nodes[1].role, gone.nodes[1].term), ("follower", 1))
     handed = (*THREE, "transfer-leadership from=1 to=2", "process-ready 1")
     counts = [len(ran(CALLS, *handed, *more, "propose 1 a").nodes[1].entries_from(11)) for more in ((), ("deliver-msgs drop=(2)",))]
     yield "a transfer is over once its request is lost", is_equal(counts, [1, 2])
@@ -92,6 +96,8 @@ def part_leaders_of_libraries() -> Checks:
     yield "transfer-refused", is_equal([len(ran(switches, *at_follower).network.pending) for switches in ((), ("transfer-refused",))], [1, 0])
     alone = ran(("lone-voter-leads",), "add-nodes 1 voters=1 index=10").nodes[1]
     yield "lone-voter-leads", is_equal((alone.role, alone.term, len(alone.entries_from(11))), ("leader", 0, 1))
+    learned = ran(("lone-voter-leads", "new-leader-asks-first"), "add-nodes 2 voters=1 learners=2 index=10", "process-ready 1")
+    yield "and asks nobody first", is_equal(pending(learned, 2), [("MsgApp", 1, 10)])
     again = ("add-nodes 3 voters=(1,2,3) index=10 prevote=true", "campaign 1", "process-ready 1", "deliver-msgs 2", "process-ready 2", "deliver-msgs 1", "campaign 1")
     yield "candidate-asks-once", is_equal([ran(switches, *again).nodes[1].role for switches in ((), ("candidate-asks-once",))], ["precandidate", "candidate"])
     new = ("add-nodes 2 voters=(1,2) index=10", "campaign 1", *["process-ready 1", "deliver-msgs 2", "process-ready 2", "deliver-msgs 1"], "process-ready 1")
@@ -102,6 +108,22 @@ def part_leaders_of_libraries() -> Checks:
     waits = ("add-nodes 2 voters=(1,2) index=10", "campaign 1", *["process-ready 1", "deliver-msgs 2", "process-ready 2", "deliver-msgs 1"], "tick-heartbeat 1", "process-ready 1")
     appends = [[kind for kind, *_ in pending(ran(switches, *waits), 2)].count("MsgApp") for switches in ((), ("heartbeats-append",))]
     yield "heartbeats-append", is_equal(appends, [1, 2])
+    asked = ("add-nodes 2 voters=(1,2) index=10 prevote=true", "campaign 2", "process-ready 2", "deliver-msgs 1", "process-ready 1", "deliver-msgs 2", "process-ready 2")
+    asks = ("deliver-msgs drop=(1)", "campaign 1", "process-ready 1", "deliver-msgs 2", "process-ready 2")
+    refused = [[m.refused for m in ran(switches, *asked, *asks).network.pending if m.kind == "MsgPreVoteResp"] for switches in ((), ("pre-vote-ignores-vote",))]
+    yield "pre-vote-ignores-vote", is_equal(refused, [[True], [False]])
+    handed = ("add-nodes 2 voters=(1,2) index=10", "campaign 1", "stabilize", "propose 1 a", "process-ready 1", "deliver-msgs drop=(2)", "transfer-leadership from=1 to=2", "process-ready 1")
+    sent = [[kind for kind, *_ in pending(ran(switches, *handed), 2)] for switches in ((), ("transfer-goes-by-sent",))]
+    yield "transfer-goes-by-sent", is_equal(sent, [["MsgApp"], ["MsgTimeoutNow"]])
+    granted = ("add-nodes 3 voters=(1,2,3) index=10", "campaign 1", "process-ready 1", "deliver-msgs 2", "campaign 2", "process-ready 2")
+    kinds = [[m.kind for m in ran(switches, *granted).network.pending if m.sender == 2] for switches in ((), ("saved-answers-in-order",))]
+    yield "saved-answers-in-order", is_equal(kinds, [["MsgVote", "MsgVote", "MsgVoteResp"], ["MsgVoteResp", "MsgVote", "MsgVote"]])
+    begun = ("propose 1 a", "process-ready 1", "deliver-msgs 2", "campaign 2", "process-ready 2")
+    unsaved = ran(("saved-answers-in-order",), *THREE, *begun)
+    yield "unless it waits for entries", is_equal([m.kind for m in unsaved.network.pending if m.sender == 2], ["MsgVote", "MsgVote", "MsgAppResp"])
+    twice = (*THREE, "transfer-leadership from=1 to=2", "transfer-leadership from=1 to=3", "process-ready 1")
+    told = [[m.to for m in ran(switches, *twice).network.pending if m.kind == "MsgTimeoutNow"] for switches in ((), ("one-transfer-at-a-time",))]
+    yield "one-transfer-at-a-time", is_equal(told, [[2, 3], [2]])
 
 
 PARTS = [part_calls, part_changes_of_libraries, part_logs_of_libraries, part_leaders_of_libraries]

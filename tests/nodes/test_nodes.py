@@ -185,6 +185,7 @@ WRONG = [
     ("nothing", None, 'no JSON: ""'), ("nested", None, "no JSON"), ("huge-number", None, "no JSON"), ("not-utf8", None, "no JSON"),
     ("twice", None, "it said what it wasn't asked"), ("errs", None, "error: not today"), ("odd-error", None, "error: {"),
     ("no-state", "campaign", "state is missing"), ("lacks-term", "campaign", "state.term is missing"), ("lacks-ready", "campaign", "state.ready is missing"),
+    ("lacks-vote", "campaign", "parts of state are missing, and not in `without`: vote"),
     ("text-term", "campaign", 'state.term: "1" is not a number'), ("true-term", "campaign", "state.term: true is not a number"),
     ("negative-commit", "campaign", "state.commit: -1 is not a number"), ("great-commit", "campaign", "is not a number from 0"),
     ("float-vote", "campaign", "state.vote: 1.0 is not a number"), ("odd-role", "campaign", 'state.role: "boss" is not one of'),
@@ -243,7 +244,7 @@ def part_starting() -> Checks:
         ("no-such-command-here", "not found"), ("echo '{\"name\": \"x\", \"protocol\": 1, \"without\": [\"gravity\"]}'; sleep 9", "is not something that nodes may be without"),
         ("echo '{\"protocol\": 1}'; sleep 9", "name is missing"), ("cat", "name is missing"),
     ]:
-        for name, words in (("run", f"{TOP}/examples/tour"), ("explore", "--count 3 --jobs 2")):
+        for name, words in (("run", f"{TOP}/examples/tour"), ("explore", "--count 3 --jobs 2"), ("switches", "--count 3 --jobs 2")):
             output, errors, status = tool(name, "--with", command, *words.split())
             yield f"{name} --with {command}", None if status == 4 and wanted in errors and "Traceback" not in errors else f"{status} {output} {errors}"
 
@@ -393,6 +394,10 @@ def part_first() -> Checks:
         switches.write_text(block_of("own-answers-at-once   we count our own vote when we give it"))
         output, _, _ = tool("run", "--with", TOP / "nodes/first", "--like", switches, TOP / "examples/tour")
         yield "its switch", None if "14 scripts, 14 without a difference" in output and "promise" not in output else output
+        output, errors, status = tool("switches", "--with", TOP / "nodes/first", "--count", 8, "--jobs", JOBS)
+        found, known = output.splitlines(), {line.split()[0] for line in switches.read_text().splitlines()}
+        yield "nodes/switches finds them", None if status == 0 and {line.split()[0] for line in found[:-1]} == known else output + errors
+        yield "and counts", None if re.fullmatch(r"# Of 8 scripts \d agree without these switches, and 8 with them\.", found[-1]) else output
 
 
 def part_without() -> Checks:
@@ -426,6 +431,8 @@ def part_switches() -> Checks:
     yield "lists differ", None if len({frozenset(switches_of((LIKE / f"etcd-{version}.txt").read_text())) for version in ("3.4", "3.5")}) == 2 else "they don't"
     output, _, status = tool("run", "--with", PLAIN, "--like", "etcd-3.5", TOP / "examples" / "tour")
     yield "a switched reference differs from the plain node", None if status == 1 and "role candidate for leader after campaign at a follower" in output else output
+    _, errors, status = tool("switches", "--with", PLAIN, "--like", "/nowhere")
+    yield "nodes/switches with a list that isn't there", None if status == 2 and "known are etcd-3.4" in errors else errors
     for words, wanted in [(["--like", "/nowhere"], "known are etcd-3.4, etcd-3.5"), (["--accepted", "/nowhere"], "No such file")]:
         _, errors, status = tool("run", "--with", PLAIN, *words, TOP / "examples" / "tour")
         yield f"{words[0]} of nothing", None if status == 2 and wanted in errors else errors

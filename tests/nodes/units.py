@@ -8,6 +8,7 @@ import json
 import pathlib
 import re
 import subprocess
+import sys
 import tempfile
 from collections.abc import Iterator, Sequence
 from typing import Callable
@@ -441,6 +442,39 @@ def part_memory() -> Checks:
         yield "a folder that can't be", is_equal(results(explored(plain, numbers, folder=files[0] / "below")), results(first))
 
 
+# Gives a worker that is busy more than a pipe takes, takes back what isn't begun or not, and ends.
+FLEET = """
+import sys, time
+sys.path.insert(0, sys.argv[1])
+from nodes.hosted.workers import Fleet
+
+class Busy:
+    class process:
+        name = "busy"
+        close = staticmethod(lambda: None)
+
+def work(worker, item):
+    time.sleep(float(sys.argv[3]))
+    return 1
+
+fleet = Fleet(1, Busy)
+for _ in range(20):
+    fleet.give(work, [bytes(100_000)])
+time.sleep(0.5)
+if sys.argv[2] == "drops":
+    fleet.drop()
+    print([fleet.take() for _ in range(20)].count([1]))
+fleet.end(False)
+"""
+
+
+def part_fleet() -> Checks:
+    """Workers that are given up don't keep the process from ending."""
+    for words, wanted in ((("ends", "60"), ""), (("drops", "2"), "1\n")):
+        done = subprocess.run([sys.executable, "-c", FLEET, str(TOP), *words], capture_output=True, text=True, timeout=50)
+        yield f"a fleet that {words[0]}", is_equal((done.returncode, done.stdout), (0, wanted))
+
+
 def part_known_failures() -> Checks:
     """What comes after a call that fails as one knows is asked at once too."""
     failing = [str(TOP / "tests" / "nodes" / "bad_node.py"), "errs", "forget_leader"]
@@ -462,5 +496,5 @@ def part_known_failures() -> Checks:
 
 UNITS: list[Callable[[], Checks]] = [
     part_steps, part_network, part_restarts, part_between, part_reads, part_limits, part_promises_of_restarts, part_alone, part_excused, part_exceptions, part_other_switches, part_shrinking, part_children,
-    part_at_once, part_digest, part_memory, part_known_failures, *SWITCHED,
+    part_at_once, part_digest, part_memory, part_fleet, part_known_failures, *SWITCHED,
 ]
