@@ -22,7 +22,7 @@ TESTS = TOP / "tests"
 MOST_PROBLEMS = 3
 MOST_SHOWN = 2000
 # What a test may fail with.
-FAILURES = (AssertionError, OSError, ValueError, LookupError, RuntimeError, queue.Empty, subprocess.SubprocessError, tarfile.TarError)
+FAILURES = (AssertionError, OSError, EOFError, ValueError, LookupError, RuntimeError, queue.Empty, subprocess.SubprocessError, tarfile.TarError)
 
 
 class NotHere(Exception):

@@ -14,8 +14,9 @@ SMALL = "log-level debug\n----\nno\n"
 STOPPED = "the script is not run from here on: an editor waits for 4,000,000 steps; raftbench check runs it all"
 NOT_RUN = {"code": -32803, "message": "the run of this script was stopped"}
 CANCELLED = {"code": -32800, "message": "the request was cancelled"}
-# Processor seconds. A run that stops takes some two; a program without a proof eighty. A letter runs nothing.
-MOST_RUN, MOST_LETTER = 160.0, 3.0
+# Processor seconds. A run that stops takes some two; by a program without a proof, which checks each step, eighty. A letter runs nothing.
+MOST_RUN = 160.0 if PROGRAM.parent.name == "unproved" else 5.0
+MOST_LETTER = 3.0
 
 
 def heads_to_and_fro() -> list[str]:

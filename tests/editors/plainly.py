@@ -91,15 +91,17 @@ def is_new_error(block: Any, output: Any) -> bool:
 
 
 def accepting(text: str, first: int | None = None, last: int | None = None) -> Any:
-    """Of the directives that stand among some lines, or of all: the script with what came, and how many of them expect another output then.
-    None where the text is no script."""
+    """Of the directives that stand among some lines, or of all up to the first new error: the script with what came, and how many of them expect
+    another output then. None where the text is no script."""
     if (found := read(text)) is None:
         return None
     script, heads = found
-    blocks, count = [], 0
+    blocks, count, stopped = [], 0, False
     for block, output, (head, _, behind) in zip(script.blocks, run_quickly(script), extents(text, script, heads)):
-        is_among = first is None or head <= last and first < behind
-        if is_among and block.expected != output and not is_new_error(block, output):
+        is_among = not stopped if first is None else head <= last and first < behind
+        if block.expected != output and is_new_error(block, output):
+            stopped = True
+        elif is_among and block.expected != output:
             block, count = block._replace(expected=output), count + 1
         blocks.append(block)
     return Script(tuple(blocks), script.tail), count

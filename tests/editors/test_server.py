@@ -498,6 +498,22 @@ def accepted_by_check(_edits: int) -> Iterator[str]:
                 yield f"{text!r}: {made!r}, and due is {due!r}"
 
 
+def below_a_new_error(_edits: int) -> Iterator[str]:
+    """Below a new error lines are accepted where they are asked for, beside the error's correction too; where all are, none is."""
+    text = "log-lvel info\n----\nok\n\nlog-level info\n----\nno\n"
+    asked = [(0, 0, ["Replace with log-level"]), (0, 5, ["Replace with log-level", "Expect what came"]), (4, 5, ["Expect what came"])]
+    with Client(PROGRAM) as client:
+        client.begin()
+        client.send(opened(URI, text))
+        client.receive()
+        for number, (first, last, titles) in enumerate(asked):
+            start, end = ({"line": line, "character": 0} for line in (first, last))
+            told = answer_of(client, number, "codeAction", range={"start": start, "end": end}, context={"diagnostics": []})
+            if (got := [it["title"] for it in told]) != titles:
+                yield f"{first} to {last}: {got}, and due is {titles}"
+            yield from other_actions(text, start, end, "utf-16-le", told)
+
+
 def slips_are_mended(_edits: int) -> Iterator[str]:
     """A directive inside an expectation or input, and input that nobody reads: each is warned of, nothing is accepted, and the quick fixes, one
     after another, make the script that was meant."""
@@ -667,7 +683,7 @@ def by_the_meta_model(_edits: int) -> Iterator[str]:
         yield from (f"{name}: {it}" for it in metamodel.faults(model, talk) if not OWN_CAPABILITY.match(it))
 
 
-FUNCTIONS: list[Callable[[int], Iterator[str]]] = [in_neovim, in_vscode, in_monaco, by_the_meta_model, one_byte_at_a_time, cut_off, no_message, reader_that_goes, many_documents, too_many_documents, bounds.bounded_runs, bounds.cancelled_requests, bounds.versions_that_go_back, other_texts, ends_of_lines, sizes, want_of_memory, refused_allocations, random_edits, editing_lists, what_came, folds, outlines, formatted, completed, questions, hover_shows_reasons, wrong_words, missing_index, questions_between_changes, accepted_by_check, slips_are_mended, later_mismatches]
+FUNCTIONS: list[Callable[[int], Iterator[str]]] = [in_neovim, in_vscode, in_monaco, by_the_meta_model, one_byte_at_a_time, cut_off, no_message, reader_that_goes, many_documents, too_many_documents, bounds.bounded_runs, bounds.cancelled_requests, bounds.versions_that_go_back, other_texts, ends_of_lines, sizes, want_of_memory, refused_allocations, random_edits, editing_lists, what_came, folds, outlines, formatted, completed, questions, hover_shows_reasons, wrong_words, missing_index, questions_between_changes, accepted_by_check, below_a_new_error, slips_are_mended, later_mismatches]
 
 
 def results(word: str) -> Iterator[Result]:

@@ -25,7 +25,7 @@ from plain.script import Fault
 from plain.session import Session, Talk, run
 from tests.editors.client import framed, unframed
 from tests.harness import PROGRAM, TESTS, Result
-from tests.page.program import FORMAT
+from tests.page.program import FORMAT, without_remarks
 from tests.page.scripts import page_of
 
 # The output, the errors and the status; a call of the program, which gives what is wrong with it.
@@ -135,6 +135,12 @@ def compared(name: str, words: list[str], given: bytes, wanted: Callable[[], Ans
     return difference(name, answer(words, given, around), wanted())
 
 
+def compared_page(name: str, data: bytes) -> str | None:
+    """The same of a page, but for what it says of others of its rows."""
+    output, errors, status = answer(["page", "-"], data)
+    return difference(name, (without_remarks(output), errors, status), wanted_page(data))
+
+
 def wanted_run(mode: str, data: bytes) -> Answer:
     try:
         output, status = run(data, mode)
@@ -185,7 +191,7 @@ def cut_scripts(room: Room) -> Iterator[Call]:
     for n in range(len(SCRIPT) + 1):
         for mode in ("run", "rewrite"):
             yield partial(compared, f"{mode} of {n} bytes", [mode, "-"], SCRIPT[:n], partial(wanted_run, mode, SCRIPT[:n]))
-        yield partial(compared, f"the page of {n} bytes", ["page", "-"], SCRIPT[:n], partial(wanted_page, SCRIPT[:n]))
+        yield partial(compared_page, f"the page of {n} bytes", SCRIPT[:n])
 
 
 def cut_conversations(room: Room) -> Iterator[Call]:

@@ -28,7 +28,16 @@ HTML = ("The elements of a page.", "page.html", {
     "BETWEEN": "From behind the rows up to the code.",
     "END": "What stands behind the code.",
 })
-STYLE = ("The style of a page.", "page.css", {"STYLE": "The style."})
+# The styles in their order, each with what it is about.
+STYLES = {
+    "style": "The colours of a page, its header and what all of its parts share",
+    "script_style": "The style of a page's script",
+    "picture_style": "The style of a page's picture",
+    "logs_style": "The style of the logs of a page, side by side",
+    "after_style": "The style of what stands after the chosen directive",
+    "narrow_style": "The style of a page on a narrow screen",
+    "paper_style": "The style of a page on paper",
+}
 IMPORT = re.compile(r'^import \{[^}]*\} from "\./(\w+\.js)";\n', re.MULTILINE)
 # Comments that have types: on lines of their own, and before an expression.
 TYPES = re.compile(r"^[ \t]*/\*\*.*?\*/\n|/\*\*.*?\*/ ?", re.MULTILINE | re.DOTALL)
@@ -44,8 +53,9 @@ def hash_of(text: str) -> str:
     return "'sha256-" + base64.b64encode(hashlib.sha256(text.encode()).digest()).decode() + "'"
 
 
-def style() -> str:
-    return "\n" + text_of("page.css")
+def styles() -> list[str]:
+    """The parts of the page's style, in their order."""
+    return ["\n" + text_of(f"{name}.css") for name in STYLES]
 
 
 def modules() -> list[str]:
@@ -74,14 +84,14 @@ def codes() -> list[str]:
 
 def elements() -> list[str]:
     """The parts of the page's own elements: those around the style, the rows and the code."""
-    policy = f"default-src 'none'; style-src {hash_of(style())}; script-src {hash_of(''.join(codes()))}; base-uri 'none'; form-action 'none'"
+    policy = f"default-src 'none'; style-src {hash_of(''.join(styles()))}; script-src {hash_of(''.join(codes()))}; base-uri 'none'; form-action 'none'"
     return re.split("{style}|{steps}|{code}", text_of("page.html").replace("{policy}", policy))
 
 
 def parts() -> tuple[str, str]:
     """What stands before the JSON text, and what stands after it."""
     head, body, between, end = elements()
-    return head + style() + body, between + "".join(codes()) + end
+    return head + "".join(styles()) + body, between + "".join(codes()) + end
 
 
 # As sources
@@ -109,7 +119,8 @@ def constant_of(module: str) -> str:
 def order() -> str:
     """Which constants are before the rows and which are after them, in order."""
     names = [constant_of(module) for module in modules()]
-    uses = sorted(["use crate::frame::html::{BETWEEN, BODY, END, HEAD};", *(f"use crate::frame::{name.lower()}::{name};" for name in [*names, "STYLE"])])
+    style_names = [name.upper() for name in STYLES]
+    uses = sorted(["use crate::frame::html::{BETWEEN, BODY, END, HEAD};", *(f"use crate::frame::{name.lower()}::{name};" for name in [*names, *style_names])])
 
     def function(said: str, name: str, parts: Sequence[str]) -> str:
         facts = " ∷ ".join(f"{part}.now" for part in parts)
@@ -121,14 +132,14 @@ def order() -> str:
         "//! What is around the rows of a page, in parts. Made by `tests/page/assemble.py sources`.\n",
         "ghost use Rattle.std.specs.Prelude.{◌≡◌, ◌∷◌, [], map};\n",
         "\n".join(uses) + "\n",
-        function("The parts before the rows: the page's head with its style, and its elements.", "front", ["HEAD", "STYLE", "BODY"]),
+        function("The parts before the rows: the page's head with its style, and its elements.", "front", ["HEAD", *style_names, "BODY"]),
         function("The parts after them: the page's code.", "back", ["BETWEEN", *names, "END"]),
     ])
 
 
 def library() -> str:
     """The module that has them."""
-    names = sorted(["frame", "html", "style", *(constant_of(module).lower() for module in modules())])
+    names = sorted(["frame", "html", *STYLES, *(constant_of(module).lower() for module in modules())])
     return "\n".join([
         "//! What is around the rows of a page (docs/FORMATS.md): its own elements, its style and its code. Made by `tests/page/assemble.py sources`.",
         "//!",
@@ -141,7 +152,9 @@ def library() -> str:
 
 def sources() -> dict[pathlib.Path, str]:
     """Each source that is made, with its text."""
-    made = {"html": source(HTML, elements()), "style": source(STYLE, [style()]), "frame": order()}
+    made = {"html": source(HTML, elements()), "frame": order()}
+    for (name, about), text in zip(STYLES.items(), styles()):
+        made[name] = source((f"{about}.", f"{name}.css", {name.upper(): "The style."}), [text])
     for module, text in zip(modules(), codes()):
         about = first_comment(module)
         made[module.removesuffix(".js")] = source((about, module, {constant_of(module): "The code."}), [text])

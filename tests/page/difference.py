@@ -137,13 +137,13 @@ def remarks_are_shown(reader: Reader) -> None:
     data = TOUR[0].read_bytes() + b"\ncampain 1\n----\nerror: unknown directive \"campain\"\n\n"
     rows = []
     for row in rows_of(data, "remarks"):
+        if row[0] == "end":
+            rows.append(["warning", 41, "this looks like a directive inside an expectation"])
         rows.append(row)
         if row[:3] == ["ignored", 1, "MsgVoteResp"]:
             rows.append(["reason", "ignored: a candidate has no use for it"])
         if row[0] == "error":
             rows.append(["hint", 'did you mean "campaign"?'])
-        if row == ["step", 39]:
-            rows.append(["warning", 41, "this looks like a directive inside an expectation"])
     before, after = parts()
     reader.open_page(before + json_text(rows) + after, "remarks", "#9")
     lines = reader.browser.value(LINES)

@@ -1,7 +1,11 @@
-"""What `raftbench page` writes, byte for byte beside the page that is made of the plain bench's rows, and how it ends: as `run` does."""
+"""What `raftbench page` writes, byte for byte beside the page that is made of the plain bench's rows, and how it ends: as `run` does. The plain
+bench knows no reasons, hints and warnings: they are those of `trace` and `check`.
+"""
 from __future__ import annotations
 
+import json
 import pathlib
+import re
 import subprocess
 import tempfile
 import time
@@ -15,6 +19,22 @@ from tests.page.plain_steps import DIRECTIVES, EVENTS_TOO
 FORMAT = EVENTS_TOO
 FAILED = b"raftbench: input or output failed\n"
 MOST_SECONDS = 120
+# A row that says something about others.
+REMARK = re.compile(rb',\n(\["(?:reason|hint|warning)",.*?\])(?=,\n|\]\n)')
+SLIPS = b"""campain 1
+----
+error: unknown directive "campain"
+
+add-nodes 2 voters=(1,2) index=10
+----
+ok
+
+campaign 1
+raft-state
+----
+INFO 1 became candidate at term 1
+campaign 2
+"""
 # Scripts that are refused.
 REFUSED = {
     "BadLine": b"add-nodes =x\n----\n",
@@ -42,9 +62,14 @@ def put(room: str | pathlib.Path, name: str, data: bytes) -> pathlib.Path:
     return path
 
 
+def without_remarks(page: bytes) -> bytes:
+    """A page without the rows that the plain bench doesn't know."""
+    return REMARK.sub(b"", page)
+
+
 def writes_the_plain_page(what: str, words: Sequence[str | pathlib.Path], given: bytes, page: str, status: int) -> None:
     output, errors, came = answer(["page", *words], given)
-    same(f"the page of {what}", output, page.encode())
+    same(f"the page of {what}", without_remarks(output), page.encode())
     same(f"how the page of {what} ends", (errors, came), (b"", status))
 
 
@@ -54,6 +79,34 @@ def pages_are_those_of_the_plain_rows() -> None:
     with tempfile.TemporaryDirectory() as room:
         for name, (data, status) in scripts.items():
             writes_the_plain_page(name, [put(room, name, data)], b"", page_of(data, name, FORMAT), status)
+
+
+def remarks(data: bytes, room: str) -> list[list[int | str]]:
+    """The rows of a script's page that say something about others."""
+    page = answer(["page", put(room, "remarks.txt", data)])[0]
+    return [json.loads(row) for row in REMARK.findall(page)]
+
+
+def reasons_are_those_of_traces() -> None:
+    with tempfile.TemporaryDirectory() as room:
+        for path in TOUR:
+            trace = answer(["trace", path])[0].decode().splitlines()
+            reasons = [item["reason"] for item in map(json.loads, trace) if "reason" in item]
+            told = [str(text).partition(": ") for name, text in (row[:2] for row in remarks(path.read_bytes(), room)) if name == "reason"]
+            same(f"the reasons of {path.name}", [text for _, _, text in told], reasons)
+            same(f"what {path.name} is told with reasons", {word for word, _, _ in told} - {"ignored", "refused"}, set())
+
+
+def hints_and_warnings_are_those_of_check() -> None:
+    with tempfile.TemporaryDirectory() as room:
+        rows = [row for row in remarks(SLIPS, room) if row[0] != "reason"]
+        lines = answer(["check", "--color", "never", put(room, "remarks.txt", SLIPS)])
+        told = (lines[0] + lines[1]).decode()
+    same("the hint", rows[0], ["hint", 'did you mean "campaign"?'])
+    same("whether check gives it", 'did you mean "campaign"?' in told, True)
+    found = [["warning", int(line), text] for line, text in re.findall(r"remarks\.txt:(\d+): warning: (.*)", told)]
+    same("the warnings", rows[1:], found)
+    same("the lines of the warnings", [row[1] for row in rows[1:]], [10, 13])
 
 
 def names_are_told_as_they_are() -> None:
@@ -120,6 +173,7 @@ def rows_of_events_take_little() -> None:
 
 
 WRITTEN = [
-    pages_are_those_of_the_plain_rows, names_are_told_as_they_are, every_changes_no_page, refusals_are_those_of_run, full_devices_are_told,
-    readers_that_go_away_are_told, rows_of_events_take_little, twenty_thousand_directives_are_written,
+    pages_are_those_of_the_plain_rows, reasons_are_those_of_traces, hints_and_warnings_are_those_of_check, names_are_told_as_they_are,
+    every_changes_no_page, refusals_are_those_of_run, full_devices_are_told, readers_that_go_away_are_told, rows_of_events_take_little,
+    twenty_thousand_directives_are_written,
 ]

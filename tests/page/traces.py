@@ -20,7 +20,7 @@ from tests.page.scripts import FULL, HOSTILE, LOST, MANY, NOBODY, RARE, SELF, TO
 
 Event = dict[str, Any]
 # The rows of a page that say something else than what happens.
-OTHERS = {"output", "mismatch", "expected", "node", "config", "log", "entry", "view", "no-view"}
+OTHERS = {"output", "mismatch", "same", "expected", "actual", "node", "config", "log", "entry", "view", "no-view"}
 # The members that an object has, in their order; `?` follows those that some don't have.
 MEMBERS = ["directive", "line", "node?", "message?", "type?", "from?", "to?", "term?", "text", "reason?", "row?"]
 # More messages than are kept on their way.

@@ -18,8 +18,8 @@ MAN = TOP / "share/man/man1/raftbench.1"
 # What takes a spacing, and what takes none.
 FILED = ["rewrite", "run", "session"]
 COMMANDS = sorted([*FILED, "chart", "check", "directives", "look", "lsp", "page", "trace"])
-OPTIONS = ["--accept", "--accept-errors", "--brief", "--color", "--every", "--filter", "--first", "--force", "--format", "--from", "--help", "--quiet", "--review", "--until",
-           "--verbose", "--version", "--warn", "--why"]
+OPTIONS = ["--accept", "--accept-errors", "--brief", "--color", "--every", "--filter", "--first", "--force", "--format", "--from", "--help", "--quiet", "--review", "--strict",
+           "--until", "--verbose", "--version", "--warn", "--why"]
 DIRECTIVES = re.findall(r"^\| `([a-z-]+)` \|", (TOP / "docs/SCRIPTS.md").read_text().split("\n## Directives\n")[1].split("\n\n| What ")[0], re.M)
 SECTIONS = ["NAME", "SYNOPSIS", "DESCRIPTION", "COMMANDS", "OPTIONS", "EXIT STATUS", "ENVIRONMENT", "FILES", "EXAMPLES", "SEE ALSO"]
 # The files of editors that are all put alike.
@@ -437,10 +437,10 @@ def completes(place: Clone, shell: str) -> None:
 def test_bash_completes_after_an_equals_sign(place: Clone) -> None:
     """bash gives `--color=al` as three words, and `--color=` as two."""
     for given, wanted in (
-        (["--color", "=", "al"], ["always"]), (["--color", "="], ["always", "auto", "never"]), (["--format", "=", "j"], ["json"]),
-        (["--format", "="], ["github", "json", "text"]), (["--filter", "="], []), (["--filter", "=", "s"], []),
+        (["--color", "=", "al"], ["always"]), (["--color", "="], ["always", "auto", "never"]), (["--format", "=", "j"], ["json", "junit"]),
+        (["--format", "="], ["github", "json", "junit", "text"]), (["--filter", "="], []), (["--filter", "=", "s"], []),
         # Where COMP_WORDBREAKS has no =, it is one word.
-        (["--color="], ["--color=always", "--color=auto", "--color=never"]), (["--format=j"], ["--format=json"]), (["--filter=s"], []),
+        (["--color="], ["--color=always", "--color=auto", "--color=never"]), (["--format=j"], ["--format=json", "--format=junit"]), (["--filter=s"], []),
     ):
         assert completed_by_bash(["raftbench", "check", *given], place) == wanted, given
     assert completed_by_bash(["raftbench", "run", "--every", "=", "6"], place) == ["64"]
