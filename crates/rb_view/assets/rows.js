@@ -262,7 +262,7 @@ const READERS = {
     step.pieces?.push({ kind: "actual", count });
   },
   warning({ model }, [line, text]) {
-    const step = model.steps.findLast((it) => it.line <= line);
+    const step = model.steps.filter((it) => it.line <= line).at(-1);
     step?.warnings.push(`line ${line}: ${shown(text)}`);
   },
   hint(reader, [text]) {

@@ -198,7 +198,7 @@ const READERS = {\n\
 \x20   step.pieces?.push({ kind: \"actual\", count });\n\
 \x20 },\n\
 \x20 warning({ model }, [line, text]) {\n\
-\x20   const step = model.steps.findLast((it) => it.line <= line);\n\
+\x20   const step = model.steps.filter((it) => it.line <= line).at(-1);\n\
 \x20   step?.warnings.push(`line ${line}: ${shown(text)}`);\n\
 \x20 },\n\
 \x20 hint(reader, [text]) {\n\
