@@ -1,6 +1,7 @@
 pub mod PrefixLaws
 pub mod RangeLaws
 pub mod HeadLaws
+pub mod PositionLaws
 pub mod SubsequenceLaws
 pub mod ShownLaws
 pub mod HighlightLaws

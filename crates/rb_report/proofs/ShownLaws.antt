@@ -6,8 +6,10 @@ use Rattle.rb_script.specs.Bytes.{space}
 use Rattle.rb_script.specs.Lines.{Line}
 use Rattle.rb_script.specs.Marks.{is_space}
 use Rattle.rb_report.specs.declared.check.colors.Colors.{Colors}
+use Rattle.rb_report.specs.declared.check.position.DiffPosition.{DiffPosition}
 use Rattle.rb_report.specs.declared.check.side.Side.{Side}
 use Rattle.rb_report.specs.Shown.{last_or, begins_fold, needs_mark, marked, dollar_sign}
+use Rattle.rb_report.specs.Steps.{after_line}
 use Rattle.rb_report.specs.Whys.{told_line, told_lines}
 use Rattle.rb_text.proofs.SentLaws.{drop-get}
 use Rattle.rb_report.proofs.SubsequenceLaws.{two_answers}
@@ -58,9 +60,6 @@ marked_seen line = seen_by line (needs_mark line) refl
 
 -- ---- lines one after another, with the reasons below them
 
-pub told-step : (colors : Colors) (side : Side) (why : List Line) (at i : ℕ) (ls : List Line) (line : Line) → slice_get ls i ≡ Some line
-    → told_lines colors side why (at + i) (drop i ls) ≡ told_line colors side why (at + i) line ++ told_lines colors side why (at + (i + 1)) (drop (i + 1) ls)
-told-step colors side why at i ls line got =
-    let on : at + i + 1 ≡ at + (i + 1) = omega arith in
-    ap (λ (l : List Line). told_lines colors side why (at + i) l) (drop-get ls i line got)
-    ∙ ap (λ (n : ℕ). told_line colors side why (at + i) line ++ told_lines colors side why n (drop (i + 1) ls)) on
+pub told-step : (colors : Colors) (side : Side) (why : List Line) (p : DiffPosition) (i : ℕ) (ls : List Line) (line : Line) → slice_get ls i ≡ Some line
+    → told_lines colors side why p (drop i ls) ≡ told_line colors side why p line ++ told_lines colors side why (after_line side p line) (drop (i + 1) ls)
+told-step colors side why p i ls line got = ap (λ (l : List Line). told_lines colors side why p l) (drop-get ls i line got)

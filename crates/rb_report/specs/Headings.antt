@@ -1,11 +1,9 @@
 -- The place of a directive in a file, and what is shown of it. (This project's.)
 use Rattle.std.specs.Prelude.{ℕ, List, ◌++◌, codes, decimal}
 use Rattle.rb_script.specs.Lines.{Line}
-use Rattle.rb_report.specs.declared.check.colors.Colors.{Colors}
 use Rattle.rb_report.specs.declared.check.colors.Colors.TheVariants.{Off}
 use Rattle.rb_report.specs.declared.check.side.Side.TheVariants.{Both}
-use Rattle.rb_report.specs.Diffs.{on_side, diff_text, parts_within}
-use Rattle.rb_report.specs.Folds.{folded_text}
+use Rattle.rb_report.specs.Diffs.{on_side, diff_text}
 
 -- the file and a line of it, which counts from 1
 abbrev pub place_text : List ℕ → ℕ → List ℕ
@@ -14,10 +12,6 @@ place_text path line = path ++ (codes ":" ++ (decimal line ++ codes ": "))
 -- where the head of a directive begins, and the head
 abbrev pub heading_text : List ℕ → ℕ → List ℕ → List ℕ
 heading_text path line head = place_text path line ++ head
-
--- a mismatch, with as many cells left to compare it, and a hint; an empty line separates it from what follows
-abbrev pub mismatch_text : ℕ → Colors → List ℕ → ℕ → List ℕ → List Line → List Line → List ℕ → List ℕ
-mismatch_text left colors path line head expected output hint = heading_text path line head ++ (codes "\n" ++ (folded_text colors (parts_within left expected output) ++ (hint ++ codes "\n")))
 
 -- a directive with its output, and a hint
 abbrev pub directive_text : List ℕ → ℕ → List ℕ → List Line → List ℕ → List ℕ

@@ -6,11 +6,11 @@ pub mod Subsequences
 pub mod Tables
 pub mod Diffs
 pub mod Highlights
+pub mod Steps
 pub mod Folds
 pub mod Heads
 pub mod Hints
 pub mod Headings
-pub mod Steps
 pub mod Notices
 pub mod Briefs
 pub mod Refusals

@@ -20,10 +20,12 @@ mod laws;
 mod left;
 mod line;
 mod line_range;
+mod line_view;
 mod longest;
 mod mismatch;
 mod outcome;
 mod piece;
+mod position;
 mod refusal;
 mod side;
 mod status;
@@ -44,19 +46,19 @@ pub use head::put_head;
 pub use hint::Hint;
 pub use laws::{
     colors_go_around, comparing_is_bounded, counts_are_sums, diffs_are, diffs_are_longest,
-    diffs_tell_both_sides, highlights_are_least, highlights_need_colors,
+    diffs_are_their_stretches, diffs_tell_both_sides, highlights_are_least, highlights_need_colors,
     highlights_take_nothing_away, lines_are_told_apart, reasons_stand_between,
     same_lines_are_plain, sentences_are_distinct, shown_diffs_tell_both_sides,
     statuses_are_greatest,
 };
 pub use left::put_left;
 pub use line_range::LineRange;
-pub use mismatch::{put_directive, put_explained_mismatch, put_mismatch, put_note};
+pub use mismatch::{MismatchView, Sides, put_directive, put_mismatch, put_note};
 pub use outcome::Outcome;
 pub use refusal::{fault_line, put_refusal, sentence};
 pub use side::Side;
 pub use status::Status;
-pub use steps::{put_explained_run, put_run};
+pub use steps::put_run;
 pub use stretch::{StretchObserver, show_diff};
 pub use table::{MAX_CELLS, MAX_SCRIPT_CELLS, Table};
 pub use totals::{Totals, put_totals};

@@ -4,3 +4,5 @@ pub mod MismatchLaws
 pub mod AcceptLaws
 pub mod DoubtLaws
 pub mod WhyLaws
+pub mod WholeLaws
+pub mod SpliceLaws

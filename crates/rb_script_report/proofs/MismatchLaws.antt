@@ -23,7 +23,7 @@ no_block = record { lead = []; head = []; input = []; expected = [] }
 
 -- what is shown with the d-th of these
 abbrev nth : ℕ → Colors → List ℕ → List ℕ → List PlainBlock → List (List Line) → ℕ → List ℕ
-nth left colors path heads bs os d = mismatch_shown left colors path (slice_index heads d) (slice_index_or bs d no_block) (slice_index_or os d [])
+nth left colors path heads bs os d = mismatch_shown left false colors path (slice_index heads d) (slice_index_or bs d no_block) (slice_index_or os d [])
 
 -- and what it leaves
 abbrev nth_left : ℕ → List PlainBlock → List (List Line) → ℕ → ℕ
@@ -77,7 +77,7 @@ shown-differing left colors ls path (line ∷ heads) (b ∷ bs) (o ∷ os) p e n
     let here : 0 ≡ p - p = omega arith in
     test_cases (same_lines b.expected o)
     (λ yes. let unnamed : is_unexpected ls line o ≡ false = second (same_lines b.expected o) (is_unexpected ls line o) yes none.0 in rw (yes, unnamed) (rest left))
-    (λ no. rw no (ap (λ (t : List ℕ). mismatch_shown left colors path line b o ++ t) (rest (left_after left b.expected o))
+    (λ no. rw no (ap (λ (t : List ℕ). mismatch_shown left false colors path line b o ++ t) (rest (left_after left b.expected o))
     ∙ ap (λ (d : ℕ). nth left colors path (line ∷ heads) (b ∷ bs) (o ∷ os) d ++ from_places (nth_left left (b ∷ bs) (o ∷ os) d) colors path (line ∷ heads) (b ∷ bs) (o ∷ os) p ks) here))
 
 pub shown-mismatches : (colors : Colors) (ls : List Line) (path heads : List ℕ) (s : PlainScript) → length heads ≡ length s.blocks → NoneIsNamed ls heads s.blocks (outputs s)

@@ -1,8 +1,8 @@
 -- Reasons of a script's outputs: where they stand, and what they add.
-use Rattle.std.proofs.Common.{◌≡◌, ◌∙◌, ℕ, ◌+◌, ◌-◌, ◌≤◌, Bool, true, false, cond, List, [], ◌∷◌, ◌++◌, length, drop, Option, Some, unwrap_or, refl, ap, sym, arith}
+use Rattle.std.proofs.Common.{◌≡◌, ◌∙◌, ℕ, ◌+◌, ◌-◌, ◌≤◌, ◌<◌, get_or, Bool, true, false, cond, List, [], ◌∷◌, ◌++◌, length, drop, Option, Some, unwrap_or, refl, ap, sym, arith}
 use Rattle.std.specs.Prelude.{slice_get, slice_index_or}
 use Rattle.std.proofs.lemmas.List.{drop_all}
-use Rattle.std.proofs.lemmas.Option.{slice_get_past, get_or_from_slice_get}
+use Rattle.std.proofs.lemmas.Option.{slice_get-get_or, slice_get_past, get_or_from_slice_get}
 use Rattle.rb_script.specs.Lines.{Line}
 use Rattle.rb_script.specs.Script.{PlainBlock, PlainScript}
 use Rattle.rb_script.specs.Edits.{block_at_place}
@@ -16,7 +16,7 @@ use Rattle.rb_report.proofs.AddedLaws.{Adds, as_it_is, both_add, either_adds, ad
 use Rattle.rb_script_report.specs.declared.view.Detail.{Detail}
 use Rattle.rb_script_report.specs.declared.view.Detail.TheVariants as shown
 use Rattle.rb_script_report.specs.Checked.{head_of, hint_of, head_line, match_shown, mismatch_shown, left_next, left_behind, all_shown, mismatch_at, brief_at, of_first, checked_text}
-use Rattle.rb_script_report.specs.Whys.{why_at, told_differing, told_match, told_directive, all_told, told_at, told_text}
+use Rattle.rb_script_report.specs.Whys.{why_at, told_differing, told_match, told_directive, all_told, told_at, told_alone, left_on, told_text}
 use Rattle.rb_script_report.proofs.EachLaws.{more, done}
 use Rattle.rb_script_report.proofs.ShownLaws.{head_line-is}
 
@@ -57,9 +57,14 @@ at-place one whys heads s i line b o w head block output why =
     ∙ ap (λ (k : ℕ). one (head_line heads (i + 1)) (block_at_place s.blocks (i + 1)) (slice_index_or (outputs s) (i + 1 - 1) []) (why_at whys k)) on
 
 -- the mismatch at an index
-pub told-is : (left : ℕ) (colors : Colors) (path : List ℕ) (whys : List (List Line)) (heads : List ℕ) (s : PlainScript) (i line : ℕ) (b : PlainBlock) (o w : List Line)
-    → slice_get heads i ≡ Some line → slice_get s.blocks i ≡ Some b → slice_get (outputs s) i ≡ Some o → w ≡ why_at whys i → told_differing left colors path line b o w ≡ told_at left colors path whys heads s (i + 1)
-told-is left colors path whys heads s = at-place (told_differing left colors path) whys heads s
+pub told-is : (left : ℕ) (grouped : Bool) (colors : Colors) (path : List ℕ) (whys : List (List Line)) (heads : List ℕ) (s : PlainScript) (i line : ℕ) (b : PlainBlock) (o w : List Line)
+    → slice_get heads i ≡ Some line → slice_get s.blocks i ≡ Some b → slice_get (outputs s) i ≡ Some o → w ≡ why_at whys i → told_differing left grouped colors path line b o w ≡ told_at left grouped colors path whys heads s (i + 1)
+told-is left grouped colors path whys heads s = at-place (told_differing left grouped colors path) whys heads s
+
+-- the directive at an index
+pub alone-is : (left : ℕ) (all : Bool) (colors : Colors) (ls : List Line) (path : List ℕ) (whys : List (List Line)) (heads : List ℕ) (s : PlainScript) (i line : ℕ) (b : PlainBlock) (o w : List Line)
+    → slice_get heads i ≡ Some line → slice_get s.blocks i ≡ Some b → slice_get (outputs s) i ≡ Some o → w ≡ why_at whys i → told_directive left all colors ls path line b o w ≡ told_alone left all colors ls path whys heads s (i + 1)
+alone-is left all colors ls path whys heads s = at-place (told_directive left all colors ls path) whys heads s
 
 -- what it leaves
 pub left-is : (left : ℕ) (s : PlainScript) (i : ℕ) (b : PlainBlock) (o : List Line) → slice_get s.blocks i ≡ Some b → slice_get (outputs s) i ≡ Some o → left_after left b.expected o ≡ left_behind left s (i + 1)
@@ -71,16 +76,47 @@ left-is left s i b o block output =
     ∙ ap (λ (ls : List Line). left_after left (block_at_place s.blocks (i + 1)).expected ls) (sym (get_or_from_slice_get (outputs s) i o [] output))
     ∙ ap (λ (k : ℕ). left_after left (block_at_place s.blocks (i + 1)).expected (slice_index_or (outputs s) k [])) on
 
+-- what a directive leaves
+pub on-is : (left : ℕ) (s : PlainScript) (i : ℕ) (b : PlainBlock) (o : List Line) → slice_get s.blocks i ≡ Some b → slice_get (outputs s) i ≡ Some o → left_next left b o ≡ left_on left s (i + 1)
+on-is left s i b o block output =
+    let on : i ≡ i + 1 - 1 = omega arith in
+    let none : PlainBlock = record { lead = []; head = []; input = []; expected = [] } in
+    ap (λ (c : PlainBlock). left_next left c o) (sym (get_or_from_slice_get s.blocks i b none block))
+    ∙ ap (λ (k : ℕ). left_next left (slice_index_or s.blocks k none) o) on
+    ∙ ap (λ (ls : List Line). left_next left (block_at_place s.blocks (i + 1)) ls) (sym (get_or_from_slice_get (outputs s) i o [] output))
+    ∙ ap (λ (k : ℕ). left_next left (block_at_place s.blocks (i + 1)) (slice_index_or (outputs s) k [])) on
+
 -- ---- what is shown of a directive
 
-pub leaves : (left : ℕ) (s : PlainScript) (i : ℕ) (b : PlainBlock) (o : List Line) → slice_get s.blocks i ≡ Some b → slice_get (outputs s) i ≡ Some o → same_lines b.expected o ≡ false → left_behind left s (i + 1) ≡ left_next left b o
-leaves left s i b o block output other = sym (left-is left s i b o block output) ∙ sym (ap (λ (t : Bool). cond t left (left_after left b.expected o)) other)
+pub told-differing : (left : ℕ) (all : Bool) (colors : Colors) (ls : List Line) (path : List ℕ) (line : ℕ) (b : PlainBlock) (o w : List Line) → same_lines b.expected o ≡ false
+    → told_differing left all colors path line b o w ≡ told_directive left all colors ls path line b o w
+told-differing left all colors ls path line b o w other = sym (ap (λ (t : Bool). cond t (told_match all ls path line b o w) (told_differing left all colors path line b o w)) other)
 
-pub shows-mismatch : (left : ℕ) (all : Bool) (colors : Colors) (ls : List Line) (path : List ℕ) (whys : List (List Line)) (heads : List ℕ) (s : PlainScript) (i line : ℕ) (b : PlainBlock) (o w : List Line)
-    → slice_get heads i ≡ Some line → slice_get s.blocks i ≡ Some b → slice_get (outputs s) i ≡ Some o → w ≡ why_at whys i → same_lines b.expected o ≡ false
-    → told_at left colors path whys heads s (i + 1) ≡ told_directive left all colors ls path line b o w
-shows-mismatch left all colors ls path whys heads s i line b o w head block output why other =
-    sym (told-is left colors path whys heads s i line b o w head block output why) ∙ sym (ap (λ (t : Bool). cond t (told_match all ls path line b o w) (told_differing left colors path line b o w)) other)
+pub told-matching : (left : ℕ) (all : Bool) (colors : Colors) (ls : List Line) (path : List ℕ) (line : ℕ) (b : PlainBlock) (o w : List Line) → same_lines b.expected o ≡ true
+    → told_match all ls path line b o w ≡ told_directive left all colors ls path line b o w
+told-matching left all colors ls path line b o w same = sym (ap (λ (t : Bool). cond t (told_match all ls path line b o w) (told_differing left all colors path line b o w)) same)
+
+pub leaves-after : (left : ℕ) (b : PlainBlock) (o : List Line) → same_lines b.expected o ≡ false → left_after left b.expected o ≡ left_next left b o
+leaves-after left b o other = sym (ap (λ (t : Bool). cond t left (left_after left b.expected o)) other)
+
+pub leaves-all : (left : ℕ) (b : PlainBlock) (o : List Line) → same_lines b.expected o ≡ true → left ≡ left_next left b o
+leaves-all left b o same = sym (ap (λ (t : Bool). cond t left (left_after left b.expected o)) same)
+
+-- one directive on, by its place
+pub place-step : (left : ℕ) (all : Bool) (colors : Colors) (ls : List Line) (path : List ℕ) (whys : List (List Line)) (heads : List ℕ) (s : PlainScript) (i : ℕ) → i < length heads → i < length s.blocks → i < length (outputs s)
+    → all_told left all colors ls path whys i (drop i heads) (drop i s.blocks) (drop i (outputs s))
+    ≡ told_alone left all colors ls path whys heads s (i + 1) ++ all_told (left_on left s (i + 1)) all colors ls path whys (i + 1) (drop (i + 1) heads) (drop (i + 1) s.blocks) (drop (i + 1) (outputs s))
+place-step left all colors ls path whys heads s i in_heads in_blocks in_outputs =
+    let none : PlainBlock = record { lead = []; head = []; input = []; expected = [] } in
+    let line : ℕ = get_or heads i 0 in
+    let b : PlainBlock = get_or s.blocks i none in
+    let o : List Line = get_or (outputs s) i [] in
+    let head : slice_get heads i ≡ Some line = slice_get-get_or heads i 0 in_heads in
+    let block : slice_get s.blocks i ≡ Some b = slice_get-get_or s.blocks i none in_blocks in
+    let output : slice_get (outputs s) i ≡ Some o = slice_get-get_or (outputs s) i [] in_outputs in
+    told-step left all colors ls path whys heads s.blocks (outputs s) i line b o (why_at whys i) head block output refl
+    ∙ ap (λ (t : List ℕ). t ++ all_told (left_next left b o) all colors ls path whys (i + 1) (drop (i + 1) heads) (drop (i + 1) s.blocks) (drop (i + 1) (outputs s))) (alone-is left all colors ls path whys heads s i line b o (why_at whys i) head block output refl)
+    ∙ ap (λ (n : ℕ). told_alone left all colors ls path whys heads s (i + 1) ++ all_told n all colors ls path whys (i + 1) (drop (i + 1) heads) (drop (i + 1) s.blocks) (drop (i + 1) (outputs s))) (on-is left s i b o block output)
 
 -- ---- what reasons add, and that none add nothing
 
@@ -91,9 +127,9 @@ match-adds : (all : Bool) (ls : List Line) (path : List ℕ) (line : ℕ) (b : P
 match-adds true ls path line b output why = run-adds path line (head_of b) output why (hint_of b output)
 match-adds false ls path line b output why = as_it_is (match_shown false ls path line b output)
 
-differing-adds : (left : ℕ) (colors : Colors) (path : List ℕ) (line : ℕ) (b : PlainBlock) (output : List Line) (whys : List (List Line)) (i : ℕ)
-    → Adds (whys ≡ []) (mismatch_shown left colors path line b output) (told_differing left colors path line b output (why_at whys i))
-differing-adds left colors path line b output whys i = adds_where (nothing_at whys i) (mismatch-adds left colors path line (head_of b) b.expected output (why_at whys i) (hint_of b output))
+differing-adds : (left : ℕ) (grouped : Bool) (colors : Colors) (path : List ℕ) (line : ℕ) (b : PlainBlock) (output : List Line) (whys : List (List Line)) (i : ℕ)
+    → Adds (whys ≡ []) (mismatch_shown left grouped colors path line b output) (told_differing left grouped colors path line b output (why_at whys i))
+differing-adds left grouped colors path line b output whys i = adds_where (nothing_at whys i) (mismatch-adds left grouped colors path line (head_of b) b.expected output (why_at whys i) (hint_of b output))
 
 all-add : (left : ℕ) (all : Bool) (colors : Colors) (ls : List Line) (path : List ℕ) (whys : List (List Line)) (i : ℕ) (heads : List ℕ) (bs : List PlainBlock) (os : List (List Line))
     → Adds (whys ≡ []) (all_shown left all colors ls path heads bs os) (all_told left all colors ls path whys i heads bs os)
@@ -101,12 +137,12 @@ all-add left all colors ls path whys i [] bs os = as_it_is []
 all-add left all colors ls path whys i (line ∷ heads) [] os = as_it_is []
 all-add left all colors ls path whys i (line ∷ heads) (b ∷ bs) [] = as_it_is []
 all-add left all colors ls path whys i (line ∷ heads) (b ∷ bs) (o ∷ os) =
-    both_add (either_adds (same_lines b.expected o) (adds_where (nothing_at whys i) (match-adds all ls path line b o (why_at whys i))) (differing-adds left colors path line b o whys i))
+    both_add (either_adds (same_lines b.expected o) (adds_where (nothing_at whys i) (match-adds all ls path line b o (why_at whys i))) (differing-adds left all colors path line b o whys i))
     (all-add (left_next left b o) all colors ls path whys (i + 1) heads bs os)
 
-first-adds : (colors : Colors) (path : List ℕ) (whys : List (List Line)) (heads : List ℕ) (s : PlainScript) (ks : List ℕ) → Adds (whys ≡ []) (of_first (mismatch_at MAX_SCRIPT_CELLS colors path heads s) ks) (of_first (told_at MAX_SCRIPT_CELLS colors path whys heads s) ks)
+first-adds : (colors : Colors) (path : List ℕ) (whys : List (List Line)) (heads : List ℕ) (s : PlainScript) (ks : List ℕ) → Adds (whys ≡ []) (of_first (mismatch_at MAX_SCRIPT_CELLS colors path heads s) ks) (of_first (told_at MAX_SCRIPT_CELLS false colors path whys heads s) ks)
 first-adds colors path whys heads s [] = as_it_is []
-first-adds colors path whys heads s (k ∷ ks) = differing-adds MAX_SCRIPT_CELLS colors path (head_line heads k) (block_at_place s.blocks k) (slice_index_or (outputs s) (k - 1) []) whys (k - 1)
+first-adds colors path whys heads s (k ∷ ks) = differing-adds MAX_SCRIPT_CELLS false colors path (head_line heads k) (block_at_place s.blocks k) (slice_index_or (outputs s) (k - 1) []) whys (k - 1)
 
 pub told-adds : (wanted : Detail) (colors : Colors) (ls : List Line) (path : List ℕ) (whys : List (List Line)) (heads : List ℕ) (s : PlainScript) → Adds (whys ≡ []) (checked_text wanted colors ls path heads s) (told_text wanted colors ls path whys heads s)
 told-adds shown.Differing colors ls path whys heads s = all-add MAX_SCRIPT_CELLS false colors ls path whys 0 heads s.blocks (outputs s)

@@ -10,10 +10,10 @@ use Rattle.rb_report.specs.declared.check.colors.Colors.{Colors}
 use Rattle.rb_report.specs.declared.check.table.TheConstants.{MAX_SCRIPT_CELLS}
 use Rattle.rb_report.specs.Diffs.{left_after}
 use Rattle.rb_report.specs.Heads.{head_text}
-use Rattle.rb_report.specs.Headings.{mismatch_text, note_text}
-use Rattle.rb_report.specs.Steps.{run_text}
+use Rattle.rb_report.specs.Headings.{note_text}
+use Rattle.rb_report.specs.Whys.{mismatch_text, run_text}
 use Rattle.rb_report.specs.Briefs.{brief_text}
-use Rattle.rb_report.specs.Hints.{hint_text}
+use Rattle.rb_report.specs.Hints.{PlainHint, hint_text, unknown}
 use Rattle.rb_report.specs.Suggestions.{suggested}
 use Rattle.rb_script_report.specs.declared.view.Detail.{Detail}
 use Rattle.rb_script_report.specs.declared.view.Detail.TheVariants as shown
@@ -23,13 +23,17 @@ use Rattle.rb_script_report.specs.Errors.{first_line, is_error, is_unexpected}
 abbrev pub head_of : PlainBlock → List ℕ
 head_of b = head_text (directive_of b)
 
--- the word that was probably meant, where the output is an error and there is a near one
-abbrev pub hint_of : PlainBlock → List Line → List ℕ
-hint_of b output = if is_error output then hint_text (suggested (directive_of b)) else []
+-- what was probably meant, where the output is an error
+abbrev pub meant_by : PlainBlock → List Line → PlainHint
+meant_by b output = if is_error output then suggested (directive_of b) else unknown
 
--- a block that expects other lines than the output, with so many cells left to compare them
-abbrev pub mismatch_shown : ℕ → Colors → List ℕ → ℕ → PlainBlock → List Line → List ℕ
-mismatch_shown left colors path line b output = mismatch_text left colors path line (head_of b) b.expected output (hint_of b output)
+-- on a line of its own
+abbrev pub hint_of : PlainBlock → List Line → List ℕ
+hint_of b output = hint_text (meant_by b output)
+
+-- a block that expects other lines than the output, step by step or not, with so many cells left to compare them
+abbrev pub mismatch_shown : ℕ → Bool → Colors → List ℕ → ℕ → PlainBlock → List Line → List ℕ
+mismatch_shown left grouped colors path line b output = mismatch_text left grouped colors path line (head_of b) b.expected output (hint_of b output)
 
 -- a block that expects its output: an error that isn't said to be expected is named, and where all are shown the output is shown step by step
 abbrev pub match_shown : Bool → List Line → List ℕ → ℕ → PlainBlock → List Line → List ℕ
@@ -37,10 +41,10 @@ match_shown all ls path line b output =
     if all then run_text path line (head_of b) output (hint_of b output)
     else (if is_unexpected ls line output then note_text path line (head_of b) (first_line output) (hint_of b output) else [])
 
--- one directive, whose head begins on the line, of the lines of a script
+-- one directive, whose head begins on the line, of the lines of a script: where all are shown they are shown step by step
 abbrev pub directive_shown : ℕ → Bool → Colors → List Line → List ℕ → ℕ → PlainBlock → List Line → List ℕ
 directive_shown left all colors ls path line b output =
-    if same_lines b.expected output then match_shown all ls path line b output else mismatch_shown left colors path line b output
+    if same_lines b.expected output then match_shown all ls path line b output else mismatch_shown left all colors path line b output
 
 -- how many cells are left then: what matches takes none
 abbrev pub left_next : ℕ → PlainBlock → List Line → ℕ
@@ -67,7 +71,7 @@ head_line heads k = slice_index heads (k - 1)
 
 -- the mismatch at a place
 abbrev pub mismatch_at : ℕ → Colors → List ℕ → List ℕ → PlainScript → ℕ → List ℕ
-mismatch_at left colors path heads s k = mismatch_shown left colors path (head_line heads k) (block_at_place s.blocks k) (slice_index_or (outputs s) (k - 1) [])
+mismatch_at left colors path heads s k = mismatch_shown left false colors path (head_line heads k) (block_at_place s.blocks k) (slice_index_or (outputs s) (k - 1) [])
 
 -- how many cells are left after it
 abbrev pub left_behind : ℕ → PlainScript → ℕ → ℕ

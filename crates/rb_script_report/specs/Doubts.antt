@@ -82,10 +82,13 @@ warnings_from takes output ls part at (suc left) =
 abbrev pub takes_input : PlainBlock → Bool
 takes_input b = bytes_eq (directive_of b).name (name_text ProposeConfChange)
 
--- of a block whose head begins on the line, up to the last of its lines: nothing, where it has no input and expects its output
+-- of a block, which is so many lines from an index on: nothing, where it has no input and expects its output
+abbrev pub warnings_in : List Line → ℕ → ℕ → PlainBlock → List Line → List Warning
+warnings_in ls start count b output = if same_lines b.expected output && length b.input == 0 then [] else warnings_from (takes_input b) output ls Head start count
+
+-- of a block whose head begins on the line, up to the last of its lines
 abbrev pub block_warnings : List Line → ℕ → ℕ → PlainBlock → List Line → List Warning
-block_warnings ls line last b output =
-    if same_lines b.expected output && length b.input == 0 then [] else warnings_from (takes_input b) output ls Head (line - 1) (last - (line - 1))
+block_warnings ls line last b output = warnings_in ls (line - 1) (last - (line - 1)) b output
 
 -- the line above the next head; if there is none, the last
 abbrev pub last_line : List Line → List ℕ → ℕ

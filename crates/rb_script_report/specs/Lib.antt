@@ -6,3 +6,5 @@ pub mod Doubts
 pub mod Whys
 pub mod Layouts
 pub mod Refusing
+pub mod WholeLines
+pub mod Splices

@@ -78,9 +78,9 @@ whys_of s = whys_from empty (directives s)
 abbrev pub why_at : List (List Line) → ℕ → List Line
 why_at whys i = unwrap_or (slice_get whys i) []
 
--- a block that expects other lines than the output, with so many cells left to compare them
-abbrev pub told_differing : ℕ → Colors → List ℕ → ℕ → PlainBlock → List Line → List Line → List ℕ
-told_differing left colors path line b output why = told_mismatch left colors path line (head_of b) b.expected output why (hint_of b output)
+-- a block that expects other lines than the output, step by step or not, with so many cells left to compare them
+abbrev pub told_differing : ℕ → Bool → Colors → List ℕ → ℕ → PlainBlock → List Line → List Line → List ℕ
+told_differing left grouped colors path line b output why = told_mismatch left grouped colors path line (head_of b) b.expected output why (hint_of b output)
 
 -- a block that expects its output
 abbrev pub told_match : Bool → List Line → List ℕ → ℕ → PlainBlock → List Line → List Line → List ℕ
@@ -89,7 +89,7 @@ told_match all ls path line b output why =
 
 abbrev pub told_directive : ℕ → Bool → Colors → List Line → List ℕ → ℕ → PlainBlock → List Line → List Line → List ℕ
 told_directive left all colors ls path line b output why =
-    if same_lines b.expected output then told_match all ls path line b output why else told_differing left colors path line b output why
+    if same_lines b.expected output then told_match all ls path line b output why else told_differing left all colors path line b output why
 
 -- directives in order, from an index on: each has the cells that those before it left
 abbrev pub all_told : ℕ → Bool → Colors → List Line → List ℕ → List (List Line) → ℕ → List ℕ → List PlainBlock → List (List Line) → List ℕ
@@ -100,18 +100,29 @@ all_told left all colors ls path whys i (line ∷ heads) (b ∷ bs) (output ∷ 
     told_directive left all colors ls path line b output (why_at whys i) ++ all_told (left_next left b output) all colors ls path whys (i + 1) heads bs os
 
 -- the mismatch at a place
-abbrev pub told_at : ℕ → Colors → List ℕ → List (List Line) → List ℕ → PlainScript → ℕ → List ℕ
-told_at left colors path whys heads s k =
-    told_differing left colors path (head_line heads k) (block_at_place s.blocks k) (slice_index_or (outputs s) (k - 1) []) (why_at whys (k - 1))
+abbrev pub told_at : ℕ → Bool → Colors → List ℕ → List (List Line) → List ℕ → PlainScript → ℕ → List ℕ
+told_at left grouped colors path whys heads s k =
+    told_differing left grouped colors path (head_line heads k) (block_at_place s.blocks k) (slice_index_or (outputs s) (k - 1) []) (why_at whys (k - 1))
 
--- the directive at a place, shown alone: what differs, with so many cells left to compare it, or else its output
-abbrev pub told_alone : ℕ → Colors → List Line → List ℕ → List (List Line) → List ℕ → PlainScript → ℕ → List ℕ
-told_alone left colors ls path whys heads s k =
-    told_directive left true colors ls path (head_line heads k) (block_at_place s.blocks k) (slice_index_or (outputs s) (k - 1) []) (why_at whys (k - 1))
+-- the directive at a place, with so many cells left to compare it
+abbrev pub told_alone : ℕ → Bool → Colors → List Line → List ℕ → List (List Line) → List ℕ → PlainScript → ℕ → List ℕ
+told_alone left all colors ls path whys heads s k =
+    told_directive left all colors ls path (head_line heads k) (block_at_place s.blocks k) (slice_index_or (outputs s) (k - 1) []) (why_at whys (k - 1))
+
+-- all directives are shown, with their outputs
+abbrev pub is_all : Detail → Bool
+is_all shown.Differing = false
+is_all shown.All = true
+is_all shown.First = false
+is_all shown.Brief = false
+
+-- how many cells the directive at a place leaves
+abbrev pub left_on : ℕ → PlainScript → ℕ → ℕ
+left_on left s k = left_next left (block_at_place s.blocks k) (slice_index_or (outputs s) (k - 1) [])
 
 -- a script of these lines, whose heads begin on those
 abbrev pub told_text : Detail → Colors → List Line → List ℕ → List (List Line) → List ℕ → PlainScript → List ℕ
 told_text shown.Differing colors ls path whys heads s = all_told MAX_SCRIPT_CELLS false colors ls path whys 0 heads s.blocks (outputs s)
 told_text shown.All colors ls path whys heads s = all_told MAX_SCRIPT_CELLS true colors ls path whys 0 heads s.blocks (outputs s)
-told_text shown.First colors ls path whys heads s = of_first (told_at MAX_SCRIPT_CELLS colors path whys heads s) (mismatches s)
+told_text shown.First colors ls path whys heads s = of_first (told_at MAX_SCRIPT_CELLS false colors path whys heads s) (mismatches s)
 told_text shown.Brief colors ls path whys heads s = of_first (brief_at path heads s) (mismatches s)

@@ -1,10 +1,10 @@
-//! Which outputs are to be accepted.
+//! Which outputs are accepted.
 
 ghost use Rattle.std.specs.Prelude.{◌≡◌, ◌==◌};
 ghost use Rattle.std.specs.List.{list_any};
 ghost use Rattle.rb_script_report.specs.Accepting.{is_picked};
 
-/// Which outputs are to be accepted.
+/// Which outputs are accepted.
 #[derive(Clone, Copy, Debug)]
 pub struct AcceptOptions<'a> {
     /// The directives.
@@ -13,10 +13,10 @@ pub struct AcceptOptions<'a> {
     pub errors: bool,
 }
 
-/// The directives whose outputs are to be accepted.
+/// The directives whose outputs are accepted.
 #[derive(Clone, Copy, Debug)]
 pub enum AcceptFilter<'a> {
-    /// Each.
+    /// All directives.
     All,
     /// Those whose heads begin on these lines.
     Heads(&'a [usize]),
@@ -24,7 +24,7 @@ pub enum AcceptFilter<'a> {
     UpTo(usize),
 }
 
-/// Whether the directive is picked whose head begins on the line.
+/// Whether the directive with its head on this line is picked.
 pub fn is_picked(picked: AcceptFilter<'_>, line: usize) -> bool
     ensures { result ≡ is_picked picked.entry line }
 {

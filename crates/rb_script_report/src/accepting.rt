@@ -22,7 +22,7 @@ use rb_script::{Block, ChunkedList, Lines, Sink, WriteFault};
 use std::alloc::{AllocError, Global};
 use std::rc::Rc;
 
-// Whether the output is an error that is to be left.
+// Whether the output is a new error, and new errors are not accepted.
 fn is_refused(errors: bool, text: &Lines, line: usize, output: &Lines) -> bool
     ensures { result ≡ (not errors && is_unexpected text.now line output.now) }
 {
@@ -43,7 +43,7 @@ fn is_left(
         && !is_same(block.expected(), output)
 }
 
-// The directive's expected lines after that.
+// The directive's expected lines after its output is accepted or left.
 fn accepted_lines(
     wanted: AcceptOptions<'_>,
     text: &Lines,
@@ -59,24 +59,7 @@ fn accepted_lines(
     output.try_copy()
 }
 
-// The same, after others.
-fn push_accepted(
-    alloc: Global,
-    all: &mut Vec<Rc<Lines>>,
-    wanted: AcceptOptions<'_>,
-    text: &Lines,
-    line: usize,
-    block: &Block,
-    output: &Lines,
-) -> Result<(), AllocError>
-    ensures { IfOk result (λ _. values all.new.items ≡ values all.old.items ++ accepted_lines wanted.entry text.now line block.now output.now ∷ []) }
-{
-    let lines = accepted_lines(wanted, text, line, block, output)?;
-    all.push(Rc::new(alloc, lines)?)?;
-    Ok(())
-}
-
-/// The expected lines of each directive after that.
+/// The expected lines of each directive after outputs are accepted.
 pub(crate) fn accepted_of<M: Machine>(
     alloc: Global,
     session: &Session<M>,
@@ -92,7 +75,8 @@ pub(crate) fn accepted_of<M: Machine>(
         let block = block_at(session, i);
         let output = output_at(session, i);
         let line = number_at(heads, i);
-        push_accepted(alloc, &mut all, wanted, text, line, block, output)?;
+        let lines = accepted_lines(wanted, text, line, block, output)?;
+        all.push(Rc::new(alloc, lines)?)?;
     }
     ChunkedList::of(alloc, all)
 }
@@ -154,8 +138,8 @@ fn put_if_left<S: Sink>(
     put_left(sink, place, &block.directive(), first_line(output))
 }
 
-/// Writes which outputs of the session's script, which has this layout, are picked and not accepted. On a failure of the writer what was written is
-/// a beginning of the text.
+/// Names the outputs of the session's script that are picked but not accepted. The layout is the script's. If the writer fails, a beginning of the
+/// text was written.
 pub fn put_left_errors<M: Machine, S: Sink>(
     sink: &mut S,
     session: &Session<M>,

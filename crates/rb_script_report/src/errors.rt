@@ -23,7 +23,7 @@ fn begins_error(line: &[u8]) -> bool
     &line[..line.len().min(7)] == ERROR
 }
 
-/// The first line of an output, which always has one; without lines an empty one.
+/// The first line of an output. If there is none, it is empty.
 pub fn first_line(output: &Lines) -> &[u8]
     ensures { result.now ≡ first_line output.now }
 {
@@ -46,7 +46,7 @@ fn is_mark(line: &[u8]) -> bool
     trim_blanks(line) == MARK
 }
 
-// Whether the comment is above the first of the lines that is no comment, from so many lines up.
+// Whether the comment is among the comments and empty lines above this line.
 fn says_error(text: &Lines, line: usize) -> bool
     ensures { result ≡ says_error text.now line }
 {
@@ -64,7 +64,7 @@ fn says_error(text: &Lines, line: usize) -> bool
     false
 }
 
-/// Whether the output is an error that no comment above the head on this line expects. The lines are the script's.
+/// Whether the output is an error that no comment above the head on this line expects. `text` is the script's lines.
 pub fn is_unexpected(text: &Lines, line: usize, output: &Lines) -> bool
     ensures { result ≡ is_unexpected text.now line output.now }
 {

@@ -2,7 +2,7 @@
 
 use thiserror::Error;
 
-/// Why a script isn't shown, or not whole.
+/// Why a script isn't shown, or only in part.
 #[derive(Clone, Copy, Debug, PartialEq, Eq, Error)]
 pub enum ShowFault {
     /// The writer failed.

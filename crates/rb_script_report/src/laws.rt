@@ -21,23 +21,24 @@ ghost use Rattle.rb_script_report.specs.declared.accept_options.AcceptOptions.{A
 ghost use Rattle.rb_script_report.specs.Accepting.{is_picked, is_left, accepted, left_heads, picked_unnamed};
 ghost use Rattle.rb_script_report.specs.Doubts.{all_warnings, is_called_rightly};
 
-/// Each mismatch is shown once, in order, with the line of its directive, and compared with the cells that those before it left; and nothing else is but errors that aren't said to be expected.
+/// If each error is expected, the report is the mismatches: each once, in order, with the line of its directive, and compared with the
+/// cells that those before it left.
 pub fn mismatches_are_shown()
     ensures { (colors : Colors) (ls : List Line) (path heads : List ℕ) (s : PlainScript) → length heads ≡ length s.blocks → NoneIsNamed ls heads s.blocks (outputs s) → checked_text Differing colors ls path heads s ≡ mismatches_at MAX_SCRIPT_CELLS colors path heads s (mismatches s) }
 {}
 
-/// Nothing is shown of a script without mismatches and errors, unless all is wanted; and nothing is found.
+/// If a script has neither mismatches nor errors, nothing is shown unless all directives are, and the summary is empty.
 pub fn matching_scripts_show_nothing()
     ensures found { (shown : Detail) (ls : List Line) (heads : List ℕ) (s : PlainScript) → IsQuiet shown s → summary_of ls heads s ≡ record { first = None; errors = 0 } }
     ensures shown { (shown : Detail) (colors : Colors) (ls : List Line) (path heads : List ℕ) (s : PlainScript) → IsQuiet shown s → checked_text shown colors ls path heads s ≡ [] }
 {}
 
-/// A report with reasons is the report without, with reasons between, each in a line of its own.
+/// A report with reasons is the report without them, with reasons between its lines, each on a line of its own.
 pub fn reasons_stand_between_outputs()
     ensures { (shown : Detail) (colors : Colors) (ls : List Line) (path : List ℕ) (whys : List (List Line)) (heads : List ℕ) (s : PlainScript) → OnlyAdds (checked_text shown colors ls path heads s) (told_text shown colors ls path whys heads s) }
 {}
 
-/// Without reasons it is the report without.
+/// Without reasons, both definitions give the same report.
 pub fn nothing_is_told_unasked()
     ensures { (shown : Detail) (colors : Colors) (ls : List Line) (path heads : List ℕ) (s : PlainScript) → told_text shown colors ls path [] heads s ≡ checked_text shown colors ls path heads s }
 {}
@@ -57,17 +58,17 @@ pub fn others_stay()
     ensures { (wanted : AcceptOptions) (ls : List Line) (heads : List ℕ) (s : PlainScript) (k line : ℕ) (b : PlainBlock) (output : List Line) → slice_get heads k ≡ Some line → slice_get s.blocks k ≡ Some b → slice_get (outputs s) k ≡ Some output → is_picked wanted.picked line ≡ false → slice_get (accepted wanted ls heads s).blocks k ≡ Some b }
 {}
 
-/// Unless it is asked for, no new error is accepted: its directive's expectation stays.
+/// Unless new errors are accepted too, the directive of a new error keeps its expectation.
 pub fn new_errors_are_left()
     ensures { (wanted : AcceptOptions) (ls : List Line) (heads : List ℕ) (s : PlainScript) (k line : ℕ) (b : PlainBlock) (output : List Line) → wanted.errors ≡ false → slice_get heads k ≡ Some line → slice_get s.blocks k ≡ Some b → slice_get (outputs s) k ≡ Some output → is_unexpected ls line output ≡ true → same_lines b.expected output ≡ false → slice_get (accepted wanted ls heads s).blocks k ≡ Some b }
 {}
 
-/// Nor is anything below the first of them, if no directive is named: it may follow from the error.
+/// If no directive is named, nothing below the first new error is accepted: it may follow from the error.
 pub fn echoes_are_left()
     ensures { (ls : List Line) (heads left : List ℕ) (s : PlainScript) (first k line : ℕ) (b : PlainBlock) (output : List Line) → left_heads (record { picked = All; errors = false }) ls heads s.blocks (outputs s) ≡ first ∷ left → slice_get heads k ≡ Some line → slice_get s.blocks k ≡ Some b → slice_get (outputs s) k ≡ Some output → first < line → slice_get (accepted (record { picked = picked_unnamed false ls heads s; errors = false }) ls heads s).blocks k ≡ Some b }
 {}
 
-/// Where they are asked for, of each directive, each expects its output.
+/// If all directives are picked and new errors are accepted too, each directive expects its output afterwards.
 pub fn errors_are_accepted_on_request()
     ensures { (wanted : AcceptOptions) (ls : List Line) (heads : List ℕ) (s : PlainScript) → wanted.errors ≡ true → wanted.picked ≡ All → length heads ≡ length s.blocks → accepted wanted ls heads s ≡ with_outputs s (outputs s) }
 {}

@@ -1,4 +1,4 @@
-//! Lines that begin as directives do.
+//! Lines that begin with the name of a directive.
 
 ghost use Rattle.std.specs.Prelude.{◌≡◌};
 ghost use Rattle.rb_script_report.specs.Doubts.{begins_with_name, first_of};

@@ -1,4 +1,4 @@
-//! The parts of a block, line by line from the first of its head on.
+//! The parts of a block, line by line, from the first line of its head.
 
 ghost use Rattle.std.specs.Prelude.{◌≡◌};
 ghost use Rattle.rb_script_report.specs.Doubts.{next_part};
@@ -12,7 +12,7 @@ pub(crate) enum BlockPart {
     Head,
     /// It is input, or the line `----` that ends it.
     Input,
-    /// It is below that.
+    /// It is below the line `----`.
     Expected,
 }
 

@@ -1,4 +1,4 @@
-//! The reasons of an output: why nothing came of a message, below the line of it that was printed last.
+//! The reasons of an output: why a message had no effect, below the message's last line.
 
 ghost use Rattle.std.specs.Prelude.{◌≡◌, ◌++◌, [], IfOk, OnOk, None, false};
 ghost use Rattle.rb_texts.specs.declared.reason.Reason.{Reason};
@@ -14,12 +14,12 @@ use rb_texts::{Item, Reason, is_shown, put_reason, reason_of};
 use rb_vocab::Level;
 use std::alloc::{AllocError, Global};
 
-/// The reasons below the lines that a directive prints, while it runs: why nothing came of a message. A line has one at the most, the first. A
-/// reason before all lines is that of the first, which is `ok` then.
+/// The reasons below the lines that a directive prints, collected while it runs: why a message had no effect. A line has at most one reason, the
+/// first. A reason that comes before any line belongs to the first line, which is `ok` then.
 #[derive(Drop)]
 pub struct LineReasons {
     pub level: Level,
-    /// Those of the lines before the last; an empty one is none.
+    /// The reasons of the lines before the last; an empty one means none.
     pub above: Lines,
     /// Whether there is a line, or a reason.
     pub has_begun: bool,
@@ -54,7 +54,7 @@ impl LineReasons {
         }
     }
 
-    /// The reason below each line, in order; an empty one is none.
+    /// The reason below each line, in order; an empty one means none.
     pub fn all(self) -> Result<Lines, AllocError>
         ensures { IfOk result (λ reasons. reasons ≡ all_reasons self) }
     {
@@ -123,7 +123,7 @@ impl<L: RaftLog> Observer<L> for LineReasons {
     }
 }
 
-/// The reasons of the directive at an index, which counts from 0; where there are no more, none is told.
+/// The reasons of the directive at an index, which counts from 0; none if there are fewer.
 pub fn why_at(whys: &[Lines], index: usize) -> Why<'_>
     ensures { reasons_in result ≡ why_at whys.now index }
 {

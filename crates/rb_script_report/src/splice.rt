@@ -3,47 +3,31 @@
 //! All other bytes stay. New lines end as the line `----` above them, and the file ends as it ended. An expectation
 //! in the double form stays in it. This module doesn't promise that the text can be read back: the caller reads it back.
 
-ghost use Rattle.std.specs.Prelude.{◌≡◌, ◌≤◌, IfOk, length};
+ghost use Rattle.std.specs.Prelude.{◌≡◌, ◌<◌, ◌≤◌, ◌+◌, ◌-◌, ◌^◌, ◌||◌, ◌∷◌, ◌++◌, if◌then◌else◌, ℕ, List, [], IfOk, length, drop};
+ghost use Rattle.rb_script.specs.declared.limits.TheConstants.{MAX_SCRIPT};
+ghost use Rattle.rb_script.specs.Lines.{Line};
+ghost use Rattle.rb_script.specs.Marks.{rule};
+ghost use Rattle.rb_script.specs.Runs.{head_of};
+ghost use Rattle.rb_script.specs.Script.{PlainBlock, needs_double};
+ghost use Rattle.rb_script_report.specs.Layouts.{IsLayout};
+ghost use Rattle.rb_script_report.specs.WholeLines.{after_lines, last_end, ended, unended, with_ends};
+ghost use Rattle.rb_script_report.specs.Splices.{IsAbove, lines_above, is_double, lines_of, in_form, expecting_below, replaced, lines_below, spliced_from, spliced};
 
 use crate::answers::{block_at, number_at};
-use crate::part::BlockPart;
+use crate::layout::Layout;
+use crate::put::is_same;
+use crate::whole_lines::{after_lines, is_ended, last_end, split_lines, unended};
 use rb_machine::Machine;
 use rb_replay::Session;
-use rb_script::{Block, ChunkedList, Lines, is_blank, is_rule, next_line, without_returns};
+use rb_script::{Block, ChunkedList, Lines, continues, is_blank, is_rule, next_line};
 use std::alloc::{AllocError, Global};
 
-// The text so far, and the bytes that are left, with the number of their first line.
-#[derive(Drop)]
-struct Splicing<'a> {
-    made: Vec<u8>,
-    rest: &'a [u8],
-    line: usize,
-    // how the last line that was copied ends
-    ending: &'a [u8],
-}
-
-// How the first line of the bytes ends.
-fn first_ending(bytes: &[u8]) -> &[u8] {
-    match next_line(bytes) {
-        Some((line, after)) if after.len() <= bytes.len() => ending_of(
-            line,
-            &bytes[..bytes.len() - after.len()],
-        ),
-        _ => b"\n",
-    }
-}
-
-// The end of the line; if the file ends there, an end of its own.
-fn ending_of<'a>(line: &[u8], whole: &'a [u8]) -> &'a [u8] {
-    if line.len() < whole.len() {
-        &whole[line.len()..]
-    } else {
-        b"\n"
-    }
-}
+// ---- an expectation
 
 // Whether only the double form can show these lines.
-fn needs_double(lines: &Lines) -> bool {
+fn needs_double(lines: &Lines) -> bool
+    ensures { result ≡ needs_double lines.now }
+{
     for i in 0..lines.len() {
         let line = lines.line(i);
         if is_blank(line) || is_rule(line) {
@@ -53,158 +37,224 @@ fn needs_double(lines: &Lines) -> bool {
     false
 }
 
+// Whether the bytes begin with an expectation in the double form.
+fn is_double(bytes: &[u8]) -> bool
+    ensures { result ≡ is_double bytes.now }
+{
+    match next_line(bytes) {
+        Some((line, _)) => is_rule(line),
+        None => false,
+    }
+}
+
+// How many lines an expectation has.
+fn lines_of(is_double: bool, expected: &Lines) -> usize
+    requires { length expected.now + 3 < 2 ^ 64 }
+    ensures { result ≡ lines_of is_double expected.now }
+{
+    if is_double {
+        expected.len() + 3
+    } else {
+        expected.len()
+    }
+}
+
+fn push_bytes(made: &mut Vec<u8>, bytes: &[u8]) -> Result<(), AllocError>
+    ensures { IfOk result (λ _. made.new.items ≡ made.old.items ++ bytes.now) }
+{
+    made.extend_from_slice(bytes)
+}
+
+// Appends a line with an end.
+fn push_line(made: &mut Vec<u8>, end: &[u8], line: &[u8]) -> Result<(), AllocError>
+    ensures { IfOk result (λ _. made.new.items ≡ made.old.items ++ (line.now ++ end.now)) }
+{
+    made.extend_from_slice(line)?;
+    made.extend_from_slice(end)
+}
+
+// Appends lines, each with this end.
+fn push_lines(made: &mut Vec<u8>, end: &[u8], lines: &Lines) -> Result<(), AllocError>
+    ensures { IfOk result (λ _. made.new.items ≡ made.old.items ++ with_ends end.now lines.now) }
+{
+    for i in 0..lines.len() {
+        push_line(made, end, lines.line(i))?;
+    }
+    Ok(())
+}
+
+// Does the same between the lines ---- of the double form.
+fn push_double(made: &mut Vec<u8>, end: &[u8], lines: &Lines) -> Result<(), AllocError>
+    ensures { IfOk result (λ _. made.new.items ≡ made.old.items ++ with_ends end.now (rule ∷ lines.now ++ rule ∷ rule ∷ [])) }
+{
+    push_line(made, end, b"----")?;
+    push_lines(made, end, lines)?;
+    push_line(made, end, b"----")?;
+    push_line(made, end, b"----")?;
+    Ok(())
+}
+
+// Whether the double form is used for these lines.
+fn takes_double(was_double: bool, lines: &Lines) -> bool
+    ensures { result ≡ (was_double || needs_double lines.now) }
+{
+    was_double || needs_double(lines)
+}
+
+// Appends lines in their form, each with this end.
+fn push_form(
+    made: &mut Vec<u8>,
+    end: &[u8],
+    was_double: bool,
+    lines: &Lines,
+) -> Result<(), AllocError>
+    ensures { IfOk result (λ _. made.new.items ≡ made.old.items ++ with_ends end.now (in_form was_double lines.now)) }
+{
+    if takes_double(was_double, lines) {
+        push_double(made, end, lines)
+    } else {
+        push_lines(made, end, lines)
+    }
+}
+
+// Appends the lines up to a line ----. If the file ends there, it gets the end of the line above it.
+fn push_above(made: &mut Vec<u8>, above: &[u8], end: &[u8]) -> Result<(), AllocError>
+    requires { end.now ≡ last_end above.now }
+    ensures { IfOk result (λ _. made.new.items ≡ made.old.items ++ ended above.now) }
+{
+    if is_ended(above) {
+        push_bytes(made, above)
+    } else {
+        push_line(made, end, above)
+    }
+}
+
+// Appends the same, and an expectation below them.
+fn push_expecting(
+    made: &mut Vec<u8>,
+    above: &[u8],
+    was_double: bool,
+    lines: &Lines,
+) -> Result<(), AllocError>
+    ensures { IfOk result (λ _. made.new.items ≡ made.old.items ++ expecting_below above.now was_double lines.now) }
+{
+    let end = last_end(above);
+    push_above(made, above, end)?;
+    push_form(made, end, was_double, lines)?;
+    Ok(())
+}
+
+// The text with an end after its last line, or without it.
+fn ending(text: Vec<u8>, is_ended: bool) -> Vec<u8>
+    ensures { result.items ≡ (if is_ended then text.items else unended text.items) }
+{
+    if is_ended {
+        return text;
+    }
+    let mut text = text;
+    let count = unended(text.as_slice()).len();
+    text.truncate(count);
+    text
+}
+
+// ---- the script
+
+// The text so far, and the bytes that are left, which are below so many lines.
+#[derive(Drop)]
+struct Splicing<'a> {
+    made: Vec<u8>,
+    rest: &'a [u8],
+    passed: usize,
+}
+
 impl<'a> Splicing<'a> {
-    // Skips the next line; none if there is none.
-    fn skip(&mut self) -> Option<&'a [u8]> {
-        match next_line(self.rest) {
-            Some((line, after)) => {
-                self.rest = after;
-                self.line = self.line.saturating_add(1);
-                Some(line)
-            }
-            None => None,
-        }
-    }
-
-    // Copies the next line; none if there is none.
-    fn copy(&mut self) -> Result<Option<&'a [u8]>, AllocError> {
-        let rest = self.rest;
-        let Some(line) = self.skip() else {
-            return Ok(None);
-        };
-        let count = rest.len().saturating_sub(self.rest.len());
-        let whole = &rest[..count.min(rest.len())];
-        self.made.extend_from_slice(whole)?;
-        if line.len() < whole.len() {
-            self.ending = &whole[line.len()..];
-        } else {
-            // A line without an end gets one, since others follow.
-            self.made.extend_from_slice(self.ending)?;
-        }
-        Ok(Some(line))
-    }
-
-    // Copies up to the line of this number.
-    fn copy_to(&mut self, line: usize) -> Result<(), AllocError> {
-        for _ in self.line..line {
-            self.copy()?;
-        }
+    // Goes on below that many lines, and replaces the expectation there.
+    fn replace(&mut self, above: usize, old: &Lines, new: &Lines) -> Result<(), AllocError>
+        requires { above + length old.now + 3 < 2 ^ 64 }
+        ensures made { IfOk result (λ _. self.new.made.items ≡ self.old.made.items ++ replaced (above - self.old.passed) self.old.rest.now new.now) }
+        ensures rest { IfOk result (λ _. self.new.rest.now ≡ after_lines (lines_below (above - self.old.passed) self.old.rest.now old.now) (after_lines (above - self.old.passed) self.old.rest.now)) }
+        ensures passed { IfOk result (λ _. self.new.passed ≡ above + lines_below (above - self.old.passed) self.old.rest.now old.now) }
+    {
+        let (front, from) = split_lines(self.rest, above.saturating_sub(self.passed));
+        let was_double = is_double(from);
+        push_expecting(&mut self.made, front, was_double, new)?;
+        let count = lines_of(was_double, old);
+        self.rest = after_lines(from, count);
+        self.passed = above + count;
         Ok(())
     }
 
-    // Copies from the first line of a head to the line `----` below it.
-    fn copy_front(&mut self) -> Result<(), AllocError> {
-        let mut part = BlockPart::Head;
-        for _ in 0..self.rest.len() {
-            if part == BlockPart::Expected {
-                break;
-            }
-            match self.copy()? {
-                Some(line) => part = part.after(line),
-                None => break,
-            }
-        }
-        Ok(())
-    }
-
-    fn put(&mut self, line: &[u8]) -> Result<(), AllocError> {
-        self.made.extend_from_slice(line)?;
-        self.made.extend_from_slice(self.ending)?;
-        Ok(())
-    }
-
-    fn put_all(&mut self, lines: &Lines) -> Result<(), AllocError> {
-        for i in 0..lines.len() {
-            self.put(lines.line(i))?;
-        }
-        Ok(())
-    }
-
-    // Whether the next line is `----`, with which the double form begins.
-    fn is_double(&self) -> bool {
-        match next_line(self.rest) {
-            Some((line, _)) => is_rule(line),
-            None => false,
-        }
-    }
-
-    // Skips n lines.
-    fn skip_all(&mut self, count: usize) {
-        for _ in 0..count {
-            if self.skip().is_none() {
-                break;
-            }
-        }
-    }
-
-    // Replaces an expectation of n lines by these.
-    fn replace(&mut self, count: usize, lines: &Lines) -> Result<(), AllocError> {
-        let was_double = self.is_double();
-        let old = if was_double {
-            count.saturating_add(3)
-        } else {
-            count
-        };
-        self.skip_all(old);
-        if !was_double && !needs_double(lines) {
-            return self.put_all(lines);
-        }
-        self.put(b"----")?;
-        self.put_all(lines)?;
-        self.put(b"----")?;
-        self.put(b"----")
-    }
-
-    // Goes on to the block whose head begins on the line, and puts these lines in the place of its expectation.
-    fn expect(&mut self, block: &Block, head: usize, lines: &Lines) -> Result<(), AllocError> {
-        if block.expected().same(lines) {
+    // Does so if the expectation changes.
+    fn expect(&mut self, above: usize, old: &Lines, new: &Lines) -> Result<(), AllocError>
+        requires { above + length old.now + 3 < 2 ^ 64 }
+        ensures { (head : ℕ) (heads : List ℕ) (b : PlainBlock) (bs : List PlainBlock) (es : List (List Line)) → b.expected ≡ old.now → lines_above head b ≡ above
+            → IfOk result (λ _. self.new.made.items ++ spliced_from self.new.passed self.new.rest.now heads bs es ≡ self.old.made.items ++ spliced_from self.old.passed self.old.rest.now (head ∷ heads) (b ∷ bs) (new.now ∷ es)) }
+    {
+        if is_same(old, new) {
             return Ok(());
         }
-        self.copy_to(head)?;
-        self.copy_front()?;
-        self.replace(block.expected().len(), lines)
-    }
-
-    // The rest continues as it is. Without a rest, the last line ends as it did.
-    fn end(&mut self, had_end: bool) -> Result<(), AllocError> {
-        if self.rest.is_empty() && !had_end {
-            let count = without_end(self.made.as_slice()).len();
-            self.made.truncate(count);
-        }
-        self.made.extend_from_slice(self.rest)?;
+        self.replace(above, old, new)?;
         Ok(())
     }
 }
 
-// Without the end of the last line.
-fn without_end(bytes: &[u8]) -> &[u8] {
-    match bytes.split_last() {
-        Some((last, front)) if *last == b'\n' => without_returns(front),
-        _ => bytes,
+// How many lines the head has that begins below so many lines.
+fn head_len(text: &Lines, at: usize) -> usize
+    requires { at ≤ length text.now }
+    ensures { result ≡ length (head_of (drop at text.now)) }
+{
+    for i in at..text.len() {
+        if !continues(text.line(i)) {
+            return i - at + 1;
+        }
     }
+    text.len() - at
 }
 
-/// The bytes of the session's script, whose heads begin on these lines, with these expectations.
+// How many lines of input the block has.
+fn inputs_of(block: &Block) -> usize
+    ensures { result ≡ length block.now.input }
+{
+    block.directive().inputs()
+}
+
+// How many lines are above the expectation of the block whose head begins on the line.
+fn lines_above(text: &Lines, head: usize, block: &Block) -> usize
+    requires above { IsAbove text.now head block.now }
+    requires short { length text.now ≤ MAX_SCRIPT }
+    ensures value { lines_above head block.now ≡ result }
+    ensures room { result + length block.now.expected + 3 < 2 ^ 64 }
+{
+    head + head_len(text, head.saturating_sub(1)) + inputs_of(block)
+}
+
+// ---- of a session
+
+/// The bytes of the session's script, which has this layout in them, with these expectations.
 pub(crate) fn spliced<M: Machine>(
     alloc: Global,
     session: &Session<M>,
     bytes: &[u8],
-    heads: &[usize],
+    layout: &Layout,
     expected: &ChunkedList<Lines>,
 ) -> Result<Vec<u8>, AllocError>
-    requires heads { length heads.now ≡ length session.now.script.blocks }
+    requires layout { IsLayout bytes.now session.now.script layout.now }
     requires expected { length expected.now ≡ length session.now.script.blocks }
+    ensures { IfOk result (λ made. made.items ≡ spliced bytes.now layout.now.heads.items session.now.script.blocks expected.now) }
 {
+    let heads = layout.heads.as_slice();
     let mut splice = Splicing {
         made: Vec::with_capacity(alloc, bytes.len())?,
         rest: bytes,
-        line: 1,
-        ending: first_ending(bytes),
+        passed: 0,
     };
     for i in 0..session.len() {
-        splice.expect(block_at(session, i), number_at(heads, i), expected.at(i))?;
+        let block = block_at(session, i);
+        let head = number_at(heads, i);
+        let above = lines_above(&layout.text, head, block);
+        splice.expect(above, block.expected(), expected.at(i))?;
     }
-    let had_end = bytes.ends_with(b"\n");
-    splice.end(had_end)?;
-    Ok(splice.made)
+    let rest = splice.rest;
+    push_bytes(&mut splice.made, rest)?;
+    Ok(ending(splice.made, is_ended(bytes)))
 }

@@ -11,7 +11,7 @@ use rb_machine::Machine;
 use rb_replay::Session;
 use std::alloc::{AllocError, Global};
 
-// Each directive.
+// All directives.
 fn of_each(errors: bool) -> AcceptOptions<'static>
     ensures { result ≡ record { picked = All; errors = errors } }
 {
@@ -31,8 +31,8 @@ fn up_to_first(left: &[usize]) -> AcceptFilter<'static>
     }
 }
 
-/// What is accepted of the session's script, which has this layout, if no directive is named: below the first new error nothing, unless new errors
-/// are accepted too.
+/// The directives whose outputs are accepted if none is named: those above the first new error, or all if new errors are accepted too. The layout
+/// is that of the session's script.
 pub fn picked_unnamed<M: Machine>(
     alloc: Global,
     session: &Session<M>,

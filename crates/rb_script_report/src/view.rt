@@ -7,7 +7,7 @@ use rb_report::check::Colors;
 pub enum Detail {
     /// Each mismatch, and each error that no comment expects.
     Differing,
-    /// These, and the others with their outputs.
+    /// All directives with their outputs, step by step.
     All,
     /// The first directive that differs.
     First,

@@ -1,13 +1,13 @@
-//! Lines of a script that look like a slip.
+//! Lines of a script that are probably a mistake.
 //!
-//! Where an empty line is missing, the next directive is expected output, and accepting would take it away; where a line `----` is missing,
-//! it is input that nobody reads.
+//! If an empty line is missing, the next directive is read as expected output, and accepting would delete it. If a line `----` is missing, it
+//! is read as input.
 
 ghost use Rattle.std.specs.Prelude.{◌≡◌, ◌++◌, [], ◌+◌, ◌^◌, ◌<◌, ◌==◌, IfOk, length, drop, slice_index_or};
 ghost use Rattle.std.specs.List.{list_any};
 ghost use Rattle.std.specs.Str.{bytes_eq};
 ghost use Rattle.rb_replay.specs.Run.{outputs};
-ghost use Rattle.rb_script_report.specs.Doubts.{reads_alone, looks_like_directive, input_warning, expected_warning, warning_kind_of, one_warning, warnings_from, takes_input, block_warnings, last_line, all_warnings};
+ghost use Rattle.rb_script_report.specs.Doubts.{reads_alone, looks_like_directive, input_warning, expected_warning, warning_kind_of, one_warning, warnings_from, takes_input, warnings_in, last_line, all_warnings};
 
 use crate::answers::{block_at, number_at, output_at};
 use crate::layout::Layout;
@@ -22,7 +22,7 @@ use rb_report::check::WarningKind;
 use rb_script::{Block, Lines, ScriptFault, is_lead, is_separator};
 use std::alloc::{AllocError, Global};
 
-/// A line that looks like a slip.
+/// A line that is probably a mistake.
 #[derive(Clone, Copy, Debug, PartialEq, Eq)]
 pub struct Warning {
     /// The line, which counts from 1.
@@ -31,7 +31,7 @@ pub struct Warning {
     pub doubt: WarningKind,
 }
 
-// Whether the line would be a directive, were a line ---- below it.
+// Whether the line is a directive if a line ---- is below it.
 fn reads_alone(alloc: Global, line: &[u8]) -> Result<bool, AllocError>
     ensures { IfOk result (λ reads. reads ≡ reads_alone line.now) }
 {
@@ -55,7 +55,7 @@ fn looks_like_directive(alloc: Global, line: &[u8]) -> Result<bool, AllocError>
     reads_alone(alloc, line)
 }
 
-// Whether the line is one of these.
+// Whether the line is among these.
 fn is_among(lines: &Lines, line: &[u8]) -> bool
     ensures { result ≡ list_any (λ came. bytes_eq came line.now) lines.now }
 {
@@ -139,24 +139,30 @@ fn push_warning(
     Ok(())
 }
 
-// The warnings of n lines of a block, from the first line of its head on.
+// The lines of a block: `count` lines of a text, from an index on.
+#[derive(Clone, Copy)]
+struct WarnedLines<'a> {
+    text: &'a Lines,
+    start: usize,
+    count: usize,
+}
+
+// Adds the warnings of the lines of a block. The first line is its head.
 fn push_from(
     alloc: Global,
     found: &mut Vec<Warning>,
     takes: bool,
     output: &Lines,
-    text: &Lines,
-    start: usize,
-    count: usize,
+    lines: WarnedLines<'_>,
 ) -> Result<(), AllocError>
-    requires { start + count < 2 ^ 64 }
-    ensures { IfOk result (λ _. found.new.items ≡ found.old.items ++ warnings_from takes output.now text.now BlockPart.Head start count) }
+    requires { lines.start + lines.count < 2 ^ 64 }
+    ensures { IfOk result (λ _. found.new.items ≡ found.old.items ++ warnings_from takes output.now lines.entry.text.now BlockPart.Head lines.entry.start lines.entry.count) }
 {
     let mut part = BlockPart::Head;
-    let mut at = start;
-    let mut left = count;
+    let mut at = lines.start;
+    let mut left = lines.count;
     while left > 0 {
-        let line = line_at(text, at);
+        let line = line_at(lines.text, at);
         let doubt = warning_kind_of(alloc, takes, output, part, line)?;
         push_warning(found, at + 1, doubt)?;
         part = part.after(line);
@@ -178,24 +184,21 @@ fn has_no_input(block: &Block) -> bool
     block.directive().inputs() == 0
 }
 
-// The warnings of a block, up to the last of its lines.
+// Adds the warnings of a block.
 fn push_block(
     alloc: Global,
     found: &mut Vec<Warning>,
-    text: &Lines,
-    line: usize,
-    last: usize,
+    lines: WarnedLines<'_>,
     block: &Block,
     output: &Lines,
 ) -> Result<(), AllocError>
-    ensures { IfOk result (λ _. found.new.items ≡ found.old.items ++ block_warnings text.now line last block.now output.now) }
+    requires { lines.start + lines.count < 2 ^ 64 }
+    ensures { IfOk result (λ _. found.new.items ≡ found.old.items ++ warnings_in lines.entry.text.now lines.entry.start lines.entry.count block.now output.now) }
 {
     if is_same(block.expected(), output) && has_no_input(block) {
         return Ok(());
     }
-    let start = line.saturating_sub(1);
-    let count = last.saturating_sub(start);
-    push_from(alloc, found, takes_input(block), output, text, start, count)
+    push_from(alloc, found, takes_input(block), output, lines)
 }
 
 // The line above the head after the one at the index.
@@ -209,7 +212,7 @@ fn last_line(text: &Lines, heads: &[usize], index: usize) -> usize
     }
 }
 
-/// The lines that look like a slip, of the session's script, which has this layout, in order.
+/// The lines of the session's script that are probably a mistake, in order. The layout is the script's.
 pub fn warnings<M: Machine>(
     alloc: Global,
     session: &Session<M>,
@@ -223,10 +226,11 @@ pub fn warnings<M: Machine>(
     for i in 0..session.len() {
         let block = block_at(session, i);
         let output = output_at(session, i);
-        let line = number_at(heads, i);
         let text = &layout.text;
-        let last = last_line(text, heads, i);
-        push_block(alloc, &mut found, text, line, last, block, output)?;
+        let start = number_at(heads, i).saturating_sub(1);
+        let count = last_line(text, heads, i).saturating_sub(start);
+        let lines = WarnedLines { text, start, count };
+        push_block(alloc, &mut found, lines, block, output)?;
     }
     Ok(found)
 }

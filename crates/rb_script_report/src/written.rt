@@ -1,6 +1,6 @@
 //! The text that accepting writes.
 
-ghost use Rattle.std.specs.Prelude.{◌≡◌, IfOk, IfErr, IsTrue, length, nat_lt};
+ghost use Rattle.std.specs.Prelude.{◌≡◌, ◌↔◌, if◌then◌else◌, IfOk, IfErr, IsTrue, length, nat_lt};
 ghost use Rattle.rb_script.specs.declared.limits.TheConstants.{MAX_LINE};
 ghost use Rattle.rb_script.specs.Script.{PlainScript, text, with_outputs};
 ghost use Rattle.rb_script.specs.declared.edit.Edit.TheVariants.{Accept};
@@ -11,6 +11,7 @@ ghost use Rattle.rb_replay.specs.Run.{outputs};
 ghost use Rattle.rb_script_report.specs.declared.written.AcceptFault.TheVariants.{OutOfMemory};
 ghost use Rattle.rb_script_report.specs.Accepting.{accepted, accepted_of, left_heads};
 ghost use Rattle.rb_script_report.specs.Layouts.{IsLayout};
+ghost use Rattle.rb_script_report.specs.Splices.{IsWritten, accepted_bytes};
 ghost use Rattle.rb_script_report.specs.Refusing.{has_long_line, bad_head, TellsAcceptFault};
 
 use crate::accept_options::AcceptOptions;
@@ -58,7 +59,7 @@ impl From<AllocError> for AcceptFault {
 
 // Whether the bytes are the script of this canonical text.
 fn reads_as(alloc: Global, bytes: &[u8], wanted: &[u8]) -> Result<bool, AllocError>
-    ensures { (s : PlainScript) → IsScript s → wanted.now ≡ text s → IfOk result (λ same. IsTrue same → Reads bytes.now s) }
+    ensures { (s : PlainScript) → IsScript s → wanted.now ≡ text s → IfOk result (λ same. IsTrue same ↔ Reads bytes.now s) }
 {
     match Script::read(alloc, bytes) {
         Ok(script) => {
@@ -70,17 +71,23 @@ fn reads_as(alloc: Global, bytes: &[u8], wanted: &[u8]) -> Result<bool, AllocErr
     }
 }
 
+fn one_of(own: Vec<u8>, canonical: Vec<u8>, is_own: bool) -> Vec<u8>
+    ensures { result.items ≡ (if is_own then own.items else canonical.items) }
+{
+    if is_own { own } else { canonical }
+}
+
 // The one of two texts of the script that is written: the first if it reads as the script, else the canonical one.
 fn chosen(alloc: Global, own: Vec<u8>, script: &Script) -> Result<Vec<u8>, AllocError>
     requires { IsScript script.now }
-    ensures { IfOk result (λ made. Reads made.items script.now) }
+    ensures reads { IfOk result (λ made. Reads made.items script.now) }
+    ensures bytes { IfOk result (λ made. IsWritten own.items script.now made.items) }
 {
     let canonical = script.canonical_text(alloc)?;
-    if reads_as(alloc, &own, &canonical)? {
-        Ok(own)
-    } else {
-        Ok(canonical)
-    }
+    let bytes = own.as_slice();
+    let wanted = canonical.as_slice();
+    let is_own = reads_as(alloc, bytes, wanted)?;
+    Ok(one_of(own, canonical, is_own))
 }
 
 // The script of the bytes with these expectations.
@@ -153,14 +160,14 @@ fn accepted_text<M: Machine>(
     layout: &Layout,
     wanted: AcceptOptions<'_>,
 ) -> Result<Vec<u8>, AcceptFault>
-    requires reads { Reads bytes.now session.now.script }
-    requires count { length layout.now.heads.items ≡ length session.now.script.blocks }
+    requires { IsLayout bytes.now session.now.script layout.now }
     ensures reads { IfOk result (λ made. Reads made.items (accepted wanted.entry layout.now.text layout.now.heads.items session.now.script)) }
+    ensures bytes { IfOk result (λ made. IsWritten (accepted_bytes wanted.entry bytes.now layout.now session.now.script) (accepted wanted.entry layout.now.text layout.now.heads.items session.now.script) made.items) }
     ensures refused { IfErr result (λ fault. TellsAcceptFault fault layout.now.heads.items session.now.script (accepted_of wanted.entry layout.now.text layout.now.heads.items session.now.script.blocks (outputs session.now.script))) }
 {
     let heads = layout.heads.as_slice();
     let expected = accepted_of(alloc, session, heads, &layout.text, wanted)?;
-    let own = spliced(alloc, session, bytes, heads, &expected)?;
+    let own = spliced(alloc, session, bytes, layout, &expected)?;
     match expecting(alloc, bytes, &expected) {
         Ok(script) => Ok(chosen(alloc, own, &script)?),
         Err(fault) => Err(refusal(fault, &expected, heads)),
@@ -179,6 +186,8 @@ pub fn accept<M: Machine>(
     requires { IsLayout bytes.now session.now.script layout.now }
     // The text reads as the script with what is accepted.
     ensures reads { IfOk result (λ made. Reads made.text.items (accepted wanted.entry layout.now.text layout.now.heads.items session.now.script)) }
+    // It is the script's own bytes, of which only the lines of the expectations that change are replaced, if these read so, and else the canonical text.
+    ensures bytes { IfOk result (λ made. IsWritten (accepted_bytes wanted.entry bytes.now layout.now session.now.script) (accepted wanted.entry layout.now.text layout.now.heads.items session.now.script) made.text.items) }
     // The others are named.
     ensures left { IfOk result (λ made. made.left.items ≡ left_heads wanted.entry layout.now.text layout.now.heads.items session.now.script.blocks (outputs session.now.script)) }
     // A script is refused only where what is accepted does not fit into it.

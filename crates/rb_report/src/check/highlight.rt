@@ -7,16 +7,20 @@ ghost use Rattle.std.specs.Prelude.{◌≡◌, ◌+◌, ◌^◌, ◌<◌, ◌≤
 ghost use Rattle.rb_script.specs.Writes.{Writes};
 ghost use Rattle.rb_report.specs.Ends.{read_from};
 ghost use Rattle.rb_report.specs.LineRanges.{in_range};
-ghost use Rattle.rb_report.specs.Highlights.{same_len, parts_beside, beside_text, is_paired};
+ghost use Rattle.rb_report.specs.Highlights.{same_len, parts_beside, is_paired};
+ghost use Rattle.rb_report.specs.Steps.{counted, step_beside};
 ghost use Rattle.rb_report.specs.Whys.{reasons_in, told_beside, told_paired, told_changed};
 
 use crate::check::colors::Colors;
 use crate::check::end::End;
 use crate::check::line::{end_mark, put_explained_lines, put_line};
 use crate::check::line_range::LineRange;
+use crate::check::line_view::LineView;
 use crate::check::piece::{ReportPiece, put_pieces};
+use crate::check::position::DiffPosition;
 use crate::check::side::{Side, after, before};
-use crate::check::why::{Why, put_reason};
+use crate::check::steps::{gap_above, indent_of};
+use crate::check::why::{Why, put_reason_on};
 use rb_script::{Sink, WriteFault};
 
 // The byte at an index that counts from this end.
@@ -59,24 +63,27 @@ fn parts_beside<'a>(line: &'a [u8], other: &[u8]) -> (&'a [u8], &'a [u8], &'a [u
     (front, differs, back)
 }
 
-// Writes a line, with the part that differs in reverse video if not all of it differs.
+// Writes a line, with the part that differs in reverse video if not all of it differs. The last line above it belongs to a delivery or not.
 fn put_beside<S: Sink>(
     sink: &mut S,
     side: Side,
+    delivered: bool,
     line: &[u8],
     other: &[u8],
 ) -> Result<(), WriteFault>
-    ensures wrote { Writes result (S.held sink.old) (S.held sink.new) (beside_text side line.now other.now) }
+    ensures wrote { Writes result (S.held sink.old) (S.held sink.new) (step_beside side delivered line.now other.now) }
     ensures all { S.takes_all sink.old → IsOk result × S.takes_all sink.new }
 {
     let (front, differs, back) = parts_beside(line, other);
     if differs.len() == line.len() {
-        return put_line(sink, Colors::On, side, line);
+        return put_line(sink, Colors::On, side, delivered, line);
     }
     put_pieces(
         sink,
         &[
+            ReportPiece::Bytes(gap_above(delivered, line)),
             ReportPiece::Bytes(before(Colors::On, side)),
+            ReportPiece::Bytes(indent_of(delivered, line)),
             ReportPiece::Bytes(front),
             ReportPiece::Bytes(b"\x1b[7m"),
             ReportPiece::Bytes(differs),
@@ -89,38 +96,41 @@ fn put_beside<S: Sink>(
     )
 }
 
-// Writes a line compared with its counterpart, and its reason below it.
+// Writes a line compared with its counterpart, in its position, and its reason below it.
 fn put_explained_beside<S: Sink>(
     sink: &mut S,
     side: Side,
     line: &[u8],
     other: &[u8],
     why: Why<'_>,
-    at: usize,
+    position: DiffPosition,
 ) -> Result<(), WriteFault>
-    ensures wrote { Writes result (S.held sink.old) (S.held sink.new) (told_beside side (reasons_in why.entry) at line.now other.now) }
+    ensures wrote { Writes result (S.held sink.old) (S.held sink.new) (told_beside side (reasons_in why.entry) position line.now other.now) }
     ensures all { S.takes_all sink.old → IsOk result × S.takes_all sink.new }
 {
-    put_beside(sink, side, line, other)?;
-    put_reason(sink, why, at)
+    put_beside(sink, side, position.is_below_delivery(side), line, other)?;
+    put_reason_on(sink, side, why, position)
 }
 
-// Writes lines compared with their counterparts, each with its reason below it. They begin at an index of the output.
+// Writes lines compared with their counterparts from a position on, each with its reason below it.
 fn put_paired<S: Sink>(
     sink: &mut S,
     side: Side,
     lines: LineRange<'_>,
     others: LineRange<'_>,
     why: Why<'_>,
-    at: usize,
+    position: DiffPosition,
 ) -> Result<(), WriteFault>
     requires as_many { length (in_range lines) ≡ length (in_range others) }
-    requires room { at + length (in_range lines) < 2 ^ 64 }
-    ensures wrote { Writes result (S.held sink.old) (S.held sink.new) (told_paired side (reasons_in why.entry) at (in_range lines.entry) (in_range others.entry)) }
+    requires room { position.at + counted side (length (in_range lines)) < 2 ^ 64 }
+    ensures wrote { Writes result (S.held sink.old) (S.held sink.new) (told_paired side (reasons_in why.entry) position (in_range lines.entry) (in_range others.entry)) }
     ensures all { S.takes_all sink.old → IsOk result × S.takes_all sink.new }
 {
+    let mut here = position;
     for i in 0..lines.len() {
-        put_explained_beside(sink, side, lines.line(i), others.line(i), why, at + i)?;
+        let line = lines.line(i);
+        put_explained_beside(sink, side, line, others.line(i), why, here)?;
+        here = here.after_line(side, line);
     }
     Ok(())
 }
@@ -134,22 +144,21 @@ fn is_paired(colors: Colors, count: usize, other_count: usize) -> bool
     }
 }
 
-/// Writes lines that replace those of the other side, each with its reason below it. They begin at an index of the output.
+/// Writes lines that replace those of the other side from a position on, each with its reason below it.
 pub(crate) fn put_changed<S: Sink>(
     sink: &mut S,
-    colors: Colors,
+    view: LineView<'_>,
     side: Side,
     lines: LineRange<'_>,
     others: LineRange<'_>,
-    why: Why<'_>,
-    at: usize,
+    position: DiffPosition,
 ) -> Result<(), WriteFault>
-    requires { at + length (in_range lines) < 2 ^ 64 }
-    ensures wrote { Writes result (S.held sink.old) (S.held sink.new) (told_changed colors side (reasons_in why.entry) at (in_range lines.entry) (in_range others.entry)) }
+    requires { position.at + counted side (length (in_range lines)) < 2 ^ 64 }
+    ensures wrote { Writes result (S.held sink.old) (S.held sink.new) (told_changed view.entry.colors side (reasons_in view.entry.why) position (in_range lines.entry) (in_range others.entry)) }
     ensures all { S.takes_all sink.old → IsOk result × S.takes_all sink.new }
 {
-    if is_paired(colors, lines.len(), others.len()) {
-        return put_paired(sink, side, lines, others, why, at);
+    if is_paired(view.colors, lines.len(), others.len()) {
+        return put_paired(sink, side, lines, others, view.why, position);
     }
-    put_explained_lines(sink, colors, side, lines, why, at)
+    put_explained_lines(sink, view, side, lines, position)
 }

@@ -16,7 +16,7 @@ pub enum Outcome {
         accepted: usize,
         /// How many directives have an error that no comment expects.
         errors: usize,
-        /// How many of its lines look like a slip.
+        /// How many warnings it has.
         warnings: usize,
     },
     /// The script was refused, or there was no memory to read it.

@@ -23,7 +23,7 @@ pub struct Totals {
     pub accepted: u64,
     /// The directives with an error that no comment expects.
     pub errors: u64,
-    /// The lines that look like a slip.
+    /// The warnings.
     pub warnings: u64,
     /// The scripts that were refused.
     pub refused: u64,
@@ -137,15 +137,14 @@ impl Totals {
         };
     }
 
-    // Whether nothing makes the status that of a mismatch.
+    // Whether the status isn't that of a mismatch.
     fn is_clean(&self, is_strict: bool) -> bool
         ensures { result ≡ is_clean is_strict self.now }
     {
         self.mismatches == 0 && (!is_strict || (self.errors == 0 && self.warnings == 0))
     }
 
-    /// The greatest status that was met. If it is strict, an error that nobody said is expected counts as a mismatch there, and so does a line
-    /// that looks like a slip.
+    /// The greatest status of all paths. If it is strict, errors that no comment expects and warnings count as mismatches.
     pub fn status(&self, is_strict: bool) -> Status
         ensures { result ≡ status_of is_strict self.now }
     {
@@ -172,7 +171,7 @@ impl Default for Totals {
 }
 
 /// Writes the last line: how many scripts, directives, mismatches and refused scripts there were; the errors, the warnings, what was accepted and
-/// what failed, if there is any; and the time in seconds. On a failure what was written is a beginning of the text.
+/// what failed, if there is any; and the time in seconds. On a failure a beginning of the text was written.
 pub fn put_totals<S: Sink>(
     sink: &mut S,
     totals: &Totals,

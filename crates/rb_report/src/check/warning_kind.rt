@@ -18,7 +18,7 @@ pub enum WarningKind {
     Unread,
 }
 
-/// What is wrong with the line, in a sentence.
+/// Says what is wrong with the line, in a sentence.
 pub fn warning_sentence(doubt: WarningKind) -> &'static [u8]
     ensures { result.now ≡ warning_sentence doubt }
 {

@@ -4,11 +4,12 @@
 
 ghost use Rattle.std.specs.Prelude.{◌≡◌, IsOk};
 ghost use Rattle.rb_script.specs.Writes.{Writes};
-ghost use Rattle.rb_report.specs.Whys.{reasons_in, below, reason_at, told_line};
+ghost use Rattle.rb_report.specs.Whys.{reasons_in, below, reason_at, reason_on, told_line};
 
-use crate::check::colors::Colors;
 use crate::check::line::put_line;
+use crate::check::line_view::LineView;
 use crate::check::piece::{ReportPiece, put_pieces};
+use crate::check::position::DiffPosition;
 use crate::check::side::Side;
 use rb_script::{Lines, Sink, WriteFault};
 
@@ -32,8 +33,8 @@ fn reason_of<'a>(why: Why<'a>, at: usize) -> &'a [u8]
     }
 }
 
-/// Writes the reason of the line at an index of an output, if there is one.
-pub(crate) fn put_reason<S: Sink>(sink: &mut S, why: Why<'_>, at: usize) -> Result<(), WriteFault>
+// Writes the reason of the line at an index of an output, if there is one.
+fn put_reason<S: Sink>(sink: &mut S, why: Why<'_>, at: usize) -> Result<(), WriteFault>
     ensures wrote { Writes result (S.held sink.old) (S.held sink.new) (reason_at (reasons_in why.entry) at) }
     ensures all { S.takes_all sink.old → IsOk result × S.takes_all sink.new }
 {
@@ -51,18 +52,34 @@ pub(crate) fn put_reason<S: Sink>(sink: &mut S, why: Why<'_>, at: usize) -> Resu
     )
 }
 
-/// Writes a line of a side, and its reason below it. It is the line at an index of the output.
-pub(crate) fn put_explained_line<S: Sink>(
+/// Writes the reason below a line of a side, in its position, if there is one.
+pub(crate) fn put_reason_on<S: Sink>(
     sink: &mut S,
-    colors: Colors,
     side: Side,
-    line: &[u8],
     why: Why<'_>,
-    at: usize,
+    position: DiffPosition,
 ) -> Result<(), WriteFault>
-    ensures wrote { Writes result (S.held sink.old) (S.held sink.new) (told_line colors side (reasons_in why.entry) at line.now) }
+    ensures wrote { Writes result (S.held sink.old) (S.held sink.new) (reason_on side (reasons_in why.entry) position) }
     ensures all { S.takes_all sink.old → IsOk result × S.takes_all sink.new }
 {
-    put_line(sink, colors, side, line)?;
-    put_reason(sink, why, at)
+    match side {
+        Side::Expected => Ok(()),
+        Side::Both | Side::Output => put_reason(sink, why, position.at),
+    }
+}
+
+/// Writes a line of a side in its position, and its reason below it.
+pub(crate) fn put_explained_line<S: Sink>(
+    sink: &mut S,
+    view: LineView<'_>,
+    side: Side,
+    line: &[u8],
+    position: DiffPosition,
+) -> Result<(), WriteFault>
+    ensures wrote { Writes result (S.held sink.old) (S.held sink.new) (told_line view.entry.colors side (reasons_in view.entry.why) position line.now) }
+    ensures all { S.takes_all sink.old → IsOk result × S.takes_all sink.new }
+{
+    let delivered = position.is_below_delivery(side);
+    put_line(sink, view.colors, side, delivered, line)?;
+    put_reason_on(sink, side, view.why, position)
 }

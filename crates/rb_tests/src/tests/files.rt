@@ -1,14 +1,16 @@
 //! A file in memory is a place of which all is known. A text is put in it, with each call of it failing in turn, and each with the
-//! removing too.
+//! removing too, and with each thing that a look at the file may show.
 
 mod checks;
 
-ghost use Rattle.std.specs.Prelude.{◌≡◌, Some, option_map, unwrap_or};
+ghost use Rattle.std.specs.Prelude.{◌≡◌, true, Some, option_map, unwrap_or};
 
 use super::{is, is_in_row, is_text};
 use rb_files::{FilePlace, PathError, replace};
 use rb_report::check::Failure;
 use std::alloc::Global;
+use std::io;
+use std::io::ErrorKind;
 use std::process::Abort;
 
 #[derive(Drop)]
@@ -17,7 +19,8 @@ struct Page {
     is_settled: bool,
 }
 
-// Its calls fail as they are marked: create, put, settle, rename, remove.
+// Its calls fail as they are marked: create, put, settle, rename, remove. A look fails with its error, if it has one, or else if the file
+// isn't the one that was read.
 #[derive(Drop)]
 struct Shelf {
     alloc: Global,
@@ -25,6 +28,9 @@ struct Shelf {
     new: Option<Page>,
     told: Option<PathError>,
     is_stuck: bool,
+    is_same: bool,
+    is_looked_at: bool,
+    unseen: Option<PathError>,
     fails: [bool; 5],
 }
 
@@ -44,7 +50,10 @@ impl FilePlace for Shelf {
       new = option_map (λ p. record { text = p.text.items; is_settled = p.is_settled }) s.new;
       told = s.told;
       is_stuck = s.is_stuck;
+      is_same = s.is_same;
     }) };
+
+    ghost is_unchanged = { λ s. (s.is_same ≡ true) × (s.is_looked_at ≡ true) };
 
     fn create(&mut self) -> Result<(), PathError> {
         if self.fails[0] {
@@ -96,12 +105,27 @@ impl FilePlace for Shelf {
         Ok(())
     }
 
+    fn look(&mut self) -> Result<(), PathError> {
+        if let Some(error) = self.unseen {
+            self.told = first_told(self.told, error);
+            return Err(error);
+        }
+        if !self.is_same {
+            let error = PathError::alone(Failure::NotWritten);
+            self.told = first_told(self.told, error);
+            return Err(error);
+        }
+        self.is_looked_at = true;
+        Ok(())
+    }
+
     fn rename(&mut self) -> Result<(), PathError> {
         if self.fails[3] {
             let error = PathError::alone(Failure::NotWritten);
             self.told = first_told(self.told, error);
             return Err(error);
         }
+        self.is_same = false;
         if let Some(page) = self.new.take() {
             self.file = page;
         }
@@ -130,6 +154,9 @@ fn shelf_that_fails(rt: &impl Abort, alloc: Global, fails: [bool; 5]) -> Shelf {
         new: None,
         told: None,
         is_stuck: false,
+        is_same: true,
+        is_looked_at: false,
+        unseen: None,
         fails,
     }
 }
@@ -173,4 +200,23 @@ fn keeps_the_old_text_where_a_call_fails(rt: HostRuntime) {
             drop(shelf);
         }
     }
+}
+
+// A text isn't put in the place of a file that a look shows like this: the new file is removed.
+fn keeps_what_is_there(rt: &impl Abort, alloc: Global, is_same: bool, unseen: Option<PathError>) {
+    let mut shelf = shelf_that_fails(rt, alloc, [false; 5]);
+    shelf.is_same = is_same;
+    shelf.unseen = unseen;
+    is(rt, removed(&mut shelf) == Some(true), "not replaced");
+    has_text(rt, &shelf, b"old");
+    drop(shelf);
+}
+
+#[test]
+fn replaces_only_what_was_read(rt: HostRuntime) {
+    let gone = PathError::of_writing(io::Error::from(ErrorKind::NotFound));
+    let refused = PathError::of_writing(io::Error::from(ErrorKind::PermissionDenied));
+    keeps_what_is_there(&rt, rt.alloc(), false, None);
+    keeps_what_is_there(&rt, rt.alloc(), false, Some(gone));
+    keeps_what_is_there(&rt, rt.alloc(), true, Some(refused));
 }

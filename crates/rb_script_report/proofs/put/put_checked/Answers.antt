@@ -20,7 +20,7 @@ returns-clause-wrote g c =
       | in-All w ↦ rw (w.written-is, w.sink-is, w.in-All.is)
           (writes_along _ _ _ _ _ (ap (λ (left : ℕ). all_told left true v.colors text v.path.now c.args.whys.now 0 heads s.blocks (outputs s)) c.in-Ok.ensures) w.put_directives-written-in-All.ensures.wrote)
       | in-First w ↦ rw (w.written-is, w.sink-is, w.in-First.is)
-          (writes_along _ _ _ _ _ (ap (λ (left : ℕ). of_first (told_at left v.colors v.path.now c.args.whys.now heads s) (mismatches s)) c.in-Ok.ensures) w.put_first-written.ensures.wrote)
+          (writes_along _ _ _ _ _ (ap (λ (left : ℕ). of_first (told_at left false v.colors v.path.now c.args.whys.now heads s) (mismatches s)) c.in-Ok.ensures) w.put_first-written.ensures.wrote)
       | in-Brief w ↦ rw (w.written-is, w.sink-is, w.in-Brief.is) w.put_in_brief-written.ensures.wrote
     ] in
     c.shown.ensures.shows _ _ _ wrote

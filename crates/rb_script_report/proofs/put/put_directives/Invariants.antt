@@ -7,9 +7,9 @@ use Rattle.rb_script_report.proofs.put.put_directives.Given as goal
 
 abbrev pub invariant-loop-i : goal.invariant-loop-i
 invariant-loop-i g l =
-    let told = λ (left : ℕ). all_told left l.all l.view.colors l.layout.text l.view.path.now l.whys in
-    let s = l.session.script in
+    let told = λ (left : ℕ). all_told left l.all l.view.colors l.run.layout.now.text l.view.path.now l.run.whys.now in
+    let s = l.run.session.now.script in
     record {
-      sent : Sent (g.S.Sink.held l.initial.sink) (g.S.Sink.held l.sink) (told l.initial.table.left 0 l.layout.heads.items s.blocks (outputs s)) (told l.table.left l.i (drop l.i l.layout.heads.items) (drop l.i s.blocks) (drop l.i (outputs s)));
+      sent : Sent (g.S.Sink.held l.initial.sink) (g.S.Sink.held l.sink) (told l.initial.table.left 0 l.run.layout.now.heads.items s.blocks (outputs s)) (told l.table.left l.i (drop l.i l.run.layout.now.heads.items) (drop l.i s.blocks) (drop l.i (outputs s)));
       takes : g.S.Sink.takes_all l.initial.sink → g.S.Sink.takes_all l.sink;
     }

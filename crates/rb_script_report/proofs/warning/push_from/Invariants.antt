@@ -6,8 +6,8 @@ use Rattle.rb_script_report.proofs.warning.push_from.Given as goal
 
 abbrev pub invariant-loop-left : goal.invariant-loop-left
 invariant-loop-left l = record {
-  all : l.found.items ++ warnings_from l.takes l.output l.text l.part l.at l.left ≡ l.initial.found.items ++ warnings_from l.takes l.output l.text Head l.start l.count;
-  place : l.at + l.left ≡ l.start + l.count;
+  all : l.found.items ++ warnings_from l.takes l.output l.lines.text.now l.part l.at l.left ≡ l.initial.found.items ++ warnings_from l.takes l.output l.lines.text.now Head l.lines.start l.lines.count;
+  place : l.at + l.left ≡ l.lines.start + l.lines.count;
 }
 
 abbrev pub decreases-loop-left : goal.decreases-loop-left

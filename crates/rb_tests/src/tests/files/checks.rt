@@ -2,8 +2,8 @@
 
 use crate::tests::is_text;
 use rb_report::check::{
-    Colors, Failure, FileLine, Hint, Outcome, Table, Totals, put_directive, put_mismatch,
-    put_totals,
+    Colors, Failure, FileLine, Hint, MismatchView, Outcome, Sides, Table, Totals, Why,
+    put_directive, put_mismatch, put_totals,
 };
 use rb_script::{Block, Lines, ScriptFault, Through};
 use std::alloc::Global;
@@ -37,17 +37,14 @@ fn put_differing(
 ) {
     let block = block(rt, alloc, b"campaign \\\n 1\n----\n");
     let mut table = Table::new(alloc).expect(rt, "memory");
-    put_mismatch(
-        out,
-        PLACE,
-        &block.directive(),
-        expected,
-        output,
-        Hint::Unknown,
+    let sides = Sides { expected, output };
+    let view = MismatchView {
         colors,
-        &mut table,
-    )
-    .expect(rt, "memory");
+        grouped: false,
+        why: Why::Unasked,
+        hint: Hint::Unknown,
+    };
+    put_mismatch(out, &mut table, PLACE, &block.directive(), sides, view).expect(rt, "memory");
     drop(table);
     drop(block);
 }
