@@ -1,6 +1,7 @@
 -- Texts of lines, one after another, and of directives.
-use Rattle.std.proofs.Common.{◌≡◌, ◌∙◌, ℕ, ◌+◌, ◌≤◌, List, [], ◌∷◌, ◌++◌, length, drop, Option, Some, Result, Ok, Err, refl, ap, sym, append_assoc}
-use Rattle.std.specs.Prelude.{slice_get, IfOk}
+use Rattle.std.proofs.Common.{◌≡◌, ◌∙◌, ℕ, suc, ◌+◌, ◌≤◌, Bool, true, false, List, [], ◌∷◌, ◌++◌, length, drop, Option, Some, Result, Ok, Err, refl, ap, sym, append_assoc}
+use Rattle.std.specs.Prelude.{slice_get, slice_index, ◌==◌, if◌then◌else◌, IfOk, IsErr, OnOk}
+use Rattle.std.proofs.lemmas.Bool.{false≢true}
 use Rattle.std.proofs.lemmas.List.{drop_all}
 use Rattle.rb_script.specs.Lines.{Line}
 use Rattle.rb_script.specs.Script.{PlainBlock}
@@ -8,7 +9,7 @@ use Rattle.rb_report.specs.Heads.{before_value}
 use Rattle.rb_text.proofs.SentLaws.{drop-get}
 use Rattle.rb_check.specs.Objects.{quoted, strings_from}
 use Rattle.rb_script_report.specs.Whys.{why_at}
-use Rattle.rb_check.specs.Commands.{command_with}
+use Rattle.rb_check.specs.Commands.{command_with, last_end}
 use Rattle.rb_check.specs.Formats.{directive_object, objects_from}
 
 -- one line more
@@ -24,6 +25,18 @@ said_with t0 t1 t2 command path line title rest opened more = rw (more, opened) 
 pub added_is : {X E : Type 0} (r : Result X E) (new text other : List ℕ) → IfOk r (λ _. new ≡ text) → text ≡ other → IfOk r (λ _. new ≡ other)
 added_is (Ok x) new text other h e = h ∙ e
 added_is (Err x) new text other h e = tt
+
+-- nothing is said of what fails
+pub fails_any : {X E : Type 0} (r : Result X E) (P : Type 0) → IsErr r → OnOk r P
+fails_any (Ok x) P h = absurd (false≢true h)
+fails_any (Err x) P h = tt
+
+-- a line ends at the last of some bytes, and none does
+pub end-found : (diff : List ℕ) (n : ℕ) → (slice_index diff n == 10) ≡ true → suc n ≡ last_end diff (suc n)
+end-found diff n h = sym (ap (λ (t : Bool). if t then suc n else last_end diff n) h)
+
+pub end-next : (diff : List ℕ) (n : ℕ) → (slice_index diff n == 10) ≡ false → last_end diff n ≡ last_end diff (suc n)
+end-next diff n h = sym (ap (λ (t : Bool). if t then suc n else last_end diff n) h)
 
 -- ---- objects, one after another
 

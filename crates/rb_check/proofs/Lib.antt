@@ -1,4 +1,5 @@
 pub mod CommentLaws
+pub mod CountLaws
 pub mod EndingLaws
 pub mod FormatLaws
 pub mod LineLaws

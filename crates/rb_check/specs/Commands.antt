@@ -1,6 +1,6 @@
 -- A script's report as workflow commands, one a line, which GitHub shows next to the script's lines. (GitHub, Workflow commands for
 -- GitHub Actions.)
-use Rattle.std.specs.Prelude.{ℕ, ◌==◌, if◌then◌else◌, List, [], ◌++◌, Option, Some, None, codes, decimal}
+use Rattle.std.specs.Prelude.{ℕ, zero, suc, ◌==◌, ◌-◌, nat_le, if◌then◌else◌, List, [], ◌++◌, Option, Some, None, codes, decimal, length, slice_index, take}
 use Rattle.std.specs.List.{flat_map}
 use Rattle.rb_script.specs.Lines.{Line}
 use Rattle.rb_report.specs.declared.check.colors.Colors.TheVariants.{Off}
@@ -36,7 +36,24 @@ others_text others = if others == 0 then [] else codes "; " ++ (decimal others +
 abbrev pub legend_text : ℕ → List ℕ
 legend_text others = codes "(- expected, + output" ++ (others_text others ++ codes ")\n")
 
--- a mismatch: the head is the title, and the diff the message, with reasons; n cells are left to compare it
+-- how many of the first n bytes are up to the last end of a line among them
+abbrev pub last_end : List ℕ → ℕ → ℕ
+last_end diff zero = 0
+last_end diff (suc n) = if slice_index diff n == 10 then suc n else last_end diff n
+
+-- how many bytes of a diff are shown: all of 4,096 or fewer, or else those of the whole lines within the first 4,096
+abbrev pub kept_of : List ℕ → ℕ
+kept_of diff = if nat_le (length diff) 4096 then length diff else last_end diff 4096
+
+-- in the place of n bytes
+abbrev pub rest_text : ℕ → List ℕ
+rest_text n = if n == 0 then [] else codes ".. " ++ (decimal n ++ codes " more bytes\n")
+
+-- a diff that has no more lines than GitHub shows
+abbrev pub shortened : List ℕ → List ℕ
+shortened diff = take (kept_of diff) diff ++ rest_text (length diff - kept_of diff)
+
+-- a mismatch: the head is the title, and the shortened diff the message, with reasons; n cells are left to compare it
 abbrev pub difference_text : ℕ → List ℕ → ℕ → List ℕ → List Line → List Line → List Line → ℕ → List ℕ
 difference_text left path line head expected output why others =
-    command_with (codes "error") path (Some line) head (flat_map in_message (told_diff left Off why expected output) ++ legend_text others)
+    command_with (codes "error") path (Some line) head (flat_map in_message (shortened (told_diff left Off why expected output)) ++ legend_text others)

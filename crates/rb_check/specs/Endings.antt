@@ -59,20 +59,20 @@ pub record AcceptsOutputs (errors : Bool) (layout : Layout) (s : PlainScript) (e
   pub errors_are : wanted.errors ≡ errors
   pub left : IsLeft wanted layout s end
 
--- what is said yes to is accepted: where it is known what comes to the questions, that is the review of them
+-- a review's outputs are accepted: if the lines that are read are known, those that the review of the questions accepts
 pub record AcceptsSaid (asked : CheckRequest) (is_known : Type 0) (before : Review) (coming : List HeardAnswer) (layout : Layout) (s : PlainScript) (end : ScriptEnd) : Type 0 where
   pub picked : AcceptFilter
   pub wanted : AcceptOptions
   pub said : is_known → length coming < 2 ^ 64 → AreWanted (review_of before coming (questions_in asked picked layout s)).said wanted
   pub left : IsLeft wanted layout s end
 
--- what comes of a script's outputs
+-- what happens to a script's outputs
 abbrev pub EndsAs : CheckEnding → CheckRequest → Type 0 → Review → List HeardAnswer → Layout → PlainScript → ScriptEnd → Type 0
 EndsAs Kept asked is_known before coming layout s end = IsKept s end
 EndsAs Refused asked is_known before coming layout s end = IsKept s end
 EndsAs Accepted asked is_known before coming layout s end = AcceptsOutputs asked.accepts_errors layout s end
 EndsAs Reviewed asked is_known before coming layout s end = AcceptsSaid asked is_known before coming layout s end
 
--- which directives of a script of these lines, whose heads begin on those, are accepted where none is named: in a review each is asked about
+-- which directives of a script with these lines and heads are accepted if none is named: in a review each is asked about
 abbrev pub unnamed : CheckRequest → List Line → List ℕ → PlainScript → AcceptFilter
 unnamed asked ls heads s = if asked.accepts && not asked.reviews then picked_unnamed asked.accepts_errors ls heads s else picks.All

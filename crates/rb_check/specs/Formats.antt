@@ -59,7 +59,7 @@ error_command strict ls path line b output =
 abbrev pub error_commands : Bool → List Line → List ℕ → List ℕ → List PlainBlock → List (List Line) → List ℕ
 error_commands strict ls path heads bs os = of_each (λ line b output. error_command strict ls path line b output) heads bs os
 
--- ---- a script of these lines, whose heads begin on those
+-- ---- a script with these lines, whose heads begin on these lines
 
 abbrev pub script_text : Format → Bool → List Line → List ℕ → List (List Line) → List ℕ → PlainScript → List ℕ
 script_text Json strict ls path whys heads s = objects_from ls path whys 0 heads s.blocks (outputs s)

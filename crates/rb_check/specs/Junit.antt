@@ -43,7 +43,7 @@ suite_front path verdict =
 abbrev pub suite_text : List ℕ → CaseVerdict → List ℕ → List ℕ → List ℕ
 suite_text path verdict message details = suite_front path verdict ++ (body_of verdict message details ++ codes "</testcase></testsuite>\n")
 
--- ---- a script of these lines that ran, whose heads begin on those
+-- ---- a script that ran, with these lines, whose heads begin on these lines
 
 -- it passes, where its status alone would be 0
 abbrev pub verdict_by : Status → CaseVerdict

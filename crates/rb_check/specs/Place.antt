@@ -2,6 +2,6 @@
 use Rattle.std.specs.Prelude.{ℕ, ◌<◌, ◌≤◌, List}
 use Rattle.std.specs.List.Sorted.{IsPartitionPoint}
 
--- so many heads are at the line or above it, and all others below
+-- the first n heads are at the line or above it, and all others are below it
 abbrev pub ArePartedAt : List ℕ → ℕ → ℕ → Type 0
-ArePartedAt heads line place = IsPartitionPoint (λ head. head ≤ line) (λ head. line < head) heads place
+ArePartedAt heads line n = IsPartitionPoint (λ head. head ≤ line) (λ head. line < head) heads n

@@ -1,4 +1,4 @@
--- A review: what is asked about, what answers mean, and what is accepted by what comes. (This project's.)
+-- A review: what is asked about, what answers mean, and what is accepted by the lines that are read. (This project's.)
 use Rattle.std.specs.Prelude.{ℕ, zero, suc, ◌==◌, ◌||◌, ◌-◌, Bool, false, not, if◌then◌else◌, List, [], ◌∷◌, ◌++◌, Option, Some, None, codes, decimal, drop, length, min, slice_index_or, take}
 use Rattle.std.specs.List.{flat_map, fold}
 use Rattle.std.specs.Str.{trim}
@@ -31,7 +31,7 @@ abbrev pub as_list : Option ReviewQuestion → List ReviewQuestion
 as_list None = []
 as_list (Some question) = question ∷ []
 
--- those of a script of these lines, whose heads begin on those
+-- those of a script with these lines, whose heads begin on these lines
 abbrev pub questions_of : Bool → AcceptFilter → List Line → List ℕ → List PlainBlock → List (List Line) → List ReviewQuestion
 questions_of errors picked ls heads bs os = of_each (λ line b output. as_list (question_of errors picked ls line b output)) heads bs os
 
@@ -97,9 +97,9 @@ said_by answers.Quit head = []
 abbrev pub said_unasked : ReviewQuestion → List ℕ
 said_unasked question = if question.is_taken then question.head ∷ [] else []
 
--- ---- what comes
+-- ---- the lines that are read
 
--- the next of what comes; nothing more is the end
+-- the next line; if there are no more, the end
 abbrev pub first_heard : List HeardAnswer → HeardAnswer
 first_heard [] = heard.End
 first_heard (next ∷ more) = next
@@ -108,14 +108,14 @@ abbrev pub rest_heard : List HeardAnswer → List HeardAnswer
 rest_heard [] = []
 rest_heard (next ∷ more) = more
 
--- the first answer of what comes: what is none is asked again, and the end is as q
+-- the first answer: after a line that isn't one, the question is asked again, and the end means q
 abbrev pub answered : List HeardAnswer → Answer
 answered [] = answers.Quit
 answered (heard.Answer answer ∷ more) = answer
 answered (heard.Else ∷ more) = answered more
 answered (heard.End ∷ more) = answers.Quit
 
--- what comes after it
+-- the lines after it
 abbrev pub after_answer : List HeardAnswer → List HeardAnswer
 after_answer [] = []
 after_answer (heard.Answer answer ∷ more) = more
@@ -156,7 +156,7 @@ review_behind reviews.Rest = reviews.Each
 review_behind reviews.Skipped = reviews.Each
 review_behind reviews.Over = reviews.Over
 
--- A review of a script: what is accepted of its questions, after what was asked before, by what comes.
+-- A review of a script: what is accepted of its questions, by what was asked before and the lines that are read.
 abbrev pub review_of : Review → List HeardAnswer → List ReviewQuestion → Reviewing
 review_of review left questions = reviewed_all (reviewing [] (review_behind review) left) questions
 

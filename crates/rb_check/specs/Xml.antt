@@ -1,4 +1,4 @@
--- Bytes as they are in XML: printable ASCII, and by numbers all that is none, so that what a script holds is neither markup nor a byte that XML
+-- Bytes as they are in XML: printable ASCII, and all other bytes by their numbers, so that a script's bytes are neither markup nor bytes that XML
 -- doesn't have. (W3C, Extensible Markup Language 1.0, 2.2 and 2.4.)
 use Rattle.std.specs.Prelude.{ℕ, ◌==◌, if◌then◌else◌, List, codes, decimal}
 use Rattle.std.specs.List.{flat_map}

@@ -26,13 +26,12 @@ use std::io::Write;
 pub(crate) fn accept<M: Machine, S: System, W: Write + Drop, E: Write + Drop>(
     system: &S,
     wanted: AcceptOptions<'_>,
-    ran: Ran<'_>,
     subject: &CheckedScript<'_, M>,
     report: &mut Report<W, E>,
 ) -> ScriptEnd
     requires { IsLayout subject.now.text.now.bytes.items subject.now.session.now.script subject.now.layout.now }
-    ensures counts { report.new.counts ≡ counts_after report.old.counts (counted_as ran.entry result.left) result.failure }
-    ensures left { ran.entry.mismatches ≡ length (mismatches subject.now.session.now.script) → IsLeft wanted.entry subject.now.layout.now subject.now.session.now.script result }
+    ensures counts { report.new.counts ≡ counts_after report.old.counts (counted_as subject.now.ran result.left) result.failure }
+    ensures left { subject.now.ran.mismatches ≡ length (mismatches subject.now.session.now.script) → IsLeft wanted.entry subject.now.layout.now subject.now.session.now.script result }
 {
     let alloc = system.alloc();
     match accepted(
@@ -44,13 +43,13 @@ pub(crate) fn accept<M: Machine, S: System, W: Write + Drop, E: Write + Drop>(
     ) {
         Ok(made) => {
             if !made.left.is_empty() {
-                report.leave(ran.path, wanted.picked, &made.left);
+                report.leave(subject.path, wanted.picked, &made.left);
                 tell_left(subject, wanted, report);
-                tell_echoes(ran.path, wanted.picked, &made.left, report);
+                tell_echoes(subject.path, wanted.picked, &made.left, report);
             }
-            keep(system, wanted, ran, &made, subject, report)
+            keep(system, wanted, &made, subject, report)
         }
-        Err(fault) => fail(alloc, ran, fault, report),
+        Err(fault) => fail(alloc, subject.ran, fault, report),
     }
 }
 
@@ -95,15 +94,15 @@ fn tell_echoes<W: Write + Drop, E: Write + Drop>(
 fn keep<M: Machine, S: System, W: Write + Drop, E: Write + Drop>(
     system: &S,
     wanted: AcceptOptions<'_>,
-    ran: Ran<'_>,
     made: &Accepted,
     subject: &CheckedScript<'_, M>,
     report: &mut Report<W, E>,
 ) -> ScriptEnd
     requires { Reads made.now.text.items (accepted wanted subject.now.layout.now.text subject.now.layout.now.heads.items subject.now.session.now.script) }
-    ensures counts { report.new.counts ≡ counts_after report.old.counts (counted_as ran.entry result.left) result.failure }
-    ensures left { MatchOption result.failure (result.left ≡ length made.now.left.items) (λ _. result.left ≡ ran.entry.mismatches) }
+    ensures counts { report.new.counts ≡ counts_after report.old.counts (counted_as subject.now.ran result.left) result.failure }
+    ensures left { MatchOption result.failure (result.left ≡ length made.now.left.items) (λ _. result.left ≡ subject.now.ran.mismatches) }
 {
+    let ran = subject.ran;
     if made.left.len() == ran.mismatches {
         report.ran(system.alloc(), ran);
         return ScriptEnd::of_left(ran.mismatches);

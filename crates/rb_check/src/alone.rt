@@ -10,7 +10,7 @@ use crate::report::Report;
 use rb_files::PathError;
 use rb_machine::Machine;
 use rb_report::check::Failure;
-use rb_script_report::{View, put_alone};
+use rb_script_report::{Detail, ShownScript, View, put_alone};
 use std::alloc::Global;
 use std::io::Write;
 
@@ -56,17 +56,13 @@ fn show_directive<M: Machine, W: Write + Drop, E: Write + Drop>(
     let view = View {
         path: subject.path.as_bytes(),
         colors: report.colors(asked.colors),
-        shown: asked.shown,
+        shown: Detail::All,
     };
-    let sink = &mut report.output;
-    let shown = put_alone(
-        alloc,
-        sink,
-        subject.session,
-        subject.layout,
-        view,
-        subject.whys,
-        index,
-    );
+    let run = ShownScript {
+        session: subject.session,
+        layout: subject.layout,
+        whys: subject.whys,
+    };
+    let shown = put_alone(alloc, &mut report.output, &run, view, index);
     report.showed(shown)
 }

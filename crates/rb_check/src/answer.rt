@@ -1,4 +1,4 @@
-//! What comes to the questions of a review.
+//! Answers to the questions of a review.
 
 ghost use Rattle.std.specs.Prelude.{◌≡◌};
 ghost use Rattle.rb_check.specs.Reviews.{answer_of, answer_to, heard_in};

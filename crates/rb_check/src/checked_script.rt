@@ -1,12 +1,13 @@
 //! A script that is being checked.
 
+use crate::ran::Ran;
 use crate::system::Text;
 use rb_machine::Machine;
 use rb_replay::Session;
 use rb_script::Lines;
-use rb_script_report::Layout;
+use rb_script_report::{Layout, Warning};
 
-/// A script that ran, with the reasons of its outputs if they were asked for.
+/// A script that ran, with its outcome, its warnings, and the reasons of its outputs if they were asked for.
 #[derive(Drop)]
 pub(crate) struct CheckedScript<'a, M: Machine> {
     pub(crate) path: &'a str,
@@ -14,4 +15,6 @@ pub(crate) struct CheckedScript<'a, M: Machine> {
     pub(crate) session: &'a Session<M>,
     pub(crate) layout: &'a Layout,
     pub(crate) whys: &'a [Lines],
+    pub(crate) warnings: &'a [Warning],
+    pub(crate) ran: Ran<'a>,
 }

@@ -3,7 +3,6 @@
 ghost use Rattle.std.specs.Prelude.{◌≡◌, ◌≢◌, ◌<◌, ℕ, [], IfOk, IfErr, length};
 ghost use Rattle.rb_replay.specs.Report.{mismatches};
 ghost use Rattle.rb_script_report.specs.Layouts.{IsLayout};
-ghost use Rattle.rb_script_report.specs.Shows.{summary_of};
 ghost use Rattle.rb_check.specs.Findings.{AreFindings};
 ghost use Rattle.rb_check.specs.Counts.{counted_as, ran_as, counts_after, warnings_in};
 ghost use Rattle.rb_check.specs.Reported.{Reported};
@@ -23,13 +22,14 @@ use crate::reasons::run_script;
 use crate::report::Report;
 use crate::review::{Reviewer, reviewed};
 use crate::runner::Runner;
-use crate::system::System;
+use crate::system::{System, Text};
 use rb_files::PathError;
 use rb_machine::Machine;
 use rb_replay::{Session, StartFault};
 use rb_report::check::Failure;
 use rb_script_report::{
-    AcceptFilter, AcceptOptions, Detail, View, Warning, is_quiet, put_checked, summary_of, warnings,
+    AcceptFilter, AcceptOptions, Detail, Layout, View, Warning, is_quiet, put_checked, summary_of,
+    warnings,
 };
 use std::alloc::{AllocError, Global};
 use std::io::Write;
@@ -63,30 +63,40 @@ pub(crate) fn check_script<T: Runner, S: System, P: Person, W: Write + Drop, E: 
         Err(_) => return Err(PathError::alone(Failure::OutOfMemory)),
     };
     report.heed(path.as_bytes(), Some(&run.layout.text));
+    let found = warnings(system.alloc(), &run.session, &run.layout)?;
+    let warnings = found.as_slice();
     let subject = CheckedScript {
         path,
         text: &text,
         session: &run.session,
         layout: &run.layout,
         whys: &run.whys,
+        warnings,
+        ran: ran_of(path, &text, &run.session, &run.layout, warnings),
     };
     answer(system, asked, &subject, reviewer, report)?;
     Ok(())
 }
 
-// What is found of a script that ran.
-fn ran_of<'a, M: Machine>(subject: &CheckedScript<'a, M>, warnings: &[Warning]) -> Ran<'a>
-    requires layout { IsLayout subject.now.text.now.bytes.items subject.now.session.now.script subject.now.layout.now }
-    requires warnings { warnings.now ≡ warnings_in subject.now.layout.now.text subject.now.layout.now.heads.items subject.now.session.now.script }
-    ensures counts { (left : ℕ) → counted_as result left ≡ ran_as subject.now.layout.now.text subject.now.layout.now.heads.items subject.now.session.now.script left }
-    ensures mismatches { result.mismatches ≡ length (mismatches subject.now.session.now.script) }
-    ensures findings { AreFindings subject.now.text.now.bytes.items subject.now.session.now.script subject.now.layout.now warnings.now result }
+// The outcome of a script that ran.
+fn ran_of<'a, M: Machine>(
+    path: &'a str,
+    text: &Text,
+    session: &Session<M>,
+    layout: &Layout,
+    warnings: &[Warning],
+) -> Ran<'a>
+    requires layout { IsLayout text.now.bytes.items session.now.script layout.now }
+    requires warnings { warnings.now ≡ warnings_in layout.now.text layout.now.heads.items session.now.script }
+    ensures counts { (left : ℕ) → counted_as result left ≡ ran_as layout.now.text layout.now.heads.items session.now.script left }
+    ensures mismatches { result.mismatches ≡ length (mismatches session.now.script) }
+    ensures findings { AreFindings text.now.bytes.items session.now.script layout.now warnings.now result }
 {
     Ran {
-        path: subject.path,
-        directives: subject.session.len(),
-        mismatches: subject.session.mismatches().len(),
-        summary: summary_of(subject.session, subject.layout),
+        path,
+        directives: session.len(),
+        mismatches: session.mismatches().len(),
+        summary: summary_of(session, layout),
         warnings: warnings.len(),
     }
 }
@@ -99,35 +109,31 @@ fn answer<M: Machine, S: System, P: Person, W: Write + Drop, E: Write + Drop>(
     reviewer: &mut Reviewer<P>,
     report: &mut Report<W, E>,
 ) -> Result<ScriptEnd, PathError>
-    requires { IsLayout subject.now.text.now.bytes.items subject.now.session.now.script subject.now.layout.now }
-    ensures counts { IfOk result (λ end. report.new.counts ≡ counts_after report.old.counts (ran_as subject.now.layout.now.text subject.now.layout.now.heads.items subject.now.session.now.script end.left) end.failure) }
+    requires findings { AreFindings subject.now.text.now.bytes.items subject.now.session.now.script subject.now.layout.now subject.now.warnings.now subject.now.ran }
+    requires mismatches { subject.now.ran.mismatches ≡ length (mismatches subject.now.session.now.script) }
+    ensures counts { IfOk result (λ end. report.new.counts ≡ counts_after report.old.counts (counted_as subject.now.ran end.left) end.failure) }
     ensures ended { IfOk result (λ end. EndsAs (ending_at asked.now subject.now.layout.now subject.now.session.now.script) asked.now (P.is_known reviewer.old.person) reviewer.old.review (P.left reviewer.old.person) subject.now.layout.now subject.now.session.now.script end) }
     ensures failed { IfErr result (λ _. report.new.counts ≡ report.old.counts) }
 {
     let alloc = system.alloc();
-    let found = warnings(alloc, subject.session, subject.layout)?;
-    let warnings = found.as_slice();
-    let ran = ran_of(subject, warnings);
-    tell(system, asked, subject, ran, warnings, report)?;
+    tell(system, asked, subject, report)?;
     let heads = named_heads(system, asked, subject, report)?;
     let picked = picked_of(alloc, asked, subject, &heads)?;
-    match ending_at(asked, !warnings.is_empty(), subject) {
+    match ending_at(asked, !subject.warnings.is_empty(), subject) {
         CheckEnding::Kept => {
-            report.ran(alloc, ran);
-            Ok(ScriptEnd::of_left(ran.mismatches))
+            report.ran(alloc, subject.ran);
+            Ok(ScriptEnd::of_left(subject.ran.mismatches))
         }
         CheckEnding::Refused => {
-            report.refuse_to_accept(alloc, ran);
-            Ok(ScriptEnd::of_left(ran.mismatches))
+            report.refuse_to_accept(alloc, subject.ran);
+            Ok(ScriptEnd::of_left(subject.ran.mismatches))
         }
         CheckEnding::Accepted => {
             let errors = asked.accepts_errors;
             let wanted = AcceptOptions { picked, errors };
-            Ok(accept(system, wanted, ran, subject, report))
+            Ok(accept(system, wanted, subject, report))
         }
-        CheckEnding::Reviewed => {
-            accept_reviewed(system, asked, ran, picked, subject, reviewer, report)
-        }
+        CheckEnding::Reviewed => accept_reviewed(system, asked, picked, subject, reviewer, report),
     }
 }
 
@@ -148,11 +154,9 @@ fn tell<M: Machine, S: System, W: Write + Drop, E: Write + Drop>(
     system: &S,
     asked: &CheckRequest<'_>,
     subject: &CheckedScript<'_, M>,
-    ran: Ran<'_>,
-    warnings: &[Warning],
     report: &mut Report<W, E>,
 ) -> Result<(), PathError>
-    requires { AreFindings subject.now.text.now.bytes.items subject.now.session.now.script subject.now.layout.now warnings.now ran }
+    requires { AreFindings subject.now.text.now.bytes.items subject.now.session.now.script subject.now.layout.now subject.now.warnings.now subject.now.ran }
     ensures { report.new.counts ≡ report.old.counts }
 {
     let alloc = system.alloc();
@@ -160,9 +164,9 @@ fn tell<M: Machine, S: System, W: Write + Drop, E: Write + Drop>(
         return show_alone(alloc, asked, subject, &lines, report);
     }
     if warns(asked, subject.session) {
-        report.warn(subject.path, warnings);
+        report.warn(subject.path, subject.warnings);
     }
-    show(alloc, asked, subject, ran, warnings, report)
+    show(alloc, asked, subject, report)
 }
 
 // Whether the lines that look like a slip are shown.
@@ -175,19 +179,18 @@ fn warns<M: Machine>(asked: &CheckRequest<'_>, session: &Session<M>) -> bool {
 fn accept_reviewed<M: Machine, S: System, P: Person, W: Write + Drop, E: Write + Drop>(
     system: &S,
     asked: &CheckRequest<'_>,
-    ran: Ran<'_>,
     picked: AcceptFilter<'_>,
     subject: &CheckedScript<'_, M>,
     reviewer: &mut Reviewer<P>,
     report: &mut Report<W, E>,
 ) -> Result<ScriptEnd, PathError>
     requires { IsLayout subject.now.text.now.bytes.items subject.now.session.now.script subject.now.layout.now }
-    ensures counts { IfOk result (λ end. report.new.counts ≡ counts_after report.old.counts (counted_as ran.entry end.left) end.failure) }
-    ensures ended { ran.entry.mismatches ≡ length (mismatches subject.now.session.now.script) → IfOk result (λ end. AcceptsSaid asked.now (P.is_known reviewer.old.person) reviewer.old.review (P.left reviewer.old.person) subject.now.layout.now subject.now.session.now.script end) }
+    ensures counts { IfOk result (λ end. report.new.counts ≡ counts_after report.old.counts (counted_as subject.now.ran end.left) end.failure) }
+    ensures ended { subject.now.ran.mismatches ≡ length (mismatches subject.now.session.now.script) → IfOk result (λ end. AcceptsSaid asked.now (P.is_known reviewer.old.person) reviewer.old.review (P.left reviewer.old.person) subject.now.layout.now subject.now.session.now.script end) }
     ensures failed { IfErr result (λ _. report.new.counts ≡ report.old.counts) }
 {
-    let said = reviewed(system.alloc(), asked, subject, picked, reviewer, report)?;
-    Ok(accept(system, wanted_of(said.as_slice()), ran, subject, report))
+    let said = reviewed(asked, subject, picked, reviewer, report)?;
+    Ok(accept(system, wanted_of(said.as_slice()), subject, report))
 }
 
 // What is said yes to is accepted, new errors too.
@@ -213,26 +216,16 @@ fn show<M: Machine, W: Write + Drop, E: Write + Drop>(
     alloc: Global,
     asked: &CheckRequest<'_>,
     subject: &CheckedScript<'_, M>,
-    ran: Ran<'_>,
-    warnings: &[Warning],
     report: &mut Report<W, E>,
 ) -> Result<(), PathError>
-    requires { AreFindings subject.now.text.now.bytes.items subject.now.session.now.script subject.now.layout.now warnings.now ran }
+    requires { AreFindings subject.now.text.now.bytes.items subject.now.session.now.script subject.now.layout.now subject.now.warnings.now subject.now.ran }
     ensures { report.new.counts ≡ report.old.counts }
 {
     if asked.format != Some(Format::Junit) && is_quiet(subject.session, asked.shown) {
         return Ok(());
     }
     match asked.format {
-        Some(format) => Ok(show_programs(
-            alloc,
-            format,
-            asked.is_strict,
-            subject,
-            ran,
-            warnings,
-            report,
-        )?),
+        Some(format) => Ok(show_programs(alloc, format, asked.is_strict, subject, report)?),
         None => show_people(alloc, asked, subject, report),
     }
 }
@@ -273,14 +266,12 @@ fn show_programs<M: Machine, W: Write + Drop, E: Write + Drop>(
     format: Format,
     is_strict: bool,
     subject: &CheckedScript<'_, M>,
-    ran: Ran<'_>,
-    warnings: &[Warning],
     report: &mut Report<W, E>,
 ) -> Result<(), AllocError>
-    requires { AreFindings subject.now.text.now.bytes.items subject.now.session.now.script subject.now.layout.now warnings.now ran }
+    requires { AreFindings subject.now.text.now.bytes.items subject.now.session.now.script subject.now.layout.now subject.now.warnings.now subject.now.ran }
     ensures { report.new.counts ≡ report.old.counts }
 {
-    let text = formatted(alloc, format, is_strict, subject, ran, warnings)?;
+    let text = formatted(alloc, format, is_strict, subject)?;
     report.put(&text);
     Ok(())
 }

@@ -9,7 +9,7 @@ ghost use Rattle.rb_check.specs.Counts.{counted_as, warnings_in};
 ghost use Rattle.rb_check.specs.Junit.{body_of, counts_of, message_with, notice_suite, placed, script_suite, suite_front, suite_text, details_of, verdict_by, warnings_text};
 
 use crate::checked_script::CheckedScript;
-use crate::kind::NoticeKind;
+use crate::kind::{NoticeKind, ScriptNotice};
 use crate::ran::{Ran, counted_as};
 use crate::xml::XmlPiece;
 use rb_machine::Machine;
@@ -196,15 +196,14 @@ fn add_warnings(text: &mut Vec<u8>, path: &[u8], warnings: &[Warning]) -> Result
 fn details_of<M: Machine>(
     alloc: Global,
     subject: &CheckedScript<'_, M>,
-    warnings: &[Warning],
 ) -> Result<Vec<u8>, AllocError>
     requires layout { IsLayout subject.now.text.now.bytes.items subject.now.session.now.script subject.now.layout.now }
-    requires warnings { warnings.now ≡ warnings_in subject.now.layout.now.text subject.now.layout.now.heads.items subject.now.session.now.script }
+    requires warnings { subject.now.warnings.now ≡ warnings_in subject.now.layout.now.text subject.now.layout.now.heads.items subject.now.session.now.script }
     ensures { IfOk result (λ made. made.items ≡ details_of subject.now.layout.now.text subject.now.path.now subject.now.whys.now subject.now.layout.now.heads.items subject.now.session.now.script) }
 {
     let path = subject.path.as_bytes();
     let mut text = Vec::new(alloc);
-    add_warnings(&mut text, path, warnings)?;
+    add_warnings(&mut text, path, subject.warnings)?;
     let view = View {
         path,
         colors: Colors::Off,
@@ -229,14 +228,13 @@ fn details_of<M: Machine>(
 pub(crate) fn script_suite<M: Machine>(
     alloc: Global,
     subject: &CheckedScript<'_, M>,
-    ran: Ran<'_>,
-    warnings: &[Warning],
     is_strict: bool,
 ) -> Result<Vec<u8>, AllocError>
-    requires { AreFindings subject.now.text.now.bytes.items subject.now.session.now.script subject.now.layout.now warnings.now ran }
+    requires { AreFindings subject.now.text.now.bytes.items subject.now.session.now.script subject.now.layout.now subject.now.warnings.now subject.now.ran }
     ensures { IfOk result (λ made. made.items ≡ script_suite is_strict subject.now.layout.now.text subject.now.path.now subject.now.whys.now subject.now.layout.now.heads.items subject.now.session.now.script) }
 {
-    let details = details_of(alloc, subject, warnings)?;
+    let ran = subject.ran;
+    let details = details_of(alloc, subject)?;
     let message = message(alloc, ran.mismatches, ran.summary.errors, ran.warnings)?;
     let mut text = Vec::new(alloc);
     let path = subject.path.as_bytes();
@@ -284,19 +282,16 @@ fn placed<'a>(
 pub(crate) fn add_notice_suite(
     alloc: Global,
     text: &mut Vec<u8>,
-    path: &[u8],
-    line: Option<usize>,
-    kind: NoticeKind,
-    message: &[u8],
+    notice: ScriptNotice<'_>,
 ) -> Result<(), AllocError>
-    ensures { IfOk result (λ _. text.new.items ≡ text.old.items ++ notice_suite path.now line kind message.now) }
+    ensures { IfOk result (λ _. text.new.items ≡ text.old.items ++ notice_suite notice.entry.path.now notice.entry.line notice.entry.kind notice.entry.message.now) }
 {
-    let verdict = match kind {
+    let verdict = match notice.kind {
         NoticeKind::Refused | NoticeKind::Failed => CaseVerdict::Errs,
         NoticeKind::Left | NoticeKind::Accepted => CaseVerdict::Passes,
         NoticeKind::Warning => return Ok(()),
     };
-    let details = placed(alloc, path, line, message)?;
-    add_suite(text, path, verdict, message, &details)?;
+    let details = placed(alloc, notice.path, notice.line, notice.message)?;
+    add_suite(text, notice.path, verdict, notice.message, &details)?;
     Ok(())
 }

@@ -1,9 +1,9 @@
-//! Notices to programs about a script, besides its directives.
+//! Notices to programs about a script as a whole, or about one of its lines.
 
 ghost use Rattle.std.specs.Prelude.{◌≡◌};
 ghost use Rattle.rb_check.specs.Formats.{command_of, severity, status_of};
 
-/// Notices to programs about a script, besides its directives.
+/// The kind of a notice to programs about a script.
 #[derive(Clone, Copy, Debug, PartialEq, Eq)]
 pub(crate) enum NoticeKind {
     /// It is no script.
@@ -16,6 +16,15 @@ pub(crate) enum NoticeKind {
     Left,
     /// Outputs were accepted.
     Accepted,
+}
+
+/// A notice to programs about a script, or about a line of it.
+#[derive(Clone, Copy)]
+pub(crate) struct ScriptNotice<'a> {
+    pub(crate) path: &'a [u8],
+    pub(crate) line: Option<usize>,
+    pub(crate) kind: NoticeKind,
+    pub(crate) message: &'a [u8],
 }
 
 impl NoticeKind {

@@ -4,7 +4,7 @@
 //! goes to a stream of errors. The texts of a report are in rb_report and rb_script_report, accepting in rb_script_report.
 //!
 //! Programs read a [`Format`]: JSON, with an object on each line; workflow commands, which GitHub shows next to the lines of a file; or JUnit's XML.
-//! `formatted` gives the report of a script that ran, and `notice` everything else. Their texts are `Formats.script_text` and
+//! `formatted` gives the report of a script that ran, and `notice_of` everything else. Their texts are `Formats.script_text` and
 //! `Formats.notice_text`. A text is made in memory first, so a lack of memory never leaves half of one.
 #![tactic(auto)]
 
@@ -34,6 +34,7 @@ mod place;
 mod progress;
 mod question;
 mod ran;
+mod ran_directive;
 mod reasons;
 mod replaced;
 mod report;

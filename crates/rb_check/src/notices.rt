@@ -1,4 +1,4 @@
-//! Notices to programs about a script, besides its directives.
+//! The texts of notices to programs.
 
 ghost use Rattle.std.specs.Prelude.{◌≡◌, ◌++◌, OnOk, IfOk};
 ghost use Rattle.rb_check.specs.Formats.{notice_text};
@@ -7,7 +7,7 @@ ghost use Rattle.rb_check.specs.Objects.{notice_object};
 use crate::command::add_command;
 use crate::format::Format;
 use crate::junit::add_notice_suite;
-use crate::kind::NoticeKind;
+use crate::kind::ScriptNotice;
 use crate::piece::CommandPiece;
 use rb_text::{Json, Piece, add_pieces};
 use std::alloc::{AllocError, Global};
@@ -57,27 +57,34 @@ fn add_notice(
     text: &mut Vec<u8>,
     format: Format,
     is_strict: bool,
-    path: &[u8],
-    line: Option<usize>,
-    kind: NoticeKind,
-    message: &[u8],
+    notice: ScriptNotice<'_>,
 ) -> Result<(), AllocError>
-    ensures { IfOk result (λ _. text.new.items ≡ text.old.items ++ notice_text format is_strict path.now line kind message.now) }
+    ensures { IfOk result (λ _. text.new.items ≡ text.old.items ++ notice_text format is_strict notice.entry.path.now notice.entry.line notice.entry.kind notice.entry.message.now) }
 {
+    let kind = notice.kind;
     match format {
-        Format::Json => add_object(text, path, line, kind.status(), message),
+        Format::Json => add_object(
+            text,
+            notice.path,
+            notice.line,
+            kind.status(),
+            notice.message,
+        ),
         Format::Github => {
-            let pieces = [CommandPiece::Message(message), CommandPiece::Bytes(b"\n")];
+            let pieces = [
+                CommandPiece::Message(notice.message),
+                CommandPiece::Bytes(b"\n"),
+            ];
             add_command(
                 text,
                 kind.command(is_strict),
-                path,
-                line,
+                notice.path,
+                notice.line,
                 b"raftbench",
                 &pieces,
             )
         }
-        Format::Junit => add_notice_suite(alloc, text, path, line, kind, message),
+        Format::Junit => add_notice_suite(alloc, text, notice),
     }
 }
 
@@ -86,20 +93,15 @@ fn add_notice(
 /// # Errors
 ///
 /// If memory was refused.
-pub fn notice(
+pub(crate) fn notice_of(
     alloc: Global,
     format: Format,
     is_strict: bool,
-    path: &[u8],
-    line: Option<usize>,
-    kind: NoticeKind,
-    message: &[u8],
+    notice: ScriptNotice<'_>,
 ) -> Result<Vec<u8>, AllocError>
-    ensures { IfOk result (λ made. made.items ≡ notice_text format is_strict path.now line kind message.now) }
+    ensures { IfOk result (λ made. made.items ≡ notice_text format is_strict notice.entry.path.now notice.entry.line notice.entry.kind notice.entry.message.now) }
 {
     let mut text = Vec::new(alloc);
-    add_notice(
-        alloc, &mut text, format, is_strict, path, line, kind, message,
-    )?;
+    add_notice(alloc, &mut text, format, is_strict, notice)?;
     Ok(text)
 }

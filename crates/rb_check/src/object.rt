@@ -3,8 +3,10 @@
 ghost use Rattle.std.specs.Prelude.{◌≡◌, ◌++◌, IfOk, OnOk};
 ghost use Rattle.rb_report.specs.Heads.{before_value};
 ghost use Rattle.rb_report.specs.Whys.{reasons_in};
+ghost use Rattle.rb_script_report.specs.Checked.{head_of};
 ghost use Rattle.rb_check.specs.Objects.{lines_members, object_end, object_front, object_text, quoted, reasons_member, strings_from};
 
+use crate::ran_directive::{RanDirective, head_of};
 use rb_report::check::{FileLine, Why};
 use rb_script::Lines;
 use rb_text::{Json, Piece, add_pieces};
@@ -65,24 +67,30 @@ fn add_front<'a>(
     )
 }
 
-/// Adds a directive with the lines that are expected of it, those that it gave, and their reasons, in a line.
+/// Adds a directive with its expected lines, its output and the reasons of that, in a line.
 pub(crate) fn add_object(
+    alloc: Global,
     text: &mut Vec<u8>,
-    place: FileLine<'_>,
-    head: &[u8],
+    ran: RanDirective<'_>,
     status: &[u8],
-    expected: &Lines,
-    output: &Lines,
-    why: Why<'_>,
 ) -> Result<(), AllocError>
-    ensures { IfOk result (λ _. text.new.items ≡ text.old.items ++ object_text place.entry.path.now place.entry.line head.now status.now expected.now output.now (reasons_in why.entry)) }
+    ensures { IfOk result (λ _. text.new.items ≡ text.old.items ++ object_text ran.entry.place.path.now ran.entry.place.line (head_of ran.entry.block.now) status.now ran.entry.block.now.expected ran.entry.output.now (reasons_in ran.entry.why)) }
 {
-    add_lines(text, place, head, status, expected, output)?;
-    add_end(text, why)?;
+    let head = head_of(alloc, ran.block)?;
+    let expected = ran.block.expected();
+    add_lines(
+        text,
+        ran.place,
+        head.as_slice(),
+        status,
+        expected,
+        ran.output,
+    )?;
+    add_end(text, ran.why)?;
     Ok(())
 }
 
-// Adds what the directive is, with the lines that are expected of it and those that it gave.
+// Adds the directive's members up to its output.
 fn add_lines(
     text: &mut Vec<u8>,
     place: FileLine<'_>,

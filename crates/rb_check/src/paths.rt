@@ -1,16 +1,17 @@
 //! `raftbench check`: scripts, and folders of scripts.
 
-ghost use Rattle.std.specs.Prelude.{◌≡◌, ◌≢◌, IfOk, IfErr};
+ghost use Rattle.std.specs.Prelude.{◌≡◌, ◌≢◌, ◌≤◌, IfOk, IfErr, length};
+ghost use Rattle.rb_check.specs.Reported.{AreCounted, IsCheckStatus, IsCounted};
 ghost use Rattle.std.specs.IoError.{error_kind};
 
 use crate::check_request::CheckRequest;
 use crate::checking::check_script;
-use crate::person::TerminalPerson;
+use crate::person::{Person, TerminalPerson};
 use crate::progress::ProgressClock;
 use crate::report::Report;
 use crate::review::{Review, Reviewer};
 use crate::runner::Runner;
-use crate::system::RuntimeSystem;
+use crate::system::{RuntimeSystem, System};
 use rb_files::{Found, PathError, find};
 use rb_report::check::{Failure, Status};
 use rb_script_report::Detail;
@@ -34,34 +35,106 @@ pub fn check<T: Runner, R: Files + Input + Print + Clock + AllocGlobal, E: Write
     // What was asked for was right.
     ensures right { IfOk result (λ status. status ≢ Status.BadUsage) }
     ensures begins { IfErr result (λ error. error_kind error ≡ ErrorKind.OutOfMemory) }
+    // It is the status of what is counted: each script as its run says, or its failure.
+    ensures counted { IfOk result (λ status. IsCheckStatus asked.entry status) }
 {
     let mut progress = ProgressClock::from_now(rt, asked.wants_progress);
     let mut report = Report::new(rt.alloc(), FailFast(io::writer(rt)), errors, &asked)?;
     let found = find(rt, asked.targets, asked.filters);
     report.begin();
     tell_lost(&found, &mut report);
-    let system = RuntimeSystem(rt);
     let scripts = found.scripts.as_slice();
+    check_each(rt, runner, &asked, scripts, &mut progress, &mut report);
+    end(
+        &asked,
+        scripts.len(),
+        milliseconds(&progress, rt),
+        &mut report,
+    );
+    Ok(report.status(asked.is_strict))
+}
+
+// Checks the scripts one after another, until a review ends. Returns how many were checked.
+fn check_each<T: Runner, R: Files + Input + Clock + AllocGlobal, W: Write + Drop, E: Write + Drop>(
+    rt: &R,
+    runner: &mut T,
+    asked: &CheckRequest<'_>,
+    scripts: &[String],
+    progress: &mut ProgressClock,
+    report: &mut Report<W, E>,
+) -> usize
+    ensures counted { AreCounted asked.now result report.old.counts report.new.counts }
+    ensures within { result ≤ length scripts.now }
+{
+    let system = RuntimeSystem(rt);
     let mut reviewer = Reviewer::new(rt.alloc(), TerminalPerson(rt));
-    for (done, path) in scripts.iter().enumerate() {
-        if progress.is_due(rt) {
-            report.show_progress(done, scripts.len());
-        }
-        let path = path.as_str();
-        let checked = check_script(&system, runner, &asked, path, &mut reviewer, &mut report);
-        if let Err(error) = checked {
-            report.fail(path.as_bytes(), error);
-        }
-        if reviewer.review == Review::Over {
-            report.tell_quit(scripts.len().saturating_sub(done).saturating_sub(1));
-            break;
-        }
+    let mut done = 0;
+    while done < scripts.len() && reviewer.review != Review::Over {
+        tell_progress(rt, progress, done, scripts.len(), report);
+        let path = scripts[done].as_str();
+        check_one(&system, runner, asked, path, &mut reviewer, report);
+        done += 1;
     }
-    if !scripts.is_empty() || report.is_for_programs() {
-        let lists_differing = scripts.len() > 1 && asked.shown != Detail::Brief;
-        report.end(lists_differing, milliseconds(&progress, rt));
+    end_review(reviewer.review, scripts.len() - done, report);
+    done
+}
+
+// Shows how far the work is, if it is time to.
+fn tell_progress<C: Clock, W: Write + Drop, E: Write + Drop>(
+    clock: &C,
+    progress: &mut ProgressClock,
+    done: usize,
+    all: usize,
+    report: &mut Report<W, E>,
+)
+    ensures { report.new.counts ≡ report.old.counts }
+{
+    if progress.is_due(clock) {
+        report.show_progress(done, all);
     }
-    Ok(report.status())
+}
+
+// If the review ended, says how many scripts are left.
+fn end_review<W: Write + Drop, E: Write + Drop>(
+    review: Review,
+    left: usize,
+    report: &mut Report<W, E>,
+)
+    ensures { report.new.counts ≡ report.old.counts }
+{
+    if review == Review::Over {
+        report.tell_quit(left);
+    }
+}
+
+// Checks a script, and reports why if that fails.
+fn check_one<T: Runner, S: System, P: Person, W: Write + Drop, E: Write + Drop>(
+    system: &S,
+    runner: &mut T,
+    asked: &CheckRequest<'_>,
+    path: &str,
+    reviewer: &mut Reviewer<P>,
+    report: &mut Report<W, E>,
+)
+    ensures { IsCounted asked.now (P.is_known reviewer.old.person) reviewer.old.review (P.left reviewer.old.person) report.old.counts report.new.counts }
+{
+    if let Err(error) = check_script(system, runner, asked, path, reviewer, report) {
+        report.fail(path.as_bytes(), error);
+    }
+}
+
+// Ends the report of n scripts, if there is something to end.
+fn end<W: Write + Drop, E: Write + Drop>(
+    asked: &CheckRequest<'_>,
+    n: usize,
+    milliseconds: u64,
+    report: &mut Report<W, E>,
+)
+    ensures { report.new.counts ≡ report.old.counts }
+{
+    if n > 0 || report.is_for_programs() {
+        report.end(n > 1 && asked.shown != Detail::Brief, milliseconds);
+    }
 }
 
 // Reports the paths that could not be read.

@@ -14,12 +14,12 @@ const HELP: &[u8] =
 pub(crate) trait Person: Drop {
     ghost use Rattle.rb_check.specs.declared.answer.HeardAnswer.{HeardAnswer};
 
-    // what comes to the questions from here on, where it is known
+    // the lines that are still to be read, if they are known
     ghost left: { Self → List HeardAnswer };
 
     ghost is_known: { Self → Type 0 };
 
-    /// Shows the question, and gives what comes. If the question can't be shown, that is the end.
+    /// Shows the question, and reads a line. If the question can't be shown, no more lines are read.
     fn ask<W: Write + Drop, E: Write + Drop>(
         &mut self,
         question: &[u8],
@@ -35,7 +35,7 @@ pub(crate) trait Person: Drop {
 #[derive(Drop)]
 pub(crate) struct TerminalPerson<'a, R>(pub(crate) &'a R);
 
-// What comes from a terminal is not known.
+// The lines of a terminal are not known.
 impl<'a, R: Input + AllocGlobal> Person for TerminalPerson<'a, R> {
     ghost left = { λ _. [] };
 
@@ -57,7 +57,7 @@ impl<'a, R: Input + AllocGlobal> Person for TerminalPerson<'a, R> {
     }
 }
 
-/// Asks until one of the answers comes. The end of what comes ends the review.
+/// Asks until a line is one of the answers. The end of the lines ends the review.
 pub(crate) fn ask<P: Person, W: Write + Drop, E: Write + Drop>(
     person: &mut P,
     question: &[u8],

@@ -38,7 +38,7 @@ pub(crate) fn named_heads<M: Machine, S: System, W: Write + Drop, E: Write + Dro
     Ok(Some(heads_at(alloc, &lines, heads, subject, report)?))
 }
 
-/// The directives of these heads; if there are none, those that are accepted unnamed.
+/// Which directives may be accepted: those of the named heads, or, if none is named, those that are accepted then.
 pub(crate) fn picked_of<'a, M: Machine>(
     alloc: Global,
     asked: &CheckRequest<'_>,

@@ -37,7 +37,7 @@ pub(crate) fn question_of(
     })
 }
 
-/// What is asked, where this is so many of that many questions.
+/// The text of a question: its number, and how many there are.
 pub(crate) fn question_text(
     alloc: Global,
     number: usize,

@@ -12,9 +12,9 @@ ghost use Rattle.rb_check.specs.Counts.{counted_as, left_as};
 use crate::check_request::CheckRequest;
 use crate::format::Format;
 use crate::junit::{BEGINNING, END};
-use crate::kind::NoticeKind;
+use crate::kind::{NoticeKind, ScriptNotice};
 use crate::notes::{put_left_file, put_note, put_quit};
-use crate::notices::notice;
+use crate::notices::notice_of;
 use crate::ran::{Ran, counted_as, together};
 use crate::totals_object::totals_object;
 use crate::visible::{Showing, VisibleSink, showing_of, showing_of_script};
@@ -75,7 +75,6 @@ impl<W: Write + Drop, E: Write + Drop> Report<W, E> {
         ensures begins { IfErr result (λ error. error_kind error ≡ ErrorKind.OutOfMemory) }
         // It has no outcomes yet.
         ensures empty { IfOk result (λ report. report.counts ≡ nothing) }
-        ensures strict { IfOk result (λ report. report.is_strict ≡ asked.now.is_strict) }
     {
         Ok(Report {
             alloc,
@@ -128,13 +127,13 @@ impl<W: Write + Drop, E: Write + Drop> Report<W, E> {
         together(self.counts, self.own)
     }
 
-    /// The program's status.
-    pub(crate) fn status(&self) -> Status
+    /// The program's status, strict or not.
+    pub(crate) fn status(&self, is_strict: bool) -> Status
         ensures right { result ≢ Status.BadUsage }
-        // It is the status of all counts, strict if that was asked for.
-        ensures counts { result ≡ status_of self.now.is_strict (together self.now.counts self.now.own) }
+        // It is the status of all counts.
+        ensures counts { result ≡ status_of is_strict (together self.now.counts self.now.own) }
     {
-        self.totals().status(self.is_strict)
+        self.totals().status(is_strict)
     }
 
     /// Whether it is for programs.
@@ -201,15 +200,13 @@ impl<W: Write + Drop, E: Write + Drop> Report<W, E> {
         let Some(format) = self.format else {
             return;
         };
-        match notice(
-            self.alloc,
-            format,
-            self.is_strict,
+        let notice = ScriptNotice {
             path,
             line,
             kind,
             message,
-        ) {
+        };
+        match notice_of(self.alloc, format, self.is_strict, notice) {
             Ok(text) => self.put(&text),
             Err(_) => self.fail_for_memory(path),
         }
@@ -323,7 +320,7 @@ impl<W: Write + Drop, E: Write + Drop> Report<W, E> {
         !self.is_lost
     }
 
-    /// A review ends here, and so many scripts aren't looked at.
+    /// Says that the review ends, and how many scripts aren't looked at.
     pub(crate) fn tell_quit(&mut self, left: usize)
         ensures { self.new.counts ≡ self.old.counts }
     {
@@ -411,7 +408,7 @@ impl<W: Write + Drop, E: Write + Drop> Report<W, E> {
         }
     }
 
-    // The scripts with mismatches, a line each, and an empty line; nothing, if there are none.
+    // Writes a line for each script with mismatches, and then an empty line. If there are no such scripts, writes nothing.
     fn list_differing(&mut self)
         ensures { self.new.counts ≡ self.old.counts }
     {

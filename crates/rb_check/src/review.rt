@@ -1,9 +1,10 @@
 //! Asking about each output that differs.
 //!
-//! A review of a script is one definition, `Reviews.review_of`, of what was asked before, of its questions and of what comes to them: it says what is
+//! A review of a script is one definition, `Reviews.review_of`, of what was asked before, of its questions and of the lines that are read: it says what is
 //! accepted and what is still to be asked. Each function here does a part of it.
 
 ghost use Rattle.std.specs.Prelude.{◌≡◌, ◌++◌, ◌∷◌, [], ◌<◌, ◌≤◌, ◌^◌, ◌+◌, ℕ, IfOk, drop, length};
+ghost use Rattle.rb_script.specs.declared.limits.TheConstants.{MAX_DIRECTIVES};
 ghost use Rattle.rb_replay.specs.Run.{outputs};
 ghost use Rattle.rb_script_report.specs.Layouts.{IsLayout};
 ghost use Rattle.rb_check.specs.Reviews.{answered_one, as_list, next_review, questions_of, review_behind, review_of, reviewed_all, reviewing, said_by, said_unasked};
@@ -14,12 +15,11 @@ use crate::checked_script::CheckedScript;
 use crate::comment::put_comment;
 use crate::person::{Person, ask};
 use crate::question::{ReviewQuestion, question_of, question_text};
+use crate::ran_directive::directive_at;
 use crate::report::Report;
 use rb_files::PathError;
 use rb_machine::Machine;
-use rb_script_report::{
-    AcceptFilter, Detail, ShowFault, View, block_at, number_at, output_at, put_one_mismatch,
-};
+use rb_script_report::{AcceptFilter, Detail, ShowFault, ShownScript, View, put_alone};
 use std::alloc::{AllocError, Global};
 use std::io::Write;
 use std::mem;
@@ -40,6 +40,7 @@ pub(crate) enum Review {
 /// A review, as far as it has come.
 #[derive(Drop)]
 pub(crate) struct Reviewer<P: Person> {
+    alloc: Global,
     /// Who is asked.
     pub(crate) person: P,
     pub(crate) review: Review,
@@ -56,6 +57,7 @@ impl<P: Person> Reviewer<P> {
         ensures { result.review ≡ Review.Each }
     {
         Reviewer {
+            alloc,
             person,
             review: Review::Each,
             said: Vec::new(alloc),
@@ -64,32 +66,31 @@ impl<P: Person> Reviewer<P> {
         }
     }
 
-    // Begins a script, which has so many questions.
-    fn begin(&mut self, alloc: Global, count: usize)
+    // Begins a script with n questions.
+    fn begin(&mut self, n: usize)
         ensures said { self.new.said.items ≡ [] }
         ensures review { self.new.review ≡ review_behind self.old.review }
         ensures person { self.new.person ≡ self.old.person }
     {
-        self.said = Vec::new(alloc);
+        self.said = Vec::new(self.alloc);
         self.review = review_behind(self.review);
         self.number = 0;
-        self.count = count;
+        self.count = n;
     }
 
     // The question, in words.
-    fn next_question(&mut self, alloc: Global) -> Result<Vec<u8>, AllocError>
+    fn next_question(&mut self) -> Result<Vec<u8>, AllocError>
         ensures said { self.new.said ≡ self.old.said }
         ensures review { self.new.review ≡ self.old.review }
         ensures person { self.new.person ≡ self.old.person }
     {
         self.number = self.number.saturating_add(1);
-        question_text(alloc, self.number, self.count)
+        question_text(self.alloc, self.number, self.count)
     }
 
     // Asks, and does what is answered.
     fn ask<W: Write + Drop, E: Write + Drop>(
         &mut self,
-        alloc: Global,
         question: ReviewQuestion,
         report: &mut Report<W, E>,
     ) -> Result<(), AllocError>
@@ -99,7 +100,7 @@ impl<P: Person> Reviewer<P> {
         ensures asked { P.is_known self.old.person → length (P.left self.old.person) < 2 ^ 64
             → IfOk result (λ _. reviewing self.new.said.items self.new.review (P.left self.new.person) ≡ answered_one (reviewing self.old.said.items self.old.review (P.left self.old.person)) question) }
     {
-        let text = self.next_question(alloc)?;
+        let text = self.next_question()?;
         let answer = ask(&mut self.person, &text, report);
         self.review = take(&mut self.said, question.head, answer)?;
         Ok(())
@@ -130,7 +131,6 @@ fn review_behind(review: Review) -> Review
 
 /// The lines of the heads of the directives whose outputs are to be accepted, by what is answered.
 pub(crate) fn reviewed<M: Machine, P: Person, W: Write + Drop, E: Write + Drop>(
-    alloc: Global,
     asked: &CheckRequest<'_>,
     subject: &CheckedScript<'_, M>,
     picked: AcceptFilter<'_>,
@@ -141,14 +141,15 @@ pub(crate) fn reviewed<M: Machine, P: Person, W: Write + Drop, E: Write + Drop>(
     ensures counts { report.new.counts ≡ report.old.counts }
     ensures known { P.is_known reviewer.old.person → P.is_known reviewer.new.person }
     ensures few { P.is_known reviewer.old.person → length (P.left reviewer.old.person) < 2 ^ 64 → length (P.left reviewer.new.person) ≤ length (P.left reviewer.old.person) }
-    // Of a person of whom it is known what comes: what is accepted is the review of the questions by that.
+    // If the person's lines are known, what is accepted is the review of the questions by them.
     ensures reviewed { P.is_known reviewer.old.person → length (P.left reviewer.old.person) < 2 ^ 64
         → IfOk result (λ said. reviewing said.items reviewer.new.review (P.left reviewer.new.person)
         ≡ review_of reviewer.old.review (P.left reviewer.old.person) (questions_of asked.now.accepts_errors picked.entry subject.now.layout.now.text subject.now.layout.now.heads.items subject.now.session.now.script.blocks (outputs subject.now.session.now.script))) }
 {
-    reviewer.begin(alloc, count_questions(asked, subject, picked));
-    go_over(alloc, asked, subject, picked, reviewer, report)?;
-    Ok(mem::replace(&mut reviewer.said, Vec::new(alloc)))
+    reviewer.begin(count_questions(asked, subject, picked));
+    go_over(asked, subject, picked, reviewer, report)?;
+    let none = Vec::new(reviewer.alloc);
+    Ok(mem::replace(&mut reviewer.said, none))
 }
 
 // How many questions there are.
@@ -185,28 +186,25 @@ fn question_at<M: Machine>(
     index: usize,
 ) -> Option<ReviewQuestion>
     requires layout { IsLayout subject.now.text.now.bytes.items subject.now.session.now.script subject.now.layout.now }
+    requires few { length subject.now.session.now.script.blocks ≤ MAX_DIRECTIVES }
     requires within { index < length subject.now.session.now.script.blocks }
     // It is the next of those that are left.
     ensures { let left = λ (n : ℕ). questions_of asked.now.accepts_errors picked.entry subject.now.layout.now.text (drop n subject.now.layout.now.heads.items) (drop n subject.now.session.now.script.blocks) (drop n (outputs subject.now.session.now.script)) in
         left index ≡ as_list result ++ left (index + 1) }
 {
-    let _count = subject.session.len();
-    let block = block_at(subject.session, index);
-    let output = output_at(subject.session, index);
-    let head = number_at(subject.layout.heads.as_slice(), index);
+    let ran = directive_at(subject, index);
     question_of(
         asked.accepts_errors,
         picked,
         &subject.layout.text,
-        head,
-        block,
-        output,
+        ran.place.line,
+        ran.block,
+        ran.output,
     )
 }
 
 // Asks about each directive whose output differs and that is picked, as far as it is still to be asked.
 fn go_over<M: Machine, P: Person, W: Write + Drop, E: Write + Drop>(
-    alloc: Global,
     asked: &CheckRequest<'_>,
     subject: &CheckedScript<'_, M>,
     picked: AcceptFilter<'_>,
@@ -223,14 +221,13 @@ fn go_over<M: Machine, P: Person, W: Write + Drop, E: Write + Drop>(
 {
     for index in 0..subject.session.len() {
         let question = question_at(asked, subject, picked, index);
-        review_one(alloc, asked, subject, index, question, reviewer, report)?;
+        review_one(asked, subject, index, question, reviewer, report)?;
     }
     Ok(())
 }
 
 // Asks about the directive at an index, where there is something to ask and it is still to be asked.
 fn review_one<M: Machine, P: Person, W: Write + Drop, E: Write + Drop>(
-    alloc: Global,
     asked: &CheckRequest<'_>,
     subject: &CheckedScript<'_, M>,
     index: usize,
@@ -252,8 +249,8 @@ fn review_one<M: Machine, P: Person, W: Write + Drop, E: Write + Drop>(
     };
     match reviewer.review {
         Review::Each => {
-            show(alloc, asked, subject, index, question, report)?;
-            Ok(reviewer.ask(alloc, question, report)?)
+            show(reviewer.alloc, asked, subject, index, question, report)?;
+            Ok(reviewer.ask(question, report)?)
         }
         Review::Rest => Ok(reviewer.take_rest(question)?),
         Review::Skipped | Review::Over => Ok(()),
@@ -312,14 +309,11 @@ fn show<M: Machine, W: Write + Drop, E: Write + Drop>(
     if put_comment(sink, &subject.layout.text, question.head).is_err() {
         return report.showed(Err(ShowFault::Writing));
     }
-    let shown = put_one_mismatch(
-        alloc,
-        sink,
-        subject.session,
-        subject.layout,
-        view,
-        subject.whys,
-        index,
-    );
+    let run = ShownScript {
+        session: subject.session,
+        layout: subject.layout,
+        whys: subject.whys,
+    };
+    let shown = put_alone(alloc, sink, &run, view, index);
     report.showed(shown)
 }

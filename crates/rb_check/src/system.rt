@@ -24,7 +24,7 @@ pub(crate) struct Text {
     pub(crate) seen: Metadata,
 }
 
-/// The system calls for the check of a script, besides the streams of the report. Code over it is proved of this trait alone, and not
+/// The system calls for the check of a script, except the streams of the report. Code over it is proved of this trait alone, and not
 /// of each trait of a runtime.
 pub(crate) trait System {
     /// Memory.

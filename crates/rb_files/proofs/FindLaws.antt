@@ -1,12 +1,15 @@
 -- What is found, after a step that finds no script and one that finds one, and what is lost.
-use Rattle.std.proofs.Common.{◌≡◌, List, [], ◌∷◌, ◌++◌, String, Vec, string_bytes, subst, sym}
+use Rattle.std.proofs.Common.{◌≡◌, ◌∙◌, ℕ, ◌+◌, List, [], ◌∷◌, ◌++◌, Some, String, Vec, drop, string_bytes, ap, append_assoc, subst, sym}
+use Rattle.std.specs.Prelude.{slice_get}
 use Rattle.std.specs.List.{All}
+use Rattle.std.proofs.lemmas.List.{drop_more}
 use Rattle.std.proofs.lemmas.List.Elements.{All-nil, All-push}
+use Rattle.std.proofs.lemmas.Option.{slice_get_within, get_or_from_slice_get}
 use Rattle.std.specs.declared.alloc.Global.{Global}
 use Rattle.rb_files.specs.declared.finding.Found.{Found}
 use Rattle.rb_files.specs.declared.finding.FailedPath.{FailedPath}
 use Rattle.rb_files.specs.PathErrors.{IsOfReading}
-use Rattle.rb_files.specs.Finds.{AreTold, IsFound, IsKept}
+use Rattle.rb_files.specs.Finds.{AreTold, IsFound, IsKept, waiting_of}
 
 pub still_found : (words : List (String Global)) (old new : Found) → IsFound words old → new.scripts ≡ old.scripts → (AreTold old.lost.items → AreTold new.lost.items) → IsFound words new
 still_found words old new h e t = record { kept = rw e h.kept; told = t h.told }
@@ -24,3 +27,14 @@ one_more_kept words old path scripts h kept e = record {
   kept = subst (All (λ p. IsKept words (string_bytes p))) (sym e) (All-push (λ p. IsKept words (string_bytes p)) old.scripts.items path h.kept kept);
   told = h.told;
 }
+
+-- what waits for one name more
+pub names_step : (ignored : List (String Global)) (folder : List ℕ) (names : List (String Global)) (i : ℕ) (name : String Global) (old had new : List (List ℕ)) → slice_get names i ≡ Some name
+    → had ≡ old ++ waiting_of ignored folder (drop (i + 1) names) → new ≡ had ++ waiting_of ignored folder (name ∷ []) → new ≡ old ++ waiting_of ignored folder (drop i names)
+names_step ignored folder names i name old had new got so_far more =
+    let rest : List (String Global) = drop (i + 1) names in
+    let next : drop i names ≡ name ∷ rest = drop_more names i name (slice_get_within names i name got) ∙ ap (λ (n : String Global). n ∷ rest) (get_or_from_slice_get names i name name got) in
+    more
+    ∙ ap (λ (paths : List (List ℕ)). paths ++ waiting_of ignored folder (name ∷ [])) so_far
+    ∙ append_assoc old (waiting_of ignored folder rest) (waiting_of ignored folder (name ∷ []))
+    ∙ sym (ap (λ (ns : List (String Global)). old ++ waiting_of ignored folder ns) next)

@@ -1,3 +1,4 @@
 pub mod FindLaws
 pub mod IgnoredLaws
+pub mod NameLaws
 pub mod PlaceLaws

@@ -1,5 +1,5 @@
 -- What stands in a place after the calls that replace its text.
-use Rattle.std.proofs.Common.{◌≡◌, ◌∙◌, ℕ, List, Option, Some, None, Result, Ok, Err, IfSome, is_ok, is_some, option_map, unwrap_or, true, ap, refl, subst}
+use Rattle.std.proofs.Common.{◌≡◌, ◌∙◌, ℕ, List, Option, Some, None, Result, Ok, Err, IfSome, is_ok, is_some, option_map, unwrap_or, true, false, ap, refl, subst}
 use Rattle.rb_files.specs.declared.path_error.PathError.{PathError}
 use Rattle.rb_files.specs.Places.{Standing, Written, Fills, FailsAtText, LeavesOld, Removes, Turns, IsFresh, created, empty, extended, failed, put, removed, renamed, replaced, settled, stored}
 
@@ -16,16 +16,24 @@ some_of None h = cc
 some_of (Some w) h = (w, refl)
 
 placed : (s : Standing) (text : List ℕ) → s.new ≡ Some empty → renamed (settled (put text s)) ≡ replaced text s
-placed s text e = ap (λ (n : Option Written). record s { file = unwrap_or (option_map stored (option_map (extended text) n)) s.file; new = None }) e
+placed s text e = ap (λ (n : Option Written). record s { file = unwrap_or (option_map stored (option_map (extended text) n)) s.file; new = None; is_same = false }) e
 
--- filling, once the bytes are put and the new file is settled
-pub fills : {X : Type 0} (text : List ℕ) (r : Result X PathError) (old a b new : Option Standing) → IfSome old (λ s. a ≡ Some (put text s)) → IfSome a (λ s. b ≡ Some (settled s)) → Turns renamed r b new → Fills text r old new
-fills text (Ok x) None a b new p q t = tt
-fills text (Err e) None a b new p q t = tt
-fills text (Ok x) (Some s) a b new p q t = λ h. next renamed (settled (put text s)) b new (next settled (put text s) a b p q) t ∙ ap (λ (n : Standing). Some n) (placed s text h)
-fills text (Err e) (Some s) a b new p q t =
+-- what a look shows, where it is known what stood there before
+seen : (s : Standing) (old new : Option Standing) → old ≡ Some s → IfSome old (λ t. (t.is_same ≡ true) × (new ≡ Some t)) → (s.is_same ≡ true) × (new ≡ Some s)
+seen s old new e h = subst (λ (o : Option Standing). IfSome o (λ t. (t.is_same ≡ true) × (new ≡ Some t))) e h
+
+-- filling, once the bytes are put, and the new file is settled and the old one looked at
+pub fills : {X : Type 0} (text : List ℕ) (r : Result X PathError) (old a b d new : Option Standing) → IfSome old (λ s. a ≡ Some (put text s)) → IfSome a (λ s. b ≡ Some (settled s))
+    → IfSome b (λ s. (s.is_same ≡ true) × (d ≡ Some s)) → Turns renamed r d new → Fills text r old new
+fills text (Ok x) None a b d new p q l t = tt
+fills text (Err e) None a b d new p q l t = tt
+fills text (Ok x) (Some s) a b d new p q l t = λ h.
+    let look = seen (settled (put text s)) b d (next settled (put text s) a b p q) l in
+    (look.0, next renamed (settled (put text s)) d new look.1 t ∙ ap (λ (n : Standing). Some n) (placed s text h))
+fills text (Err e) (Some s) a b d new p q l t =
     let w : Option Written = option_map stored (option_map (extended text) s.new) in
-    (w, next (failed e) (settled (put text s)) b new (next settled (put text s) a b p q) t, is_some-map stored (option_map (extended text) s.new) ∙ is_some-map (extended text) s.new)
+    let look = seen (settled (put text s)) b d (next settled (put text s) a b p q) l in
+    (w, next (failed e) (settled (put text s)) d new look.1 t, is_some-map stored (option_map (extended text) s.new) ∙ is_some-map (extended text) s.new)
 
 -- creating fails
 pub leaves_uncreated : (e : PathError) (old new : Option Standing) → IsFresh old → IfSome old (λ s. new ≡ Some (failed e s)) → IfSome old (λ s. LeavesOld (record { error = e; is_removed = true }) s new)

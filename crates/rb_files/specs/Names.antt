@@ -1,5 +1,9 @@
 -- Names of files and folders, and looks at them. (This project's; the parts of a path are the standard library's.)
-use Rattle.std.specs.Prelude.{ℕ, ◌-◌, ◌==◌, ◌||◌, Bool, true, false, if◌then◌else◌, List, [], ◌∷◌, ◌++◌, Option, Some, None, codes, drop, length, unwrap_or}
+use Rattle.std.specs.Prelude.{◌≡◌, ℕ, ◌-◌, ◌==◌, ◌||◌, Bool, true, false, if◌then◌else◌, List, [], ◌∷◌, ◌++◌, Option, Some, None, String, codes, drop, length, string_bytes, unwrap_or}
+use Rattle.std.specs.List.{Any}
+use Rattle.std.specs.List.Sorted.{IsStrictlySortedBy}
+use Rattle.std.specs.String.{string_cmp}
+use Rattle.std.specs.declared.alloc.Global.{Global}
 use Rattle.std.specs.Path.{path_file_name, path_parent}
 use Rattle.std.specs.Str.{bytes_eq}
 use Rattle.rb_files.specs.declared.entry.FolderId.{FolderId}
@@ -22,10 +26,18 @@ folder_of path = or_here (path_parent path)
 abbrev pub name_of : List ℕ → List ℕ
 name_of path = unwrap_or (path_file_name path) path
 
--- a name that begins with a dot is hidden, as from `*`; the empty one is none
+-- a name that begins with a dot is hidden, as from `*`, and so is the empty one
 abbrev pub is_hidden : List ℕ → Bool
 is_hidden [] = true
 is_hidden (b ∷ name) = b == 46
+
+-- the names are in the order of their bytes, each once
+abbrev pub AreInOrder : List (String Global) → Type 0
+AreInOrder names = IsStrictlySortedBy string_cmp names
+
+-- one of the names has these bytes
+abbrev pub HasName : List (String Global) → List ℕ → Type 0
+HasName names name = Any (λ n. string_bytes n ≡ name) names
 
 -- a folder is known by its device and its number there
 abbrev pub folder_id : FileLook → FolderId

@@ -1,4 +1,4 @@
--- What an error of the system's comes to. (This project's; the kinds of errors are the standard library's.)
+-- Failures by the system's errors. (This project's; the kinds of errors are the standard library's.)
 use Rattle.std.specs.Prelude.{◌≡◌, IfSome, MatchOption}
 use Rattle.std.specs.IoError.{error_kind}
 use Rattle.std.specs.declared.io.ErrorKind.{ErrorKind}
@@ -19,7 +19,7 @@ abbrev pub writing_failure : ErrorKind → Failure
 writing_failure kind.OutOfMemory = failure.OutOfMemory
 writing_failure _ = failure.NotWritten
 
--- where it has the system's error, what that comes to
+-- if it has the system's error, the failure is that error's
 abbrev pub IsOfReading : PathError → Type 0
 IsOfReading t = IfSome t.cause (λ error. t.failure ≡ reading_failure (error_kind error))
 

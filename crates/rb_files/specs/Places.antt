@@ -1,4 +1,4 @@
--- A file that has a text, and a new file beside it. (This project's.)
+-- A file with a text, and a new file next to it. (This project's.)
 use Rattle.std.specs.Prelude.{◌≡◌, ℕ, Bool, true, false, List, [], ◌++◌, Option, Some, None, Result, Ok, Err, IfSome, MatchBool, is_some, option_map, unwrap_or}
 use Rattle.rb_files.specs.declared.file_place.Unreplaced.{Unreplaced}
 use Rattle.rb_files.specs.declared.path_error.PathError.{PathError}
@@ -8,12 +8,14 @@ pub record Written : Type 0 where
   pub text : List ℕ
   pub is_settled : Bool
 
--- what is there: the file, and the new file, if there is one; what the first call that failed said, and whether removing failed
+-- what is there: the file, and the new file, if there is one; what the first call that failed said, and whether removing failed;
+-- and whether the file is the one that was read, as it was then
 pub record Standing : Type 0 where
   pub file : Written
   pub new : Option Written
   pub told : Option PathError
   pub is_stuck : Bool
+  pub is_same : Bool
 
 -- what was said first, where this is said now
 abbrev pub told_with : PathError → Standing → Option PathError
@@ -30,7 +32,7 @@ Turns turned (Err e) old new = IfSome old (λ s. new ≡ Some (failed e s))
 
 -- a call failed, and but for the text of the new file all is as it was
 abbrev pub FailsAtText : PathError → Standing → Option Standing → Type 0
-FailsAtText e s new = (w : Option Written) × (new ≡ Some (record { file = s.file; new = w; told = told_with e s; is_stuck = s.is_stuck })) × (is_some w ≡ is_some s.new)
+FailsAtText e s new = (w : Option Written) × (new ≡ Some (record { file = s.file; new = w; told = told_with e s; is_stuck = s.is_stuck; is_same = s.is_same })) × (is_some w ≡ is_some s.new)
 
 -- with bytes after its text
 abbrev pub extended : List ℕ → Written → Written
@@ -61,9 +63,14 @@ stored w = record w { is_settled = true }
 abbrev pub settled : Standing → Standing
 settled s = record s { new = option_map stored s.new }
 
+-- a look at the file: it is the one that was read, or the call fails
+abbrev pub Looks : {X : Type 0} → Result X PathError → Option Standing → Option Standing → Type 0
+Looks (Ok x) old new = IfSome old (λ s. (s.is_same ≡ true) × (new ≡ Some s))
+Looks (Err e) old new = IfSome old (λ s. new ≡ Some (failed e s))
+
 -- the new file is in the old one's place
 abbrev pub renamed : Standing → Standing
-renamed s = record s { file = unwrap_or s.new s.file; new = None }
+renamed s = record s { file = unwrap_or s.new s.file; new = None; is_same = false }
 
 -- there is no new file
 abbrev pub removed : Standing → Standing
@@ -74,13 +81,13 @@ abbrev pub Removes : {X : Type 0} → Result X PathError → Option Standing →
 Removes (Ok x) old new = IfSome old (λ s. new ≡ Some (removed s))
 Removes (Err e) old new = IfSome old (λ s. new ≡ Some (record (failed e s) { is_stuck = true }))
 
--- this text is there, settled, and no new file
+-- this text is there, settled, and no new file; the file that was read is gone
 abbrev pub replaced : List ℕ → Standing → Standing
-replaced text s = record s { file = record { text = text; is_settled = true }; new = None }
+replaced text s = record s { file = record { text = text; is_settled = true }; new = None; is_same = false }
 
--- a new file without a text is given this one, and put in the old one's place
+-- a new file without a text is given this one, and put in the old one's place, if that is the file that was read
 abbrev pub Fills : {X : Type 0} → List ℕ → Result X PathError → Option Standing → Option Standing → Type 0
-Fills text (Ok x) old new = IfSome old (λ s. s.new ≡ Some empty → new ≡ Some (replaced text s))
+Fills text (Ok x) old new = IfSome old (λ s. s.new ≡ Some empty → (s.is_same ≡ true) × (new ≡ Some (replaced text s)))
 Fills text (Err e) old new = IfSome old (λ s. FailsAtText e s new)
 
 -- the old file is there as it was, and no new one, or one whose removing failed, as is said; and it is reported what was said first
@@ -88,11 +95,11 @@ abbrev pub LeavesOld : Unreplaced → Standing → Option Standing → Type 0
 LeavesOld why s new =
     MatchBool why.is_removed
     (new ≡ Some (record s { new = None; told = told_with why.error s }))
-    ((w : Written) × (new ≡ Some (record { file = s.file; new = Some w; told = told_with why.error s; is_stuck = true })))
+    ((w : Written) × (new ≡ Some (record { file = s.file; new = Some w; told = told_with why.error s; is_stuck = true; is_same = s.is_same })))
 
--- what comes of putting a text where no new file was
+-- putting a text in a place without a new file: only the file that was read is replaced, as it was then
 abbrev pub Replaces : {X : Type 0} → List ℕ → Result X Unreplaced → Option Standing → Option Standing → Type 0
-Replaces text (Ok x) old new = IfSome old (λ s. new ≡ Some (replaced text s))
+Replaces text (Ok x) old new = IfSome old (λ s. (s.is_same ≡ true) × (new ≡ Some (replaced text s)))
 Replaces text (Err why) old new = IfSome old (λ s. LeavesOld why s new)
 
 -- no new file, and none that couldn't be removed, where it is known

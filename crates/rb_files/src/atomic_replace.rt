@@ -1,6 +1,6 @@
 //! The place of a real file.
 
-ghost use Rattle.std.specs.Prelude.{◌≡◌, ◌↔◌, None, IsOk, MatchResult, option_map, string_bytes};
+ghost use Rattle.std.specs.Prelude.{◌≡◌, ◌↔◌, None, Some, IsOk, MatchResult, option_map, string_bytes};
 ghost use Rattle.rb_files.specs.PathErrors.{IsOfReading};
 
 use crate::entry::{folder_of, followed};
@@ -25,6 +25,9 @@ pub struct AtomicReplace<'a, R: Files> {
     target: String,
     // its metadata when it was read
     seen: Metadata,
+    // what of it tells whether the file has changed, when it was read and when it was last looked at
+    read: FileLook,
+    last: Option<FileLook>,
     new: Option<NewFile<R::File>>,
 }
 
@@ -45,7 +48,9 @@ impl<'a, R: Files + AllocGlobal> AtomicReplace<'a, R> {
         Ok(AtomicReplace {
             rt,
             target,
+            read: FileLook::of(&seen),
             seen,
+            last: None,
             new: None,
         })
     }
@@ -97,22 +102,17 @@ impl<'a, R: Files + AllocGlobal> AtomicReplace<'a, R> {
             .open(self.rt, self.target.as_str())?;
         Ok(())
     }
-
-    // Whether the file is still the one that was read.
-    fn check_unchanged(&self) -> io::Result<()> {
-        let now = fs::symlink_metadata(self.rt, self.target.as_str())?;
-        unchanged(&FileLook::of(&now), &FileLook::of(&self.seen))
-    }
 }
 
 // Fails if a file has changed.
-fn unchanged(now: &FileLook, seen: &FileLook) -> io::Result<()>
+fn unchanged(now: &FileLook, seen: &FileLook) -> Result<(), PathError>
     ensures { IsOk result ↔ now.now ≡ seen.now }
 {
     if now.is_same(seen) {
         Ok(())
     } else {
-        Err(io::Error::other("the file has changed since it was read"))
+        let error = io::Error::other("the file has changed since it was read");
+        Err(PathError::of_writing(error))
     }
 }
 
@@ -139,9 +139,11 @@ fn answered(outcome: io::Result<()>) -> Result<(), PathError> {
     }
 }
 
-// The contents of the system's folders are not known, so nothing is claimed of these calls.
+// The contents of the system's folders are not known, so these calls say nothing but what the last look showed.
 impl<'a, R: Files + AllocGlobal> FilePlace for AtomicReplace<'a, R> {
     ghost stands = { λ _. None };
+
+    ghost is_unchanged = { λ place. place.last ≡ Some place.read };
 
     fn create(&mut self) -> Result<(), PathError> {
         answered(self.check_rights())?;
@@ -168,8 +170,18 @@ impl<'a, R: Files + AllocGlobal> FilePlace for AtomicReplace<'a, R> {
         }
     }
 
+    fn look(&mut self) -> Result<(), PathError> {
+        match fs::symlink_metadata(self.rt, self.target.as_str()) {
+            Ok(metadata) => {
+                let now = FileLook::of(&metadata);
+                self.last = Some(now);
+                unchanged(&now, &self.read)
+            }
+            Err(error) => Err(PathError::of_writing(error)),
+        }
+    }
+
     fn rename(&mut self) -> Result<(), PathError> {
-        answered(self.check_unchanged())?;
         let outcome = match &self.new {
             Some(new) => answered(fs::rename(self.rt, new.path.as_str(), self.target.as_str())),
             None => return answered(Err(missing())),

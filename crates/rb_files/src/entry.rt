@@ -3,7 +3,7 @@
 //! A script is known by the folder that it is in and its name there, and a folder by its number in the file system: so each is found
 //! once, whatever paths and links lead to it. Two names of one file by hard links are two scripts, since each may be given a text of its own.
 
-ghost use Rattle.std.specs.Prelude.{◌≡◌, IfErr};
+ghost use Rattle.std.specs.Prelude.{◌≡◌, IfErr, IfOk, string_bytes};
 ghost use Rattle.rb_files.specs.Names.{folder_id, folder_of, name_of};
 ghost use Rattle.rb_files.specs.PathErrors.{IsOfReading};
 
@@ -90,7 +90,8 @@ fn no_file_at<R: Files>(rt: &R, path: &str) -> Option<Failure> {
 }
 
 fn file_id<R: Files + AllocGlobal>(rt: &R, target: &str) -> Result<FileId, PathError>
-    ensures { IfErr result IsOfReading }
+    ensures name { IfOk result (λ id. string_bytes id.name ≡ name_of target.now) }
+    ensures why { IfErr result IsOfReading }
 {
     let folder = looked_at(rt, folder_of(target))?;
     let folder = FolderId::of(&FileLook::of(&folder));

@@ -1,12 +1,13 @@
 //! Putting a new text in a file's place.
 //!
-//! A [`FilePlace`] is a file that has a text, beside which a new file can be made. The new text goes there first, whole and settled, and takes
+//! A [`FilePlace`] is a file with a text, next to which a new file can be made. The new text is written there first, whole and settled, and takes
 //! the old one's place by one step: so whatever fails, the old text or the new one is in the place. This is proved of each place of which it
-//! is known what is there and whose calls do what the trait says. Of real files nothing is known: that their place, [`crate::AtomicReplace`],
-//! is such a one is not proved but tested, with calls of the system that fail in turn.
+//! is known what is there and whose calls do what the trait says. Of each place it is proved that the new file takes the old one's place only
+//! directly after a look that showed the file as it was when it was read. What real files hold is not known: that their place,
+//! [`crate::AtomicReplace`], does what the trait says is tested, with calls of the system that fail in turn.
 
-ghost use Rattle.std.specs.Prelude.{Option};
-ghost use Rattle.rb_files.specs.Places.{Standing, Turns, Puts, Fills, Removes, Replaces, IsFresh, created, settled, renamed};
+ghost use Rattle.std.specs.Prelude.{Option, IfOk};
+ghost use Rattle.rb_files.specs.Places.{Standing, Turns, Puts, Looks, Fills, Removes, Replaces, IsFresh, created, settled, renamed};
 
 use crate::path_error::PathError;
 
@@ -14,6 +15,9 @@ use crate::path_error::PathError;
 pub trait FilePlace {
     // the contents, and the first call's failure; `None` if they aren't known
     ghost stands: { Self → Option Standing };
+
+    // the last look showed the file that was read, as it was then
+    ghost is_unchanged: { Self → Type 0 };
 
     /// Makes the new file, without a text.
     fn create(&mut self) -> Result<(), PathError>
@@ -27,8 +31,14 @@ pub trait FilePlace {
     fn settle(&mut self) -> Result<(), PathError>
         ensures { Turns settled result (stands self.old) (stands self.new) };
 
-    /// Renames the new file to the old one, if that hasn't changed.
+    /// Looks at the file. Fails unless it is the one that was read, as it was then.
+    fn look(&mut self) -> Result<(), PathError>
+        ensures told { Looks result (stands self.old) (stands self.new) }
+        ensures same { IfOk result (λ _. is_unchanged self.new) };
+
+    /// Renames the new file to the old one.
     fn rename(&mut self) -> Result<(), PathError>
+        requires { is_unchanged self.old }
         ensures { Turns renamed result (stands self.old) (stands self.new) };
 
     /// Removes the new file.
@@ -69,11 +79,12 @@ pub fn replace<P: FilePlace>(place: &mut P, text: &[u8]) -> Result<(), Unreplace
     }
 }
 
-// Writes the text into the new file, and puts that in the old one's place.
+// Writes the text into the new file, and puts that in the old one's place if the file hasn't changed.
 fn fill<P: FilePlace>(place: &mut P, text: &[u8]) -> Result<(), PathError>
     ensures { Fills text.now result (P.stands place.old) (P.stands place.new) }
 {
     place.put(text)?;
     place.settle()?;
+    place.look()?;
     place.rename()
 }

@@ -4,10 +4,8 @@
 //! folder's scripts are in its name's place. Each script and each folder is looked at once, so that loops of links end.
 //! What a folder's file `.raftbenchignore` names, a path a line, isn't looked at, unless it is itself one of the paths.
 
-ghost use Rattle.std.specs.Prelude.{◌≡◌, ◌||◌, ◌++◌, ◌∷◌, if◌then◌else◌, [], true, IfOk, map, string_bytes};
-ghost use Rattle.std.specs.List.{list_any};
-ghost use Rattle.std.specs.Str.{bytes_eq};
-ghost use Rattle.rb_files.specs.Finds.{AreTold, IsFound, losses, paths_of};
+ghost use Rattle.std.specs.Prelude.{◌≡◌, ◌<◌, ◌||◌, ◌++◌, ◌∷◌, if◌then◌else◌, [], true, IfOk, Some, length, map, slice_get, string_bytes};
+ghost use Rattle.rb_files.specs.Finds.{AreTold, IsFound, is_ignored, losses, paths_of, waiting_of};
 ghost use Rattle.rb_files.specs.Ignored.{ignored_by};
 ghost use Rattle.rb_files.specs.Names.{is_script_name};
 ghost use Rattle.rb_files.specs.PathErrors.{IsOfReading};
@@ -234,7 +232,7 @@ impl Search {
 
     // Whether a folder's file names the path.
     fn is_ignored(&self, path: &str) -> bool
-        ensures { result ≡ list_any (λ ignored. bytes_eq (string_bytes ignored) path.now) self.now.ignored.items }
+        ensures { result ≡ is_ignored self.now.ignored.items path.now }
     {
         for ignored in &self.ignored {
             if ignored.as_str() == path {
@@ -252,16 +250,50 @@ impl Search {
     ) -> Result<(), AllocError>
         ensures scripts { self.new.found.scripts ≡ self.old.found.scripts }
         ensures told { AreTold self.old.found.lost.items → AreTold self.new.found.lost.items }
+        ensures waits { IfOk result (λ _. paths_of self.new.waiting.items
+            ≡ paths_of self.old.waiting.items ++ waiting_of self.old.ignored.items folder.now listing.names.items) }
     {
-        let alloc = rt.alloc();
         for name in &listing.strange {
-            self.report_undecodable_name(alloc, folder, name)?;
+            self.report_undecodable_name(rt.alloc(), folder, name)?;
         }
-        for name in listing.names.iter().rev() {
-            let path = Path::new(folder).join(alloc, name.as_str())?.into_string();
-            self.let_wait(rt, path, is_script_name(name.as_str()))?;
+        self.let_names_wait(rt, folder, listing.names.as_slice())
+    }
+
+    // Lets a folder's names wait, the first of them to be the next.
+    fn let_names_wait<R: Files + AllocGlobal>(
+        &mut self,
+        rt: &R,
+        folder: &str,
+        names: &[String],
+    ) -> Result<(), AllocError>
+        ensures found { self.new.found ≡ self.old.found }
+        ensures waits { IfOk result (λ _. paths_of self.new.waiting.items
+            ≡ paths_of self.old.waiting.items ++ waiting_of self.old.ignored.items folder.now names.now) }
+    {
+        let mut left = names.len();
+        while left > 0 {
+            left -= 1;
+            self.let_name_wait(rt, folder, name_at(names, left))?;
         }
         Ok(())
+    }
+
+    // Lets a name of a folder wait.
+    fn let_name_wait<R: Files + AllocGlobal>(
+        &mut self,
+        rt: &R,
+        folder: &str,
+        name: &String,
+    ) -> Result<(), AllocError>
+        ensures found { self.new.found ≡ self.old.found }
+        ensures ignored { self.new.ignored ≡ self.old.ignored }
+        ensures waits { IfOk result (λ _. paths_of self.new.waiting.items
+            ≡ paths_of self.old.waiting.items ++ waiting_of self.old.ignored.items folder.now (name.now ∷ [])) }
+    {
+        let path = Path::new(folder)
+            .join(rt.alloc(), name.as_str())?
+            .into_string();
+        self.let_wait(rt, path, is_script_name(name.as_str()))
     }
 
     // Lets a path of a folder wait, unless a folder's file names it.
@@ -272,9 +304,9 @@ impl Search {
         is_script: bool,
     ) -> Result<(), AllocError>
         ensures found { self.new.found ≡ self.old.found }
+        ensures ignored { self.new.ignored ≡ self.old.ignored }
         ensures waits { IfOk result (λ _. paths_of self.new.waiting.items
-            ≡ (if list_any (λ ignored. bytes_eq (string_bytes ignored) (string_bytes path)) self.old.ignored.items
-            then paths_of self.old.waiting.items else paths_of self.old.waiting.items ++ string_bytes path ∷ [])) }
+            ≡ paths_of self.old.waiting.items ++ (if is_ignored self.old.ignored.items (string_bytes path) then [] else string_bytes path ∷ [])) }
     {
         if self.is_ignored(path.as_str()) {
             return Ok(());
@@ -298,6 +330,8 @@ impl Search {
         name: &[u8],
     ) -> Result<(), AllocError>
         ensures scripts { self.new.found.scripts ≡ self.old.found.scripts }
+        ensures waiting { self.new.waiting ≡ self.old.waiting }
+        ensures ignored { self.new.ignored ≡ self.old.ignored }
         ensures told { AreTold self.old.found.lost.items → AreTold self.new.found.lost.items }
     {
         let mut path = Vec::from_slice(alloc, folder.as_bytes())?;
@@ -311,6 +345,13 @@ impl Search {
 // The path of a folder's ignore file.
 fn ignored_path(alloc: Global, folder: &str) -> Result<String, AllocError> {
     Ok(Path::new(folder).join(alloc, IGNORED)?.into_string())
+}
+
+fn name_at(names: &[String], index: usize) -> &String
+    requires { index < length names.now }
+    ensures { slice_get names.now index ≡ Some result.now }
+{
+    &names[index]
 }
 
 // Whether a file of this name in a folder is a script.

@@ -1,7 +1,7 @@
 //! The names in a folder.
 
-ghost use Rattle.std.specs.Prelude.{◌≡◌, ◌++◌, ◌∷◌, [], true, false, IfErr, IfOk, IsUtf8, map, string_bytes};
-ghost use Rattle.rb_files.specs.Names.{is_hidden};
+ghost use Rattle.std.specs.Prelude.{◌≡◌, ◌↔◌, ◌++◌, ◌∷◌, [], ℕ, List, true, false, IfErr, IfOk, IsUtf8, map, string_bytes};
+ghost use Rattle.rb_files.specs.Names.{AreInOrder, HasName, is_hidden};
 ghost use Rattle.rb_files.specs.PathErrors.{IsOfReading};
 
 use crate::path_error::PathError;
@@ -16,7 +16,7 @@ const CHUNK: usize = 16_384;
 /// The names in a folder that don't begin with a dot.
 #[derive(Drop)]
 pub(crate) struct Listing {
-    /// Those that are text, in the order of their bytes.
+    /// Those that are text, in the order of their bytes, each once.
     pub(crate) names: Vec<String>,
     /// Those that are no UTF-8, so that no path can have them.
     pub(crate) strange: Vec<Vec<u8>>,
@@ -24,7 +24,8 @@ pub(crate) struct Listing {
 
 /// The names in the folder.
 pub(crate) fn listed<R: Files + AllocGlobal>(rt: &R, folder: &str) -> Result<Listing, PathError>
-    ensures { IfErr result IsOfReading }
+    ensures order { IfOk result (λ listing. AreInOrder listing.names.items) }
+    ensures why { IfErr result IsOfReading }
 {
     let alloc = rt.alloc();
     let bytes = all_names(rt, folder)?;
@@ -35,8 +36,17 @@ pub(crate) fn listed<R: Files + AllocGlobal>(rt: &R, folder: &str) -> Result<Lis
     for name in bytes.split(|byte| *byte == 0) {
         listing.add(alloc, name)?;
     }
-    listing.names.sort_unstable();
+    put_in_order(&mut listing.names);
     Ok(listing)
+}
+
+// Sorts the names by their bytes, and removes those that are there twice.
+fn put_in_order(names: &mut Vec<String>)
+    ensures order { AreInOrder names.new.items }
+    ensures same { (name : List ℕ) → HasName names.old.items name ↔ HasName names.new.items name }
+{
+    names.sort_unstable();
+    names.dedup();
 }
 
 impl Listing {

@@ -2,6 +2,7 @@ use Rattle.std.proofs.Common.{◌≡◌, ◌∙◌, subst, ap}
 use Rattle.rb_script.specs.Reading.{read_of}
 use Rattle.rb_replay.specs.declared.fault.StartFault.{StartFault}
 use Rattle.rb_replay.specs.Start.{TellsStartFault}
+use Rattle.rb_report.specs.declared.check.outcome.Outcome.{Outcome}
 use Rattle.rb_report.specs.declared.check.outcome.Outcome.TheVariants as outcomes
 use Rattle.rb_report.specs.declared.check.totals.Totals.{Totals}
 use Rattle.rb_report.specs.Counts.{of_outcome, together}
@@ -21,4 +22,5 @@ returns-clause-reported g c =
     let run = c.in-Ok.run' in
     let end = c.in_ok-answer.field-0 in
     ran c.deref.result.now run.session.script run.layout end c.in-Ok.ensures.script c.in_ok-answer.ensures.ended
-    (c.in_ok-answer.ensures.counts ∙ ap (λ (t : Totals). counts_after t (ran_as run.layout.text run.layout.heads.items run.session.script end.left) end.failure) (c.heed-2.ensures ∙ c.heed.ensures))
+    (c.in_ok-answer.ensures.counts ∙ ap (λ (o : Outcome). counts_after c.heed-2.new.self.counts o end.failure) (c.ran_of.ensures.counts end.left)
+    ∙ ap (λ (t : Totals). counts_after t (ran_as run.layout.text run.layout.heads.items run.session.script end.left) end.failure) (c.heed-2.ensures ∙ c.heed.ensures))

@@ -6,7 +6,8 @@ use Rattle.rb_check.proofs.formatted.add_errors.Given as goal
 
 abbrev pub invariant-loop-i : goal.invariant-loop-i
 invariant-loop-i g l =
-    let s = l.session.script in
-    let heads = l.layout.heads.items in
-    l.text.items ++ error_commands l.is_strict l.layout.text l.path (drop l.i heads) (drop l.i s.blocks) (drop l.i (outputs s))
-    ≡ l.initial.text.items ++ error_commands l.is_strict l.layout.text l.path heads s.blocks (outputs s)
+    let s = l.subject.session.now.script in
+    let layout = l.subject.layout.now in
+    let heads = layout.heads.items in
+    l.text.items ++ error_commands l.is_strict layout.text l.subject.path.now (drop l.i heads) (drop l.i s.blocks) (drop l.i (outputs s))
+    ≡ l.initial.text.items ++ error_commands l.is_strict layout.text l.subject.path.now heads s.blocks (outputs s)

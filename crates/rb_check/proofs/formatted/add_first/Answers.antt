@@ -7,7 +7,8 @@ use Rattle.rb_check.proofs.formatted.add_first.Goals as goal
 
 pub returns-in-Some : goal.returns-in-Some
 returns-in-Some g c =
-    let s = c.args.session.now.script in
-    let command : ℕ → List ℕ = mismatch_command c.args.path.now c.args.whys.now c.args.layout.now.heads.items s in
+    let subject = c.args.subject.now in
+    let s = subject.session.now.script in
+    let command : ℕ → List ℕ = mismatch_command subject.path.now subject.whys.now subject.layout.now.heads.items s in
     added_is c.add_mismatch.result c.add_mismatch.new.text.items _ _ c.add_mismatch.ensures
     (ap (λ (text : List ℕ). c.args.text.now.items ++ text) (of_first-is command (c.in-Some.index + 1) (mismatches s) c.in-Some.ensures.some))

@@ -6,7 +6,10 @@ use Rattle.rb_check.proofs.formatted.add_objects.Given as goal
 
 abbrev pub invariant-loop-i : goal.invariant-loop-i
 invariant-loop-i g l =
-    let s = l.session.script in
-    let heads = l.layout.heads.items in
-    l.text.items ++ objects_from l.layout.text l.path l.whys l.i (drop l.i heads) (drop l.i s.blocks) (drop l.i (outputs s))
-    ≡ l.initial.text.items ++ objects_from l.layout.text l.path l.whys 0 heads s.blocks (outputs s)
+    let s = l.subject.session.now.script in
+    let layout = l.subject.layout.now in
+    let path = l.subject.path.now in
+    let whys = l.subject.whys.now in
+    let heads = layout.heads.items in
+    l.text.items ++ objects_from layout.text path whys l.i (drop l.i heads) (drop l.i s.blocks) (drop l.i (outputs s))
+    ≡ l.initial.text.items ++ objects_from layout.text path whys 0 heads s.blocks (outputs s)

@@ -1,5 +1,4 @@
-use Rattle.std.proofs.Common.{◌≡◌, ◌∙◌, ℕ, ◌+◌, List, ◌++◌, Option, Some, drop, ap, sym, arith}
-use Rattle.std.specs.Prelude.{slice_get}
+use Rattle.std.proofs.Common.{◌∙◌, ℕ, ◌+◌, List, ◌++◌, Option, drop, ap, sym}
 use Rattle.rb_script.specs.Lines.{Line}
 use Rattle.rb_script.specs.Script.{PlainBlock}
 use Rattle.rb_replay.specs.Run.{outputs}
@@ -16,6 +15,7 @@ returns g c =
     let heads = layout.heads.items in
     let i = c.args.index in
     let one = λ (line : ℕ) (b : PlainBlock) (output : List Line). as_list (question_of c.args.asked.now.accepts_errors c.args.picked layout.text line b output) in
-    let head : slice_get heads i ≡ Some c.number_at-head.result = sym (ap (λ (hs : List ℕ). slice_get hs i) c.as_slice.ensures.value) ∙ c.number_at-head.ensures in
-    each_step one heads s.blocks (outputs s) i c.number_at-head.result c.block_at-block.result.now c.output_at-output.result.now head c.block_at-block.ensures c.output_at-output.ensures
+    let ran = c.directive_at-ran.result in
+    let at = c.directive_at-ran.ensures in
+    each_step one heads s.blocks (outputs s) i ran.place.line ran.block.now ran.output.now at.line at.block at.output
     ∙ sym (ap (λ (q : Option ReviewQuestion). as_list q ++ of_each one (drop (i + 1) heads) (drop (i + 1) s.blocks) (drop (i + 1) (outputs s))) c.question_of.ensures)

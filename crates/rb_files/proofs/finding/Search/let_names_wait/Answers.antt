@@ -1,0 +1,29 @@
+use Rattle.std.proofs.Common.{◌≡◌, ◌∙◌, ℕ, ◌+◌, ◌-◌, ◌++◌, [], ◌∷◌, List, String, Vec, drop, ap, arith}
+use Rattle.std.specs.declared.alloc.Global.{Global}
+use Rattle.rb_files.specs.Finds.{paths_of, waiting_of}
+use Rattle.rb_files.proofs.FindLaws.{names_step}
+use Rattle.rb_files.proofs.finding.Search.let_names_wait.Goals as goal
+
+pub loop-left-preserved : goal.loop-left-preserved
+loop-left-preserved g c =
+    let folder = c.args.folder.now in
+    let names = c.args.names.now in
+    let ignored = c.args.self.now.ignored.items in
+    let k : ℕ = c.loop-left.left - 1 in
+    let on : c.loop-left.left ≡ k + 1 = omega (arith, c.loop-left-test.true) in
+    let name : String Global = c.name_at.result.now in
+    let old : List (List ℕ) = paths_of c.args.self.now.waiting.items in
+    let had : List (List ℕ) = paths_of c.loop-left.self.waiting.items in
+    record {
+      found = c.in_ok-let_name_wait.ensures.found ∙ c.loop-left.invariant.found;
+      ignored = c.in_ok-let_name_wait.ensures.ignored ∙ c.loop-left.invariant.ignored;
+      waits = names_step ignored folder names k name old had _ c.name_at.ensures
+          (c.loop-left.invariant.waits ∙ ap (λ (n : ℕ). old ++ waiting_of ignored folder (drop n names)) on)
+          (c.in_ok-let_name_wait.ensures.waits ∙ ap (λ (v : Vec (String Global) Global). had ++ waiting_of v.items folder (name ∷ [])) c.loop-left.invariant.ignored);
+      within = omega (arith, c.loop-left.invariant.within);
+    }
+
+pub returns-clause-waits : goal.returns-clause-waits
+returns-clause-waits g c =
+    let none : c.loop-left.left ≡ 0 = omega (arith, c.loop-left-test.false) in
+    c.loop-left.invariant.waits ∙ ap (λ (n : ℕ). paths_of c.args.self.now.waiting.items ++ waiting_of c.args.self.now.ignored.items c.args.folder.now (drop n c.args.names.now)) none

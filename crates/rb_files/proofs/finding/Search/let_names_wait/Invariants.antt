@@ -1,0 +1,15 @@
+-- The names from an index on wait.
+use Rattle.std.proofs.Common.{◌≡◌, ◌++◌, ◌≤◌, drop, length}
+use Rattle.rb_files.specs.Finds.{paths_of, waiting_of}
+use Rattle.rb_files.proofs.finding.Search.let_names_wait.Given as goal
+
+abbrev pub invariant-loop-left : goal.invariant-loop-left
+invariant-loop-left g l = record {
+  found : l.self.found ≡ l.fn.self.found;
+  ignored : l.self.ignored ≡ l.fn.self.ignored;
+  waits : paths_of l.self.waiting.items ≡ paths_of l.fn.self.waiting.items ++ waiting_of l.fn.self.ignored.items l.folder (drop l.left l.names);
+  within : l.left ≤ length l.names;
+}
+
+abbrev pub decreases-loop-left : goal.decreases-loop-left
+decreases-loop-left g l = l.left
