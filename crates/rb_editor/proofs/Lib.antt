@@ -10,6 +10,7 @@ pub mod EditedScriptLaws
 pub mod CutLaws
 pub mod AppliedLaws
 pub mod RunLaws
+pub mod WorkLaws
 pub mod FixLaws
 pub mod FrontLaws
 pub mod CompletingLaws

@@ -34,11 +34,11 @@ use Rattle.rb_editor.specs.Extents.{extent_of, has_line}
 abbrev pub but_new_errors : AcceptFilter → AcceptOptions
 but_new_errors picked = record { picked = picked; errors = false }
 
--- whether the output isn't the expected one and is accepted, of a directive whose head begins on the line
+-- whether the output of a directive, whose head is on the line, differs from the expectation and is accepted
 abbrev pub is_accepted : AcceptFilter → List Line → ℕ → PlainBlock → List Line → Bool
 is_accepted picked ls line b output = not (same_lines b.expected output || is_left (but_new_errors picked) ls line b output)
 
--- whether a directive stands among some lines, or anywhere where none are given
+-- whether a directive has one of these lines; true if no lines are given
 abbrev pub is_among : Option LineSpan → Extent → Bool
 is_among None e = not false
 is_among (Some span) e = has_line span.first span.last e
@@ -56,7 +56,7 @@ is_feed (Some b) = b == 10
 abbrev pub has_end : List ℕ → Bool
 has_end text = is_feed (slice_get text (length text - 1))
 
--- what ends the line above, where the text ends with it and it has no end
+-- the line feed that the text's last line lacks, if the expectation comes after it
 abbrev pub end_above : List ℕ → List Line → Extent → List ℕ
 end_above text ls e = if nat_le (length ls) e.expected && not (has_end text) then 10 ∷ [] else []
 
@@ -64,39 +64,38 @@ end_above text ls e = if nat_le (length ls) e.expected && not (has_end text) the
 abbrev pub form : Bool → List Line → List Line
 form is_double output = if is_double then rule ∷ output ++ rule ∷ rule ∷ [] else output
 
--- What comes in the place of an expectation: it stays in its form. Each output can be shown in the plain one, since none of its lines is
--- blank or a rule.
+-- The text that replaces an expectation: it stays in its form. Each output can have the plain form, since none of its lines is blank or `----`.
 unfoldable pub new_text : List ℕ → List Line → Extent → List Line → List ℕ
 new_text text ls e output = end_above text ls e ++ text_of (form e.is_double output)
 
--- what is in a range of a text is replaced
+-- an edit: the text in the range is replaced
 pub record PlainEdit : Type 0 where
   pub range : Range
   pub new : List ℕ
 
--- the range of the lines of a script from `first` on, up to `after`, as edits have it
+-- the range of a script's lines from `first` up to `behind`
 abbrev pub lines_range : Encoding → List ℕ → ℕ → ℕ → Range
 lines_range encoding text first behind = record { start = start_of encoding first text; end = start_of encoding behind text }
 
--- that the directive expects this output
+-- the edit after which the directive expects this output
 abbrev pub edit_of : Encoding → List ℕ → Extent → List Line → PlainEdit
 edit_of encoding text e output = record { range = lines_range encoding text e.expected e.end; new = new_text text (lines text) e output }
 
--- how it is sent
+-- an edit in JSON
 abbrev pub member_of : PlainEdit → List ℕ
 member_of e = range_member e.range.start e.range.end ++ (codes ",\"newText\":\"" ++ (flat_map escaped e.new ++ codes "\"}"))
 
--- with this text in the place of the expectation that is there
+-- the edit in JSON that replaces the expectation in this extent
 unfoldable pub edit_text : Encoding → List ℕ → Extent → List ℕ → List ℕ
 edit_text encoding text e new = member_of (record { range = lines_range encoding text e.expected e.end; new = new })
 
 -- ---- the edits of some
 
--- a comma, where others are before
+-- a comma, if others are before
 abbrev pub comma_if : Bool → List ℕ
 comma_if later = if later then codes "," else []
 
--- of a directive, if it is wanted
+-- the edit of a directive, if it is wanted
 unfoldable pub one_edit : Encoding → List ℕ → AcceptFilter → Option LineSpan → Bool → ℕ → PlainBlock → List Line → List ℕ
 one_edit encoding text picked span later line b output =
     if is_wanted picked span (lines text) line b output
@@ -107,12 +106,12 @@ one_edit encoding text picked span later line b output =
 abbrev pub Picks : Type 0
 Picks = ℕ → PlainBlock → List Line → Bool
 
--- of directives in order, an edit of each that is wanted
+-- the edits of the directives that are wanted, in order
 abbrev pub edits_in : Picks → Encoding → List ℕ → List ℕ → List PlainBlock → List (List Line) → List PlainEdit
 edits_in picks encoding text heads bs os =
     of_each (λ line b output. if picks line b output then edit_of encoding text (extent_of (lines text) line b) output ∷ [] else []) heads bs os
 
--- as they are sent, where others are before
+-- edits in JSON, with a comma in front if others are before
 abbrev pub listed : Bool → List PlainEdit → List ℕ
 listed later [] = []
 listed later (e ∷ es) = comma_if later ++ (member_of e ++ listed true es)
@@ -123,21 +122,21 @@ edits_asked encoding text s picked span = edits_in (is_wanted picked span (lines
 
 -- ---- actions
 
--- what an action is called, and of which kind it is: it is of some lines, or of all
+-- the title and the kind of an action, which is for some lines or for all
 unfoldable pub action_head : Option LineSpan → List ℕ
 action_head (Some span) = codes "{\"title\":\"Expect what came\",\"kind\":\"quickfix\",\"edit\":{\"changes\":{\""
 action_head None = codes "{\"title\":\"Expect what came everywhere\",\"kind\":\"source\",\"edit\":{\"changes\":{\""
 
--- an action of these edits
+-- an action with these edits
 unfoldable pub action_text : List ℕ → Option LineSpan → List ℕ → List ℕ
 action_text uri span edits = action_head span ++ (flat_map escaped uri ++ (codes "\":[" ++ (edits ++ codes "]}}}")))
 
--- if there are any, where others are before
+-- the action, if it has edits, with a comma in front if others are before
 abbrev pub action_if : List ℕ → Option LineSpan → Bool → List ℕ → List ℕ
 action_if uri span later edits = if length edits == 0 then [] else comma_if later ++ action_text uri span edits
 
--- The list of a correction, and the actions with the edits of some lines and those of all, as far as there are any. There may be edits of some lines and
--- none of all, where the lines stand below a new error.
+-- The list of actions: the correction, the action for some lines, and the action for all, each if it has edits. Lines below a new error have edits
+-- where the action for all has none.
 unfoldable pub actions_text : List ℕ → List ℕ → LineSpan → List ℕ → List ℕ → List ℕ
 actions_text uri correction span here all =
     codes "[" ++ (correction ++ (action_if uri (Some span) (not (length correction == 0)) here ++ (action_if uri None (not (length correction == 0) || not (length here == 0)) all ++ codes "]")))
@@ -188,16 +187,16 @@ fixes_text encoding uri text found = codes "[" ++ (fix_if encoding uri text foun
 abbrev pub span_of : Encoding → Range → List ℕ → LineSpan
 span_of encoding range text = record { first = line_at encoding range.start text; last = line_at encoding range.end text }
 
--- what `check --accept` of a script picks, where no directive is named: nothing below the first new error
+-- what `check --accept` picks in a script if no directive is named: nothing below the first new error
 abbrev pub picked_of : List ℕ → PlainScript → AcceptFilter
 picked_of text s = picked_unnamed false (lines text) (heads_of text s) s
 
--- Of a script no line of which looks like a mistake. Some lines are accepted below a new error too, as `check --accept` does it of named directives.
+-- The actions for a script without warnings. For some lines outputs are accepted below a new error too, as by `check --accept` if directives are named.
 abbrev pub accepting : Encoding → List ℕ → List ℕ → PlainScript → LineSpan → List ℕ
 accepting encoding uri text s span =
     actions_text uri (corrections encoding uri text span (heads_of text s) s.blocks) span (edits_of encoding text s picks.All (Some span)) (edits_of encoding text s (picked_of text s) None)
 
--- Of a text that is read so. If a line looks like a mistake nothing is accepted, as by `check --accept`: the expectation around it may contain
+-- The actions for a text that reads as this. If there is a warning nothing is accepted, as by `check --accept`: the expectation around it may contain
 -- directives.
 abbrev pub actions_of : Encoding → Range → List ℕ → List ℕ → Result PlainScript ScriptFault → List ℕ
 actions_of encoding range uri text (Err fault) = codes "[]"

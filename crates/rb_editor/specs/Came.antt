@@ -1,4 +1,4 @@
--- What came of a directive, beside the lines that expect another output. (This project's.)
+-- The actual output of a mismatch, at the lines that expect another. (This project's.)
 use Rattle.std.specs.Prelude.{ℕ, ◌-◌, nat_le, if◌then◌else◌, List, ◌++◌, codes, decimal, length, take}
 use Rattle.rb_script.specs.Lines.{Line, text_of}
 use Rattle.rb_editor.specs.declared.offers.block_lines.BlockLines.{BlockLines}

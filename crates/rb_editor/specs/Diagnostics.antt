@@ -1,14 +1,14 @@
--- What is said of a line. (This project's.)
+-- Diagnostics. (This project's.)
 use Rattle.std.specs.Prelude.{ℕ, List, Option}
 use Rattle.rb_editor.specs.declared.actions.diagnostic.DiagnosticKind.{DiagnosticKind}
 
--- on which lines another output is expected, from the first to the one after the last, which count from 0, and what is shown of what came
+-- an actual output as far as it is shown, and the lines of the expectation that it differs from: the first, and the one after the last, counted from 0
 pub record PlainActualOutput : Type 0 where
   pub first : ℕ
   pub behind : ℕ
   pub shown : List ℕ
 
--- what is said of a line, which counts from 1, and what came there, where that is another output
+-- a diagnostic of a line, counted from 1; a mismatch has its actual output
 pub record PlainDiagnostic : Type 0 where
   pub line : ℕ
   pub kind : DiagnosticKind

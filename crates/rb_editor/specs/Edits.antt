@@ -1,4 +1,4 @@
--- What an editor makes of a text by the edits of an action. (LSP 3.17, "TextEdit[]".)
+-- The text after an editor has made the edits of an action. (LSP 3.17, "TextEdit[]".)
 use Rattle.std.specs.Prelude.{ℕ, if◌then◌else◌, List, [], ◌∷◌, Option}
 use Rattle.rb_script.specs.Lines.{Line, lines}
 use Rattle.rb_script.specs.Script.{PlainBlock, PlainScript, expecting}
@@ -11,18 +11,17 @@ use Rattle.rb_editor.specs.Heads.{heads_of}
 use Rattle.rb_editor.specs.declared.actions.extent.LineSpan.{LineSpan}
 use Rattle.rb_editor.specs.Actions.{PlainEdit, Picks, is_wanted}
 
--- the directives, of which each that is wanted expects its output
+-- the directives, with their outputs as the expectations of those that are wanted
 abbrev pub with_picked : Picks → List ℕ → List PlainBlock → List (List Line) → List PlainBlock
 with_picked picks heads [] os = []
 with_picked picks (line ∷ heads) (b ∷ bs) (output ∷ os) = (if picks line b output then expecting b output else b) ∷ with_picked picks heads bs os
 with_picked picks heads bs os = bs
 
--- The text that edits make, whose ranges are those of the text as it was: it changes from its end to its beginning, so that no edit moves what
--- one that is yet to be made replaces.
+-- The text after edits. Their ranges are those of the text before, so the last edit is made first: none moves what another replaces.
 abbrev pub edits_made : Encoding → List ℕ → List PlainEdit → List ℕ
 edits_made encoding text [] = text
 edits_made encoding text (e ∷ es) = spliced (offset encoding e.range.start text) (offset encoding e.range.end text) e.new (edits_made encoding text es)
 
--- the script that they are to make
+-- the script that they have to make
 abbrev pub with_wanted : List ℕ → PlainScript → AcceptFilter → Option LineSpan → PlainScript
 with_wanted text s picked span = record { blocks = with_picked (is_wanted picked span (lines text)) (heads_of text s) s.blocks (outputs s); tail = s.tail }

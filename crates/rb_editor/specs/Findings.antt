@@ -18,6 +18,7 @@ use Rattle.rb_report.specs.Diffs.{parts}
 use Rattle.rb_report.specs.Folds.{folded_text}
 use Rattle.rb_script_report.specs.Checked.{of_each}
 use Rattle.rb_lsp.specs.Tables.{feed_start}
+use Rattle.rb_lsp.specs.declared.server.stop.Stop.{Stop}
 use Rattle.rb_script_report.specs.declared.warning.Warning.{Warning}
 use Rattle.rb_script_report.specs.Doubts.{all_warnings}
 use Rattle.rb_script_report.specs.Errors.{first_line, is_error, is_unexpected}
@@ -33,7 +34,7 @@ use Rattle.rb_editor.specs.Diagnostics.{PlainDiagnostic}
 abbrev pub diff_message : List Line → List Line → List ℕ
 diff_message expected output = without_end (folded_text Off (parts expected output))
 
--- how many lines both lists have at their front
+-- how many lines the two lists share at the beginning
 abbrev pub common_front : List Line → List Line → ℕ
 common_front [] ys = 0
 common_front (x ∷ xs) [] = 0
@@ -44,7 +45,7 @@ abbrev pub marked_line : List ℕ → Option Line → List ℕ
 marked_line mark None = []
 marked_line mark (Some line) = mark ++ (line ++ codes "\n")
 
--- the first lines that differ, after n equal ones; nothing if there are none, since the diff begins with the difference then
+-- The first lines that differ, after n equal ones. If no line is equal, nothing: the diff then begins with them.
 abbrev pub opening : ℕ → List Line → List Line → List ℕ
 opening n expected output =
     if n == 0 then [] else marked_line (codes "- ") (slice_get expected n) ++ (marked_line (codes "+ ") (slice_get output n) ++ codes "\n")
@@ -58,16 +59,16 @@ hint_end (sentence text) = codes "\n" ++ text
 abbrev pub mismatch_message : PlainBlock → List Line → List ℕ
 mismatch_message b output = (opening (common_front b.expected output) b.expected output ++ diff_message b.expected output) ++ hint_end (suggested (directive_of b))
 
--- The line, counted from 1, of the first expected line that differs, of a block that has these lines. If the output only has more lines, the last
--- line of the expectation, or of the block if that is empty. The double form has two lines after the expectation.
+-- The number, counted from 1, of the first expected line that differs, in a block with these lines. If all expected lines are equal, that of the
+-- expectation's last line, or of the block's if the expectation is empty. The double form has two lines after the expectation.
 abbrev pub marked_at : List Line → BlockLines → List Line → List Line → ℕ
 marked_at ls p expected output = p.end - (length expected - common_front expected output - 1) - (if begins_rule (drop p.below ls) then 2 else 0)
 
--- whether another mismatch is above
+-- the first mismatch, or a later one
 abbrev pub mismatch_kind : ℕ → ℕ → DiagnosticKind
 mismatch_kind first line = if nat_lt first line then LaterMismatch else Mismatch
 
--- of a block that has these lines, its head on this one
+-- the diagnostic of a mismatch, in a block with these lines whose head is on this line
 abbrev pub mismatch : List Line → BlockLines → ℕ → ℕ → PlainBlock → List Line → PlainDiagnostic
 mismatch ls p first line b output =
     record { line = marked_at ls p b.expected output; kind = mismatch_kind first line; message = mismatch_message b output; came = Some (actual_output_of p output) }
@@ -75,19 +76,19 @@ mismatch ls p first line b output =
 abbrev pub error_output : ℕ → PlainBlock → List Line → PlainDiagnostic
 error_output line b output = record { line = line; kind = ErrorOutput; message = first_line output ++ hint_end (suggested (directive_of b)); came = None }
 
--- The diagnostic of a directive whose head begins on a line: a mismatch, or an error that no comment expects. The head of the first mismatch is
--- known.
+-- The diagnostic of a directive whose head is on a line: a mismatch, or an error that no comment expects. The line of the first mismatch's head is
+-- given.
 unfoldable pub finding : ℕ → List Line → ℕ → PlainBlock → List Line → Option PlainDiagnostic
 finding first ls line b output =
     if same_lines b.expected output then (if is_unexpected ls line output then Some (error_output line b output) else None)
     else Some (mismatch ls (block_lines ls line b) first line b output)
 
--- one before others, if there is one
+-- a list with this one in front, if there is one
 abbrev pub before : Option PlainDiagnostic → List PlainDiagnostic → List PlainDiagnostic
 before None ds = ds
 before (Some d) ds = d ∷ ds
 
--- directives in order, with the lines of their heads and their outputs
+-- those of directives in order, by the lines of their heads and their outputs
 abbrev pub findings : ℕ → List Line → List ℕ → List PlainBlock → List (List Line) → List PlainDiagnostic
 findings first ls heads bs os = of_each (λ line b output. before (finding first ls line b output) []) heads bs os
 
@@ -100,7 +101,7 @@ first_head heads (place ∷ places) = slice_index_or heads (place - 1) 0
 abbrev pub slip : Warning → PlainDiagnostic
 slip w = record { line = w.line; kind = Slip; message = warning_sentence w.doubt; came = None }
 
--- those of a script, as `check` warns of them
+-- the warnings of a script, as `check` has them
 abbrev pub slips_of : List ℕ → PlainScript → List Warning
 slips_of bytes s = all_warnings (lines bytes) (heads_of bytes s) s.blocks (outputs s)
 
@@ -109,7 +110,7 @@ abbrev pub stands_first : ℕ → List ℕ → Bool
 stands_first place [] = false
 stands_first place (p ∷ places) = p == place
 
--- a script without such a directive, which is known without its text
+-- no directive of the script has one, which is known without the text
 abbrev pub is_quiet : PlainScript → Bool
 is_quiet s = (length (mismatches s) == 0) && not (list_any is_error (outputs s))
 
@@ -118,11 +119,11 @@ abbrev pub or_first : Option ℕ → ℕ
 or_first None = 1
 or_first (Some line) = line
 
--- why a text isn't a script, in `check`'s sentence
+-- the diagnostic of a text that isn't a script, with `check`'s sentence
 abbrev pub refused : ScriptFault → PlainDiagnostic
 refused fault = record { line = or_first (fault_line fault); kind = NoScript; message = fault_sentence fault; came = None }
 
--- of a script, by one run of it from the empty cluster
+-- those of a script, by one run from the empty cluster
 abbrev pub of_script : List ℕ → PlainScript → List PlainDiagnostic
 of_script bytes s = findings (first_head (heads_of bytes s) (mismatches s)) (lines bytes) (heads_of bytes s) s.blocks (outputs s) ++ map slip (slips_of bytes s)
 
@@ -139,16 +140,16 @@ diagnostics_of bytes = of_reading bytes (read_of bytes)
 abbrev pub above : ℕ → List ℕ → List ℕ
 above line bytes = take (feed_start (line - 1) bytes) bytes
 
--- the text from there on
+-- the text from a line on
 abbrev pub behind : ℕ → List ℕ → List ℕ
 behind line bytes = drop (feed_start (line - 1) bytes) bytes
 
--- the run stopped at the directive on a line
+-- the diagnostic that the run stopped at the directive on a line
 unfoldable pub stopped : ℕ → PlainDiagnostic
 stopped line =
     record { line = line; kind = Stopped; message = codes "the script is not run from here on: an editor waits for 4,000,000 steps; raftbench check runs it all"; came = None }
 
--- Of a text whose run stopped above a line, if it did: those of the text above that, and one that says where the run stopped.
-abbrev pub diagnosed : Option ℕ → List ℕ → List PlainDiagnostic
+-- The diagnostics of a text. If its run stopped, those of the text above the stop, and one that says where it stopped.
+abbrev pub diagnosed : Option Stop → List ℕ → List PlainDiagnostic
 diagnosed None bytes = diagnostics_of bytes
-diagnosed (Some line) bytes = diagnostics_of (above line bytes) ++ stopped line ∷ []
+diagnosed (Some stop) bytes = diagnostics_of (above stop.line bytes) ++ stopped stop.line ∷ []

@@ -2,6 +2,7 @@ pub mod Diagnostics
 pub mod Came
 pub mod Findings
 pub mod Published
+pub mod Work
 pub mod Layouts
 pub mod Extents
 pub mod Hovers

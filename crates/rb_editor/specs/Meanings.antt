@@ -1,4 +1,4 @@
--- What scripts mean to an editor: what is said of a text, and what is answered of it, by one fresh run or by its text alone. (This project's.)
+-- What scripts mean to an editor: the diagnostics of a text, and the results of requests about it. (This project's.)
 use Rattle.std.specs.Prelude.{ℕ, List}
 use Rattle.rb_lsp.specs.declared.document.position.Encoding.{Encoding}
 use Rattle.rb_lsp.specs.declared.server.query.Query.{Query}

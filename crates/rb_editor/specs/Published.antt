@@ -7,13 +7,14 @@ use Rattle.rb_text.specs.Json.{escaped}
 use Rattle.rb_lsp.specs.declared.document.position.Encoding.{Encoding}
 use Rattle.rb_lsp.specs.Tables.{start_of}
 use Rattle.rb_lsp.specs.declared.server.client.Client.{Client}
+use Rattle.rb_lsp.specs.declared.server.stop.Stop.{Stop}
 use Rattle.rb_editor.specs.Texts.{list_text, range_member}
 use Rattle.rb_editor.specs.declared.actions.diagnostic.DiagnosticKind.{DiagnosticKind}
 use Rattle.rb_editor.specs.declared.actions.diagnostic.DiagnosticKind.TheVariants.{Mismatch, LaterMismatch, ErrorOutput, NoScript, Slip, Stopped}
 use Rattle.rb_editor.specs.Diagnostics.{PlainActualOutput, PlainDiagnostic}
 use Rattle.rb_editor.specs.Findings.{diagnosed}
 
--- its severity, and its code
+-- the severity, and the code
 unfoldable pub kind_text : Bool → DiagnosticKind → List ℕ
 kind_text softens_later Mismatch = codes ",\"severity\":1,\"code\":\"mismatch\",\"source\":\"raftbench\",\"message\":\""
 kind_text softens_later LaterMismatch =
@@ -27,15 +28,15 @@ kind_text softens_later Stopped = codes ",\"severity\":2,\"code\":\"stopped\",\"
 unfoldable pub place_text : Encoding → List ℕ → ℕ → ℕ → List ℕ
 place_text encoding text first behind = codes ",\"relatedInformation\":[{\"location\":" ++ range_member (start_of encoding first text) (start_of encoding behind text)
 
--- the document in which it is, and what came
+-- the document in which it is, and the actual output
 unfoldable pub shown_text : List ℕ → List ℕ → List ℕ
 shown_text uri shown = codes ",\"uri\":\"" ++ (flat_map escaped uri ++ (codes "\"},\"message\":\"" ++ (flat_map escaped shown ++ codes "\"}]")))
 
--- what came, for the lines that expect another output
+-- the actual output, at the lines that expect another
 unfoldable pub related_text : Encoding → List ℕ → List ℕ → PlainActualOutput → List ℕ
 related_text encoding uri text c = place_text encoding text c.first c.behind ++ shown_text uri c.shown
 
--- to whoever takes that
+-- the same, if there is one and the client takes it
 abbrev pub related_if : Bool → Encoding → List ℕ → List ℕ → Option PlainActualOutput → List ℕ
 related_if false encoding uri text came = []
 related_if true encoding uri text None = []
@@ -49,7 +50,7 @@ diagnostic_text client uri text d =
     range_member (start_of client.encoding (d.line - 1) text) (start_of client.encoding d.line text)
     ++ (message_text client.softens_later d ++ (related_if client.takes_related client.encoding uri text d.came ++ codes "}"))
 
--- What is published of a text. It depends on the text alone, on the line above which its run stopped, if it did, on the URI by which its document is
--- named, and on what the client counts in and takes.
-abbrev pub diagnose : Option ℕ → Client → List ℕ → List ℕ → List ℕ
+-- What is published for a text. It depends on the text alone, on where its run stopped, if it did, on the URI of its document, and on what the client
+-- counts in and takes.
+abbrev pub diagnose : Option Stop → Client → List ℕ → List ℕ → List ℕ
 diagnose stop client uri text = list_text (diagnostic_text client uri text) (diagnosed stop text)

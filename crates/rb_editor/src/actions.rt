@@ -28,6 +28,7 @@ mod quiet;
 mod replacement;
 mod run;
 mod stopping;
+mod work_meter;
 
 pub use bench::lsp;
 pub use laws::{

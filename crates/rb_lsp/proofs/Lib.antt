@@ -9,6 +9,7 @@ pub mod DifferLaws
 pub mod MessageLaws
 pub mod FrameLaws
 pub mod ReadingLaws
+pub mod CancelLaws
 pub mod PlainTextLaws
 pub mod ReplyLaws
 pub mod TalkLaws

@@ -15,7 +15,7 @@ use Rattle.rb_lsp.specs.declared.server.method.Method.TheVariants.{Initialize}
 use Rattle.rb_lsp.specs.Beginnings.{capabilities, client_of, completes, initialized, synchronizes}
 use Rattle.rb_lsp.specs.Replies.{answer_to, initialize_answer}
 
-id_is_plain : (d : Data) → is_id d ≡ true → has_float d ≡ false
+pub id_is_plain : (d : Data) → is_id d ≡ true → has_float d ≡ false
 id_is_plain (number (float x)) is = cc
 id_is_plain (array ds) is = cc
 id_is_plain (object ms) is = cc

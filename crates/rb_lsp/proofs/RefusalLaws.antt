@@ -29,7 +29,7 @@ text_told : (meaning : Meaning) (reach : Reach) (method : List ℕ) (params : Op
     ⊎ TellsRefusal meaning reach (notification method params) (frame (publication meaning reach client uri version is_crowded text))
 text_told meaning reach method params client uri version is_crowded None = inl refl
 text_told meaning NoMemory method params client uri version is_crowded (Some text) = inr (of_document method params uri version)
-text_told meaning (Stopped line) method params client uri version is_crowded (Some text) = inr (stops_document line method params client uri version text)
+text_told meaning (Stopped stop) method params client uri version is_crowded (Some text) = inr (stops_document stop method params client uri version text)
 text_told meaning Whole method params client uri version is_crowded (Some text) = inl refl
 text_told meaning Cancelled method params client uri version is_crowded (Some text) = inl refl
 
@@ -58,7 +58,7 @@ answer_told : (meaning : Meaning) (reach : Reach) (id : Data) (method : List ℕ
     → IsTold meaning reach id method params (of_text meaning reach encoding asked uri id text) (of_text meaning Whole encoding asked uri id text)
 answer_told meaning reach id method params encoding asked uri None = inl refl
 answer_told meaning NoMemory id method params encoding asked uri (Some text) = inr (of_request id method params)
-answer_told meaning (Stopped line) id method params encoding asked uri (Some text) = inr (stops_request line id method params)
+answer_told meaning (Stopped stop) id method params encoding asked uri (Some text) = inr (stops_request stop id method params)
 answer_told meaning Whole id method params encoding asked uri (Some text) = inl refl
 answer_told meaning Cancelled id method params encoding asked uri (Some text) = inr (cancels id method params)
 

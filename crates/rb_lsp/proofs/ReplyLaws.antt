@@ -48,7 +48,7 @@ text_answers : (meaning : Meaning) (reach : Reach) (server : PlainServer) (clien
 unfolding not_open
 text_answers meaning reach server client question asked given uri id None running named asks is = refused id InvalidParams (codes "the document isn't open")
 text_answers meaning NoMemory server client question asked given uri id (Some text) running named asks is = no_memory_answers meaning server (Asks question) (Some given) id
-text_answers meaning (Stopped line) server client question asked given uri id (Some text) running named asks is = stopped_answers meaning server (Asks question) (Some given) id
+text_answers meaning (Stopped stop) server client question asked given uri id (Some text) running named asks is = stopped_answers meaning server (Asks question) (Some given) id
 text_answers meaning Whole server client question asked given uri id (Some text) running named asks is = answered id given client question asked uri text running refl refl named asks is
 text_answers meaning Cancelled server client question asked given uri id (Some text) running named asks is = cancelled_answers meaning server (Asks question) (Some given) id
 

@@ -8,7 +8,7 @@ use Rattle.rb_lsp.specs.Messages.{HasNoMessage, NeverHasMessage}
 use Rattle.rb_lsp.specs.Reading.{LosesMessage}
 use Rattle.rb_lsp.specs.Said.{Said, request, notification}
 use Rattle.serde_json.specs.Data.{Data}
-use Rattle.rb_lsp.specs.declared.server.fault.ServeFault.{ServeFault}
+use Rattle.rb_lsp.specs.declared.rpc.fault.ServeFault.{ServeFault}
 use Rattle.rb_lsp.specs.declared.server.phase.ExitStatus.{ExitStatus}
 use Rattle.rb_lsp.specs.declared.server.phase.ExitStatus.TheVariants.{Closed, CutOff, NoMessage}
 use Rattle.rb_lsp.specs.declared.server.reach.Reach.{Reach}

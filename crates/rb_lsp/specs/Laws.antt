@@ -15,6 +15,7 @@ use Rattle.rb_lsp.specs.declared.server.method.Question.{Question}
 use Rattle.rb_lsp.specs.declared.server.query.Query.{Query}
 use Rattle.rb_lsp.specs.declared.server.client.Client.{Client}
 use Rattle.rb_lsp.specs.Documents.{PlainDocument, text_of}
+use Rattle.rb_lsp.specs.declared.server.stop.Stop.{Stop}
 use Rattle.rb_lsp.specs.declared.server.reach.Reach.{Reach}
 use Rattle.rb_lsp.specs.declared.server.reach.Reach.TheVariants.{Whole, Stopped, Cancelled, NoMemory}
 use Rattle.rb_lsp.specs.Meanings.{Meaning}
@@ -24,8 +25,8 @@ use Rattle.rb_lsp.specs.Notices.{Notice, list_publication, no_memory_list, notic
 use Rattle.rb_lsp.specs.Replies.{PlainServer, On, reply, told_of, turned_by}
 use Rattle.rb_lsp.specs.Talk.{Talks}
 
--- The text of an answer to the request of this method with this id: a result, a refusal, or what is asked of the text, as it stands, of the
--- document that the request names.
+-- An answer to the request of this method with this id: a result, an error, or the result about the current text of the document that the request
+-- names.
 pub data Answers (meaning : Meaning) (server : PlainServer) (method : Method) (params : Option Data) : Data → List ℕ → Type 0 where
   done : (id result : Data) → Answers meaning server method params id (body_text (success id result))
   refused : (id : Data) (code : ErrorCode) (message : List ℕ) → Answers meaning server method params id (body_text (failure id code message))
@@ -38,64 +39,64 @@ abbrev pub RequestsHaveOneAnswer : Type 0
 RequestsHaveOneAnswer = (meaning : Meaning) (reach : Reach) (server : PlainServer) (id : Data) (method : List ℕ) (params : Option Data)
     → (answer : List ℕ) × (reply meaning reach server (request id method params) ≡ Some answer) × Answers meaning server (method_of method) params id answer
 
--- a notification has none, and neither has an answer
+-- a notification has no answer, nor has an answer
 abbrev pub NotificationsHaveNoAnswer : Type 0
 NotificationsHaveNoAnswer = (meaning : Meaning) (reach : Reach) (server : PlainServer)
     → ((method : List ℕ) (params : Option Data) → reply meaning reach server (notification method params) ≡ None) × (reply meaning reach server response ≡ None)
 
--- whatever was sent before, and whatever else is open: what is answered to a request depends on where the server stands, and on the text, as it
--- stands, of the document that the request names
+-- whatever was sent before, and whatever else is open: an answer depends on the server's phase, and on the current text of the document that the
+-- request names
 abbrev pub TextsAreAnswered : Type 0
 TextsAreAnswered = (meaning : Meaning) (reach : Reach) (server other : PlainServer) (id : Data) (method : List ℕ) (params : Option Data)
     → server.phase ≡ other.phase → named_text params server.documents ≡ named_text params other.documents
     → told_of meaning reach server (request id method params) ≡ told_of meaning reach other (request id method params)
 
--- the text of an answer, whose result is the text of a value, is that of an answer with the value
+-- an answer whose result is the text of a value is the answer with that value
 abbrev pub ResultsStandInAnswers : Type 0
 ResultsStandInAnswers = (id result : Data) → answer_text id (compact_text result) ≡ body_text (success id result)
 
--- The diagnostics of a document's text as it stands go out, as far as it was run, or the one that says that memory was refused, and nothing else: of
--- the document that the notification names, with its URI, and with the version that the notification says. Of one for which there is no room beside
--- those that were open before it, the one that says so. A change whose version doesn't come after the known one is refused, and that is shown.
+-- The diagnostics of the document that the notification names are sent, with its URI and the notification's version: those of its current text, as far
+-- as it was run, or the one that says that memory was refused. If too many documents are open for it, one diagnostic says so. A change whose version
+-- isn't after the known one is refused with a message.
 pub record Publishes (meaning : Meaning) (reach : Reach) (before : List PlainDocument) (server : PlainServer) (notice : Notice) (text : List ℕ) : Type 0 where
   pub running : server.phase ≡ Running notice.client
   pub text_is : text ≡ frame (notice_body meaning reach (stale_versions notice before) notice before server.documents)
 
--- what goes out where the server stands here after a notification: nothing alone where that tells of no document
+-- what is sent for a notification after which the server is this: nothing if it isn't about a document
 abbrev pub IsPublished : Meaning → Reach → List PlainDocument → PlainServer → Option Notice → List ℕ → Type 0
 IsPublished meaning reach before server None text = text ≡ []
 IsPublished meaning reach before server (Some notice) text = Publishes meaning reach before server notice text
 
--- whatever was sent before: what goes out for a notification are the diagnostics of its document's text as it then stands
+-- whatever was sent before, a notification is followed by the diagnostics of its document's current text
 abbrev pub TextsAreDiagnosed : Type 0
 TextsAreDiagnosed = (meaning : Meaning) (reach : Reach) (server next : PlainServer) (method : List ℕ) (params : Option Data)
     → turned_by server (notification method params) ≡ On next
     → IsPublished meaning reach server.documents next (notice_of server.phase (method_of method) params) (told_of meaning reach server (notification method params))
 
--- What goes out says why what a message asks of a text isn't done whole: for a notification the one diagnostic of a document for which memory was
--- refused, or those of a text whose run stopped above a line, and for a request an error with its id.
+-- The text says why the server didn't do all that a message asks: for a notification by the diagnostic that memory was refused, or that the run
+-- stopped, and for a request by an error with its id.
 pub data TellsRefusal (meaning : Meaning) : Reach → Said → List ℕ → Type 0 where
   of_document : (method : List ℕ) (params : Option Data) (uri : List ℕ) (version : Option ℕ)
       → TellsRefusal meaning NoMemory (notification method params) (frame (list_publication uri version no_memory_list))
   of_request : (id : Data) (method : List ℕ) (params : Option Data) → TellsRefusal meaning NoMemory (request id method params) (frame (body_text (no_memory_for id)))
-  stops_document : (line : ℕ) (method : List ℕ) (params : Option Data) (client : Client) (uri : List ℕ) (version : Option ℕ) (text : List ℕ)
-      → TellsRefusal meaning (Stopped line) (notification method params) (frame (list_publication uri version (meaning.diagnose (Some line) client uri text)))
-  stops_request : (line : ℕ) (id : Data) (method : List ℕ) (params : Option Data) → TellsRefusal meaning (Stopped line) (request id method params) (frame (body_text (stopped_for id)))
+  stops_document : (stop : Stop) (method : List ℕ) (params : Option Data) (client : Client) (uri : List ℕ) (version : Option ℕ) (text : List ℕ)
+      → TellsRefusal meaning (Stopped stop) (notification method params) (frame (list_publication uri version (meaning.diagnose (Some stop) client uri text)))
+  stops_request : (stop : Stop) (id : Data) (method : List ℕ) (params : Option Data) → TellsRefusal meaning (Stopped stop) (request id method params) (frame (body_text (stopped_for id)))
   cancels : (id : Data) (method : List ℕ) (params : Option Data) → TellsRefusal meaning Cancelled (request id method params) (frame (body_text (cancelled_for id)))
 
--- where what a message asks of a text isn't done whole, that is said, and nothing else changes
+-- if the server doesn't do all that a message asks, it says so, and nothing else changes
 abbrev pub RefusalsAreTold : Type 0
 RefusalsAreTold = (meaning : Meaning) (reach : Reach) (server : PlainServer) (what : Said)
     → (told_of meaning reach server what ≡ told_of meaning Whole server what) ⊎ TellsRefusal meaning reach what (told_of meaning reach server what)
 
--- how a conversation ends over bytes that are left and begin no message
+-- how a conversation ends if bytes are left that no message begins with
 abbrev pub is_left : ExitStatus → Bool
 is_left CutOff = true
 is_left NoMessage = true
 is_left status = false
 
--- What is written depends on the bytes alone, and on how far what each message asks was done; and so does how it ends. Where bytes are left with
--- which no message ever begins, either of two statuses says so, and a program ends with one for both.
+-- The output and the ending depend only on the bytes, and on how far each message was done. If bytes are left that no message begins with, either of
+-- two statuses says so, and a program ends with one status for both.
 abbrev pub ConversationsAreOne : Type 0
 ConversationsAreOne = (meaning : Meaning) (all : List ℕ) (reaches : List Reach) (s t : ExitStatus) (x y : List ℕ) → Talks meaning all reaches s x → Talks meaning all reaches t y
     → (x ≡ y) × ((s ≡ t) ⊎ ((is_left s ≡ true) × (is_left t ≡ true)))

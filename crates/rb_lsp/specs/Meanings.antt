@@ -1,13 +1,13 @@
--- What documents mean: whoever has a server serve says it. (This project's.)
+-- What documents mean, which a service defines. (This project's.)
 use Rattle.std.specs.Prelude.{ℕ, List, Option}
 use Rattle.rb_lsp.specs.declared.document.position.Encoding.{Encoding}
 use Rattle.rb_lsp.specs.declared.server.query.Query.{Query}
 use Rattle.rb_lsp.specs.declared.server.client.Client.{Client}
+use Rattle.rb_lsp.specs.declared.server.stop.Stop.{Stop}
 
--- the diagnostics of a text, as a list in JSON: of the line above which its run stopped, if it did, the client that is told, the URI of the document,
--- and its text
+-- The diagnostics of a text, as a list in JSON: by where its run stopped, if it did, the client that is told, the URI of the document, and its text.
 abbrev pub Diagnose : Type 0
-Diagnose = Option ℕ → Client → List ℕ → List ℕ → List ℕ
+Diagnose = Option Stop → Client → List ℕ → List ℕ → List ℕ
 
 -- the result of a request, in JSON, by the encoding of columns, the request, the document's URI and its text
 abbrev pub Answer : Type 0

@@ -1,4 +1,4 @@
--- Notifications of documents, and what is published of each: the diagnostics of its text as it stands. (LSP 3.17, "PublishDiagnostics
+-- Notifications about documents, and what is published for each: the diagnostics of its current text. (LSP 3.17, "PublishDiagnostics
 -- Notification".)
 use Rattle.std.specs.Prelude.{ℕ, nat_le, Bool, ◌&&◌, not, is_some, if◌then◌else◌, List, [], ◌++◌, Option, Some, None, codes, decimal}
 use Rattle.std.specs.List.{flat_map}
@@ -11,6 +11,7 @@ use Rattle.rb_lsp.specs.declared.server.method.Method.{Method}
 use Rattle.rb_lsp.specs.declared.server.method.Method.TheVariants.{DidChange}
 use Rattle.rb_lsp.specs.declared.server.phase.Phase.{Phase}
 use Rattle.rb_lsp.specs.declared.server.phase.Phase.TheVariants.{Running}
+use Rattle.rb_lsp.specs.declared.server.stop.Stop.{Stop}
 use Rattle.rb_lsp.specs.declared.server.reach.Reach.{Reach}
 use Rattle.rb_lsp.specs.declared.server.reach.Reach.TheVariants.{Whole, Stopped, NoMemory}
 use Rattle.rb_lsp.specs.Methods.{is_of_documents}
@@ -20,7 +21,7 @@ use Rattle.rb_lsp.specs.Meanings.{Meaning}
 
 -- ---- diagnostics that are published
 
--- the version of the text, where it has one, and what begins the list
+-- the version of the text, if it has one, and the beginning of the list
 unfoldable pub middle_text : Option ℕ → List ℕ
 middle_text None = codes ",\"diagnostics\":"
 middle_text (Some n) = codes ",\"version\":" ++ (decimal n ++ codes ",\"diagnostics\":")
@@ -39,18 +40,18 @@ crowded_list =
 abbrev pub closed_list : Bool → List ℕ
 closed_list is_crowded = if is_crowded then crowded_list else codes "[]"
 
--- as far as a run came that stopped above this line, if any
-abbrev pub reach_of : Option ℕ → Reach
+-- how far a text was done whose run stopped here, if it did
+abbrev pub reach_of : Option Stop → Reach
 reach_of None = Whole
-reach_of (Some line) = Stopped line
+reach_of (Some stop) = Stopped stop
 
--- of a text, as far as it was run; where memory was refused for that, the one that says so
+-- the diagnostics of a text, as far as it was run; if memory was refused, the one that says so
 abbrev pub list_by : Meaning → Reach → Client → List ℕ → List ℕ → List ℕ
 list_by meaning NoMemory client uri text = no_memory_list
-list_by meaning (Stopped line) client uri text = meaning.diagnose (Some line) client uri text
+list_by meaning (Stopped stop) client uri text = meaning.diagnose (Some stop) client uri text
 list_by meaning reach client uri text = meaning.diagnose None client uri text
 
--- those of the text of a document that is open, and else those of one that isn't
+-- those of an open document, or of one that isn't open
 abbrev pub list_text : Meaning → Reach → Client → List ℕ → Bool → Option (List ℕ) → List ℕ
 list_text meaning reach client uri is_crowded None = closed_list is_crowded
 list_text meaning reach client uri is_crowded (Some text) = list_by meaning reach client uri text
@@ -67,7 +68,7 @@ publication meaning reach client uri version is_crowded text = list_publication 
 
 -- ---- a notification
 
--- what it says: who tells it, the document's URI, and what is given to the method
+-- a notification about a document: the client, the method, the document's URI, and the parameters
 pub record Notice : Type 0 where
   pub client : Client
   pub method : Method
@@ -84,7 +85,7 @@ notice_of (Running client) method (Some d) =
     if is_of_documents method then with_uri client method d (text_below (codes "textDocument") (codes "uri") d) else None
 notice_of phase method params = None
 
--- the text of its document after it, where these documents are open before it
+-- the text of its document after it, if these documents are open before it
 abbrev pub new_text : Notice → List PlainDocument → Option (List ℕ)
 new_text n ds = text_after n.client.encoding n.method n.given (text_of n.uri ds)
 
@@ -96,7 +97,7 @@ is_crowded n ds = is_some (new_text n ds) && not (has_room (closed n.uri ds))
 abbrev pub told_version : Notice → Option ℕ
 told_version n = number_below (codes "textDocument") (codes "version") n.given
 
--- the known version and the one that a change says, where that doesn't come after the known one ("VersionedTextDocumentIdentifier")
+-- the known version and a change's, if the change's isn't after the known one ("VersionedTextDocumentIdentifier")
 abbrev pub stale_by : Method → Option ℕ → Option ℕ → Option (ℕ × ℕ)
 stale_by DidChange (Some known) (Some told) = if nat_le told known then Some (known, told) else None
 stale_by method known told = None
@@ -104,7 +105,7 @@ stale_by method known told = None
 abbrev pub stale_versions : Notice → List PlainDocument → Option (ℕ × ℕ)
 stale_versions n ds = stale_by n.method (version_of n.uri ds) (told_version n)
 
--- the documents after it; those before it, where its version is stale
+-- the documents after it; if its version is stale, those before it
 abbrev pub documents_by : Option (ℕ × ℕ) → Notice → List PlainDocument → List PlainDocument
 documents_by (Some versions) n ds = ds
 documents_by None n ds = kept n.uri (told_version n) (new_text n ds) (closed n.uri ds)
@@ -119,12 +120,12 @@ stale_text known told =
     codes "{\"jsonrpc\":\"2.0\",\"method\":\"window/showMessage\",\"params\":{\"type\":2,\"message\":\"raftbench: a change was refused: its version, "
     ++ (decimal told ++ (codes ", doesn't follow the document's, " ++ (decimal known ++ codes "; close the document and open it again\"}}")))
 
--- what it has published, or that it was refused
+-- the diagnostics that are published, or the message that it was refused
 abbrev pub notice_body : Meaning → Reach → Option (ℕ × ℕ) → Notice → List PlainDocument → List PlainDocument → List ℕ
 notice_body meaning reach (Some versions) n before ds = stale_text versions.0 versions.1
 notice_body meaning reach None n before ds = publication meaning reach n.client n.uri (told_version n) (is_crowded n before) (text_of n.uri ds)
 
--- what goes out, where these are the documents before it, and these after it
+-- what is sent, by the documents before it and after it
 abbrev pub notice_text : Meaning → Reach → Option Notice → List PlainDocument → List PlainDocument → List ℕ
 notice_text meaning reach None before ds = []
 notice_text meaning reach (Some n) before ds = frame (notice_body meaning reach (stale_versions n before) n before ds)

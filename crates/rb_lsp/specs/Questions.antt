@@ -43,46 +43,46 @@ answer_text id result = codes "{\"id\":" ++ (compact_text id ++ (codes ",\"jsonr
 unfoldable pub unfit : Data → Data
 unfit id = failure id InvalidParams (codes "the method takes other params")
 
--- where the document isn't open
+-- if the document isn't open
 unfoldable pub not_open : Data → Data
 not_open id = failure id InvalidParams (codes "the document isn't open")
 
--- where memory is refused for it
+-- if memory was refused
 unfoldable pub no_memory_for : Data → Data
 no_memory_for id = failure id InternalError (codes "no memory for an answer")
 
--- where the text's run was stopped ("RequestFailed")
+-- if the text's run was stopped ("RequestFailed")
 unfoldable pub stopped_for : Data → Data
 stopped_for id = failure id RequestFailed (codes "the run of this script was stopped")
 
--- where its client has cancelled it (LSP 3.17, "Cancellation Support")
+-- if its client has cancelled it (LSP 3.17, "Cancellation Support")
 unfoldable pub cancelled_for : Data → Data
 cancelled_for id = failure id RequestCancelled (codes "the request was cancelled")
 
--- of a text, as far as it was run, unless the request was cancelled
+-- the answer about a text, as far as it was run, unless the request was cancelled
 abbrev pub text_by : Meaning → Reach → Encoding → Query → List ℕ → Data → List ℕ → List ℕ
 text_by meaning NoMemory encoding asked uri id text = body_text (no_memory_for id)
 text_by meaning Cancelled encoding asked uri id text = body_text (cancelled_for id)
-text_by meaning (Stopped line) encoding asked uri id text = body_text (stopped_for id)
+text_by meaning (Stopped stop) encoding asked uri id text = body_text (stopped_for id)
 text_by meaning reach encoding asked uri id text = answer_text id (meaning.answer encoding asked uri text)
 
--- of a document, whose text this is where it is open
+-- the answer about a document, by its text if it is open
 abbrev pub of_text : Meaning → Reach → Encoding → Query → List ℕ → Data → Option (List ℕ) → List ℕ
 of_text meaning reach encoding asked uri id None = body_text (not_open id)
 of_text meaning reach encoding asked uri id (Some text) = text_by meaning reach encoding asked uri id text
 
--- of the document that is named, and what is asked of it
+-- the answer about the document that is named, by the request
 abbrev pub with_asked : Meaning → Reach → Encoding → List PlainDocument → Data → Option (List ℕ) → Option Query → List ℕ
 with_asked meaning reach encoding ds id None asked = body_text (unfit id)
 with_asked meaning reach encoding ds id (Some uri) None = body_text (unfit id)
 with_asked meaning reach encoding ds id (Some uri) (Some asked) = of_text meaning reach encoding asked uri id (text_of uri ds)
 
--- of what is given to the method
+-- the answer, by the method's parameters
 abbrev pub question_body : Meaning → Reach → Encoding → List PlainDocument → Question → Option Data → Data → List ℕ
 question_body meaning reach encoding ds question None id = body_text (unfit id)
 question_body meaning reach encoding ds question (Some d) id = with_asked meaning reach encoding ds id (uri_of d) (asked_of question d)
 
--- the text of the document that is named, where it is open
+-- the text of the document that is named, if it is open
 abbrev pub named_text : Option Data → List PlainDocument → Option (List ℕ)
 named_text None ds = None
 named_text (Some d) ds = option_and_then (λ uri. text_of uri ds) (uri_of d)

@@ -10,6 +10,10 @@ use Rattle.rb_lsp.specs.Messages.{IsMessage, HasNoMessage, NeverHasMessage}
 abbrev pub left_of : MessageReader → Option (List ℕ) → Option (List ℕ)
 left_of reader known = if reader.has_ended then Some reader.held.items else prepend_known reader.held.items known
 
+-- the bytes that were read and not yet given
+abbrev pub waiting : MessageReader → List ℕ
+waiting reader = reader.held.items
+
 -- the body that was read last
 abbrev pub body_of : MessageReader → List ℕ
 body_of reader = reader.body.items

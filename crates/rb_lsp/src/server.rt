@@ -16,7 +16,6 @@ mod beginning;
 mod changes;
 mod client;
 mod documents;
-mod fault;
 mod laws;
 mod limits;
 mod method;
@@ -31,16 +30,18 @@ mod server;
 mod service;
 mod serving;
 mod stale;
+mod stop;
 
+pub use crate::rpc::ServeFault;
 pub use client::Client;
-pub use fault::ServeFault;
 pub use laws::{
     conversations_are_one, notifications_have_no_answer, refusals_are_told,
     requests_have_one_answer, results_stand_in_answers, texts_are_answered, texts_are_diagnosed,
 };
-pub use limits::{MAX_DOCUMENTS, limits_are};
+pub use limits::{MAX_DOCUMENTS, MAX_WORK, limits_are};
 pub use phase::ExitStatus;
 pub use query::Query;
 pub use reach::Reach;
-pub use service::Service;
+pub use service::{DocumentQuery, Service};
 pub use serving::serve;
+pub use stop::Stop;

@@ -6,21 +6,23 @@ ghost use Rattle.rb_lsp.specs.Serves.{BreaksOff, Served};
 ghost use Rattle.rb_editor.specs.Meanings.{answer, meaning};
 
 use crate::actions::action::add_actions;
-use crate::actions::bounded::{BoundedCluster, MAX_WORK, WorkMeter};
+use crate::actions::bounded::BoundedCluster;
 use crate::actions::completing::add_completions;
 use crate::actions::document::AskedDocument;
 use crate::actions::hover::add_hover;
 use crate::actions::publishing::add_list;
 use crate::actions::stopping::{KeptRun, of_text};
+use crate::actions::work_meter::WorkMeter;
 use crate::offers::{add_folds, add_formatting, add_symbols};
-use rb_lsp::document::Encoding;
-use rb_lsp::server::{Client, ExitStatus, Query, ServeFault, Service, serve};
+use rb_lsp::server::{
+    Client, DocumentQuery, ExitStatus, MAX_WORK, Query, ServeFault, Service, Stop, serve,
+};
 use rb_report::check::Table;
 use rb_script::Sink;
 use rb_text::Source;
 use std::alloc::{AllocError, Global};
 
-/// Answers for scripts.
+/// Knows what scripts mean to an editor.
 #[derive(Drop)]
 pub(crate) struct Bench {
     alloc: Global,
@@ -28,7 +30,7 @@ pub(crate) struct Bench {
 }
 
 impl Bench {
-    // Takes memory for comparing outputs once.
+    // Makes one, with memory for comparing outputs.
     fn new(alloc: Global) -> Result<Bench, AllocError> {
         let table = Table::new(alloc)?;
         Ok(Bench { alloc, table })
@@ -51,62 +53,62 @@ impl Service for Bench {
         text: &[u8],
         kept: &mut KeptRun<BoundedCluster>,
         out: &mut Vec<u8>,
-    ) -> Result<Option<usize>, AllocError> {
+    ) -> Result<Option<Stop>, AllocError> {
         let alloc = self.alloc;
-        let encoding = client.encoding;
         let mut meter = WorkMeter::new(MAX_WORK);
-        let found = of_text(alloc, encoding, &mut self.table, kept, &mut meter, text)?;
+        let document = AskedDocument {
+            encoding: client.encoding,
+            uri,
+            text,
+        };
+        let found = of_text(alloc, document, &mut self.table, kept, &mut meter)?;
         add_list(alloc, out, client, uri, text, found.list.as_slice())?;
         Ok(found.stop)
     }
 
     fn add_answer(
         &mut self,
-        encoding: Encoding,
-        asked: Query,
-        uri: &[u8],
-        text: &[u8],
+        asked: DocumentQuery<'_, '_>,
         kept: &KeptRun<BoundedCluster>,
         out: &mut Vec<u8>,
-    ) -> Result<Option<usize>, AllocError> {
-        if needs_run(asked)
-            && let Some(line) = kept.stop_of(text)
+    ) -> Result<Option<Stop>, AllocError> {
+        if needs_run(asked.query)
+            && let Some(stop) = kept.stop_of(asked.text)
         {
-            return Ok(Some(line));
+            return Ok(Some(stop));
         }
-        self.add_result(encoding, asked, uri, text, kept, out)?;
+        self.add_result(asked, kept, out)?;
         Ok(None)
     }
 }
 
-// Whether the run of the text is needed for what is asked.
+// Says whether the run of the text is needed for what is asked.
 fn needs_run(asked: Query) -> bool {
     matches!(asked, Query::CodeAction(_) | Query::Hover(_))
 }
 
 impl Bench {
-    // Adds the result of a request about a text that was run whole. What is shown of it takes some more work.
+    // Adds the result of a request about a text that was run whole. Showing a directive takes some more work.
     fn add_result(
         &self,
-        encoding: Encoding,
-        asked: Query,
-        uri: &[u8],
-        text: &[u8],
+        asked: DocumentQuery<'_, '_>,
         kept: &KeptRun<BoundedCluster>,
         out: &mut Vec<u8>,
     ) -> Result<(), AllocError>
-        requires { length text.now ≤ MAX_TEXT }
-        ensures { OnOk result (out.new.items ≡ out.old.items ++ answer encoding asked uri.now text.now) }
+        requires { length asked.text.now ≤ MAX_TEXT }
+        ensures { OnOk result (out.new.items ≡ out.old.items ++ answer asked.entry.encoding asked.entry.query asked.entry.uri.now asked.entry.text.now) }
     {
         let mut meter = WorkMeter::new(2 * MAX_WORK);
         let alloc = self.alloc;
         let run = &kept.run;
+        let encoding = asked.encoding;
+        let text = asked.text;
         let document = AskedDocument {
             encoding,
-            uri,
+            uri: asked.uri,
             text,
         };
-        match asked {
+        match asked.query {
             Query::CodeAction(range) => {
                 add_actions(alloc, out, document, range, run, &mut meter)
             }
@@ -121,7 +123,7 @@ impl Bench {
     }
 }
 
-/// Serves an editor up to the end of the conversation.
+/// Serves an editor until the end of the conversation.
 ///
 /// # Errors
 ///
@@ -131,9 +133,9 @@ pub fn lsp<S: Source, W: Sink>(
     source: &mut S,
     sink: &mut W,
 ) -> Result<ExitStatus, ServeFault>
-    // What is written is the conversation over the bytes that come in, and the status is that of its end.
+    // The output is the conversation over the bytes of the input, and the status is that of its end.
     ensures ok { IfOk result (λ status. Served meaning (S.left source.old) status (W.held sink.old) (W.held sink.new)) }
-    // Where a call fails, a beginning of it was written.
+    // If a call fails, a beginning of it was written.
     ensures failed { OnErr result (BreaksOff meaning (S.left source.old) (W.held sink.old) (W.held sink.new)) }
 {
     let mut bench = Bench::new(alloc)?;

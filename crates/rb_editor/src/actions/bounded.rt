@@ -1,84 +1,26 @@
 //! A cluster whose run has a bound, since an editor waits for it.
 //!
-//! The work of a run is counted and not timed: so much for each directive, and one for each item that happens, such as a delivery, an event or
-//! a line. When the bound is met, a run is refused as for want of memory, also within a directive, and the meter says why.
+//! The work of a run is counted and not timed: [`DIRECTIVE_WORK`] for each directive, and one for each item that its observer gets, such as a
+//! delivery, an event or a state. A run that has met the bound is refused as for want of memory, also within a directive, and the meter says at how
+//! much work.
 
-ghost use Rattle.std.specs.Prelude.{◌≡◌, ◌+◌, ◌<◌, ◌^◌};
-
+use crate::actions::work_meter::{EnoughWork, WorkMeter};
 use rb_cluster::Cluster;
-use rb_machine::{Count, Machine, Observer, PrintedLines};
+use rb_machine::{Machine, Observer, PrintedLines};
 use rb_node::Node;
 use rb_raftlog::{RaftLog, SplitLog};
 use rb_script::{DirectiveRef, Lines};
 use rb_texts::{Item, Level};
 use rb_view::look::Nodes;
 use std::alloc::{AllocError, Global};
-use std::marker::Model;
 
-/// How much work the run of a text may do.
-pub(crate) const MAX_WORK: u64 = 4_000_000;
-
-// How much of it a directive is, whatever happens.
+// The work of a directive, whatever happens in it.
 const DIRECTIVE_WORK: u64 = 100;
-
-/// Counts directives, and says whether the run was refused since its bound was met.
-#[derive(Drop)]
-pub(crate) struct WorkMeter {
-    count: u64,
-    bound: u64,
-    is_over: bool,
-}
-
-impl Model for WorkMeter {
-    ghost use Rattle.std.specs.Prelude.{ℕ};
-
-    ghost Value = { ℕ };
-
-    ghost view = { λ m. m.count };
-}
-
-impl WorkMeter {
-    ghost use Rattle.std.specs.Prelude.{◌≡◌, ◌+◌, ◌<◌, ◌^◌};
-
-    /// A count of 0, for runs with this bound.
-    pub(crate) fn new(bound: u64) -> WorkMeter
-        ensures { result ≡ 0 }
-    {
-        WorkMeter {
-            count: 0,
-            bound,
-            is_over: false,
-        }
-    }
-
-    // Counts one more directive.
-    fn raise(&mut self)
-        requires { self.old < 2 ^ 63 }
-        ensures { self.new ≡ self.old + 1 }
-    {
-        self.count += 1;
-    }
-
-    // Says whether the bound was met.
-    fn set_over(&mut self, is_over: bool)
-        ensures { self.new ≡ self.old }
-    {
-        self.is_over = is_over;
-    }
-}
-
-impl Count for WorkMeter {
-    ghost count_of = { λ m. m };
-
-    fn count(&self) -> u64 {
-        self.count
-    }
-}
 
 /// A machine whose run may be refused since it has done as much work as it may.
 pub(crate) trait Bounded: Machine {
-    /// Whether the last directive on this meter was refused for that.
-    fn has_stopped(meter: &Self::Meter) -> bool;
+    /// The work at which the last directive on this meter was refused, if it was for that.
+    fn refused_at(meter: &Self::Meter) -> Option<EnoughWork>;
 }
 
 // The printed lines of a directive, and the work of the run with it.
@@ -90,15 +32,15 @@ struct CountedLines {
 }
 
 impl<L: RaftLog> Observer<L> for CountedLines {
-    ghost use Rattle.rb_machine.specs.declared.printed.PrintedLines.{PrintedLines};
     ghost use Rattle.rb_machine.specs.Observations.{passing};
-    ghost use Rattle.rb_machine.specs.Printing.{at_level, with_item};
+    ghost use Rattle.rb_editor.specs.declared.actions.bounded.CountedLines.{CountedLines};
+    ghost use Rattle.rb_editor.specs.Work.{with_directive, with_item};
 
-    ghost Meaning = { PrintedLines };
+    ghost Meaning = { CountedLines };
 
-    ghost meaning = { λ c. c.printed };
+    ghost meaning = { λ c. c };
 
-    ghost starting = { at_level };
+    ghost starting = { with_directive };
 
     ghost taking = { with_item };
 
@@ -113,7 +55,7 @@ impl<L: RaftLog> Observer<L> for CountedLines {
         if self.work >= self.bound {
             return Err(AllocError);
         }
-        self.work = self.work.saturating_add(1);
+        self.work += 1;
         Observer::<L>::observe(&mut self.printed, item)
     }
 
@@ -134,6 +76,7 @@ impl BoundedCluster {
     ghost use Rattle.std.specs.Prelude.{◌≡◌, IfOk, OnOk};
     ghost use Rattle.rb_script.specs.Tokens.{plain};
     ghost use Rattle.rb_machine.specs.Outcome.{execution, lines_at, shown_items};
+    ghost use Rattle.rb_editor.specs.Work.{work_after};
 
     // Runs a directive, and returns what it prints.
     fn printed(
@@ -143,15 +86,18 @@ impl BoundedCluster {
     ) -> Result<Lines, AllocError>
         ensures cluster { OnOk result (self.new.cluster ≡ (execution self.old.cluster (plain directive.now)).cluster) }
         ensures output { IfOk result (λ lines. lines ≡ lines_at (execution self.old.cluster (plain directive.now)).level (shown_items (execution self.old.cluster (plain directive.now)))) }
-        ensures counted { meter.new ≡ meter.old }
+        ensures work { OnOk result (self.new.work ≡ work_after (execution self.old.cluster (plain directive.now)) self.old.work) }
+        ensures counted { meter.new.count ≡ meter.old.count }
     {
         let mut counted = CountedLines {
             printed: PrintedLines::new(self.alloc),
             work: self.work,
-            bound: meter.bound,
+            bound: meter.bound(),
         };
         let ran = self.cluster.run_watched(directive, &mut counted);
-        meter.set_over(ran.is_err() && counted.work >= counted.bound);
+        if ran.is_err() {
+            meter.refuse(counted.work);
+        }
         ran?;
         self.work = counted.work;
         counted.printed.or_ok()
@@ -197,8 +143,8 @@ impl Machine for BoundedCluster {
 }
 
 impl Bounded for BoundedCluster {
-    fn has_stopped(meter: &WorkMeter) -> bool {
-        meter.is_over
+    fn refused_at(meter: &WorkMeter) -> Option<EnoughWork> {
+        meter.refused()
     }
 }
 

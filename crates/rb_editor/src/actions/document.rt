@@ -2,7 +2,7 @@
 
 use rb_lsp::document::Encoding;
 
-/// A document: what its columns count in, its URI, and its text.
+/// A document: the unit of its columns, its URI, and its text.
 #[derive(Clone, Copy)]
 pub(crate) struct AskedDocument<'u, 't> {
     pub(crate) encoding: Encoding,

@@ -1,9 +1,9 @@
 //! The diagnostic of a directive that ran.
 
-ghost use Rattle.std.specs.Prelude.{◌≡◌, ◌++◌, ℕ, not, IfOk, OnOk};
+ghost use Rattle.std.specs.Prelude.{◌≡◌, ◌++◌, not, IfOk, OnOk};
 ghost use Rattle.rb_report.specs.Hints.{plain_hint};
 ghost use Rattle.rb_replay.specs.Report.{same_lines};
-ghost use Rattle.rb_editor.specs.BlockLines.{StandsIn};
+ghost use Rattle.rb_editor.specs.BlockLines.{StandsIn, block_lines};
 ghost use Rattle.rb_editor.specs.Findings.{diff_message, error_output, finding, hint_end, mismatch, mismatch_kind, mismatch_message};
 
 use crate::actions::actual_output::actual_output_of;
@@ -89,25 +89,32 @@ fn mismatch_kind(first: usize, line: usize) -> DiagnosticKind
     }
 }
 
-// Makes the diagnostic of a mismatch, of a block with these lines.
+/// A directive that ran: the line of its head, whether its output differs from the expectation, its block, and its output.
+#[derive(Clone, Copy)]
+pub(crate) struct RanDirective<'b, 'o> {
+    pub(crate) line: usize,
+    pub(crate) differs: bool,
+    pub(crate) block: &'b Block,
+    pub(crate) output: &'o Lines,
+}
+
+// Makes the diagnostic of a mismatch.
 fn mismatch(
     alloc: Global,
     table: &mut Table,
     text: &Lines,
-    lines: BlockLines,
-    kind: DiagnosticKind,
-    block: &Block,
-    output: &Lines,
+    first: usize,
+    ran: RanDirective<'_, '_>,
 ) -> Result<Diagnostic, AllocError>
-    ensures { (first line : ℕ) → kind ≡ mismatch_kind first line → IfOk result (λ d. d ≡ mismatch text.now lines first line block.now output.now) }
+    requires { StandsIn text.now ran.line ran.block.now }
+    ensures { IfOk result (λ d. d ≡ mismatch text.now (block_lines text.now ran.entry.line ran.entry.block.now) first ran.entry.line ran.entry.block.now ran.entry.output.now) }
 {
-    let message = mismatch_message(alloc, table, block, output)?;
-    let came = actual_output_of(alloc, lines, output)?;
+    let lines = BlockLines::of_block(text, ran.line, ran.block);
     Ok(Diagnostic {
-        line: marked_at(text, lines, block.expected(), output),
-        kind,
-        message,
-        came: Some(came),
+        line: marked_at(text, lines, ran.block.expected(), ran.output),
+        kind: mismatch_kind(first, ran.line),
+        message: mismatch_message(alloc, table, ran.block, ran.output)?,
+        came: Some(actual_output_of(alloc, lines, ran.output)?),
     })
 }
 
@@ -129,31 +136,24 @@ fn error_output(
     })
 }
 
-/// Makes the diagnostic of a directive whose head begins on a line. It is known whether its output differs, and where the head of the first
-/// mismatch is.
+/// Makes the diagnostic of a directive, if it has one. The head of the first mismatch is on a line that is known.
 #[tactic(auto, unfolding(crate::specs::Findings::finding))]
 pub(crate) fn finding(
     alloc: Global,
     table: &mut Table,
     text: &Lines,
     first: usize,
-    line: usize,
-    differs: bool,
-    block: &Block,
-    output: &Lines,
+    ran: RanDirective<'_, '_>,
 ) -> Result<Option<Diagnostic>, AllocError>
-    requires stands { StandsIn text.now line block.now }
-    requires differs { differs ≡ not (same_lines block.now.expected output.now) }
-    ensures { IfOk result (λ found. found ≡ finding first text.now line block.now output.now) }
+    requires stands { StandsIn text.now ran.line ran.block.now }
+    requires differs { ran.differs ≡ not (same_lines ran.block.now.expected ran.output.now) }
+    ensures { IfOk result (λ found. found ≡ finding first text.now ran.entry.line ran.entry.block.now ran.entry.output.now) }
 {
-    if differs {
-        let lines = BlockLines::of_block(text, line, block);
-        let kind = mismatch_kind(first, line);
-        let found = mismatch(alloc, table, text, lines, kind, block, output)?;
-        return Ok(Some(found));
+    if ran.differs {
+        return Ok(Some(mismatch(alloc, table, text, first, ran)?));
     }
-    if is_unexpected(text, line, output) {
-        return Ok(Some(error_output(alloc, line, block, output)?));
+    if is_unexpected(text, ran.line, ran.output) {
+        return Ok(Some(error_output(alloc, ran.line, ran.block, ran.output)?));
     }
     Ok(None)
 }

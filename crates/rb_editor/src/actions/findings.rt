@@ -1,4 +1,4 @@
-//! What is to be said of a script that ran, and of what is none.
+//! The diagnostics of a script that ran, and of a text that isn't a script.
 
 ghost use Rattle.std.specs.Prelude.{◌≡◌, ◌+◌, ◌<◌, ◌≤◌, ◌^◌, ◌++◌, [], ◌∷◌, if◌then◌else◌, IfOk, OnOk, length, drop, map, slice_index_or};
 ghost use Rattle.rb_script.specs.HeadLines.{AreHeadLines};
@@ -10,10 +10,10 @@ ghost use Rattle.rb_lsp.specs.declared.document.limits.TheConstants.{MAX_TEXT};
 ghost use Rattle.rb_editor.specs.Findings.{before, diagnostics_of, findings, first_head, or_first, refused, slip, stands_first};
 
 use crate::actions::diagnostic::{Diagnostic, DiagnosticKind};
-use crate::actions::finding::finding;
+use crate::actions::document::AskedDocument;
+use crate::actions::finding::{RanDirective, finding};
 use crate::actions::quiet::is_quiet;
 use crate::actions::run::DocumentRun;
-use rb_lsp::document::Encoding;
 use rb_machine::{Count, Machine};
 use rb_replay::Session;
 use rb_report::check::{Table, fault_line, sentence, warning_sentence};
@@ -21,7 +21,7 @@ use rb_script::{Lines, ScriptFault, ScriptWithLines};
 use rb_script_report::{Warning, block_at, number_at, output_at};
 use std::alloc::{AllocError, Global};
 
-// Puts one after others, if there is one.
+// Adds a diagnostic, if there is one.
 fn keep(list: &mut Vec<Diagnostic>, found: Option<Diagnostic>) -> Result<(), AllocError>
     ensures { OnOk result (list.new.items ≡ list.old.items ++ before found []) }
 {
@@ -31,7 +31,7 @@ fn keep(list: &mut Vec<Diagnostic>, found: Option<Diagnostic>) -> Result<(), All
     }
 }
 
-// Whether the place is the next of some.
+// Says whether a place is the next of these.
 fn is_next(places: &[usize], next: usize, place: usize) -> bool
     ensures { result ≡ stands_first place (drop next places.now) }
 {
@@ -41,7 +41,7 @@ fn is_next(places: &[usize], next: usize, place: usize) -> bool
     }
 }
 
-// The index of the next, where that one may be taken.
+// Gives the index of the next place, after the last was taken or not.
 fn behind(next: usize, is_taken: bool) -> usize
     requires { next < 2 ^ 63 }
     ensures value { result ≡ (if is_taken then next + 1 else next) }
@@ -50,7 +50,7 @@ fn behind(next: usize, is_taken: bool) -> usize
     if is_taken { next + 1 } else { next }
 }
 
-// The line of the head at the first of some places, which count from 1; 0 if there is none.
+// Finds the line of the head at the first of these places, which count from 1; 0 if there is none.
 fn first_head(heads: &[usize], places: &[usize]) -> usize
     ensures { result ≡ first_head heads.now places.now }
 {
@@ -60,7 +60,7 @@ fn first_head(heads: &[usize], places: &[usize]) -> usize
     }
 }
 
-// The number at an index; 0 if there is none.
+// Gives the number at an index; 0 if there is none.
 fn number_or_none(numbers: &[usize], index: usize) -> usize
     ensures { result ≡ slice_index_or numbers.now index 0 }
 {
@@ -71,8 +71,7 @@ fn number_or_none(numbers: &[usize], index: usize) -> usize
     }
 }
 
-// What is to be said of each directive of a script that ran, whose lines these are, with its heads on those. The session knows which of its
-// outputs are not the expected ones.
+// Makes the diagnostics of the directives of a script that ran, by its lines and the lines of its heads. The session knows the mismatches.
 fn each_finding<M: Machine>(
     alloc: Global,
     table: &mut Table,
@@ -92,18 +91,24 @@ fn each_finding<M: Machine>(
         let block = block_at(session, i);
         let output = output_at(session, i);
         let differs = is_next(mismatches, next, i + 1);
-        let found = finding(alloc, table, text, first, line, differs, block, output)?;
+        let ran = RanDirective {
+            line,
+            differs,
+            block,
+            output,
+        };
+        let found = finding(alloc, table, text, first, ran)?;
         keep(&mut list, found)?;
         next = behind(next, differs);
     }
     Ok(list)
 }
 
-/// What is to be said of a script that ran, whose lines these are, with its heads on those.
+/// Makes the diagnostics of the directives of a script that ran, by its lines and the lines of its heads.
 ///
 /// # Errors
 ///
-/// Where memory was refused.
+/// If memory was refused.
 #[tactic(auto, using(crate::proofs::QuietLaws::nothing_said))]
 pub(crate) fn of_session<M: Machine>(
     alloc: Global,
@@ -121,7 +126,7 @@ pub(crate) fn of_session<M: Machine>(
     each_finding(alloc, table, session, text, heads)
 }
 
-// What is to be said of a line that looks like a slip.
+// Makes the diagnostic of a line that looks like a mistake.
 fn slip(alloc: Global, warning: &Warning) -> Result<Diagnostic, AllocError>
     ensures { IfOk result (λ d. d ≡ slip warning.now) }
 {
@@ -133,7 +138,7 @@ fn slip(alloc: Global, warning: &Warning) -> Result<Diagnostic, AllocError>
     })
 }
 
-// Adds the lines that look like a slip.
+// Adds the diagnostics of lines that look like a mistake.
 fn add_slips(alloc: Global, list: &mut Vec<Diagnostic>, slips: &[Warning]) -> Result<(), AllocError>
     ensures { OnOk result (list.new.items ≡ list.old.items ++ map slip slips.now) }
 {
@@ -144,25 +149,25 @@ fn add_slips(alloc: Global, list: &mut Vec<Diagnostic>, slips: &[Warning]) -> Re
     Ok(())
 }
 
-// What is to be said of a document of whose text this was read.
+// Makes the diagnostics of a document whose text reads as this.
 #[tactic(auto, using(crate::proofs::RunLaws::heads_by))]
 fn of_read<M: Machine>(
     alloc: Global,
-    encoding: Encoding,
+    document: AskedDocument<'_, '_>,
     table: &mut Table,
     kept: &mut Option<DocumentRun<M>>,
     meter: &mut M::Meter,
-    bytes: &[u8],
     read: ScriptWithLines,
 ) -> Result<Vec<Diagnostic>, AllocError>
-    requires reads { Reads bytes.now read.script }
-    requires lines { read.lines ≡ lines bytes.now }
-    requires heads { AreHeadLines 1 (lines bytes.now) read.script.blocks read.heads.items }
-    requires bounded { length bytes.now ≤ MAX_TEXT }
+    requires reads { Reads document.text.now read.script }
+    requires lines { read.lines ≡ lines document.text.now }
+    requires heads { AreHeadLines 1 (lines document.text.now) read.script.blocks read.heads.items }
+    requires bounded { length document.text.now ≤ MAX_TEXT }
     requires meter { M.Meter.count_of meter.old ≤ 2 ^ 61 }
-    ensures { IfOk result (λ list. list.items ≡ diagnostics_of bytes.now) }
+    ensures { IfOk result (λ list. list.items ≡ diagnostics_of document.entry.text.now) }
 {
-    let run = DocumentRun::of_read(alloc, encoding, kept.take(), bytes, read, meter)?;
+    let last = kept.take();
+    let run = DocumentRun::of_read(alloc, document.encoding, last, document.text, read, meter)?;
     let layout = run.layout();
     let heads = layout.script.heads.as_slice();
     let mut list = of_session(alloc, table, run.session(), &layout.script.text, heads)?;
@@ -171,8 +176,8 @@ fn of_read<M: Machine>(
     Ok(list)
 }
 
-/// The diagnostics of the text of a document, as one fresh run of it has them, by the run that is kept of the document. If the text isn't a
-/// script, the kept run stays for the next that is one.
+/// Makes the diagnostics of the text of a document: those of one fresh run, found by the kept one. If the text isn't a script, the kept run stays
+/// for the next that is one.
 ///
 /// # Errors
 ///
@@ -180,24 +185,23 @@ fn of_read<M: Machine>(
 #[tactic(auto, using(crate::proofs::FindingLaws::of_fault))]
 pub(crate) fn of_document<M: Machine>(
     alloc: Global,
-    encoding: Encoding,
+    document: AskedDocument<'_, '_>,
     table: &mut Table,
     kept: &mut Option<DocumentRun<M>>,
     meter: &mut M::Meter,
-    bytes: &[u8],
 ) -> Result<Vec<Diagnostic>, AllocError>
-    requires bounded { length bytes.now ≤ MAX_TEXT }
+    requires bounded { length document.text.now ≤ MAX_TEXT }
     requires meter { M.Meter.count_of meter.old ≤ 2 ^ 61 }
-    ensures { IfOk result (λ list. list.items ≡ diagnostics_of bytes.now) }
+    ensures { IfOk result (λ list. list.items ≡ diagnostics_of document.entry.text.now) }
 {
-    match ScriptWithLines::read(alloc, bytes) {
-        Ok(read) => of_read(alloc, encoding, table, kept, meter, bytes, read),
+    match ScriptWithLines::read(alloc, document.text) {
+        Ok(read) => of_read(alloc, document, table, kept, meter, read),
         Err(ScriptFault::OutOfMemory) => Err(AllocError),
         Err(fault) => of_fault(alloc, fault),
     }
 }
 
-// What is to be said of what is no script.
+// Makes the diagnostic of a text that isn't a script.
 fn refused(alloc: Global, fault: ScriptFault) -> Result<Diagnostic, AllocError>
     ensures { IfOk result (λ d. d ≡ refused fault) }
 {
@@ -209,11 +213,11 @@ fn refused(alloc: Global, fault: ScriptFault) -> Result<Diagnostic, AllocError>
     })
 }
 
-/// What is to be said of bytes that are no script: that alone.
+/// Makes the diagnostics of a text that isn't a script: that one alone.
 ///
 /// # Errors
 ///
-/// Where memory was refused.
+/// If memory was refused.
 pub(crate) fn of_fault(alloc: Global, fault: ScriptFault) -> Result<Vec<Diagnostic>, AllocError>
     ensures { IfOk result (λ list. list.items ≡ refused fault ∷ []) }
 {

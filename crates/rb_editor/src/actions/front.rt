@@ -15,7 +15,7 @@ fn is_same_line(one: &[u8], other: &[u8]) -> bool
     one == other
 }
 
-/// Counts the lines at the front that both have.
+/// Counts the lines that both share at the beginning.
 pub(crate) fn common_front(expected: &Lines, output: &Lines) -> usize
     ensures { result ≡ common_front expected.now output.now }
 {
@@ -40,7 +40,7 @@ fn add_marked(out: &mut Vec<u8>, mark: &[u8], lines: &Lines, index: usize) -> Re
     out.extend_from_slice(b"\n")
 }
 
-/// Adds the first lines that differ, after this many equal ones. Adds nothing if there are none, since the diff begins with the difference then.
+/// Adds the first lines that differ, after this many equal ones. If no line is equal, adds nothing: the diff then begins with them.
 pub(crate) fn add_opening(
     out: &mut Vec<u8>,
     front: usize,

@@ -1,19 +1,19 @@
-//! Laws of what an editor is told. Their calls do nothing.
+//! Theorems about what an editor is sent. The functions do nothing: their contracts are the theorems.
 
 ghost use Rattle.std.specs.Prelude.{◌≡◌, List, ℕ, None, codes};
 ghost use Rattle.rb_lsp.specs.declared.server.client.Client.{Client};
 ghost use Rattle.rb_editor.specs.ActionLaws.{AcceptsAsCheckDoes, EditedLinesRead, EditedTextsRead, EditsReplaceLines, IdsAreOfTheCluster, IsQuietText, MakesWhatCheckWrites, TextsHaveOneRun};
 ghost use Rattle.rb_editor.specs.Published.{diagnose};
 
-/// A script whose outputs are the expected ones, and no errors, has no diagnostics if no line looks like a mistake.
+/// A script has no diagnostics if all outputs are expected, none is an error, and there is no warning.
 #[tactic(auto, using(crate::proofs::QuietLaws::quiet_text))]
 pub fn matching_texts_have_none()
     ensures { (client : Client) (uri text : List ℕ) → IsQuietText text → diagnose None client uri text ≡ codes "[]" }
 {}
 
-/// Whatever was sent before: a notification is followed by what one fresh run of its document's current text gives; or by what
-/// one of the text above a line gives, and the diagnostic that the run stopped there; or, if memory is refused for it, by the one
-/// diagnostic that says so. A change whose version isn't after the document's is refused. Nothing is sent only if it is about no document.
+/// Whatever was sent before, a notification about a document is followed by the diagnostics of one fresh run of its current text. If the run
+/// stops, which it does only after [`rb_lsp::server::MAX_WORK`], they are those of the text above, and one that says where it stopped. If memory is
+/// refused, one diagnostic says so. A change whose version isn't after the document's is refused.
 #[tactic(auto, using(rb_lsp::proofs::NoticeLaws::diagnosed))]
 pub fn texts_have_one_run()
     ensures { TextsHaveOneRun }
@@ -24,27 +24,27 @@ pub fn ids_are_those_of_the_cluster()
     ensures { IdsAreOfTheCluster }
 {}
 
-/// What an action accepts of a directive is what `check --accept` does, and the edits of all make the script that `check --accept` writes.
+/// An action accepts the outputs that `check --accept` does, and the action for all directives makes the script that `check --accept` writes.
 #[tactic(auto, using(crate::proofs::ActionLaws::as_check_does, crate::proofs::ActionLaws::as_check_writes))]
 pub fn accepts_as_check_does()
     ensures one { AcceptsAsCheckDoes }
     ensures all { MakesWhatCheckWrites }
 {}
 
-/// An editor that makes an action's edit puts the new text in place of the expectation's lines, and of nothing else.
+/// An editor that makes an action's edit replaces the expectation's lines and nothing else.
 #[tactic(auto, using(crate::proofs::RangeLaws::lines_replaced))]
 pub fn edits_replace_lines()
     ensures { EditsReplaceLines }
 {}
 
-/// A script's lines, with an output in place of a directive's expectation, read as the script in which the directive expects the output.
+/// If an output replaces a directive's expectation, the lines read as the script in which the directive expects the output.
 #[tactic(auto, using(crate::proofs::EditedScriptLaws::edited_script))]
 pub fn edited_lines_read()
     ensures { EditedLinesRead }
 {}
 
-/// The text that an editor makes by an action's edits reads as the script in which each directive that is wanted expects its output, and the
-/// others what they did, if the text doesn't become too long.
+/// Once an editor has made an action's edits, the text reads as the script in which each picked directive expects its actual output, and the
+/// others expect what they did before, if the text doesn't become too long.
 pub fn edited_texts_read()
     ensures { EditedTextsRead }
 {}

@@ -14,7 +14,7 @@ use rb_lsp::server::Client;
 use rb_text::{Json, Piece, add_pieces};
 use std::alloc::{AllocError, Global};
 
-// Its severity, and its code.
+// Gives what begins a diagnostic after its range: its severity and its code.
 #[tactic(auto, unfolding(crate::specs::Published::kind_text))]
 fn kind_text(softens_later: bool, kind: DiagnosticKind) -> &'static [u8]
     ensures { result.now ≡ kind_text softens_later kind }
@@ -45,7 +45,7 @@ fn kind_text(softens_later: bool, kind: DiagnosticKind) -> &'static [u8]
     }
 }
 
-// The severity of a diagnostic, its code, and what it says.
+// Adds the severity of a diagnostic, its code, and its message.
 #[tactic(auto, unfolding(crate::specs::Published::message_text))]
 fn add_message(
     out: &mut Vec<u8>,
@@ -64,7 +64,7 @@ fn add_message(
     )
 }
 
-// The range from one line of a text up to another.
+// Adds the range from one line of a text up to another.
 #[tactic(auto, unfolding(crate::specs::Published::place_text))]
 fn add_place(
     out: &mut Vec<u8>,
@@ -84,7 +84,7 @@ fn add_place(
     Ok(())
 }
 
-// The document in which it is, and what came.
+// Adds the document in which it is, and the actual output.
 #[tactic(auto, unfolding(crate::specs::Published::shown_text))]
 fn add_shown<'a>(out: &mut Vec<u8>, uri: &'a [u8], shown: &'a [u8]) -> Result<(), AllocError>
     ensures { OnOk result (out.new.items ≡ out.old.items ++ shown_text uri.now shown.now) }
@@ -101,7 +101,7 @@ fn add_shown<'a>(out: &mut Vec<u8>, uri: &'a [u8], shown: &'a [u8]) -> Result<()
     )
 }
 
-// What came, for the lines of a text that expect another output.
+// Adds the actual output, at the lines of a text that expect another.
 #[tactic(auto, unfolding(crate::specs::Published::related_text))]
 fn add_related(
     out: &mut Vec<u8>,
@@ -118,29 +118,28 @@ fn add_related(
     add_shown(out, uri, came.shown.as_slice())
 }
 
-// What came, where that is another output, to whoever takes it.
+// Adds the actual output of a mismatch, if the client takes it.
 fn add_if(
     out: &mut Vec<u8>,
-    encoding: Encoding,
-    takes_related: bool,
+    client: Client,
     uri: &[u8],
     text: &[u8],
     table: &LineTable,
     diagnostic: &Diagnostic,
 ) -> Result<(), AllocError>
-    requires { IsTable encoding text.now table.now }
-    ensures { OnOk result (out.new.items ≡ out.old.items ++ related_if takes_related encoding uri.now text.now diagnostic.now.came) }
+    requires { IsTable client.encoding text.now table.now }
+    ensures { OnOk result (out.new.items ≡ out.old.items ++ related_if client.takes_related client.encoding uri.now text.now diagnostic.now.came) }
 {
-    if !takes_related {
+    if !client.takes_related {
         return Ok(());
     }
     match &diagnostic.came {
-        Some(came) => add_related(out, encoding, uri, text, table, came),
+        Some(came) => add_related(out, client.encoding, uri, text, table, came),
         None => Ok(()),
     }
 }
 
-// A diagnostic of a text, whose lines are in the table.
+// Adds a diagnostic of a text, whose lines are in the table.
 #[tactic(auto, unfolding(crate::specs::Published::diagnostic_text))]
 fn add_diagnostic(
     out: &mut Vec<u8>,
@@ -157,20 +156,11 @@ fn add_diagnostic(
     let end = table.start_of(diagnostic.line);
     add_range_member(out, start, end)?;
     add_message(out, client.softens_later, diagnostic)?;
-    let encoding = client.encoding;
-    add_if(
-        out,
-        encoding,
-        client.takes_related,
-        uri,
-        text,
-        table,
-        diagnostic,
-    )?;
+    add_if(out, client, uri, text, table, diagnostic)?;
     out.extend_from_slice(b"}")
 }
 
-// Some, of which the first is after nothing, and the others after commas.
+// Adds the diagnostics, separated by commas, and the end of the list.
 fn add_all(
     out: &mut Vec<u8>,
     client: Client,
@@ -192,7 +182,7 @@ fn add_all(
     Ok(())
 }
 
-/// Adds the diagnostics of a text, as a list. What came is told of each that is a mismatch by the URI of its document, if that is taken.
+/// Adds the diagnostics of a text, as a list. Each mismatch has its actual output, if the client takes it.
 #[tactic(auto, unfolding(crate::specs::Texts::list_text), using(crate::proofs::QuietLaws::none_listed))]
 pub(crate) fn add_list(
     alloc: Global,

@@ -107,7 +107,7 @@ fn all_lines(
     Ok(all)
 }
 
-// Whether it is the bytes that are refused; an error, where memory was.
+// Says that the bytes were refused, or fails if memory was.
 fn refused(fault: ScriptFault) -> Result<(), AllocError>
     ensures { OnOk result (fault ≢ OutOfMemory) }
 {
@@ -117,7 +117,7 @@ fn refused(fault: ScriptFault) -> Result<(), AllocError>
     }
 }
 
-/// The script that the bytes are, where they are one.
+/// Reads the bytes as a script, if they are one.
 pub(crate) fn script_of(alloc: Global, bytes: &[u8]) -> Result<Option<Script>, AllocError>
     ensures value { IfOk result (λ found. found ≡ script_of bytes.now) }
     ensures reads { IfOk result (λ found. IfSome found (λ s. Reads bytes.now s)) }
@@ -131,7 +131,7 @@ pub(crate) fn script_of(alloc: Global, bytes: &[u8]) -> Result<Option<Script>, A
     }
 }
 
-/// The lines of each block of a text, where it is a script; else none.
+/// Finds the lines of each block of a text; none if it isn't a script.
 #[tactic(auto, using(crate::proofs::BlockLaws::blocks_read, crate::proofs::BlockLaws::blocks_none))]
 pub(crate) fn blocks_of(alloc: Global, bytes: &[u8]) -> Result<Vec<BlockLines>, AllocError>
     ensures { IfOk result (λ all. all.items ≡ blocks_of bytes.now) }

@@ -1,4 +1,4 @@
-//! Laws of what an editor is offered. Their calls do nothing.
+//! Theorems about what an editor is offered. The functions do nothing: their contracts are the theorems.
 
 ghost use Rattle.rb_editor.specs.OfferLaws.{BlocksStandApart, ChangesAreOfTheNodes, FormattingMakes, HeadsAreKnown, IdsAreOfTheNodes, KeysAreOfTheTable, LinesStayInOrder, NamesAreOfTheTable, ValuesAreOfTheOption};
 

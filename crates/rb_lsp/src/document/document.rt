@@ -61,6 +61,7 @@ impl Document {
     /// `TooLong` exactly if the text has more than [`MAX_TEXT`] bytes.
     pub fn new(alloc: Global, text: &[u8]) -> Result<Document, TextFault>
         ensures ok { IfOk result (λ document. document ≡ text.now) }
+        ensures short { IfOk result (λ document. length document ≤ MAX_TEXT) }
         ensures long { IfErr result (λ fault. fault ≡ TextFault.TooLong → MAX_TEXT < length text.now) }
     {
         if text.len() > MAX_TEXT {
@@ -90,6 +91,7 @@ impl Document {
         new: &[u8],
     ) -> Result<(), TextFault>
         ensures ok { OnOk result (self.new ≡ changed_by encoding range new.now self.old) }
+        ensures short { OnOk result (length self.new ≤ MAX_TEXT) }
         ensures err { OnErr result (self.new ≡ self.old) }
         ensures long { IfErr result (λ fault. fault ≡ TextFault.TooLong → MAX_TEXT < length (changed_by encoding range new.now self.old)) }
     {

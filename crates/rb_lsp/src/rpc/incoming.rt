@@ -59,7 +59,8 @@ fn is_response(message: &Value) -> bool
     message.get("result").is_some() || message.get("error").is_some()
 }
 
-fn is_id(id: &Value) -> bool
+/// Whether a value can be the id of a request.
+pub(crate) fn is_id(id: &Value) -> bool
     ensures { result ≡ is_id (view id.now) }
 {
     id.is_string() || id.is_u64() || id.is_i64()

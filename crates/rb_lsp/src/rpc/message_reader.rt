@@ -1,14 +1,16 @@
 //! The messages of a source.
 
-ghost use Rattle.std.specs.Prelude.{◌≡◌, ◌<◌, ◌≤◌, ℕ, List, Option, IsTrue, false, IfOk, OnOk, length, drop, slice_range};
+ghost use Rattle.std.specs.Prelude.{◌≡◌, ◌<◌, ◌≤◌, ◌↔◌, ℕ, List, Option, IsTrue, false, IfOk, OnOk, length, drop, slice_range};
 ghost use Rattle.std.specs.Io.KnownBytes.{Keeps};
 ghost use Rattle.rb_lsp.specs.Cancels.{CancelWaits};
-ghost use Rattle.rb_lsp.specs.Reading.{GivesNext, body_of, end_of, left_of};
+ghost use Rattle.rb_lsp.specs.Reading.{GivesNext, body_of, end_of, left_of, waiting};
+ghost use Rattle.rb_lsp.specs.declared.rpc.limits.TheConstants.{MAX_WAITING};
 
 use crate::rpc::cancel::cancels;
+use crate::rpc::fault::ServeFault;
 use crate::rpc::head::{Framed, message_at};
 use crate::rpc::limits::MAX_WAITING;
-use rb_text::{InputFault, Source};
+use rb_text::Source;
 use std::alloc::{AllocError, Global};
 
 // The most bytes that one call reads.
@@ -25,37 +27,6 @@ pub enum NextMessage {
     CutOff,
     /// Bytes that no message begins with.
     Bad,
-}
-
-/// Why reading failed.
-#[derive(Clone, Copy, Debug, PartialEq, Eq)]
-pub enum MessageFault {
-    /// The source failed, or all calls of it were made.
-    Input,
-    /// Memory was refused.
-    OutOfMemory,
-}
-
-impl From<InputFault> for MessageFault {
-    ghost use Rattle.std.specs.Prelude.{◌≡◌};
-    ghost use Rattle.rb_lsp.specs.declared.rpc.message_reader.MessageFault.TheVariants.{Input};
-
-    ghost from_gives = { λ _ e. e ≡ Input };
-
-    fn from(_e: InputFault) -> MessageFault {
-        MessageFault::Input
-    }
-}
-
-impl From<AllocError> for MessageFault {
-    ghost use Rattle.std.specs.Prelude.{◌≡◌};
-    ghost use Rattle.rb_lsp.specs.declared.rpc.message_reader.MessageFault.TheVariants.{OutOfMemory};
-
-    ghost from_gives = { λ _ e. e ≡ OutOfMemory };
-
-    fn from(_e: AllocError) -> MessageFault {
-        MessageFault::OutOfMemory
-    }
 }
 
 /// Reads the messages of a source, one at a time.
@@ -85,7 +56,7 @@ impl MessageReader {
     /// # Errors
     ///
     /// At the first error of the source, after the last call that may be made, and if memory is refused. Bytes may be lost then.
-    pub fn next<S: Source>(&mut self, source: &mut S) -> Result<NextMessage, MessageFault>
+    pub fn next<S: Source>(&mut self, source: &mut S) -> Result<NextMessage, ServeFault>
         ensures { IfOk result (λ next. GivesNext next (left_of self.old (S.left source.old)) (left_of self.new (S.left source.new)) (body_of self.new)) }
     {
         'reading: loop {
@@ -111,24 +82,30 @@ impl MessageReader {
         self.body.as_slice()
     }
 
-    /// Whether the cancellation waits of the request whose id has this text: it has been read, as one of the next [`MAX_WAITING`] messages.
-    pub fn has_cancel(&self, alloc: Global, id: &[u8]) -> bool
-        ensures { IsTrue result → CancelWaits id.now self.now.held.items }
+    /// Whether one of the next [`MAX_WAITING`] messages that were read cancels the request whose id has this text.
+    ///
+    /// # Errors
+    ///
+    /// If memory was refused.
+    pub fn has_cancel(&self, alloc: Global, id: &[u8]) -> Result<bool, AllocError>
+        ensures { IfOk result (λ is. IsTrue is ↔ CancelWaits id.now MAX_WAITING (waiting self.now)) }
     {
         let mut at = 0;
-        for _ in 0..MAX_WAITING {
+        for i in 0..MAX_WAITING {
             let left = &self.held[at..];
             match message_at(left) {
                 Framed::Message(start, end) => {
-                    if cancels(alloc, &left[start..end], id) {
-                        return true;
+                    let found = cancels(alloc, &left[start..end], id)?;
+                    if found {
+                        return Ok(true);
                     }
                     at += end;
                 }
-                _ => return false,
+                Framed::Partial => return Ok(false),
+                Framed::Bad => return Ok(false),
             }
         }
-        false
+        Ok(false)
     }
 
     // Takes what is before `end` out of what is held; from `start` on it is the body.
@@ -158,13 +135,13 @@ impl MessageReader {
     }
 
     // Makes one more call, if one is left.
-    fn refill<S: Source>(&mut self, source: &mut S) -> Result<(), MessageFault>
+    fn refill<S: Source>(&mut self, source: &mut S) -> Result<(), ServeFault>
         requires going { self.old.has_ended ≡ false }
         ensures counted { OnOk result (self.new.calls < self.old.calls) }
         ensures left { OnOk result (Keeps (left_of self.old (S.left source.old)) (left_of self.new (S.left source.new))) }
     {
         if self.calls == 0 {
-            return Err(MessageFault::Input);
+            return Err(ServeFault::Io);
         }
         self.calls -= 1;
         let mut chunk = [0u8; CHUNK];

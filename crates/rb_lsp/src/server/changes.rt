@@ -16,11 +16,7 @@ fn opened(alloc: Global, text: &[u8]) -> Result<Option<Document>, AllocError>
     ensures { IfOk result (λ document. document ≡ fitting text.now) }
 {
     match Document::new(alloc, text) {
-        Ok(document) => {
-            // `text` says that the text is short enough.
-            let _len = document.text().len();
-            Ok(Some(document))
-        }
+        Ok(document) => Ok(Some(document)),
         Err(TextFault::TooLong) => Ok(None),
         Err(TextFault::OutOfMemory) => Err(AllocError),
     }
@@ -52,11 +48,7 @@ fn change_once(
         return Ok(false);
     }
     match document.change(encoding, range_at(change, "range"), text.as_bytes()) {
-        Ok(()) => {
-            // `text` says that the text is short enough.
-            let _len = document.text().len();
-            Ok(true)
-        }
+        Ok(()) => Ok(true),
         Err(TextFault::TooLong) => Ok(false),
         Err(TextFault::OutOfMemory) => Err(AllocError),
     }

@@ -24,7 +24,8 @@ pub fn results_stand_in_answers()
     ensures { ResultsStandInAnswers }
 {}
 
-/// If memory is refused while a message is handled, one diagnostic or an error says so, and nothing else changes.
+/// If the server doesn't do all that a message asks, diagnostics or an error say so, and nothing else changes: memory was refused, the request
+/// was cancelled, or a run stopped, which it does only after [`crate::server::MAX_WORK`].
 pub fn refusals_are_told()
     ensures { RefusalsAreTold }
 {}

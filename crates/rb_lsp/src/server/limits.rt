@@ -3,10 +3,13 @@
 ghost use Rattle.std.specs.Prelude.{◌≡◌, ◌^◌};
 ghost use Rattle.rb_lsp.specs.declared.rpc.limits.TheConstants.{MAX_FIELDS, MAX_HEAD, MAX_BODY, MAX_CALLS};
 ghost use Rattle.rb_lsp.specs.declared.document.limits.TheConstants.{MAX_TEXT};
-ghost use Rattle.rb_lsp.specs.declared.server.limits.TheConstants.{MAX_DOCUMENTS};
+ghost use Rattle.rb_lsp.specs.declared.server.limits.TheConstants.{MAX_DOCUMENTS, MAX_WORK};
 
 /// How many documents a server keeps at once. Each text has at most [`crate::document::MAX_TEXT`] bytes.
 pub const MAX_DOCUMENTS: usize = 1_000;
+
+/// The work after which the run of a text may stop, since an editor waits for it. A service says what it counts.
+pub const MAX_WORK: u64 = 4_000_000;
 
 /// The limits that definitions name are these numbers.
 pub fn limits_are()
@@ -16,4 +19,5 @@ pub fn limits_are()
     ensures calls { MAX_CALLS ≡ 2 ^ 40 }
     ensures text { MAX_TEXT ≡ 67108864 }
     ensures documents { MAX_DOCUMENTS ≡ 1000 }
+    ensures work { MAX_WORK ≡ 4000000 }
 {}

@@ -12,7 +12,7 @@ use rb_text::{Piece, add_pieces};
 use serde_json::Value;
 use std::alloc::{AllocError, Global};
 
-/// What goes out, and how far what is asked of a text was done.
+/// What is sent, and how far what is asked of a text was done.
 #[derive(Drop)]
 pub(crate) struct OutgoingText {
     pub(crate) out: Vec<u8>,
@@ -22,7 +22,7 @@ pub(crate) struct OutgoingText {
 impl OutgoingText {
     ghost use Rattle.std.specs.Prelude.{◌≡◌};
 
-    /// This goes out, for which all was done.
+    /// Makes one for which all was done.
     pub(crate) fn whole(out: Vec<u8>) -> OutgoingText
         ensures out { result.out.items ≡ out.items }
         ensures reach { result.reach ≡ Reach.Whole }

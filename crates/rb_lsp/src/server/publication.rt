@@ -28,7 +28,7 @@ fn add_head(out: &mut Vec<u8>, uri: &[u8]) -> Result<(), AllocError>
     )
 }
 
-// The version, and what begins the list.
+// Adds the version, and the beginning of the list.
 #[tactic(auto, unfolding(crate::specs::Notices::middle_text))]
 fn add_middle(out: &mut Vec<u8>, version: Option<u64>) -> Result<(), AllocError>
     ensures { OnOk result (out.new.items ≡ out.old.items ++ middle_text version) }
@@ -46,7 +46,7 @@ fn add_middle(out: &mut Vec<u8>, version: Option<u64>) -> Result<(), AllocError>
     }
 }
 
-// With this list, framed.
+// Makes a notification with this list, framed.
 #[tactic(auto, unfolding(crate::specs::Notices::list_publication))]
 fn with_list(
     alloc: Global,
@@ -74,7 +74,7 @@ pub(crate) struct Published<'a> {
     pub(crate) is_crowded: bool,
 }
 
-// With the diagnostics that the service gives of a text, as far as it was run, as it goes out.
+// Makes a notification with the diagnostics of a text, as far as it was run, framed.
 #[tactic(auto, unfolding(crate::specs::Notices::list_publication))]
 fn diagnosed<V: Service>(
     alloc: Global,
@@ -120,9 +120,9 @@ fn closed_list(is_crowded: bool) -> &'static [u8]
     if is_crowded { crowded_list() } else { b"[]" }
 }
 
-/// What is published of a document: the diagnostics of its text, as far as it was run, or that there was no memory for them. If it isn't open,
-/// none, or that there is no room for it. If memory was refused, what the service kept of the document goes first, so that there is memory to
-/// say so.
+/// Makes what is published for a document: the diagnostics of its text, as far as it was run, or the one that memory was refused. If it isn't open,
+/// none, or the one that there is no room for it. If memory was refused, drops what the service kept of the document first, so that there is memory
+/// to say so.
 pub(crate) fn publication<V: Service>(
     alloc: Global,
     service: &mut V,

@@ -17,7 +17,7 @@ use crate::server::outgoing::{OutgoingText, framed, framed_answer};
 use crate::server::query::asked_of;
 use crate::server::reach::Reach;
 use crate::server::request::{ClientRequest, DocumentRequest};
-use crate::server::service::Service;
+use crate::server::service::{DocumentQuery, Service};
 use serde_json::Value;
 use std::alloc::{AllocError, Global};
 
@@ -100,7 +100,7 @@ fn add_id(alloc: Global, out: &mut Vec<u8>, id: &Value) -> Result<(), AllocError
     out.extend_from_slice(text.as_bytes())
 }
 
-// The answer whose result the service gives, as it goes out, or that the run of the text was stopped.
+// Makes the answer with the service's result, framed, or the error that the run of the text was stopped.
 #[tactic(auto, unfolding(crate::specs::Questions::answer_text))]
 fn answered<V: Service>(
     alloc: Global,
@@ -117,25 +117,24 @@ fn answered<V: Service>(
     body.extend_from_slice(b"{\"id\":")?;
     add_id(alloc, &mut body, request.id)?;
     body.extend_from_slice(b",\"jsonrpc\":\"2.0\",\"result\":")?;
-    let stop = service.add_answer(
-        request.encoding,
-        request.query,
-        request.uri,
+    let asked = DocumentQuery {
+        encoding: request.encoding,
+        query: request.query,
+        uri: request.uri,
         text,
-        kept,
-        &mut body,
-    )?;
-    if let Some(line) = stop {
+    };
+    let stop = service.add_answer(asked, kept, &mut body)?;
+    if let Some(stop) = stop {
         return Ok(OutgoingText {
             out: stopped_for(alloc, request.id)?,
-            reach: Reach::Stopped(line),
+            reach: Reach::Stopped(stop),
         });
     }
     body.extend_from_slice(b"}")?;
     Ok(OutgoingText::whole(framed(alloc, body.as_slice())?))
 }
 
-// The answer to what is asked of a document that is open, or that it was cancelled, or that there was no memory for it.
+// Makes the answer about an open document, or the error that the request was cancelled, or that memory was refused.
 fn of_text<V: Service>(
     alloc: Global,
     service: &mut V,

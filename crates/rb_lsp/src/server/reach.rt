@@ -1,27 +1,29 @@
-//! How far what a message asks of a text was done.
+//! How far a server did what a message asks of a text.
 
 ghost use Rattle.std.specs.Prelude.{◌≡◌};
 ghost use Rattle.rb_lsp.specs.Notices.{reach_of};
 
-/// How far what a message asks of a text was done.
+use crate::server::stop::Stop;
+
+/// How far a server did what a message asks of a text.
 #[derive(Clone, Copy, Debug, PartialEq, Eq)]
 pub enum Reach {
-    /// Whole.
+    /// It did all.
     Whole,
-    /// The run of the text stopped above this line, which counts from 1, since it had done as much work as it may.
-    Stopped(usize),
+    /// The run of the text stopped.
+    Stopped(Stop),
     /// The client had cancelled the request.
     Cancelled,
     /// Memory was refused.
     NoMemory,
 }
 
-/// How far it was done if the run of a text stopped above this line, if any.
-pub(crate) fn reach_of(stop: Option<usize>) -> Reach
+/// How far a server did it if the run of the text stopped here, or didn't.
+pub(crate) fn reach_of(stop: Option<Stop>) -> Reach
     ensures { result ≡ reach_of stop }
 {
     match stop {
         None => Reach::Whole,
-        Some(line) => Reach::Stopped(line),
+        Some(stop) => Reach::Stopped(stop),
     }
 }

@@ -4,12 +4,12 @@ use crate::document::Encoding;
 use crate::server::query::Query;
 use serde_json::Value;
 
-/// What a request says beside its method.
+/// A request without its method.
 #[derive(Drop)]
 pub(crate) struct ClientRequest<'a> {
     pub(crate) id: &'a Value,
     pub(crate) params: Option<&'a Value>,
-    /// Whether its client has cancelled it. What it asks of a document is then not done.
+    /// Whether its client has cancelled it. Then what it asks of a document isn't done.
     pub(crate) is_cancelled: bool,
 }
 

@@ -56,7 +56,7 @@ impl<K: Drop> Server<K> {
     }
 }
 
-/// What goes out for a message, how far what it asks of a text was done, and how the server ends, if it does.
+/// What is sent for a message, how far what it asks of a text was done, and how the server ends, if it does.
 #[derive(Drop)]
 pub(crate) struct ServerReply {
     pub(crate) out: Vec<u8>,
@@ -64,7 +64,7 @@ pub(crate) struct ServerReply {
     pub(crate) over: Option<ExitStatus>,
 }
 
-// Nothing is sent.
+// Sends nothing.
 fn silent(alloc: Global, over: Option<ExitStatus>) -> ServerReply
     ensures out { result.out.items ≡ [] }
     ensures over { result.over ≡ over }
@@ -76,7 +76,7 @@ fn silent(alloc: Global, over: Option<ExitStatus>) -> ServerReply
     }
 }
 
-// Hears a request.
+// Handles a request.
 #[tactic(auto, unfolding(crate::specs::Replies::sent))]
 fn hear_request<V: Service>(
     alloc: Global,
@@ -115,7 +115,7 @@ struct DocumentNotice<'a> {
     params: &'a Value,
 }
 
-// Takes a notification of a document, unless it is a change whose version doesn't come after the document's.
+// Handles a notification about a document, unless it is a change whose version isn't after the document's.
 fn notice<V: Service>(
     alloc: Global,
     service: &mut V,
@@ -210,7 +210,7 @@ fn hear_notification<V: Service>(
     })
 }
 
-/// Hears a message, which is cancelled or isn't: what goes out for it, and where the server stands then.
+/// Handles a message, which is cancelled or isn't.
 #[tactic(auto, unfolding(crate::specs::Replies::sent))]
 pub(crate) fn hear<V: Service>(
     alloc: Global,

@@ -1,4 +1,4 @@
-//! What a server leaves to others: everything that depends on what documents mean.
+//! What documents mean, which a server leaves to others.
 
 ghost use Rattle.std.specs.Prelude.{◌≡◌, ◌≤◌, ◌++◌, None, IfOk, length};
 ghost use Rattle.rb_lsp.specs.declared.document.limits.TheConstants.{MAX_TEXT};
@@ -7,7 +7,17 @@ ghost use Rattle.rb_lsp.specs.Meanings.{Meaning};
 use crate::document::Encoding;
 use crate::server::client::Client;
 use crate::server::query::Query;
+use crate::server::stop::Stop;
 use std::alloc::AllocError;
+
+/// A query about a document: the unit of its columns, the query, its URI, and its text.
+#[derive(Clone, Copy)]
+pub struct DocumentQuery<'u, 't> {
+    pub encoding: Encoding,
+    pub query: Query,
+    pub uri: &'u [u8],
+    pub text: &'t [u8],
+}
 
 /// Knows what documents mean.
 pub trait Service {
@@ -21,8 +31,8 @@ pub trait Service {
     /// Kept for a document before its first text.
     fn nothing(&self) -> Self::Kept;
 
-    /// Adds the diagnostics of the text of a document, and keeps what it found out about the text. If the run of the text stops, since it has
-    /// done as much work as it may, the result is the line, counted from 1, above which it stopped.
+    /// Adds the diagnostics of the text of a document, and keeps what it found out about the text. Returns where the run of the text stopped, if
+    /// it had done [`crate::server::MAX_WORK`].
     fn add_diagnostics(
         &mut self,
         client: Client,
@@ -30,21 +40,17 @@ pub trait Service {
         text: &[u8],
         kept: &mut Self::Kept,
         out: &mut Vec<u8>,
-    ) -> Result<Option<usize>, AllocError>
+    ) -> Result<Option<Stop>, AllocError>
         requires { length text.now ≤ MAX_TEXT }
         ensures { IfOk result (λ stop. out.new.items ≡ out.old.items ++ (meaning).diagnose stop client uri.now text.now) };
 
-    /// Adds the result of a request about the text of a document. If the run of the text stopped, there is no result, but the line above which
-    /// it did.
+    /// Adds the result of a query about a document. If it needs a run of the text and that stopped, returns where instead.
     fn add_answer(
         &mut self,
-        encoding: Encoding,
-        asked: Query,
-        uri: &[u8],
-        text: &[u8],
+        asked: DocumentQuery<'_, '_>,
         kept: &Self::Kept,
         out: &mut Vec<u8>,
-    ) -> Result<Option<usize>, AllocError>
-        requires { length text.now ≤ MAX_TEXT }
-        ensures { IfOk result (λ stop. stop ≡ None → out.new.items ≡ out.old.items ++ (meaning).answer encoding asked uri.now text.now) };
+    ) -> Result<Option<Stop>, AllocError>
+        requires { length asked.text.now ≤ MAX_TEXT }
+        ensures { IfOk result (λ stop. stop ≡ None → out.new.items ≡ out.old.items ++ (meaning).answer asked.entry.encoding asked.entry.query asked.entry.uri.now asked.entry.text.now) };
 }

@@ -1,33 +1,34 @@
 //! A server over a source and a sink.
 
-ghost use Rattle.std.specs.Prelude.{◌≡◌, None, Some, IfOk, OnErr, OnOk};
+ghost use Rattle.std.specs.Prelude.{◌≡◌, ◌↔◌, None, Some, IsTrue, IfOk, OnErr, OnOk};
 ghost use Rattle.std.specs.Io.KnownBytes.{Appends};
 ghost use Rattle.serde_json.specs.View.{view};
 ghost use Rattle.rb_script.specs.Writes.{AppendsFront};
-ghost use Rattle.rb_lsp.specs.Reading.{left_of};
+ghost use Rattle.rb_lsp.specs.Cancels.{IsCancelled};
+ghost use Rattle.rb_lsp.specs.Reading.{left_of, waiting};
 ghost use Rattle.rb_lsp.specs.Said.{said};
 ghost use Rattle.rb_lsp.specs.Talk.{goes};
 ghost use Rattle.rb_lsp.specs.Serves.{BreaksOff, Responds, Served, StartsAnswer, StartsTelling, Tells, TurnBreaks, TurnsOut, turned_of};
 
 use crate::rpc::{
-    Incoming, MAX_CALLS, MessageReader, NextMessage, ReadError, incoming_of, read, text_of,
+    Incoming, MAX_CALLS, MessageReader, NextMessage, ReadError, ServeFault, incoming_of, read,
+    text_of,
 };
-use crate::server::fault::ServeFault;
-use crate::server::method::{Method, method_of};
+use crate::server::method::{is_question, method_of};
 use crate::server::phase::ExitStatus;
 use crate::server::server::{Server, hear, refused};
 use crate::server::service::Service;
 use rb_script::Sink;
 use rb_text::Source;
 use serde_json::Value;
-use std::alloc::Global;
+use std::alloc::{AllocError, Global};
 
 /// Serves an editor until the end of the conversation. Each message is answered in one write before the next is read.
 ///
 /// # Errors
 ///
-/// `Io` at the first error of the source or the sink, an interrupted call too, and where [`MAX_CALLS`] calls of the source were made;
-/// `OutOfMemory` if memory was refused for anything but the work on a text.
+/// `Io` at the first error of the source or the sink, an interrupted call too, and after [`MAX_CALLS`] calls of the source; `OutOfMemory` if memory
+/// was refused for anything but the work on a text.
 pub fn serve<V: Service, S: Source, W: Sink>(
     alloc: Global,
     service: &mut V,
@@ -71,7 +72,7 @@ fn turn<V: Service, S: Source, W: Sink>(
     }
 }
 
-// Does what a message has to have, which the reader gave.
+// Answers a body that the reader gave.
 fn respond<V: Service, W: Sink>(
     alloc: Global,
     service: &mut V,
@@ -90,21 +91,21 @@ fn respond<V: Service, W: Sink>(
     }
 }
 
-// Whether the message asks something of a document, and its cancellation waits after it.
-fn is_cancelled(alloc: Global, reader: &MessageReader, message: &Value) -> bool {
+// Says whether a message asks something of a document and is cancelled by one of those that wait after it.
+fn is_cancelled(alloc: Global, reader: &MessageReader, message: &Value) -> Result<bool, AllocError>
+    ensures { IfOk result (λ is. IsTrue is ↔ IsCancelled (said (view message.now)) (waiting reader.now)) }
+{
     let Incoming::Request(id, method, _) = incoming_of(message) else {
-        return false;
+        return Ok(false);
     };
-    if !matches!(method_of(method), Method::Asks(_)) {
-        return false;
+    if !is_question(method_of(method)) {
+        return Ok(false);
     }
-    match text_of(alloc, id) {
-        Ok(text) => reader.has_cancel(alloc, text.as_bytes()),
-        Err(_) => false,
-    }
+    let text = text_of(alloc, id)?;
+    reader.has_cancel(alloc, text.as_bytes())
 }
 
-// Does what JSON has to have.
+// Answers a message.
 fn respond_to<V: Service, W: Sink>(
     alloc: Global,
     service: &mut V,
@@ -117,13 +118,14 @@ fn respond_to<V: Service, W: Sink>(
     ensures tells { OnOk result (Tells V.meaning server.old (Some (said (view message.now))) (W.held sink.old) (W.held sink.new)) }
     ensures failed { OnErr result (StartsTelling V.meaning server.old (Some (said (view message.now))) (W.held sink.old) (W.held sink.new)) }
 {
-    let is_cancelled = is_cancelled(alloc, reader, message);
+    // If memory is refused for that, the request is done.
+    let is_cancelled = is_cancelled(alloc, reader, message).unwrap_or(false);
     let heard = hear(alloc, service, server, message, is_cancelled)?;
     sink.put(heard.out.as_slice())?;
     Ok(heard.over)
 }
 
-// Answers what isn't JSON.
+// Answers a body that isn't JSON.
 fn refuse<V: Service, W: Sink>(
     alloc: Global,
     server: &mut Server<V::Kept>,

@@ -1,4 +1,4 @@
-//! Changes whose version doesn't come after that of their document. Which text such a change is of, nobody knows, so it is refused.
+//! Changes whose version isn't after their document's. Such a change is refused, since it isn't known which text it changes.
 
 ghost use Rattle.std.specs.Prelude.{◌≡◌, IfOk};
 ghost use Rattle.rb_lsp.specs.Messages.{frame};
@@ -9,7 +9,7 @@ use crate::server::outgoing::framed;
 use rb_text::{Piece, add_pieces};
 use std::alloc::{AllocError, Global};
 
-/// The known version and the one that a change says, if that doesn't come after the known one.
+/// Gives the known version and a change's, if the change's isn't after the known one.
 pub(crate) fn stale_by(method: Method, known: Option<u64>, told: Option<u64>) -> Option<(u64, u64)>
     ensures { result ≡ stale_by method known told }
 {

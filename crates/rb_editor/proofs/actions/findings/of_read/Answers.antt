@@ -3,5 +3,5 @@ use Rattle.rb_editor.proofs.actions.findings.of_read.Goals as goal
 
 pub returns : goal.returns
 returns g c =
-    of_run _ _ c.args.bytes.now _ c.session.result.now.script c.layout-layout.result.now c.as_slice-heads.result.now c.as_slice.result.now c.in_ok-list.list.items c.add_slips.new.list.items
+    of_run _ _ c.args.document.text.now _ c.session.result.now.script c.layout-layout.result.now c.as_slice-heads.result.now c.as_slice.result.now c.in_ok-list.list.items c.add_slips.new.list.items
     c.layout-layout.ensures c.in_ok-run.ensures.text c.session.ensures c.as_slice-heads.ensures.value c.as_slice.ensures.value c.in_ok-list.ensures c.in_ok-add_slips.ensures
