@@ -1,6 +1,5 @@
 // What happens in words, for readers who can't see the picture: the sentences that `raftbench chart` gives its picture, of some directives.
 
-import { shown } from "./text.js";
 import { MARKS, messageWords, NOTES } from "./words.js";
 
 /** @typedef {import("./types.js").Step} Step */
@@ -55,7 +54,7 @@ function toldOf({ step, marks }) {
     return [...sentences(event), ...of.map(({ node, text }) => `node ${node}: ${text}`)];
   });
   const others = marks.filter(({ of }) => !step.events.includes(of[of.length - 1]));
-  return [shown(step.head[0]), ...told, ...others.map(({ node, text }) => `node ${node}: ${text}`)];
+  return [step.head[0], ...told, ...others.map(({ node, text }) => `node ${node}: ${text}`)];
 }
 
 /**

@@ -27,13 +27,17 @@ const GREATEST_RIGHT = 260;
 const LEAST_GAP = 128;
 const GOOD_GAP = 190;
 const GREATEST_GAP = 260;
-// The same on a narrow screen.
+// The same where the picture has less room than this.
 const NARROW = 560;
 const NARROW_LEFT = 94;
 const NARROW_RIGHT = 80;
 const NARROW_GAP = 108;
+const MORE_GAP = 24;
 // How many lines a mark or a note may take.
 const MOST_LINES = 4;
+
+/** @param {number} size */
+const fours = (size) => 4 * Math.floor(size / 4);
 
 /**
  * The events of a step as marks show them: of a ready, which entries it saves, whether others gave way to them, and its commit.
@@ -86,6 +90,7 @@ export class Layout {
     this.version = {};
     this.left = this.gap = this.right = this.width = this.height = 0;
     this.headLeft = HEAD_LEFT;
+    this.isNarrow = false;
     /** @type {number[]} */
     this.tops = [];
     /** @type {PlacedRow[]} */
@@ -111,12 +116,24 @@ export class Layout {
    */
   spread(room) {
     const gaps = Math.max(this.model.nodes.length - 1, 0);
-    const { left, gap, right } = room < NARROW ? { left: NARROW_LEFT, gap: NARROW_GAP, right: NARROW_RIGHT } : this.wide(room, gaps);
+    this.isNarrow = room < NARROW;
+    const { left, gap, right } = this.isNarrow ? this.narrow(room, gaps) : this.wide(room, gaps);
     this.width = Math.max(room, left + gap * gaps + right);
     if (left !== this.left || gap !== this.gap || right !== this.right) {
-      Object.assign(this, { left, gap, right, headLeft: room < NARROW ? NARROW_HEAD_LEFT : HEAD_LEFT });
+      Object.assign(this, { left, gap, right, headLeft: this.isNarrow ? NARROW_HEAD_LEFT : HEAD_LEFT });
       this.placeAll();
     }
+  }
+
+  /**
+   * What is left of the room goes between the columns first, so that fewer labels are cut, and then before them.
+   * @param {number} room
+   * @param {number} gaps
+   */
+  narrow(room, gaps) {
+    const spare = Math.max(0, room - NARROW_LEFT - NARROW_GAP * gaps - NARROW_RIGHT);
+    const more = fours(Math.min(spare / Math.max(gaps, 1), MORE_GAP));
+    return { left: NARROW_LEFT + fours(Math.min(spare - more * gaps, MORE_LEFT)), gap: NARROW_GAP + more, right: NARROW_RIGHT };
   }
 
   /**
@@ -124,8 +141,6 @@ export class Layout {
    * @param {number} gaps
    */
   wide(room, gaps) {
-    /** @param {number} size */
-    const fours = (size) => 4 * Math.floor(size / 4);
     const free = room - LEAST_LEFT - LEAST_RIGHT;
     const good = Math.min(Math.max(free / Math.max(gaps, 1), LEAST_GAP), GOOD_GAP);
     const left = LEAST_LEFT + fours(Math.min(Math.max(free - good * gaps, 0) / 2, MORE_LEFT));

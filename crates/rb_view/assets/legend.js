@@ -49,6 +49,6 @@ export function makeLegend() {
   });
   const logs = LOG_SIGNS.map(([look, text]) => element("li", "", element("span", `sample ${look}`, "1"), text));
   byId("legend-items").append(...arrows, lost, waiting, ...roles);
-  byId("log-signs").append(...logs, element("li", "", element("del", "", "1"), "gave way"), element("li", "", "▲ match, △ next: what the leader knows"));
+  byId("log-signs").append(...logs, element("li", "", element("del", "", "1"), "gave way"), element("li", "", "◆ change"), element("li", "", "▲ match, △ next: what the leader knows"));
   /** @type {HTMLDetailsElement} */ (byId("legend")).open = window.matchMedia("(min-width: 1100px) and (min-height: 700px)").matches;
 }

@@ -2,7 +2,7 @@
 
 import { byId, element, withAttributes } from "./dom.js";
 import { instantAt, momentBefore, numbersOf } from "./position.js";
-import { beginning, counted, shown } from "./text.js";
+import { beginning, counted, shownBody } from "./text.js";
 
 /** @typedef {import("./types.js").Position} Position */
 /** @typedef {import("./types.js").Entry} Entry */
@@ -17,6 +17,15 @@ const MORE_COLUMNS = 200;
 const COLUMNS_WITH_BODIES = 10;
 const BODY_LETTERS = 8;
 const TERM_COLOURS = 8;
+
+/**
+ * A body in few letters: of a change of members what it changes.
+ * @param {string} body
+ */
+function shortBody(body) {
+  const short = body.replace(/^change \w+ ?/, "◆ ").trimEnd();
+  return short.length > BODY_LETTERS ? beginning(short, BODY_LETTERS - 1) + "…" : short;
+}
 
 export class Logs {
   /** @param {import("./rows.js").Model} model */
@@ -149,7 +158,7 @@ export class Logs {
     const looks = [index <= commit ? "committed" : "", index <= applied ? "applied" : "", index > durable ? "unsaved" : ""].filter(Boolean);
     const isNew = node.isThereAt(before) && (index > this.lastBefore(node, before) || gone !== null);
     const said = [...(index > durable ? [] : ["durable"]), ...looks].join(", ");
-    const body = shown(entry.body);
+    const body = shownBody(entry.body);
     const whole = `${entry.term}/${index} ${body}: ${said}${gone ? `; ${this.goneText(gone, index, node.id)}` : ""}`;
     return this.box([...looks, edge, isNew ? "new" : "", gone ? "gone" : ""], entry.term, body, whole, struck);
   }
@@ -177,7 +186,7 @@ export class Logs {
    * @param {number} id
    */
   goneText(gone, index, id) {
-    return `${gone.term}/${index} ${shown(gone.body)} of node ${id} gave way`;
+    return `${gone.term}/${index} ${shownBody(gone.body)} of node ${id} gave way`;
   }
 
   /** @param {Entry} gone */
@@ -193,7 +202,7 @@ export class Logs {
    * @param {Element[]} struck
    */
   box(looks, term, body, whole, struck) {
-    const short = body.length > BODY_LETTERS ? beginning(body, BODY_LETTERS - 1) + "…" : body;
+    const short = shortBody(body);
     const sign = withAttributes(element("span", "sign", element("b", "", String(term)), ...(short ? [element("i", "", short)] : [])), { "aria-hidden": "true" });
     return element("td", [`t${term % TERM_COLOURS}`, ...looks].filter(Boolean).join(" "), ...struck, sign, element("span", "whole", whole));
   }

@@ -71,7 +71,7 @@ class Page {
       { keys: ["m"], button: "next-mismatch", says: "the next mismatch", does: () => this.takePlace(this.nextMismatch()) },
       { keys: ["M"], says: "the mismatch before", does: () => this.takePlace(this.lastMismatch()) },
       { keys: ["o"], says: "unfold the equal lines of a mismatch, or fold them", does: () => this.script.toggleFolds() },
-      { keys: ["/"], says: "find a text", does: () => byId("find").focus() },
+      { keys: ["/"], says: "find a text", does: () => this.search.ask() },
       { keys: ["n"], button: "next-found", says: "the next place that was found, or that the filters leave", does: () => this.find(1) },
       { keys: ["N"], button: "last-found", says: "the place before", does: () => this.find(-1) },
       { keys: ["?"], button: "show-help", says: "this list", does: () => this.keys.showHelp() },

@@ -221,7 +221,7 @@ export class Painter {
     const x = this.layout.x(message.from) + (isLeft ? -BESIDE : BESIDE);
     const { label } = this.layout.drawnOf(message);
     const text = messageText(message);
-    const look = joined("label", KINDS[message.type], this.lookOf(message), this.scene.isFound(text) && "found");
+    const look = joined("label", KINDS[message.type], this.lookOf(message), [text, label].some(this.scene.isFound) && "found");
     const drawn = this.words(all, look, x, (message.start ?? 0) - 5, isLeft, [label], message.sent.place, `${text}, ${fateText(message)}`);
     this.labels.set(drawn, message);
   }

@@ -24,6 +24,7 @@ export class Picture {
     this.layout = new Layout(model);
     this.model = model;
     this.search = search;
+    search.marksOf = ({ place }) => this.layout.rows[place - 1].marks;
     /** @type {Position} */
     this.chosen = { place: 1, event: 0 };
     this.top = this.placed = this.viewWidth = this.viewHeight = 0;
@@ -42,12 +43,13 @@ export class Picture {
     this.drawing.addEventListener("click", (event) => choose(this.layout.rowAt(this.top + event.offsetY) + 1));
     this.drawing.addEventListener("pointerover", ({ target }) => this.trace(target instanceof Element ? target.closest("text") : null));
     new ResizeObserver(() => this.resized()).observe(this.scroll);
+    this.gutter = element("span", "gutter", "line, directive");
     this.columns = this.makeHeads();
     this.resized();
   }
 
   makeHeads() {
-    this.heads.append(element("span", "gutter", "line, directive"));
+    this.heads.append(this.gutter);
     return this.model.nodes.map((node) => {
       const role = element("span", "");
       const column = element("div", "column", element("b", "", `node ${node.id}`), role);
@@ -62,6 +64,7 @@ export class Picture {
     this.viewWidth = this.scroll.clientWidth;
     this.viewHeight = this.scroll.clientHeight;
     this.layout.spread(this.viewWidth);
+    this.gutter.hidden = this.layout.isNarrow;
     const extent = byId("extent");
     extent.style.width = `${this.layout.width}px`;
     extent.style.height = `${Math.min(this.layout.height, TALLEST)}px`;

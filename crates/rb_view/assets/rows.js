@@ -3,7 +3,7 @@
 import { History } from "./history.js";
 import { Mail, Spans } from "./mail.js";
 import { Source } from "./source.js";
-import { shown } from "./text.js";
+import { shown, spellFor } from "./text.js";
 
 /** @typedef {import("./types.js").Row} Row */
 /** @typedef {import("./types.js").Step} Step */
@@ -227,9 +227,11 @@ const READERS = {
       throw new Error("the rows are of another format");
     }
     model.format = format;
-    model.name = shown(name);
+    model.name = name;
   },
   text({ model }, [bytes]) {
+    spellFor(bytes, model.name);
+    model.name = shown(model.name);
     model.source = new Source(bytes);
   },
   step(reader, [line]) {

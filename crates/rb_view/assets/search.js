@@ -3,12 +3,14 @@
 import { byId, element, withAttributes } from "./dom.js";
 import { eventsOfLines } from "./lines.js";
 import { placesOf } from "./position.js";
-import { eventText, MARKS, subjectOf } from "./words.js";
+import { paragraphs } from "./wrap.js";
+import { eventText, labelsOf, MARKS, subjectOf } from "./words.js";
 
 /** @typedef {import("./types.js").Position} Position */
 /** @typedef {import("./types.js").Step} Step */
 /** @typedef {import("./types.js").Event} Event */
 /** @typedef {{ start: number, end: number, look: string }} Range */
+/** @typedef {{ text: string, of: Event[] }} Mark a text of the picture, and the events that it is of */
 
 /** What readers look for, and which events they want to see. */
 export class Search {
@@ -20,6 +22,8 @@ export class Search {
     this.model = model;
     this.needle = "";
     this.filters = { node: 0, type: "", term: 0 };
+    /** @type {(step: Step) => Mark[]} */
+    this.marksOf = () => [];
     this.field = /** @type {HTMLInputElement} */ (byId("find"));
     this.told = byId("found");
     this.field.addEventListener("input", () => {
@@ -46,6 +50,12 @@ export class Search {
       take(field.value);
       refresh();
     });
+  }
+
+  /** Has the reader write a text, in place of the last one. */
+  ask() {
+    this.field.focus();
+    this.field.select();
   }
 
   isFiltered() {
@@ -101,8 +111,12 @@ export class Search {
     }
     const textsOf = new Map(kept.map(({ at }) => [at, textsOfEvent(step.events[at])]));
     /** @type {string[]} */
-    const others = [...step.lead, ...step.head, ...step.input, ...step.warnings];
+    const others = [...paragraphs(step.lead), ...step.head, ...step.input, ...step.warnings];
+    others.push(...(step.place === this.model.steps.length ? paragraphs(this.model.tail) : []));
     others.push(...(step.pieces ?? []).flatMap((piece) => (piece.kind === "expected" ? [piece.text] : [])));
+    for (const { text, of } of this.marksOf(step)) {
+      (textsOf.get(step.events.indexOf(of[0])) ?? others).push(text);
+    }
     step.output.forEach((line, at) => (textsOf.get(lines.get(at)) ?? others).push(line));
     const found = kept.filter(({ at }) => textsOf.get(at)?.some(isFound)).map(({ number }) => number);
     return !this.isFiltered() && others.some(isFound) ? [0, ...found] : found;
@@ -139,5 +153,6 @@ export class Search {
 /** @param {Event} event */
 function textsOfEvent(event) {
   const mark = MARKS[event.name] ? [MARKS[event.name](event.cells)[0]] : [];
-  return [eventText(event), ...mark, ...(event.reasons ?? []), ...(event.hints ?? [])];
+  const labels = event.message ? labelsOf(event.message) : [];
+  return [eventText(event), ...mark, ...labels, ...(event.reasons ?? []), ...(event.hints ?? [])];
 }

@@ -3,7 +3,7 @@
 
 import { byId, element, withAttributes } from "./dom.js";
 import { instantAt, isChanged, momentBefore, numbersOf, placesOf } from "./position.js";
-import { counted, shown } from "./text.js";
+import { counted, shownBody } from "./text.js";
 import { eventText, messageText } from "./words.js";
 
 /** @typedef {import("./types.js").Position} Position */
@@ -158,14 +158,14 @@ export class State {
     const { role, term, vote, lead, commit, applied, durable, length, end } = numbersOf(node, instant);
     const changed = isChanged(node, before, instant.moment) ? [element("span", "changed", "● changed")] : [];
     const facts = `term ${term}, ${vote ? `voted for ${vote}` : "no vote"}, ${lead ? `leader ${lead}` : "no leader"}`;
-    const content = length ? `, content ${counted(length, "byte", "bytes")}: ${length > end.length ? "…" : ""}${shown(end)}` : "";
+    const content = length ? `, content ${counted(length, "byte", "bytes")}: ${length > end.length ? "…" : ""}${shownBody(end)}` : "";
     const card = element(
       "article",
       `node ${role}`,
       element("header", "", element("b", "", `node ${node.id}`), element("span", "role", role), ...changed),
       element("div", "", facts),
       element("div", "facts", `commit ${commit}, applied ${applied}, durable ${durable}${content}`),
-      element("div", "facts", shown(node.config.at(instant.moment) ?? "")),
+      element("div", "facts", shownBody(node.config.at(instant.moment) ?? "")),
       ...this.views(node, instant.moment),
     );
     return withAttributes(card, { "aria-label": `node ${node.id}, ${role}, term ${term}` });

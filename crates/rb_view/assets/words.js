@@ -1,6 +1,6 @@
 // What is written at arrows and bands, in few words; and in full.
 
-import { counted, shown } from "./text.js";
+import { counted, shownBody } from "./text.js";
 
 /** @typedef {import("./types.js").Message} Message */
 /** @typedef {import("./types.js").Event} Event */
@@ -33,7 +33,7 @@ const SAID = {
   MsgHeartbeat: ([commit]) => `commit ${commit}`,
   MsgHeartbeatResp: () => "",
   MsgSnap: ([term, index]) => `${term}/${index}`,
-  MsgProp: ([body]) => shown(body),
+  MsgProp: ([body]) => shownBody(body),
   MsgTransferLeader: ([target]) => `to ${target}`,
   MsgTimeoutNow: () => "",
 };
@@ -120,7 +120,7 @@ export const MARKS = {
   "nothing-ready": () => ["nothing ready", "quiet"],
   committed: ([, index]) => [`✓ commit ${index}`, "moved"],
   saved: ([, first, last]) => [`saves ${first === last ? first : `${first}–${last}`}`, "quiet"],
-  appended: ([, index, body]) => [`+ ${index} ${shown(body)}`, "quiet"],
+  appended: ([, index, body]) => [`+ ${index} ${shownBody(body)}`, "quiet"],
   replaced: ([, index]) => [`↺ ${index}+ replaced`, "change"],
   compacted: ([, index]) => [`▣ compacted to ${index}`, "installed"],
 };
@@ -130,7 +130,7 @@ export const MARKS = {
 export const NOTES = {
   "no-messages": () => ["no messages", "note"],
   stopped: ([rounds]) => [`stopped after ${rounds} rounds`, "note"],
-  error: ([text]) => [`error: ${shown(text)}`, "bad"],
+  error: ([text]) => [`error: ${shownBody(text)}`, "bad"],
 };
 
 /**
@@ -148,7 +148,7 @@ export function eventText({ name, id, cells, message }) {
   if (NOTES[name]) {
     return NOTES[name](cells)[0];
   }
-  const entry = name === "save" || name === "apply" ? `${cells[1]}/${cells[0]} ${shown(cells[2])}` : "";
+  const entry = name === "save" || name === "apply" ? `${cells[1]}/${cells[0]} ${shownBody(cells[2])}` : "";
   const hard = name === "hard" ? `term ${cells[0]}, vote ${cells[1]}, commit ${cells[2]}` : "";
   const snapshot = name === "snapshot" ? `${cells[0]}/${cells[1]}` : "";
   return `${id} ${name} ${entry}${hard}${snapshot}`.trim();

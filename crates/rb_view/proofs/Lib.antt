@@ -7,10 +7,12 @@ pub mod PathLaws
 pub mod LookLaws
 pub mod EventLaws
 pub mod InertLaws
+pub mod PlainLaws
 pub mod JsonLaws
 pub mod SizeLaws
 pub mod KeptLaws
 pub mod KeepLaws
+pub mod NewRowLaws
 pub mod StretchRowLaws
 pub mod LogLaws
 pub mod ReadBackLaws
@@ -23,7 +25,9 @@ pub mod StepSizeLaws
 pub mod LineByteLaws
 pub mod ReasonLaws
 pub mod RowByteLaws
+pub mod PageRoomLaws
 pub mod WatchLaws
+pub mod StepRoomLaws
 pub mod ValueLaws
 pub mod MailLaws
 pub mod TraceLaws

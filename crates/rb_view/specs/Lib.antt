@@ -26,6 +26,7 @@ pub mod Logs
 pub mod Meant
 pub mod Committed
 pub mod States
+pub mod PageRoom
 pub mod Watching
 pub mod Changes
 pub mod Steps

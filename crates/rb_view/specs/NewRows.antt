@@ -22,5 +22,8 @@ new_texts olds news = flat_map (new_of olds) news
 abbrev pub new_row : List Line → Row → List Row
 new_row olds r = if has_text olds (next_text r) then [] else r ∷ []
 
+abbrev pub new_rows_among : List Line → List Row → List Row
+new_rows_among olds news = flat_map (new_row olds) news
+
 abbrev pub new_rows : List Row → List Row → List Row
-new_rows olds news = flat_map (new_row (texts_of olds)) news
+new_rows olds news = new_rows_among (texts_of olds) news

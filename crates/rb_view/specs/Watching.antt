@@ -10,6 +10,7 @@ use Rattle.rb_texts.specs.Reasons.{reason_of, reason_text}
 use Rattle.rb_view.specs.ItemRows.{item_rows, item_text}
 use Rattle.rb_view.specs.Json.{is_byte}
 use Rattle.rb_view.specs.Kept.{texts_of}
+use Rattle.rb_view.specs.PageRoom.{held_with}
 use Rattle.rb_view.specs.Rows.{Row, row, text}
 use Rattle.rb_machine.specs.Observations.{Observation, Shown, Settled}
 use Rattle.rb_view.specs.States.{node_rows, node_since}
@@ -47,18 +48,19 @@ shown_texts item = item_text item ∷ texts_of (reason_rows (reason_of item))
 -- ---- by an observer
 
 pub record Watching : Type 0 where
-  pub texts : List Line
+  -- what is written, as long as a page has room for it
+  pub texts : Option (List Line)
   -- the nodes as they were written last
   pub nodes : List PlainNode
   -- what is shown of each content is bytes
   pub of_bytes : Bool
 
 abbrev pub with_item : Watching → PlainItem → Watching
-with_item w item = record w { texts = w.texts ++ shown_texts item }
+with_item w item = record w { texts = held_with w.texts (shown_texts item) }
 
 abbrev pub with_node : Watching → ℕ → PlainNode → Watching
 with_node w id n = record {
-  texts = w.texts ++ texts_of (compared_rows w.nodes id n);
+  texts = held_with w.texts (texts_of (compared_rows w.nodes id n));
   nodes = rewritten w.nodes id n;
   of_bytes = w.of_bytes && list_all is_byte (content_end n.content);
 }

@@ -11,6 +11,7 @@ mod log;
 mod meant;
 mod node;
 mod page;
+mod room;
 mod rows;
 mod script;
 mod shown;
@@ -24,5 +25,6 @@ pub use laws::{
     what_is_not_written_stood, what_stands_still_has_no_row,
 };
 pub use page::{FORMAT, Frame, put_page, put_steps};
+pub use room::MAX_PAGE;
 pub use shown::{DirectiveRun, StepMachine};
 pub use steps::steps_of;

@@ -117,36 +117,47 @@ impl Arrow {
     }
 }
 
-fn put_arrow<S: Sink>(
-    sink: &mut S,
+// The classes of an arrow's element.
+#[derive(Clone, Copy)]
+struct ArrowLook {
     kind: MessageClass,
     state: DeliveryState,
+}
+
+// A position in the picture.
+#[derive(Clone, Copy)]
+struct Point {
     x: u64,
     y: u64,
+}
+
+fn put_arrow<S: Sink>(
+    sink: &mut S,
+    look: ArrowLook,
+    from: Point,
     bend: u64,
-    to_x: u64,
-    to_y: u64,
+    to: Point,
 ) -> Result<(), WriteFault>
-    ensures wrote { Writes result (S.held sink.old) (S.held sink.new) (arrow_text kind state x y bend to_x to_y) }
+    ensures wrote { Writes result (S.held sink.old) (S.held sink.new) (arrow_text look.kind look.state from.x from.y bend to.x to.y) }
     ensures all { S.takes_all sink.old → IsOk result × S.takes_all sink.new }
 {
     put_pieces(
         sink,
         &[
             SvgPiece::Bytes(b"<path class=\"arrow "),
-            SvgPiece::Bytes(kind.name()),
+            SvgPiece::Bytes(look.kind.name()),
             SvgPiece::Bytes(b" "),
-            SvgPiece::Bytes(state.name()),
+            SvgPiece::Bytes(look.state.name()),
             SvgPiece::Bytes(b"\" d=\"M"),
-            SvgPiece::Number(x),
+            SvgPiece::Number(from.x),
             SvgPiece::Bytes(b" "),
-            SvgPiece::Number(y),
+            SvgPiece::Number(from.y),
             SvgPiece::Bytes(b"H"),
             SvgPiece::Number(bend),
             SvgPiece::Bytes(b"L"),
-            SvgPiece::Number(to_x),
+            SvgPiece::Number(to.x),
             SvgPiece::Bytes(b" "),
-            SvgPiece::Number(to_y),
+            SvgPiece::Number(to.y),
             SvgPiece::Bytes(b"\"/>\n"),
         ],
     )
@@ -154,37 +165,35 @@ fn put_arrow<S: Sink>(
 
 fn put_loop<S: Sink>(
     sink: &mut S,
-    kind: MessageClass,
-    state: DeliveryState,
-    x: u64,
-    y: u64,
+    look: ArrowLook,
+    from: Point,
     out: u64,
     to_y: u64,
 ) -> Result<(), WriteFault>
-    ensures wrote { Writes result (S.held sink.old) (S.held sink.new) (loop_text kind state x y out to_y) }
+    ensures wrote { Writes result (S.held sink.old) (S.held sink.new) (loop_text look.kind look.state from.x from.y out to_y) }
     ensures all { S.takes_all sink.old → IsOk result × S.takes_all sink.new }
 {
     put_pieces(
         sink,
         &[
             SvgPiece::Bytes(b"<path class=\"arrow "),
-            SvgPiece::Bytes(kind.name()),
+            SvgPiece::Bytes(look.kind.name()),
             SvgPiece::Bytes(b" "),
-            SvgPiece::Bytes(state.name()),
+            SvgPiece::Bytes(look.state.name()),
             SvgPiece::Bytes(b"\" d=\"M"),
-            SvgPiece::Number(x),
+            SvgPiece::Number(from.x),
             SvgPiece::Bytes(b" "),
-            SvgPiece::Number(y),
+            SvgPiece::Number(from.y),
             SvgPiece::Bytes(b"C"),
             SvgPiece::Number(out),
             SvgPiece::Bytes(b" "),
-            SvgPiece::Number(y),
+            SvgPiece::Number(from.y),
             SvgPiece::Bytes(b" "),
             SvgPiece::Number(out),
             SvgPiece::Bytes(b" "),
             SvgPiece::Number(to_y),
             SvgPiece::Bytes(b" "),
-            SvgPiece::Number(x),
+            SvgPiece::Number(from.x),
             SvgPiece::Bytes(b" "),
             SvgPiece::Number(to_y),
             SvgPiece::Bytes(b"\"/>\n"),
@@ -198,15 +207,23 @@ fn put_path<S: Sink>(sink: &mut S, arrow: Arrow, place: ArrowPlace) -> Result<()
     ensures all { S.takes_all sink.old → IsOk result × S.takes_all sink.new }
 {
     let kind = kind_of(arrow.message_type);
+    let look = ArrowLook {
+        kind,
+        state: arrow.state,
+    };
     if arrow.is_loop() {
         let x = arrow.loop_x();
         let out = arrow.loop_out();
-        return put_loop(sink, kind, arrow.state, x, place.y, out, place.end);
+        return put_loop(sink, look, Point { x, y: place.y }, out, place.end);
     }
     let x = arrow.start();
     let bend = arrow.bend();
     let to_x = arrow.end(place.is_short);
-    put_arrow(sink, kind, arrow.state, x, place.y, bend, to_x, place.end)
+    let end = Point {
+        x: to_x,
+        y: place.end,
+    };
+    put_arrow(sink, look, Point { x, y: place.y }, bend, end)
 }
 
 fn put_mark<S: Sink>(sink: &mut S, x: u64, y: u64) -> Result<(), WriteFault>

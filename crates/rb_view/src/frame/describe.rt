@@ -46,7 +46,7 @@ function toldOf({ step, marks }) {\n\
 \x20   return [...sentences(event), ...of.map(({ node, text }) => `node ${node}: ${text}`)];\n\
 \x20 });\n\
 \x20 const others = marks.filter(({ of }) => !step.events.includes(of[of.length - 1]));\n\
-\x20 return [shown(step.head[0]), ...told, ...others.map(({ node, text }) => `node ${node}: ${text}`)];\n\
+\x20 return [step.head[0], ...told, ...others.map(({ node, text }) => `node ${node}: ${text}`)];\n\
 }\n\
 \n\
 function descriptionOf(model, rows) {\n\

@@ -19,13 +19,16 @@ const GREATEST_RIGHT = 260;\n\
 const LEAST_GAP = 128;\n\
 const GOOD_GAP = 190;\n\
 const GREATEST_GAP = 260;\n\
-// The same on a narrow screen.\n\
+// The same where the picture has less room than this.\n\
 const NARROW = 560;\n\
 const NARROW_LEFT = 94;\n\
 const NARROW_RIGHT = 80;\n\
 const NARROW_GAP = 108;\n\
+const MORE_GAP = 24;\n\
 // How many lines a mark or a note may take.\n\
 const MOST_LINES = 4;\n\
+\n\
+const fours = (size) => 4 * Math.floor(size / 4);\n\
 \n\
 function gathered(step, commits, gone) {\n\
 \x20 const found = [];\n\
@@ -65,6 +68,7 @@ class Layout {\n\
 \x20   this.version = {};\n\
 \x20   this.left = this.gap = this.right = this.width = this.height = 0;\n\
 \x20   this.headLeft = HEAD_LEFT;\n\
+\x20   this.isNarrow = false;\n\
 \x20   this.tops = [];\n\
 \x20   this.rows = [];\n\
 \x20   this.bands = [];\n\
@@ -78,16 +82,22 @@ class Layout {\n\
 \n\
 \x20 spread(room) {\n\
 \x20   const gaps = Math.max(this.model.nodes.length - 1, 0);\n\
-\x20   const { left, gap, right } = room < NARROW ? { left: NARROW_LEFT, gap: NARROW_GAP, right: NARROW_RIGHT } : this.wide(room, gaps);\n\
+\x20   this.isNarrow = room < NARROW;\n\
+\x20   const { left, gap, right } = this.isNarrow ? this.narrow(room, gaps) : this.wide(room, gaps);\n\
 \x20   this.width = Math.max(room, left + gap * gaps + right);\n\
 \x20   if (left !== this.left || gap !== this.gap || right !== this.right) {\n\
-\x20     Object.assign(this, { left, gap, right, headLeft: room < NARROW ? NARROW_HEAD_LEFT : HEAD_LEFT });\n\
+\x20     Object.assign(this, { left, gap, right, headLeft: this.isNarrow ? NARROW_HEAD_LEFT : HEAD_LEFT });\n\
 \x20     this.placeAll();\n\
 \x20   }\n\
 \x20 }\n\
 \n\
+\x20 narrow(room, gaps) {\n\
+\x20   const spare = Math.max(0, room - NARROW_LEFT - NARROW_GAP * gaps - NARROW_RIGHT);\n\
+\x20   const more = fours(Math.min(spare / Math.max(gaps, 1), MORE_GAP));\n\
+\x20   return { left: NARROW_LEFT + fours(Math.min(spare - more * gaps, MORE_LEFT)), gap: NARROW_GAP + more, right: NARROW_RIGHT };\n\
+\x20 }\n\
+\n\
 \x20 wide(room, gaps) {\n\
-\x20   const fours = (size) => 4 * Math.floor(size / 4);\n\
 \x20   const free = room - LEAST_LEFT - LEAST_RIGHT;\n\
 \x20   const good = Math.min(Math.max(free / Math.max(gaps, 1), LEAST_GAP), GOOD_GAP);\n\
 \x20   const left = LEAST_LEFT + fours(Math.min(Math.max(free - good * gaps, 0) / 2, MORE_LEFT));\n\

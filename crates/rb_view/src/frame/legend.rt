@@ -47,7 +47,7 @@ function makeLegend() {\n\
 \x20 });\n\
 \x20 const logs = LOG_SIGNS.map(([look, text]) => element(\"li\", \"\", element(\"span\", `sample ${look}`, \"1\"), text));\n\
 \x20 byId(\"legend-items\").append(...arrows, lost, waiting, ...roles);\n\
-\x20 byId(\"log-signs\").append(...logs, element(\"li\", \"\", element(\"del\", \"\", \"1\"), \"gave way\"), element(\"li\", \"\", \"\xe2\x96\xb2 match, \xe2\x96\xb3 next: what the leader knows\"));\n\
+\x20 byId(\"log-signs\").append(...logs, element(\"li\", \"\", element(\"del\", \"\", \"1\"), \"gave way\"), element(\"li\", \"\", \"\xe2\x97\x86 change\"), element(\"li\", \"\", \"\xe2\x96\xb2 match, \xe2\x96\xb3 next: what the leader knows\"));\n\
 \x20 (byId(\"legend\")).open = window.matchMedia(\"(min-width: 1100px) and (min-height: 700px)\").matches;\n\
 }\n\
 ";

@@ -15,6 +15,11 @@ const COLUMNS_WITH_BODIES = 10;\n\
 const BODY_LETTERS = 8;\n\
 const TERM_COLOURS = 8;\n\
 \n\
+function shortBody(body) {\n\
+\x20 const short = body.replace(/^change \\w+ ?/, \"\xe2\x97\x86 \").trimEnd();\n\
+\x20 return short.length > BODY_LETTERS ? beginning(short, BODY_LETTERS - 1) + \"\xe2\x80\xa6\" : short;\n\
+}\n\
+\n\
 class Logs {\n\
 \x20 constructor(model) {\n\
 \x20   this.model = model;\n\
@@ -114,7 +119,7 @@ class Logs {\n\
 \x20   const looks = [index <= commit ? \"committed\" : \"\", index <= applied ? \"applied\" : \"\", index > durable ? \"unsaved\" : \"\"].filter(Boolean);\n\
 \x20   const isNew = node.isThereAt(before) && (index > this.lastBefore(node, before) || gone !== null);\n\
 \x20   const said = [...(index > durable ? [] : [\"durable\"]), ...looks].join(\", \");\n\
-\x20   const body = shown(entry.body);\n\
+\x20   const body = shownBody(entry.body);\n\
 \x20   const whole = `${entry.term}/${index} ${body}: ${said}${gone ? `; ${this.goneText(gone, index, node.id)}` : \"\"}`;\n\
 \x20   return this.box([...looks, edge, isNew ? \"new\" : \"\", gone ? \"gone\" : \"\"], entry.term, body, whole, struck);\n\
 \x20 }\n\
@@ -129,7 +134,7 @@ class Logs {\n\
 \x20 }\n\
 \n\
 \x20 goneText(gone, index, id) {\n\
-\x20   return `${gone.term}/${index} ${shown(gone.body)} of node ${id} gave way`;\n\
+\x20   return `${gone.term}/${index} ${shownBody(gone.body)} of node ${id} gave way`;\n\
 \x20 }\n\
 \n\
 \x20 struck(gone) {\n\
@@ -137,7 +142,7 @@ class Logs {\n\
 \x20 }\n\
 \n\
 \x20 box(looks, term, body, whole, struck) {\n\
-\x20   const short = body.length > BODY_LETTERS ? beginning(body, BODY_LETTERS - 1) + \"\xe2\x80\xa6\" : body;\n\
+\x20   const short = shortBody(body);\n\
 \x20   const sign = withAttributes(element(\"span\", \"sign\", element(\"b\", \"\", String(term)), ...(short ? [element(\"i\", \"\", short)] : [])), { \"aria-hidden\": \"true\" });\n\
 \x20   return element(\"td\", [`t${term % TERM_COLOURS}`, ...looks].filter(Boolean).join(\" \"), ...struck, sign, element(\"span\", \"whole\", whole));\n\
 \x20 }\n\

@@ -270,7 +270,7 @@ svg .arrow.under-way {\n\
 }\n\
 \n\
 svg .later {\n\
-\x20 opacity: 0.22;\n\
+\x20 opacity: 0.35;\n\
 }\n\
 \n\
 svg .dim {\n\

@@ -51,7 +51,7 @@ class Page {\n\
 \x20     { keys: [\"m\"], button: \"next-mismatch\", says: \"the next mismatch\", does: () => this.takePlace(this.nextMismatch()) },\n\
 \x20     { keys: [\"M\"], says: \"the mismatch before\", does: () => this.takePlace(this.lastMismatch()) },\n\
 \x20     { keys: [\"o\"], says: \"unfold the equal lines of a mismatch, or fold them\", does: () => this.script.toggleFolds() },\n\
-\x20     { keys: [\"/\"], says: \"find a text\", does: () => byId(\"find\").focus() },\n\
+\x20     { keys: [\"/\"], says: \"find a text\", does: () => this.search.ask() },\n\
 \x20     { keys: [\"n\"], button: \"next-found\", says: \"the next place that was found, or that the filters leave\", does: () => this.find(1) },\n\
 \x20     { keys: [\"N\"], button: \"last-found\", says: \"the place before\", does: () => this.find(-1) },\n\
 \x20     { keys: [\"?\"], button: \"show-help\", says: \"this list\", does: () => this.keys.showHelp() },\n\

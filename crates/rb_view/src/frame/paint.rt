@@ -145,7 +145,7 @@ class Painter {\n\
 \x20   const x = this.layout.x(message.from) + (isLeft ? -BESIDE : BESIDE);\n\
 \x20   const { label } = this.layout.drawnOf(message);\n\
 \x20   const text = messageText(message);\n\
-\x20   const look = joined(\"label\", KINDS[message.type], this.lookOf(message), this.scene.isFound(text) && \"found\");\n\
+\x20   const look = joined(\"label\", KINDS[message.type], this.lookOf(message), [text, label].some(this.scene.isFound) && \"found\");\n\
 \x20   const drawn = this.words(all, look, x, (message.start ?? 0) - 5, isLeft, [label], message.sent.place, `${text}, ${fateText(message)}`);\n\
 \x20   this.labels.set(drawn, message);\n\
 \x20 }\n\

@@ -16,6 +16,7 @@ class Picture {\n\
 \x20   this.layout = new Layout(model);\n\
 \x20   this.model = model;\n\
 \x20   this.search = search;\n\
+\x20   search.marksOf = ({ place }) => this.layout.rows[place - 1].marks;\n\
 \x20   this.chosen = { place: 1, event: 0 };\n\
 \x20   this.top = this.placed = this.viewWidth = this.viewHeight = 0;\n\
 \x20   this.isDrawn = false;\n\
@@ -31,12 +32,13 @@ class Picture {\n\
 \x20   this.drawing.addEventListener(\"click\", (event) => choose(this.layout.rowAt(this.top + event.offsetY) + 1));\n\
 \x20   this.drawing.addEventListener(\"pointerover\", ({ target }) => this.trace(target instanceof Element ? target.closest(\"text\") : null));\n\
 \x20   new ResizeObserver(() => this.resized()).observe(this.scroll);\n\
+\x20   this.gutter = element(\"span\", \"gutter\", \"line, directive\");\n\
 \x20   this.columns = this.makeHeads();\n\
 \x20   this.resized();\n\
 \x20 }\n\
 \n\
 \x20 makeHeads() {\n\
-\x20   this.heads.append(element(\"span\", \"gutter\", \"line, directive\"));\n\
+\x20   this.heads.append(this.gutter);\n\
 \x20   return this.model.nodes.map((node) => {\n\
 \x20     const role = element(\"span\", \"\");\n\
 \x20     const column = element(\"div\", \"column\", element(\"b\", \"\", `node ${node.id}`), role);\n\
@@ -51,6 +53,7 @@ class Picture {\n\
 \x20   this.viewWidth = this.scroll.clientWidth;\n\
 \x20   this.viewHeight = this.scroll.clientHeight;\n\
 \x20   this.layout.spread(this.viewWidth);\n\
+\x20   this.gutter.hidden = this.layout.isNarrow;\n\
 \x20   const extent = byId(\"extent\");\n\
 \x20   extent.style.width = `${this.layout.width}px`;\n\
 \x20   extent.style.height = `${Math.min(this.layout.height, TALLEST)}px`;\n\

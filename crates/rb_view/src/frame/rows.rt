@@ -163,9 +163,11 @@ const READERS = {\n\
 \x20     throw new Error(\"the rows are of another format\");\n\
 \x20   }\n\
 \x20   model.format = format;\n\
-\x20   model.name = shown(name);\n\
+\x20   model.name = name;\n\
 \x20 },\n\
 \x20 text({ model }, [bytes]) {\n\
+\x20   spellFor(bytes, model.name);\n\
+\x20   model.name = shown(model.name);\n\
 \x20   model.source = new Source(bytes);\n\
 \x20 },\n\
 \x20 step(reader, [line]) {\n\

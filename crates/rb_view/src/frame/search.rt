@@ -13,6 +13,7 @@ class Search {\n\
 \x20   this.model = model;\n\
 \x20   this.needle = \"\";\n\
 \x20   this.filters = { node: 0, type: \"\", term: 0 };\n\
+\x20   this.marksOf = () => [];\n\
 \x20   this.field = (byId(\"find\"));\n\
 \x20   this.told = byId(\"found\");\n\
 \x20   this.field.addEventListener(\"input\", () => {\n\
@@ -33,6 +34,11 @@ class Search {\n\
 \x20     take(field.value);\n\
 \x20     refresh();\n\
 \x20   });\n\
+\x20 }\n\
+\n\
+\x20 ask() {\n\
+\x20   this.field.focus();\n\
+\x20   this.field.select();\n\
 \x20 }\n\
 \n\
 \x20 isFiltered() {\n\
@@ -73,8 +79,12 @@ class Search {\n\
 \x20     return kept.map(({ number }) => number);\n\
 \x20   }\n\
 \x20   const textsOf = new Map(kept.map(({ at }) => [at, textsOfEvent(step.events[at])]));\n\
-\x20   const others = [...step.lead, ...step.head, ...step.input, ...step.warnings];\n\
+\x20   const others = [...paragraphs(step.lead), ...step.head, ...step.input, ...step.warnings];\n\
+\x20   others.push(...(step.place === this.model.steps.length ? paragraphs(this.model.tail) : []));\n\
 \x20   others.push(...(step.pieces ?? []).flatMap((piece) => (piece.kind === \"expected\" ? [piece.text] : [])));\n\
+\x20   for (const { text, of } of this.marksOf(step)) {\n\
+\x20     (textsOf.get(step.events.indexOf(of[0])) ?? others).push(text);\n\
+\x20   }\n\
 \x20   step.output.forEach((line, at) => (textsOf.get(lines.get(at)) ?? others).push(line));\n\
 \x20   const found = kept.filter(({ at }) => textsOf.get(at)?.some(isFound)).map(({ number }) => number);\n\
 \x20   return !this.isFiltered() && others.some(isFound) ? [0, ...found] : found;\n\
@@ -104,6 +114,7 @@ class Search {\n\
 \n\
 function textsOfEvent(event) {\n\
 \x20 const mark = MARKS[event.name] ? [MARKS[event.name](event.cells)[0]] : [];\n\
-\x20 return [eventText(event), ...mark, ...(event.reasons ?? []), ...(event.hints ?? [])];\n\
+\x20 const labels = event.message ? labelsOf(event.message) : [];\n\
+\x20 return [eventText(event), ...mark, ...labels, ...(event.reasons ?? []), ...(event.hints ?? [])];\n\
 }\n\
 ";

@@ -120,14 +120,14 @@ class State {\n\
 \x20   const { role, term, vote, lead, commit, applied, durable, length, end } = numbersOf(node, instant);\n\
 \x20   const changed = isChanged(node, before, instant.moment) ? [element(\"span\", \"changed\", \"\xe2\x97\x8f changed\")] : [];\n\
 \x20   const facts = `term ${term}, ${vote ? `voted for ${vote}` : \"no vote\"}, ${lead ? `leader ${lead}` : \"no leader\"}`;\n\
-\x20   const content = length ? `, content ${counted(length, \"byte\", \"bytes\")}: ${length > end.length ? \"\xe2\x80\xa6\" : \"\"}${shown(end)}` : \"\";\n\
+\x20   const content = length ? `, content ${counted(length, \"byte\", \"bytes\")}: ${length > end.length ? \"\xe2\x80\xa6\" : \"\"}${shownBody(end)}` : \"\";\n\
 \x20   const card = element(\n\
 \x20     \"article\",\n\
 \x20     `node ${role}`,\n\
 \x20     element(\"header\", \"\", element(\"b\", \"\", `node ${node.id}`), element(\"span\", \"role\", role), ...changed),\n\
 \x20     element(\"div\", \"\", facts),\n\
 \x20     element(\"div\", \"facts\", `commit ${commit}, applied ${applied}, durable ${durable}${content}`),\n\
-\x20     element(\"div\", \"facts\", shown(node.config.at(instant.moment) ?? \"\")),\n\
+\x20     element(\"div\", \"facts\", shownBody(node.config.at(instant.moment) ?? \"\")),\n\
 \x20     ...this.views(node, instant.moment),\n\
 \x20   );\n\
 \x20   return withAttributes(card, { \"aria-label\": `node ${node.id}, ${role}, term ${term}` });\n\

@@ -33,7 +33,7 @@ const SAID = {\n\
 \x20 MsgHeartbeat: ([commit]) => `commit ${commit}`,\n\
 \x20 MsgHeartbeatResp: () => \"\",\n\
 \x20 MsgSnap: ([term, index]) => `${term}/${index}`,\n\
-\x20 MsgProp: ([body]) => shown(body),\n\
+\x20 MsgProp: ([body]) => shownBody(body),\n\
 \x20 MsgTransferLeader: ([target]) => `to ${target}`,\n\
 \x20 MsgTimeoutNow: () => \"\",\n\
 };\n\
@@ -104,7 +104,7 @@ const MARKS = {\n\
 \x20 \"nothing-ready\": () => [\"nothing ready\", \"quiet\"],\n\
 \x20 committed: ([, index]) => [`\xe2\x9c\x93 commit ${index}`, \"moved\"],\n\
 \x20 saved: ([, first, last]) => [`saves ${first === last ? first : `${first}\xe2\x80\x93${last}`}`, \"quiet\"],\n\
-\x20 appended: ([, index, body]) => [`+ ${index} ${shown(body)}`, \"quiet\"],\n\
+\x20 appended: ([, index, body]) => [`+ ${index} ${shownBody(body)}`, \"quiet\"],\n\
 \x20 replaced: ([, index]) => [`\xe2\x86\xba ${index}+ replaced`, \"change\"],\n\
 \x20 compacted: ([, index]) => [`\xe2\x96\xa3 compacted to ${index}`, \"installed\"],\n\
 };\n\
@@ -113,7 +113,7 @@ const MARKS = {\n\
 const NOTES = {\n\
 \x20 \"no-messages\": () => [\"no messages\", \"note\"],\n\
 \x20 stopped: ([rounds]) => [`stopped after ${rounds} rounds`, \"note\"],\n\
-\x20 error: ([text]) => [`error: ${shown(text)}`, \"bad\"],\n\
+\x20 error: ([text]) => [`error: ${shownBody(text)}`, \"bad\"],\n\
 };\n\
 \n\
 function eventText({ name, id, cells, message }) {\n\
@@ -127,7 +127,7 @@ function eventText({ name, id, cells, message }) {\n\
 \x20 if (NOTES[name]) {\n\
 \x20   return NOTES[name](cells)[0];\n\
 \x20 }\n\
-\x20 const entry = name === \"save\" || name === \"apply\" ? `${cells[1]}/${cells[0]} ${shown(cells[2])}` : \"\";\n\
+\x20 const entry = name === \"save\" || name === \"apply\" ? `${cells[1]}/${cells[0]} ${shownBody(cells[2])}` : \"\";\n\
 \x20 const hard = name === \"hard\" ? `term ${cells[0]}, vote ${cells[1]}, commit ${cells[2]}` : \"\";\n\
 \x20 const snapshot = name === \"snapshot\" ? `${cells[0]}/${cells[1]}` : \"\";\n\
 \x20 return `${id} ${name} ${entry}${hard}${snapshot}`.trim();\n\

@@ -1,8 +1,11 @@
 //! The rows of a node's events.
 
-ghost use Rattle.std.specs.Prelude.{◌≡◌, ◌∷◌, [], IsOk};
+ghost use Rattle.std.specs.Prelude.{◌≡◌, ◌∷◌, [], codes, IsOk};
 ghost use Rattle.std.specs.List.{flat_map};
 ghost use Rattle.rb_script.specs.Writes.{Writes};
+ghost use Rattle.rb_vocab.specs.MessageTypes.{type_text};
+ghost use Rattle.rb_texts.specs.Configs.{config_text};
+ghost use Rattle.rb_texts.specs.Events.{votes_text};
 ghost use Rattle.rb_view.specs.EventRows.{event_rows};
 ghost use Rattle.rb_view.specs.MessageRows.{flag};
 ghost use Rattle.rb_view.specs.Rows.{next_text, number, row, text};
@@ -13,6 +16,8 @@ use crate::rows::row::put_next;
 use rb_message::Event;
 use rb_script::{Sink, WriteFault};
 use rb_texts::{fault_name, no_campaign_name, replaced_name, role_name, votes_name};
+use rb_tracker::{Config, VoteResult};
+use rb_vocab::MessageType;
 
 /// Writes the row of an event. A refused vote has none: the answer has one.
 #[tactic(auto, unfolding(crate::specs::EventRows::event_rows))]
@@ -34,16 +39,7 @@ pub(crate) fn put_event<S: Sink>(sink: &mut S, event: &Event) -> Result<(), Writ
             granted,
             from,
             result,
-        } => {
-            let cells = [
-                Cell::Number(*id),
-                Cell::Text(message_type.text()),
-                Cell::Number(flag(*granted)),
-                Cell::Number(*from),
-                Cell::Text(votes_name(*result)),
-            ];
-            put_next(sink, b"vote", &cells)
-        }
+        } => put_vote(sink, *id, *message_type, *granted, *from, *result),
         Event::Ignored {
             id,
             message_type,
@@ -59,13 +55,7 @@ pub(crate) fn put_event<S: Sink>(sink: &mut S, event: &Event) -> Result<(), Writ
         Event::ReplacedChange { id, index, why } => {
             put_at(sink, b"replaced-change", *id, *index, replaced_name(*why))
         }
-        Event::Switched { id, config } => {
-            put_next(
-                sink,
-                b"switched",
-                &[Cell::Number(*id), Cell::Config(config)],
-            )
-        }
+        Event::Switched { id, config } => put_switched(sink, *id, config),
         Event::RefusedChange { id, index, fault } => {
             put_at(sink, b"refused-change", *id, *index, fault_name(*fault))
         }
@@ -76,6 +66,36 @@ pub(crate) fn put_event<S: Sink>(sink: &mut S, event: &Event) -> Result<(), Writ
         Event::TransferEnds { id, to } => put_to(sink, b"transfer-ends", *id, *to),
         Event::LostQuorum { id } => put_of(sink, b"lost-quorum", *id),
     }
+}
+
+// The row of a vote that a node counted, and the result so far.
+fn put_vote<S: Sink>(
+    sink: &mut S,
+    id: u64,
+    message_type: MessageType,
+    granted: bool,
+    from: u64,
+    votes: VoteResult,
+) -> Result<(), WriteFault>
+    ensures wrote { Writes result (S.held sink.old) (S.held sink.new) (next_text (row (codes "vote") (number id ∷ text (type_text message_type) ∷ number (flag granted) ∷ number from ∷ text (votes_text votes) ∷ []))) }
+    ensures all { S.takes_all sink.old → IsOk result × S.takes_all sink.new }
+{
+    let cells = [
+        Cell::Number(id),
+        Cell::Text(message_type.text()),
+        Cell::Number(flag(granted)),
+        Cell::Number(from),
+        Cell::Text(votes_name(votes)),
+    ];
+    put_next(sink, b"vote", &cells)
+}
+
+// The row of a configuration that a node switched to.
+fn put_switched<S: Sink>(sink: &mut S, id: u64, config: &Config) -> Result<(), WriteFault>
+    ensures wrote { Writes result (S.held sink.old) (S.held sink.new) (next_text (row (codes "switched") (number id ∷ text (config_text config.now) ∷ []))) }
+    ensures all { S.takes_all sink.old → IsOk result × S.takes_all sink.new }
+{
+    put_next(sink, b"switched", &[Cell::Number(id), Cell::Config(config)])
 }
 
 // A row of a node alone.

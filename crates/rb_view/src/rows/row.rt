@@ -6,8 +6,9 @@ ghost use Rattle.rb_script.specs.Writes.{Writes};
 ghost use Rattle.rb_view.specs.Rows.{cell_text, front_text, next_text, plain_cell, row_text, row, before};
 
 use crate::rows::cell::Cell;
+use crate::rows::plain::put_in_page;
 use rb_script::{Sink, WriteFault};
-use rb_text::{Json, Piece, put_pieces};
+use rb_text::put_pieces;
 
 /// The place of a row.
 #[derive(Clone, Copy, Debug, PartialEq, Eq)]
@@ -18,13 +19,13 @@ pub enum RowPlace {
     Next,
 }
 
-// The text before a row.
-fn before(place: RowPlace) -> &'static [u8]
-    ensures { result.now ≡ before place }
+// The text before a row, and the row up to its name.
+fn opening(place: RowPlace) -> &'static [u8]
+    ensures { result.now ≡ before place ++ codes "[\"" }
 {
     match place {
-        RowPlace::First => b"[",
-        RowPlace::Next => b",\n",
+        RowPlace::First => b"[[\"",
+        RowPlace::Next => b",\n[\"",
     }
 }
 
@@ -45,15 +46,9 @@ fn put_front<S: Sink>(sink: &mut S, place: RowPlace, name: &[u8]) -> Result<(), 
     ensures wrote { Writes result (S.held sink.old) (S.held sink.new) (before place ++ front_text name.now) }
     ensures all { S.takes_all sink.old → IsOk result × S.takes_all sink.new }
 {
-    put_pieces(
-        sink,
-        &[
-            Piece::Bytes(before(place)),
-            Piece::Bytes(b"[\""),
-            Piece::Escaped(Json::Page, name),
-            Piece::Bytes(b"\""),
-        ],
-    )
+    sink.put(opening(place))?;
+    put_in_page(sink, name)?;
+    sink.put(b"\"")
 }
 
 fn put_cells<S: Sink>(sink: &mut S, cells: &[Cell<'_>]) -> Result<(), WriteFault>

@@ -13,9 +13,10 @@ ghost use Rattle.rb_text.specs.Json.{in_page};
 ghost use Rattle.rb_view.specs.Commas.{comma_before};
 ghost use Rattle.rb_view.specs.Spans.{span_text};
 
+use crate::rows::plain::{are_plain, put_in_page};
 use itoa::Buffer;
 use rb_script::{Sink, WriteFault};
-use rb_text::{Json, hex_digit, put_escaped};
+use rb_text::hex_digit;
 use rb_vocab::{Word, WordKind};
 
 /// A part of a text.
@@ -61,9 +62,9 @@ impl TextPart for TextSpan<'_> {
 
     fn put<S: Sink>(&self, sink: &mut S) -> Result<(), WriteFault> {
         match *self {
-            TextSpan::Bytes(bytes) => put_escaped(sink, &Json::Page, bytes),
+            TextSpan::Bytes(bytes) => put_in_page(sink, bytes),
             TextSpan::Number(n) => put_digits(sink, n),
-            TextSpan::Inside(bytes) => put_parts(sink, bytes),
+            TextSpan::Inside(bytes) => put_inside(sink, bytes),
             TextSpan::Ids(ids) => put_ids(sink, ids),
             TextSpan::Part(name, ids) => put_part(sink, name, ids),
             TextSpan::Words(words) => put_parts(sink, words),
@@ -76,7 +77,7 @@ fn put_digits<S: Sink>(sink: &mut S, n: u64) -> Result<(), WriteFault>
     ensures all { S.takes_all sink.old → IsOk result × S.takes_all sink.new }
 {
     let mut digits = Buffer::new();
-    put_escaped(sink, &Json::Page, digits.format(n).as_bytes())
+    put_in_page(sink, digits.format(n).as_bytes())
 }
 
 // ---- bytes inside double quotes
@@ -95,14 +96,26 @@ fn numbered(b: u8) -> [u8; 4]
     [b'\\', b'x', hex_digit(b / 16), hex_digit(b % 16)]
 }
 
+// Writes bytes as a line shows them inside double quotes. Most are shown as they are.
+fn put_inside<S: Sink>(sink: &mut S, bytes: &[u8]) -> Result<(), WriteFault>
+    ensures wrote { Writes result (S.held sink.old) (S.held sink.new) (flat_map in_page (flat_map quotes.escaped bytes.now)) }
+    ensures all { S.takes_all sink.old → IsOk result × S.takes_all sink.new }
+{
+    if are_plain(bytes) {
+        sink.put(bytes)
+    } else {
+        put_parts(sink, bytes)
+    }
+}
+
 impl TextPart for u8 {
     ghost text = { quotes.escaped };
 
     fn put<S: Sink>(&self, sink: &mut S) -> Result<(), WriteFault> {
         if is_plain(*self) {
-            put_escaped(sink, &Json::Page, &[*self])
+            put_in_page(sink, &[*self])
         } else {
-            put_escaped(sink, &Json::Page, &numbered(*self))
+            put_in_page(sink, &numbered(*self))
         }
     }
 }
@@ -114,7 +127,7 @@ impl TextPart for u64 {
     ghost text = { comma_before };
 
     fn put<S: Sink>(&self, sink: &mut S) -> Result<(), WriteFault> {
-        put_escaped(sink, &Json::Page, b",")?;
+        put_in_page(sink, b",")?;
         put_digits(sink, *self)
     }
 }
@@ -137,9 +150,9 @@ fn put_part<S: Sink>(sink: &mut S, name: &[u8], ids: &[u64]) -> Result<(), Write
     if ids.is_empty() {
         return Ok(());
     }
-    put_escaped(sink, &Json::Page, name)?;
+    put_in_page(sink, name)?;
     put_ids(sink, ids)?;
-    put_escaped(sink, &Json::Page, b")")
+    put_in_page(sink, b")")
 }
 
 // ---- words of a change
@@ -160,7 +173,7 @@ impl TextPart for Word {
     ghost text = { change_word };
 
     fn put<S: Sink>(&self, sink: &mut S) -> Result<(), WriteFault> {
-        put_escaped(sink, &Json::Page, letter(self.kind))?;
+        put_in_page(sink, letter(self.kind))?;
         put_digits(sink, self.id)
     }
 }

@@ -6,7 +6,7 @@ ghost use Rattle.rb_raftlog.specs.Content.{content_end};
 ghost use Rattle.rb_view.specs.Committed.{AreKept};
 ghost use Rattle.rb_view.specs.Json.{is_byte};
 ghost use Rattle.rb_view.specs.Kept.{texts_of};
-ghost use Rattle.rb_view.specs.NewRows.{new_rows, new_texts};
+ghost use Rattle.rb_view.specs.NewRows.{new_row, new_rows, new_rows_among};
 ghost use Rattle.rb_view.specs.States.{added_rows, changed_since, config_row, gone_of, gone_rows, no_view_row, node_row, node_since, standing, state_rows, view_row, view_rows};
 ghost use Rattle.rb_view.specs.Values.{ShowBytes};
 
@@ -84,16 +84,14 @@ fn keep_standing<L: RaftLog>(texts: &mut Lines, state: &State<L>) -> Result<(), 
 {
     keep_node(texts, state)?;
     keep_config(texts, state)?;
-    keep_views(texts, state.id, &state.tracker)
+    keep_own_views(texts, state)
 }
 
-// The rows of all of a node but its log.
-fn standing<L: RaftLog>(alloc: Global, state: &State<L>) -> Result<Lines, AllocError>
-    ensures { IfOk result (λ texts. texts ≡ texts_of (standing state.now)) }
+// Adds the rows of a node's views.
+fn keep_own_views<L: RaftLog>(texts: &mut Lines, state: &State<L>) -> Result<(), AllocError>
+    ensures { OnOk result (texts.new ≡ texts.old ++ texts_of (view_rows state.now.id state.now.tracker.views)) }
 {
-    let mut texts = Lines::new(alloc);
-    keep_standing(&mut texts, state)?;
-    Ok(texts)
+    keep_views(texts, state.id, &state.tracker)
 }
 
 // ---- changes
@@ -133,17 +131,106 @@ fn keep_added<L: RaftLog>(texts: &mut Lines, new: &State<L>) -> Result<(), Alloc
     keep_log_from(texts, new.id, &new.log, new.log.first_index() - 1)
 }
 
-// Adds the rows of a node's numbers, configuration and views that are not among these.
-fn keep_fresh<L: RaftLog>(
+// Whether both have the same role, numbers and content, and so the same row.
+#[tactic(auto, using(crate::proofs::NewRowLaws::same_node))]
+fn has_same_numbers<L: RaftLog>(old: &State<L>, new: &State<L>) -> bool
+    ensures { IsTrue result → node_row new.now ≡ node_row old.now }
+{
+    old.id == new.id
+        && old.role == new.role
+        && old.term == new.term
+        && old.vote == new.vote
+        && old.lead == new.lead
+        && old.commit == new.commit
+        && old.applied == new.applied
+        && old.log.durable() == new.log.durable()
+        && old.content.same(&new.content)
+}
+
+// Adds a node's numbers, if they have changed.
+fn keep_new_numbers<L: RaftLog>(
     alloc: Global,
     texts: &mut Lines,
-    olds: &Lines,
+    old: &State<L>,
     new: &State<L>,
 ) -> Result<(), AllocError>
-    ensures { OnOk result (texts.new ≡ texts.old ++ new_texts olds.now (texts_of (standing new.now))) }
+    ensures { OnOk result (texts.new ≡ texts.old ++ texts_of (new_row (texts_of (standing old.now)) (node_row new.now))) }
 {
-    let news = standing(alloc, new)?;
-    keep_new(texts, olds, &news)
+    if has_same_numbers(old, new) {
+        return Ok(());
+    }
+    let mut olds = Lines::new(alloc);
+    keep_node(&mut olds, old)?;
+    let mut news = Lines::new(alloc);
+    keep_node(&mut news, new)?;
+    keep_new(texts, &olds, &news)
+}
+
+// Whether both have the same configuration, and so the same row.
+#[tactic(auto, using(crate::proofs::NewRowLaws::same_config))]
+fn has_same_config<L: RaftLog>(old: &State<L>, new: &State<L>) -> bool
+    ensures { IsTrue result → config_row new.now ≡ config_row old.now }
+{
+    old.id == new.id && old.tracker.config().same(new.tracker.config())
+}
+
+// Whether both have the same configuration and views.
+fn has_same_tracker<L: RaftLog>(old: &State<L>, new: &State<L>) -> bool
+    ensures id { IsTrue result → old.now.id ≡ new.now.id }
+    ensures tracker { IsTrue result → old.now.tracker ≡ new.now.tracker }
+{
+    old.id == new.id && old.tracker.same(&new.tracker)
+}
+
+// Adds a node's configuration, if it has changed.
+fn keep_new_config<L: RaftLog>(
+    alloc: Global,
+    texts: &mut Lines,
+    old: &State<L>,
+    new: &State<L>,
+) -> Result<(), AllocError>
+    ensures { OnOk result (texts.new ≡ texts.old ++ texts_of (new_row (texts_of (standing old.now)) (config_row new.now))) }
+{
+    if has_same_config(old, new) {
+        return Ok(());
+    }
+    let mut olds = Lines::new(alloc);
+    keep_config(&mut olds, old)?;
+    let mut news = Lines::new(alloc);
+    keep_config(&mut news, new)?;
+    keep_new(texts, &olds, &news)
+}
+
+// Adds the views that have changed. Each is compared with all of before.
+fn keep_new_views<L: RaftLog>(
+    alloc: Global,
+    texts: &mut Lines,
+    old: &State<L>,
+    new: &State<L>,
+) -> Result<(), AllocError>
+    ensures { OnOk result (texts.new ≡ texts.old ++ texts_of (new_rows_among (texts_of (standing old.now)) (view_rows new.now.id new.now.tracker.views))) }
+{
+    let mut olds = Lines::new(alloc);
+    keep_own_views(&mut olds, old)?;
+    let mut news = Lines::new(alloc);
+    keep_own_views(&mut news, new)?;
+    keep_new(texts, &olds, &news)
+}
+
+// Adds a node's configuration and views, where they have changed.
+fn keep_new_tracker<L: RaftLog>(
+    alloc: Global,
+    texts: &mut Lines,
+    old: &State<L>,
+    new: &State<L>,
+) -> Result<(), AllocError>
+    ensures { OnOk result (texts.new ≡ texts.old ++ texts_of (new_rows_among (texts_of (standing old.now)) (config_row new.now ∷ view_rows new.now.id new.now.tracker.views))) }
+{
+    if has_same_tracker(old, new) {
+        return Ok(());
+    }
+    keep_new_config(alloc, texts, old, new)?;
+    keep_new_views(alloc, texts, old, new)
 }
 
 // Adds the rows of a node's numbers, configuration and views that have changed.
@@ -155,9 +242,8 @@ fn keep_restated<L: RaftLog>(
 ) -> Result<(), AllocError>
     ensures { OnOk result (texts.new ≡ texts.old ++ texts_of (new_rows (standing old.now) (standing new.now))) }
 {
-    let olds = standing(alloc, old)?;
-    keep_fresh(alloc, texts, &olds, new)?;
-    Ok(())
+    keep_new_numbers(alloc, texts, old, new)?;
+    keep_new_tracker(alloc, texts, old, new)
 }
 
 // Adds what of a node is not as it was. The entries that it knew to be committed aren't compared.

@@ -1,14 +1,16 @@
 //! The rows of what a directive does.
 
-ghost use Rattle.std.specs.Prelude.{◌≡◌, ◌++◌, [], IfOk, OnOk, slice_set, true};
+ghost use Rattle.std.specs.Prelude.{◌≡◌, ◌++◌, [], IfOk, OnOk, Some, slice_get, slice_set, true};
 ghost use Rattle.std.specs.List.{list_all};
 ghost use Rattle.rb_raftlog.specs.Content.{content_end};
 ghost use Rattle.rb_view.specs.Json.{is_byte};
 ghost use Rattle.rb_view.specs.Kept.{texts_of};
-ghost use Rattle.rb_view.specs.Watching.{reason_rows};
+ghost use Rattle.rb_view.specs.Watching.{reason_rows, shown_texts};
+ghost use Rattle.rb_texts.specs.Items.{plain_item};
 
 use crate::rows::{Cell, keep_item, keep_row, past, reason_line};
 use crate::steps::node::{as_bytes, keep_node_at};
+use crate::steps::room::held;
 use rb_cluster::{Cluster, SharedNode};
 use rb_machine::Observer;
 use rb_node::Node;
@@ -25,7 +27,8 @@ const INDENTATION: usize = 2;
 #[derive(Drop)]
 pub(crate) struct EventRows<L: RaftLog> {
     alloc: Global,
-    pub(crate) texts: Lines,
+    /// None is kept where a page has no room for all.
+    pub(crate) texts: Option<Lines>,
     /// The nodes as they were written last.
     pub(crate) nodes: Vec<SharedNode<L>>,
 }
@@ -55,6 +58,14 @@ fn rewrite<L: RaftLog>(
     Ok(())
 }
 
+// Adds what happened, and why.
+fn keep_shown(alloc: Global, texts: &mut Lines, item: &Item<'_>) -> Result<(), AllocError>
+    ensures { OnOk result (texts.new ≡ texts.old ++ shown_texts (plain_item item.now)) }
+{
+    keep_item(texts, item)?;
+    keep_reason(alloc, texts, reason_of(item))
+}
+
 // Adds why nothing came of a message, or why a vote was refused.
 fn keep_reason(alloc: Global, texts: &mut Lines, reason: Option<Reason>) -> Result<(), AllocError>
     ensures { OnOk result (texts.new ≡ texts.old ++ texts_of (reason_rows reason)) }
@@ -68,20 +79,37 @@ fn keep_reason(alloc: Global, texts: &mut Lines, reason: Option<Reason>) -> Resu
 }
 
 impl<L: RaftLog> EventRows<L> {
+    ghost use Rattle.rb_view.specs.PageRoom.{held_with};
+    ghost use Rattle.rb_view.specs.States.{node_since};
+
     /// None. The nodes were written as they are in the cluster.
     pub(crate) fn new(alloc: Global, cluster: &Cluster<L>) -> Result<EventRows<L>, AllocError>
-        ensures texts { IfOk result (λ rows. rows.texts ≡ []) }
+        ensures texts { IfOk result (λ rows. rows.texts ≡ Some []) }
         ensures nodes { IfOk result (λ rows. rows.nodes.items ≡ cluster.now.nodes) }
     {
         Ok(EventRows {
             alloc,
-            texts: Lines::new(alloc),
+            texts: Some(Lines::new(alloc)),
             nodes: cluster.copy_nodes()?,
         })
     }
 
-    /// The rows, and the nodes as they were written last.
-    pub(crate) fn into_parts(self) -> (Lines, Vec<SharedNode<L>>)
+    // Adds what of the node at an index is not as it was.
+    fn keep_changes(&mut self, index: usize, node: &Node<L>) -> Result<(), AllocError>
+        ensures texts { OnOk result (self.new.texts ≡ held_with self.old.texts (texts_of (node_since (slice_get self.old.nodes.items index) node.now))) }
+        ensures nodes { OnOk result (self.new.nodes ≡ self.old.nodes) }
+    {
+        let Some(texts) = self.texts.take() else {
+            return Ok(());
+        };
+        let mut more = texts;
+        keep_node_at(self.alloc, &mut more, &self.nodes, index, node)?;
+        self.texts = held(more);
+        Ok(())
+    }
+
+    /// The rows, if there is room for them, and the nodes as they were written last.
+    pub(crate) fn into_parts(self) -> (Option<Lines>, Vec<SharedNode<L>>)
         ensures texts { result.0 ≡ self.texts }
         ensures nodes { result.1 ≡ self.nodes }
     {
@@ -111,14 +139,19 @@ impl<L: RaftLog> Observer<L> for EventRows<L> {
     fn start(&mut self, _level: Level) {}
 
     fn observe(&mut self, item: &Item<'_>) -> Result<(), AllocError> {
-        keep_item(&mut self.texts, item)?;
-        keep_reason(self.alloc, &mut self.texts, reason_of(item))
+        let Some(texts) = self.texts.take() else {
+            return Ok(());
+        };
+        let mut more = texts;
+        keep_shown(self.alloc, &mut more, item)?;
+        self.texts = held(more);
+        Ok(())
     }
 
     fn settle(&mut self, id: u64, node: &Node<L>) -> Result<(), AllocError> {
         let index = id.saturating_sub(1) as usize;
         let _shown = shows_bytes(node);
-        keep_node_at(self.alloc, &mut self.texts, &self.nodes, index, node)?;
+        self.keep_changes(index, node)?;
         rewrite(self.alloc, &mut self.nodes, index, node)
     }
 }

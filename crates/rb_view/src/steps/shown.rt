@@ -1,9 +1,10 @@
 //! What a page shows of the machine.
 
-ghost use Rattle.std.specs.Prelude.{◌≡◌, IfOk};
+ghost use Rattle.std.specs.Prelude.{◌≡◌, IfOk, IfSome};
 ghost use Rattle.rb_script.specs.Reading.{directive_of};
 ghost use Rattle.rb_machine.specs.Outcome.{outcome};
 ghost use Rattle.rb_view.specs.Committed.{AreSound};
+ghost use Rattle.rb_view.specs.PageRoom.{held};
 ghost use Rattle.rb_view.specs.Steps.{done_texts};
 ghost use Rattle.rb_view.specs.Values.{DoneShowsBytes};
 
@@ -11,12 +12,12 @@ use rb_machine::Machine;
 use rb_script::{Block, Lines};
 use std::alloc::{AllocError, Global};
 
-/// One run of a directive: the machine after it, what it printed, and the rows of what it did and of what changed.
+/// One run of a directive: the machine after it, what it printed, and the rows of what it did and of what changed, if a page has room for them.
 #[derive(Drop)]
 pub struct DirectiveRun<M> {
     pub machine: M,
     pub output: Lines,
-    pub rows: Lines,
+    pub rows: Option<Lines>,
 }
 
 /// A machine that shows what a directive does, and what is after each event that didn't stand so before.
@@ -26,6 +27,6 @@ pub trait StepMachine: Machine {
         requires { AreSound (Self.meaning self.now).nodes }
         ensures machine { IfOk result (λ ran. Self.meaning ran.machine ≡ (outcome (Self.meaning self.now) (directive_of block.now)).cluster) }
         ensures output { IfOk result (λ ran. ran.output ≡ (outcome (Self.meaning self.now) (directive_of block.now)).output) }
-        ensures rows { IfOk result (λ ran. ran.rows ≡ done_texts (Self.meaning self.now) (directive_of block.now)) }
-        ensures bytes { IfOk result (λ ran. DoneShowsBytes (Self.meaning self.now) (directive_of block.now)) };
+        ensures rows { IfOk result (λ ran. ran.rows ≡ held (done_texts (Self.meaning self.now) (directive_of block.now))) }
+        ensures bytes { IfOk result (λ ran. IfSome ran.rows (λ _. DoneShowsBytes (Self.meaning self.now) (directive_of block.now))) };
 }

@@ -1,19 +1,22 @@
 //! All directives of a run.
 
-ghost use Rattle.std.specs.Prelude.{◌≡◌, ◌<◌, ◌≤◌, ◌∷◌, [], ◌++◌, IfOk, OnOk, Some, length, map, slice_get};
+ghost use Rattle.std.specs.Prelude.{◌≡◌, ◌<◌, ◌≤◌, ◌∷◌, [], ◌++◌, IfNone, IfOk, IfSome, MatchOption, OnOk, Some, false, length, map, slice_get, true};
 ghost use Rattle.std.specs.List.{flat_map};
 ghost use Rattle.rb_script.specs.declared.limits.TheConstants.{MAX_DIRECTIVES};
 ghost use Rattle.rb_script.specs.Lines.{lines};
 ghost use Rattle.rb_machine.specs.Cluster.{empty};
 ghost use Rattle.rb_view.specs.Kept.{texts_of};
+ghost use Rattle.rb_view.specs.PageRoom.{has_room};
 ghost use Rattle.rb_view.specs.Rows.{next_text};
 ghost use Rattle.rb_replay.specs.Run.{outputs};
 ghost use Rattle.rb_view.specs.Steps.{end_row, source_row, step_texts, steps, steps_texts, warning_row};
 ghost use Rattle.rb_view.specs.Values.{GoOnShowingBytes};
+ghost use Rattle.rb_script_report.specs.Doubts.{all_warnings};
 
 use crate::rows::{Cell, keep_row};
+use crate::steps::room::has_room;
 use crate::steps::shown::StepMachine;
-use crate::steps::step::keep_step;
+use crate::steps::step::{StepPlace, keep_step};
 use rb_machine::Machine;
 use rb_replay::{Outputs, Session};
 use rb_report::check::{Table, warning_sentence};
@@ -38,18 +41,20 @@ fn number_at(numbers: &[usize], index: usize) -> usize
     numbers[index]
 }
 
-// Runs the directives, each once, and adds their rows. What they printed is given back.
+// Runs the directives, each once, and adds their rows. What they printed is given back; nothing once a page has no room for their rows, and then no
+// other is run.
 fn keep_directives<M: StepMachine>(
     alloc: Global,
     texts: &mut Lines,
     script: &Script,
     heads: &[usize],
-) -> Result<Outputs, AllocError>
+) -> Result<Option<Outputs>, AllocError>
     requires few { length script.now.blocks ≤ MAX_DIRECTIVES }
     requires count { length heads.now ≡ length script.now.blocks }
-    ensures texts { OnOk result (texts.new ≡ texts.old ++ flat_map step_texts (steps heads.now script.now)) }
-    ensures outputs { IfOk result (λ printed. printed ≡ outputs script.now) }
-    ensures bytes { OnOk result (GoOnShowingBytes empty script.now.blocks) }
+    ensures room { IfOk result (λ ran. IfNone ran (has_room (texts.old ++ flat_map step_texts (steps heads.now script.now)) ≡ false)) }
+    ensures texts { IfOk result (λ ran. IfSome ran (λ _. texts.new ≡ texts.old ++ flat_map step_texts (steps heads.now script.now))) }
+    ensures outputs { IfOk result (λ ran. IfSome ran (λ printed. printed ≡ outputs script.now)) }
+    ensures bytes { IfOk result (λ ran. IfSome ran (λ _. GoOnShowingBytes empty script.now.blocks)) }
 {
     let mut printed = Outputs::new(alloc);
     let mut machine = M::empty(alloc)?;
@@ -57,11 +62,14 @@ fn keep_directives<M: StepMachine>(
     for i in 0..script.len() {
         let block = block_at(script, i);
         let line = number_at(heads, i);
-        let ran = keep_step(alloc, texts, &mut table, &machine, block, line)?;
+        let place = StepPlace { block, line };
+        let Some(ran) = keep_step(alloc, texts, &mut table, &machine, place)? else {
+            return Ok(None);
+        };
         printed.push(ran.output)?;
         machine = ran.machine;
     }
-    Ok(printed)
+    Ok(Some(printed))
 }
 
 // The warning at an index, which counts from 0.
@@ -112,19 +120,35 @@ fn keep_source(texts: &mut Lines, bytes: &[u8]) -> Result<(), AllocError>
     keep_row(texts, b"text", &[Cell::Text(bytes)])
 }
 
-/// Runs a script that was read of these bytes, each directive once, and gives a session on it and the rows after the first, each as a text. After
-/// each directive what is shown of a node's content is bytes.
+// Adds what is after the directives: the lines that are probably a mistake, and how many directives and mismatches there are.
+fn keep_rest<M: Machine>(
+    alloc: Global,
+    texts: &mut Lines,
+    session: &Session<M>,
+    layout: &Layout,
+) -> Result<(), AllocError>
+    requires count { length layout.now.heads.items ≡ length session.now.script.blocks }
+    ensures { OnOk result (texts.new ≡ texts.old ++ (texts_of (map warning_row (all_warnings layout.now.text layout.now.heads.items session.now.script.blocks (outputs session.now.script))) ++ texts_of (end_row session.now.script ∷ []))) }
+{
+    let found = warnings(alloc, session, layout)?;
+    keep_warnings(texts, found.as_slice())?;
+    keep_end(texts, session)
+}
+
+/// Runs a script that was read from these bytes, each directive once, and gives a session on it and the rows after the first, each as a text; none
+/// only if a page has no room for them. After each directive what is shown of a node's content is bytes.
 pub fn steps_of<M: StepMachine>(
     alloc: Global,
     read: ScriptWithLines,
     bytes: &[u8],
-) -> Result<(Session<M>, Lines), AllocError>
+) -> Result<Option<(Session<M>, Lines)>, AllocError>
     requires few { length read.script.blocks ≤ MAX_DIRECTIVES }
     requires count { length read.heads.items ≡ length read.script.blocks }
     requires lines { read.lines ≡ lines bytes.now }
-    ensures script { IfOk result (λ ran. ran.0.script ≡ read.script) }
-    ensures texts { IfOk result (λ ran. ran.1 ≡ steps_texts bytes.now read.heads.items read.script) }
-    ensures bytes { OnOk result (GoOnShowingBytes empty read.script.blocks) }
+    ensures room { IfOk result (λ ran. let room = has_room (steps_texts bytes.now read.heads.items read.script) in MatchOption ran (room ≡ false) (λ _. room ≡ true)) }
+    ensures script { IfOk result (λ ran. IfSome ran (λ r. r.0.script ≡ read.script)) }
+    ensures texts { IfOk result (λ ran. IfSome ran (λ r. r.1 ≡ steps_texts bytes.now read.heads.items read.script)) }
+    ensures bytes { IfOk result (λ ran. IfSome ran (λ _. GoOnShowingBytes empty read.script.blocks)) }
 {
     let ScriptWithLines {
         script,
@@ -134,10 +158,14 @@ pub fn steps_of<M: StepMachine>(
     let layout = Layout { text, heads };
     let mut texts = Lines::new(alloc);
     keep_source(&mut texts, bytes)?;
-    let printed = keep_directives::<M>(alloc, &mut texts, &script, layout.heads.as_slice())?;
+    let ran = keep_directives::<M>(alloc, &mut texts, &script, layout.heads.as_slice())?;
+    let Some(printed) = ran else {
+        return Ok(None);
+    };
     let session = Session::from_outputs(alloc, script, printed)?;
-    let found = warnings(alloc, &session, &layout)?;
-    keep_warnings(&mut texts, found.as_slice())?;
-    keep_end(&mut texts, &session)?;
-    Ok((session, texts))
+    keep_rest(alloc, &mut texts, &session, &layout)?;
+    if !has_room(&texts) {
+        return Ok(None);
+    }
+    Ok(Some((session, texts)))
 }

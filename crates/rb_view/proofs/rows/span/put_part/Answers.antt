@@ -27,16 +27,16 @@ returns-then-is_empty-clause-wrote g c =
     let whole = flat_map in_page (part_text c.args.name.now c.args.ids.now) in
     sent_all (ap (λ (l : List ℕ). flat_map in_page l) (part_none c.args.name.now c.args.ids.now (sym c.is_empty.ensures ∙ c.if-is_empty.true))) (sent_none (g.S.Sink.held c.args.sink.now) whole whole refl)
 
-pub returns-in_err-put_escaped-clause-wrote : goal.returns-in_err-put_escaped-clause-wrote
-returns-in_err-put_escaped-clause-wrote g c =
-    writes_along _ _ _ _ _ (parted c.args.name.now c.args.ids.now (sym c.is_empty.ensures ∙ c.if-is_empty.false)) (no_more _ _ _ _ _ c.from_residual.ensures.0 c.in_err-put_escaped.ensures.wrote)
+pub returns-in_err-put_in_page-clause-wrote : goal.returns-in_err-put_in_page-clause-wrote
+returns-in_err-put_in_page-clause-wrote g c =
+    writes_along _ _ _ _ _ (parted c.args.name.now c.args.ids.now (sym c.is_empty.ensures ∙ c.if-is_empty.false)) (no_more _ _ _ _ _ c.from_residual.ensures.0 c.in_err-put_in_page.ensures.wrote)
 
 pub returns-in_err-put_ids-clause-wrote : goal.returns-in_err-put_ids-clause-wrote
 returns-in_err-put_ids-clause-wrote g c =
     writes_along _ _ _ _ _ (parted c.args.name.now c.args.ids.now (sym c.is_empty.ensures ∙ c.if-is_empty.false))
-    (and_then _ _ _ _ _ _ c.in_ok-put_escaped.ensures.wrote (no_more _ _ _ _ _ c.from_residual-in_err-put_ids.ensures.0 c.in_err-put_ids.ensures.wrote))
+    (and_then _ _ _ _ _ _ c.in_ok-put_in_page.ensures.wrote (no_more _ _ _ _ _ c.from_residual-in_err-put_ids.ensures.0 c.in_err-put_ids.ensures.wrote))
 
 pub returns-clause-wrote : goal.returns-clause-wrote
 returns-clause-wrote g c =
     writes_along _ _ _ _ _ (parted c.args.name.now c.args.ids.now (sym c.is_empty.ensures ∙ c.if-is_empty.false))
-    (and_then _ _ _ _ _ _ c.in_ok-put_escaped.ensures.wrote (and_then _ _ _ _ _ _ c.in_ok-put_ids.ensures.wrote c.put_escaped-2.ensures.wrote))
+    (and_then _ _ _ _ _ _ c.in_ok-put_in_page.ensures.wrote (and_then _ _ _ _ _ _ c.in_ok-put_ids.ensures.wrote c.put_in_page-2.ensures.wrote))

@@ -1,20 +1,39 @@
-use Rattle.std.proofs.Common.{◌∙◌, ◌++◌, List, ap, ap₂}
+use Rattle.std.proofs.Common.{◌≡◌, ◌∙◌, ◌++◌, List, ap, refl, sym}
 use Rattle.rb_script.specs.Lines.{Line}
-use Rattle.rb_report.specs.Hints.{PlainHint}
+use Rattle.rb_script.specs.Reading.{directive_of}
 use Rattle.rb_view.specs.Kept.{texts_of}
-use Rattle.rb_view.specs.Meant.{hint_rows}
-use Rattle.rb_view.specs.Steps.{left_next, script_rows}
+use Rattle.rb_view.specs.PageRoom.{has_room}
+use Rattle.rb_view.specs.Steps.{done_texts, script_rows, step, step_texts}
+use Rattle.rb_view.proofs.PageRoomLaws.{none_full, some_is}
 use Rattle.rb_view.proofs.StepLaws.{step_kept}
+use Rattle.rb_view.proofs.StepRoomLaws.{step_full}
 use Rattle.rb_view.proofs.steps.step.keep_step.Goals as goal
+
+pub returns-in_default-clause-room : goal.returns-in_default-clause-room
+returns-in_default-clause-room g c =
+    let m = g.M.Machine.meaning c.args.machine.now in
+    let b = c.args.place.block.now in
+    step_full c.args.texts.now c.args.table.now.left c.args.place.line m b (none_full (done_texts m (directive_of b)) c.in_ok-ran.ran.rows c.in_ok-ran.ensures.rows c.in_default.is)
+
+pub returns-then-not-fits-clause-room : goal.returns-then-not-fits-clause-room
+returns-then-not-fits-clause-room g c =
+    let m = g.M.Machine.meaning c.args.machine.now in
+    let b = c.args.place.block.now in
+    let left = c.args.table.now.left in
+    let ran = c.in_ok-ran.ran in
+    let front = c.args.texts.now ++ texts_of (script_rows left c.args.place.line b.expected ran.output) in
+    let rows = c.in-Some.rows in
+    ap has_room (sym (step_kept left c.args.place.line m b ran.output rows c.args.texts.now front (front ++ rows) c.keep_ran.new.texts
+    c.in_ok-ran.ensures.output (some_is (done_texts m (directive_of b)) rows ran.rows c.in_ok-ran.ensures.rows c.in-Some.is) refl refl c.in_ok-fits.ensures.texts))
+    ∙ sym c.in_ok-fits.ensures.room ∙ c.if-not-fits.true
 
 pub returns-clause-texts : goal.returns-clause-texts
 returns-clause-texts g c =
+    let m = g.M.Machine.meaning c.args.machine.now in
+    let b = c.args.place.block.now in
+    let left = c.args.table.now.left in
     let ran = c.in_ok-ran.ran in
-    step_kept c.args.table.now.left c.args.line (g.M.Machine.meaning c.args.machine.now) c.args.block.now ran.output ran.rows c.args.texts.now c.keep_script.new.texts c.keep_texts.new.texts c.keep_hint.new.texts
-    c.in_ok-ran.ensures.output c.in_ok-ran.ensures.rows
-    (c.in_ok-keep_script.ensures.texts ∙ ap (λ (ls : List Line). c.args.texts.now ++ texts_of (script_rows c.args.table.now.left c.args.line ls ran.output)) c.expected-expected.ensures)
-    c.in_ok-keep_texts.ensures (c.in_ok-keep_hint.ensures.texts ∙ ap (λ (h : PlainHint). c.keep_texts.new.texts ++ texts_of (hint_rows h)) c.meant_by.ensures)
-
-pub returns-clause-left : goal.returns-clause-left
-returns-clause-left g c =
-    c.in_ok-keep_script.ensures.left ∙ ap₂ (λ (es os : List Line). left_next c.args.table.now.left es os) c.expected-expected.ensures c.in_ok-ran.ensures.output
+    let front = c.args.texts.now ++ texts_of (script_rows left c.args.place.line b.expected ran.output) in
+    let rows = c.in-Some.rows in
+    step_kept left c.args.place.line m b ran.output rows c.args.texts.now front (front ++ rows) c.keep_ran.new.texts
+    c.in_ok-ran.ensures.output (some_is (done_texts m (directive_of b)) rows ran.rows c.in_ok-ran.ensures.rows c.in-Some.is) refl refl c.in_ok-fits.ensures.texts
