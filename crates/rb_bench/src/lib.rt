@@ -36,5 +36,5 @@ pub use names::{edit_fault_name, script_fault_name};
 pub use outlet::Outlet;
 pub use rb_args::ChoiceFault;
 pub use rb_report::check::Status;
-pub use running::{Mode, run_bytes, run_over};
+pub use running::{Mode, run_bytes, run_over, write_run};
 pub use session::serve;

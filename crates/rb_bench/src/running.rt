@@ -93,14 +93,18 @@ pub fn run_bytes<W: Outlet>(
     // No edit follows, and no text depends on checkpoints.
     let session = run_once(alloc, &bytes)?;
     drop(bytes);
-    let answer = answer(&session, writer, mode);
+    let status = write_run(&session, writer, mode);
     // To give it back piece by piece would take a short run a tenth of its time.
     forget(session);
-    answer
+    status
 }
 
-// Writes what the mode asks for, and gives the status.
-fn answer<W: Outlet>(
+/// Writes the text of `mode` of a session's script, and returns the status.
+///
+/// # Errors
+///
+/// `Io` if the writer fails.
+pub fn write_run<W: Outlet>(
     session: &BenchSession,
     writer: &mut W,
     mode: Mode,

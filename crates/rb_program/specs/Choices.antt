@@ -1,5 +1,5 @@
 -- What the words of the command line ask for. (This project's.)
-use Rattle.std.specs.Prelude.{ℕ, ◌||◌, ◌&&◌, not, Bool, true, false, if◌then◌else◌, List, Option, Some, None, codes, option_map, unwrap_or}
+use Rattle.std.specs.Prelude.{ℕ, ◌≡◌, ◌||◌, ◌&&◌, not, Bool, true, false, if◌then◌else◌, List, Option, Some, None, codes, option_map, unwrap_or}
 use Rattle.std.specs.Path.{path_file_name, rsplit_once}
 use Rattle.std.specs.Str.{bytes_eq}
 use Rattle.rb_text.specs.Numbers.{number_of}
@@ -8,6 +8,8 @@ use Rattle.rb_report.specs.declared.check.colors.Colors.{Colors}
 use Rattle.rb_report.specs.declared.check.colors.Colors.TheVariants as shades
 use Rattle.rb_script_report.specs.declared.view.Detail.{Detail}
 use Rattle.rb_script_report.specs.declared.view.Detail.TheVariants as shown
+use Rattle.rb_check.specs.declared.check_request.CheckRequest.{CheckRequest}
+use Rattle.rb_check.specs.declared.format.Format.{Format}
 use Rattle.rb_check.specs.declared.format.Format.TheVariants as formats
 use Rattle.rb_program.specs.declared.checking.Terminals.{Terminals}
 use Rattle.rb_program.specs.declared.colors.ColorChoice.{ColorChoice}
@@ -58,6 +60,19 @@ shown_of choice styles.Text =
 abbrev pub is_text : Style → Bool
 is_text styles.Text = true
 is_text (styles.Program format) = false
+
+-- the format for programs, if people don't read it
+abbrev pub format_of : Style → Option Format
+format_of styles.Text = None
+format_of (styles.Program format) = Some format
+
+-- A check does what the options say. A quiet one gives no reasons, and a review shows no line of progress.
+abbrev pub IsAskedBy : CheckChoice → Style → Colors → Terminals → CheckRequest → Type 0
+IsAskedBy choice style shade terminals asked =
+    (asked.accepts ≡ accepts choice) × (asked.accepts_errors ≡ choice.accepts_errors) × (asked.is_forced ≡ choice.is_forced) × (asked.reviews ≡ choice.reviews)
+    × (asked.is_quiet ≡ choice.is_quiet) × (asked.explains ≡ choice.explains && not choice.is_quiet) × (asked.is_strict ≡ choice.is_strict)
+    × (asked.shown ≡ shown_of choice style) × (asked.format ≡ format_of style) × (asked.colors ≡ shade)
+    × (asked.wants_progress ≡ terminals.errors && not choice.reviews)
 
 -- what is wrong with a review: what it asks about isn't shown, or it can't ask
 abbrev pub review_fault : CheckChoice → Style → Terminals → Option UsageError

@@ -1,16 +1,24 @@
 -- What is said of a script that was written with its outputs. (This project's.)
-use Rattle.std.specs.Prelude.{ℕ, if◌then◌else◌, List, []}
+use Rattle.std.specs.Prelude.{ℕ, if◌then◌else◌, List, [], Result, Ok, Err}
 use Rattle.std.specs.List.{flat_map}
 use Rattle.rb_script.specs.Lines.{Line}
 use Rattle.rb_script.specs.Script.{PlainBlock}
 use Rattle.rb_script.specs.Reading.{directive_of}
+use Rattle.rb_bench.specs.declared.fault.BenchFault.{BenchFault}
+use Rattle.rb_report.specs.declared.check.status.Status.{Status}
 use Rattle.rb_report.specs.Headings.{note_text}
 use Rattle.rb_report.specs.Hints.{hint_text}
 use Rattle.rb_report.specs.Notices.{warning_text}
 use Rattle.rb_report.specs.Suggestions.{suggested}
+use Rattle.rb_program.specs.declared.rewriting.Rewritten.{Rewritten}
 use Rattle.rb_script_report.specs.declared.warning.Warning.{Warning}
 use Rattle.rb_script_report.specs.Checked.{head_of, of_each}
 use Rattle.rb_script_report.specs.Errors.{first_line, is_unexpected}
+
+-- the status of a script that is written with its outputs, whatever is noted on it
+abbrev pub status_of_rewriting : Result Rewritten BenchFault → Result Status BenchFault
+status_of_rewriting (Ok rewritten) = Ok rewritten.status
+status_of_rewriting (Err fault) = Err fault
 
 -- a directive whose output is an error, which the script, of these lines, doesn't say is expected
 abbrev pub error_noted : List Line → List ℕ → ℕ → PlainBlock → List Line → List ℕ

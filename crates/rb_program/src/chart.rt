@@ -22,7 +22,7 @@ pub(crate) fn chart<R: Files + Input + Print + AllocGlobal>(
     };
     let status = write_document(rt, file, DocumentKind::Chart(part))?;
     if status == Status::Refused {
-        return Err(ProgramError::TooLarge);
+        return Err(ProgramError::ChartTooLarge);
     }
     Ok(status)
 }

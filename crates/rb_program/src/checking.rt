@@ -1,7 +1,7 @@
 //! `raftbench check PATH..`: scripts and folders of scripts.
 
-ghost use Rattle.std.specs.Prelude.{◌≡◌, ◌≢◌, IfOk, IsOk, MatchOption, Err};
-ghost use Rattle.rb_program.specs.Choices.{accepts, review_fault, shown_of};
+ghost use Rattle.std.specs.Prelude.{◌≡◌, ◌≢◌, IfOk, IsOk, MatchOption, Err, None, Some, option_map, string_bytes};
+ghost use Rattle.rb_program.specs.Choices.{IsAskedBy, accepts, color_choice_of, review_fault, shown_of, style_of};
 
 use crate::clusters::Clusters;
 use crate::colors::{ColorChoice, color_choice_of, colors};
@@ -10,8 +10,8 @@ use crate::style::{Style, style_of};
 use crate::target::targets;
 use crate::usage_error::{UsageError, misused};
 use rb_args::CheckChoice;
-use rb_check::{CheckRequest, check};
-use rb_report::check::Status;
+use rb_check::{CheckRequest, Target, check};
+use rb_report::check::{Colors, Status};
 use rb_script_report::Detail;
 use std::alloc::Global;
 use std::io::Write;
@@ -42,8 +42,25 @@ pub fn check_all<R: Files + Input + Print + Env + Clock + AllocGlobal, E: Write 
 {
     let (color, style) = colors_and_style(rt.alloc(), choice, terminals)?;
     let targets = targets(rt, &choice.paths)?;
-    let asked = CheckRequest {
-        targets: &targets,
+    let colors = colors(rt, color, terminals.output);
+    let asked = request(choice, &targets, style, colors, terminals);
+    Ok(check(rt, &mut Clusters, asked, errors)?)
+}
+
+// What the command line asks for.
+fn request<'a>(
+    choice: &'a CheckChoice,
+    targets: &'a [Target],
+    style: Style,
+    colors: Colors,
+    terminals: Terminals,
+) -> CheckRequest<'a>
+    ensures asked { IsAskedBy choice.now style colors terminals result }
+    ensures targets { result.targets.now ≡ targets.now }
+    ensures filters { result.filters.now ≡ choice.now.filters.items }
+{
+    CheckRequest {
+        targets,
         filters: &choice.filters,
         accepts: accepts(choice),
         accepts_errors: choice.accepts_errors,
@@ -54,10 +71,9 @@ pub fn check_all<R: Files + Input + Print + Env + Clock + AllocGlobal, E: Write 
         is_strict: choice.is_strict,
         shown: shown(choice, style),
         format: style.format(),
-        colors: colors(rt, color, terminals.output),
+        colors,
         wants_progress: terminals.errors && !choice.reviews,
-    };
-    Ok(check(rt, &mut Clusters, asked, errors)?)
+    }
 }
 
 fn accepts(choice: &CheckChoice) -> bool
@@ -71,14 +87,18 @@ fn colors_and_style(
     alloc: Global,
     choice: &CheckChoice,
     terminals: Terminals,
-) -> Result<(ColorChoice, Style), ProgramError> {
+) -> Result<(ColorChoice, Style), ProgramError>
+    ensures { IfOk result (λ form. (color_choice_of (option_map string_bytes choice.now.color) ≡ Some form.0) × (style_of (option_map string_bytes choice.now.format) ≡ Some form.1) × (review_fault choice.now form.1 terminals ≡ None)) }
+{
     let color = color_choice_asked(alloc, choice)?;
     let style = style_asked(alloc, choice)?;
     check_review(choice, style, terminals)?;
     Ok((color, style))
 }
 
-fn color_choice_asked(alloc: Global, choice: &CheckChoice) -> Result<ColorChoice, ProgramError> {
+fn color_choice_asked(alloc: Global, choice: &CheckChoice) -> Result<ColorChoice, ProgramError>
+    ensures { IfOk result (λ color. color_choice_of (option_map string_bytes choice.now.color) ≡ Some color) }
+{
     match color_choice_of(choice.color.as_deref()) {
         Some(color) => Ok(color),
         None => match misused(alloc, choice.color.as_deref()) {
@@ -88,7 +108,9 @@ fn color_choice_asked(alloc: Global, choice: &CheckChoice) -> Result<ColorChoice
     }
 }
 
-fn style_asked(alloc: Global, choice: &CheckChoice) -> Result<Style, ProgramError> {
+fn style_asked(alloc: Global, choice: &CheckChoice) -> Result<Style, ProgramError>
+    ensures { IfOk result (λ style. style_of (option_map string_bytes choice.now.format) ≡ Some style) }
+{
     match style_of(choice.format.as_deref()) {
         Some(style) => Ok(style),
         None => match misused(alloc, choice.format.as_deref()) {

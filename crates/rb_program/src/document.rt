@@ -27,6 +27,18 @@ pub(crate) enum DocumentKind {
     Chart(ChartPart),
 }
 
+/// Writes the page of the script in the file, or on standard input.
+pub(crate) fn page<R: Files + Input + Print + AllocGlobal>(
+    rt: &R,
+    file: &str,
+) -> Result<Status, ProgramError> {
+    let status = write_document(rt, file, DocumentKind::Page)?;
+    if status == Status::Refused {
+        return Err(ProgramError::PageTooLarge);
+    }
+    Ok(status)
+}
+
 /// Writes a document of the script in the file, or on standard input.
 pub(crate) fn write_document<R: Files + Input + Print + AllocGlobal>(
     rt: &R,

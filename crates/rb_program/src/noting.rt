@@ -6,8 +6,7 @@ ghost use Rattle.rb_replay.specs.Run.{outputs};
 ghost use Rattle.rb_script_report.specs.Layouts.{IsLayout};
 ghost use Rattle.rb_program.specs.Notes.{error_noted, errors_noted, warnings_noted};
 
-use crate::clusters::Clusters;
-use rb_check::run_script;
+use rb_check::ScriptRun;
 use rb_machine::Machine;
 use rb_replay::Session;
 use rb_report::check::{FileLine, put_note, put_warning};
@@ -18,11 +17,15 @@ use rb_script_report::{
 };
 use std::alloc::Global;
 
-/// The notes on the script of the bytes; none, if they are not a script or memory was refused.
-pub(crate) fn notes_of(alloc: Global, path: &[u8], bytes: &[u8]) -> Option<Vec<u8>> {
-    let Ok(run) = run_script(alloc, &mut Clusters, false, bytes) else {
-        return None;
-    };
+/// The notes on the script of the bytes, which ran; none, if memory was refused.
+pub(crate) fn notes_of<M: Machine>(
+    alloc: Global,
+    path: &[u8],
+    bytes: &[u8],
+    run: &ScriptRun<M>,
+) -> Option<Vec<u8>>
+    requires { IsLayout bytes.now run.now.session.script run.now.layout }
+{
     let Ok(doubts) = warnings(alloc, &run.session, &run.layout) else {
         return None;
     };

@@ -1,6 +1,6 @@
 //! The page of a script, from bytes to bytes.
 
-ghost use Rattle.std.specs.Prelude.{◌≡◌, ◌≢◌, ◌≤◌, ℕ, List, length, Err, IsOk, IfSome, OnOk};
+ghost use Rattle.std.specs.Prelude.{◌≡◌, ◌≢◌, ◌≤◌, ℕ, List, length, Err, IfOk, IsOk, IfSome, OnOk};
 ghost use Rattle.std.specs.Io.KnownBytes.{Consumes};
 ghost use Rattle.rb_text.specs.Asked.{AsksFor, Fails};
 ghost use Rattle.rb_script.specs.Reading.{early_fault};
@@ -18,7 +18,8 @@ use rb_text::{Source, read_up_to};
 use rb_view::steps::{Frame, put_page};
 use std::alloc::Global;
 
-/// Reads a script, runs it and writes its page, under this name. The answer is the program's status: `Matched`, or `Mismatched` where there are mismatches.
+/// Reads a script, runs it and writes its page, under this name. The answer is the program's status: `Matched`, or `Mismatched` where there are
+/// mismatches; `Refused` if a page has no room for its rows, of which nothing is written.
 ///
 /// # Errors
 ///
@@ -39,7 +40,7 @@ pub(crate) fn page_over<S: Source, W: Outlet>(
     ensures unfailed { OnOk result (Fails (S.asked source.old) (S.asked source.new) 0) }
     ensures answered { IfSome (S.left source.old) (λ all. TellsOver (page_joined frame.entry.front.now frame.entry.back.now name.now) all (S.left source.new) result (W.held writer.old) (W.held writer.new)) }
     // The output was flushed.
-    ensures handed { OnOk result (IsHandedOn (W.handed writer.new) (W.held writer.new)) }
+    ensures handed { IfOk result (λ status. status ≢ Status.Refused → IsHandedOn (W.handed writer.new) (W.held writer.new)) }
     // Without a failed call the result is not a failure.
     ensures io { S.gives_all source.old → W.takes_all writer.old → result ≢ Err BenchFault.Io }
 {
@@ -62,10 +63,12 @@ pub(crate) fn page_bytes<W: Outlet>(
     ensures answered { Tells (page_joined frame.entry.front.now frame.entry.back.now name.now) bytes.now result (W.held writer.old) (W.held writer.new) }
     // A script that is too long is refused whether or not there is memory.
     ensures early { IfSome (early_fault bytes.now) (λ fault. result ≡ Err (BenchFault.Script fault)) }
-    ensures handed { OnOk result (IsHandedOn (W.handed writer.new) (W.held writer.new)) }
+    ensures handed { IfOk result (λ status. status ≢ Status.Refused → IsHandedOn (W.handed writer.new) (W.held writer.new)) }
     ensures io { W.takes_all writer.old → result ≢ Err BenchFault.Io }
 {
-    let steps = read_steps(alloc, bytes)?;
+    let Some(steps) = read_steps(alloc, bytes)? else {
+        return Ok(Status::Refused);
+    };
     match write_out(writer, frame, name, &steps.texts) {
         Ok(()) => Ok(steps.status),
         Err(_) => Err(BenchFault::Io),

@@ -13,6 +13,7 @@ use rb_report::check::{Status, fault_line};
 use rb_script::ScriptFault;
 use rb_text::ReadFault;
 use rb_view::chart::MAX_EVENTS;
+use rb_view::steps::MAX_PAGE;
 use std::alloc::AllocError;
 use std::io;
 use std::rt::Env;
@@ -28,7 +29,9 @@ pub enum ProgramError {
     /// The file of this path couldn't be opened, and why.
     Unopened(String, io::Error),
     /// More happens than a picture has room for.
-    TooLarge,
+    ChartTooLarge,
+    /// A page has no room for the rows of what happens.
+    PageTooLarge,
     /// The file of this path is a folder, so it couldn't be read.
     Folder(String),
     Io,
@@ -45,7 +48,8 @@ impl Drop for ProgramError {
             | ProgramError::Unopened(_, _)
             | ProgramError::Folder(_)
             | ProgramError::Script(_)
-            | ProgramError::TooLarge
+            | ProgramError::ChartTooLarge
+            | ProgramError::PageTooLarge
             | ProgramError::Io
             | ProgramError::OutOfMemory => {}
         }
@@ -83,7 +87,8 @@ impl ProgramError {
                 tell_script(rt, *fault);
                 Status::Refused
             }
-            ProgramError::TooLarge => tell_too_large(rt),
+            ProgramError::ChartTooLarge => tell_chart_too_large(rt),
+            ProgramError::PageTooLarge => tell_page_too_large(rt),
             ProgramError::Unopened(_, _) | ProgramError::Folder(_) | ProgramError::Io => tell_io(
                 rt,
             ),
@@ -113,7 +118,8 @@ impl ProgramError {
             ProgramError::Clap(_)
             | ProgramError::OwnUsage(_)
             | ProgramError::Script(_)
-            | ProgramError::TooLarge
+            | ProgramError::ChartTooLarge
+            | ProgramError::PageTooLarge
             | ProgramError::Io
             | ProgramError::OutOfMemory => {}
         }
@@ -124,11 +130,20 @@ fn say<R: Eprint>(rt: &R, what: &str) {
     let _ = eprintln!(rt; "raftbench: {what}");
 }
 
-fn tell_too_large<R: Eprint>(rt: &R) -> Status
+fn tell_chart_too_large<R: Eprint>(rt: &R) -> Status
     ensures { result ≡ Status.Refused }
 {
     let _ = eprintln!(rt;
         "raftbench: a picture has room for {MAX_EVENTS} events: choose a part by --from and --until"
+    );
+    Status::Refused
+}
+
+fn tell_page_too_large<R: Eprint>(rt: &R) -> Status
+    ensures { result ≡ Status.Refused }
+{
+    let _ = eprintln!(rt;
+        "raftbench: a page has room for {MAX_PAGE} bytes of rows: divide the script, or see a part of it by chart"
     );
     Status::Refused
 }

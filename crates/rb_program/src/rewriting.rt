@@ -1,13 +1,28 @@
 //! `raftbench rewrite FILE` with notes for a reader.
 
+ghost use Rattle.std.specs.Prelude.{◌≡◌, ◌≢◌, Err, IfErr, IfOk, OnOk};
+ghost use Rattle.rb_script.specs.Script.{PlainScript};
+ghost use Rattle.rb_script.specs.Reads.{Reads};
+ghost use Rattle.rb_script.specs.Reading.{read_of};
+ghost use Rattle.rb_bench.specs.declared.running.Mode.TheVariants as modes;
+ghost use Rattle.rb_bench.specs.Faults.{TellsFault};
+ghost use Rattle.rb_bench.specs.Handed.{IsHandedOn};
+ghost use Rattle.rb_bench.specs.Runs.{Answers};
+ghost use Rattle.rb_program.specs.Notes.{status_of_rewriting};
+ghost use Rattle.rb_script_report.specs.Layouts.{IsLayout};
+
+use crate::clusters::Clusters;
 use crate::noting::notes_of;
 use crate::program_error::ProgramError;
-use crate::running::{ended, run, script};
-use rb_bench::{Mode, run_bytes};
-use rb_replay::is_checkpoint_interval;
+use crate::running::script;
+use rb_bench::{BenchFault, Mode, Outlet, write_run};
+use rb_check::{ScriptRun, run_script};
+use rb_cluster::Cluster;
+use rb_raftlog::SplitLog;
 use rb_report::check::Status;
 use rb_script::{MAX_SCRIPT, Through};
 use rb_text::{FailFast, ReadSource, read_up_to};
+use std::alloc::Global;
 use std::io;
 use std::io::{BufWriter, Write};
 use std::rt::Files;
@@ -17,26 +32,57 @@ use std::rt::Files;
 pub(crate) fn rewrite<R: Files + Input + Print + AllocGlobal, E: Write + Drop>(
     rt: &R,
     file: &str,
-    every: u64,
     errors: E,
 ) -> Result<Status, ProgramError> {
-    if !is_checkpoint_interval(every) {
-        return run(rt, file, Mode::Rewrite, every);
-    }
     let alloc = rt.alloc();
     let (path, bytes) = if file == "-" {
         ("standard input", input(rt)?)
     } else {
         (file, script(rt, file)?)
     };
-    let notes = notes_of(alloc, path.as_bytes(), &bytes);
     let mut writer = Through(BufWriter::new(alloc, FailFast(io::writer(rt)))?);
-    let status = ended(run_bytes(alloc, bytes, &mut writer, Mode::Rewrite, every))?;
+    let Rewritten { status, notes } = rewrite_bytes(alloc, path.as_bytes(), &bytes, &mut writer)?;
     if let Some(notes) = notes {
         let mut errors = errors;
         let _ = errors.write_all(&notes);
     }
     Ok(status)
+}
+
+// A script that is written with its outputs.
+#[derive(Drop)]
+struct Rewritten {
+    status: Status,
+    // The notes on it, if there is memory for them.
+    notes: Option<Vec<u8>>,
+}
+
+// Runs the script of the bytes once, and writes it with its outputs.
+fn rewrite_bytes<W: Outlet>(
+    alloc: Global,
+    path: &[u8],
+    bytes: &[u8],
+    writer: &mut W,
+) -> Result<Rewritten, BenchFault>
+    ensures answered { Answers modes.Rewrite bytes.now (status_of_rewriting result) (W.held writer.old) (W.held writer.new) }
+    ensures handed { OnOk result (IsHandedOn (W.handed writer.new) (W.held writer.new)) }
+    ensures io { W.takes_all writer.old → result ≢ Err BenchFault.Io }
+{
+    let run = run_once(alloc, bytes)?;
+    let status = write_run(&run.session, writer, Mode::Rewrite)?;
+    let notes = notes_of(alloc, path, bytes, &run);
+    Ok(Rewritten { status, notes })
+}
+
+// The run of the script of the bytes.
+fn run_once(alloc: Global, bytes: &[u8]) -> Result<ScriptRun<Cluster<SplitLog>>, BenchFault>
+    ensures script { IfOk result (λ run. IsLayout bytes.now run.session.script run.layout) }
+    ensures only { (s : PlainScript) → Reads bytes.now s → IfErr result (λ fault. fault ≡ BenchFault.OutOfMemory) }
+    ensures refused { IfErr result (λ fault. TellsFault fault (read_of bytes.now)) }
+    ensures own { IfErr result (λ fault. (fault ≢ BenchFault.Io) × (fault ≢ BenchFault.Spacing)) }
+{
+    let run = run_script(alloc, &mut Clusters, false, bytes)?;
+    Ok(run)
 }
 
 fn input<R: Input + AllocGlobal>(rt: &R) -> Result<Vec<u8>, ProgramError> {

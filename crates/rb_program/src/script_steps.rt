@@ -1,6 +1,6 @@
 //! The steps of the script that some bytes are.
 
-ghost use Rattle.std.specs.Prelude.{◌≡◌, ◌≢◌, Err, IfErr, IfOk, IfSome};
+ghost use Rattle.std.specs.Prelude.{◌≡◌, ◌≢◌, Err, IfErr, IfOk, IfSome, MatchOption};
 ghost use Rattle.rb_script.specs.HeadLines.{AreHeadLines};
 ghost use Rattle.rb_script.specs.Lines.{lines};
 ghost use Rattle.rb_script.specs.Script.{PlainScript};
@@ -9,7 +9,7 @@ ghost use Rattle.rb_script.specs.Reading.{early_fault, read_of};
 ghost use Rattle.rb_replay.specs.Report.{mismatches};
 ghost use Rattle.rb_bench.specs.Faults.{TellsFault};
 ghost use Rattle.rb_bench.specs.Runs.{status_of};
-ghost use Rattle.rb_program.specs.Written.{AreRowsOf, AreStepsOf};
+ghost use Rattle.rb_program.specs.Written.{AreRowsOf, AreStepsOf, IsPastPage, RowsHaveNoRoom};
 
 use crate::reading::read_script;
 use rb_bench::BenchFault;
@@ -29,17 +29,17 @@ pub(crate) struct ScriptSteps {
     pub(crate) status: Status,
 }
 
-// Runs a script, which was read of the bytes, each directive once, and gives a session on it and its rows.
+// Runs a script, which was read from the bytes, each directive once, and gives a session on it and its rows; none only if a page has no room for them.
 fn rows<M: StepMachine>(
     alloc: Global,
     read: ScriptWithLines,
     bytes: &[u8],
-) -> Result<(Session<M>, Lines), AllocError>
+) -> Result<Option<(Session<M>, Lines)>, AllocError>
     requires reads { Reads bytes.now read.script }
     requires lines { read.lines ≡ lines bytes.now }
     requires heads { AreHeadLines 1 (lines bytes.now) read.script.blocks read.heads.items }
-    ensures script { IfOk result (λ ran. ran.0.script ≡ read.script) }
-    ensures rows { IfOk result (λ ran. AreRowsOf bytes.now read.script ran.1) }
+    ensures script { IfOk result (λ ran. IfSome ran (λ r. r.0.script ≡ read.script)) }
+    ensures rows { IfOk result (λ ran. MatchOption ran (RowsHaveNoRoom bytes.now read.script) (λ r. AreRowsOf bytes.now read.script r.1)) }
 {
     let ran = steps_of(alloc, read, bytes)?;
     Ok(ran)
@@ -56,13 +56,13 @@ pub(crate) fn status<M: Machine>(session: &Session<M>) -> Status
     }
 }
 
-/// Reads the script of the bytes, runs it once, and gives its steps.
+/// Reads the script of the bytes, runs it once, and gives its steps; none only if a page has no room for their rows.
 ///
 /// # Errors
 ///
 /// `Script` if the bytes are not a script, and `OutOfMemory`.
-pub(crate) fn read_steps(alloc: Global, bytes: &[u8]) -> Result<ScriptSteps, BenchFault>
-    ensures read { IfOk result (λ steps. AreStepsOf bytes.now steps.texts steps.status) }
+pub(crate) fn read_steps(alloc: Global, bytes: &[u8]) -> Result<Option<ScriptSteps>, BenchFault>
+    ensures read { IfOk result (λ steps. MatchOption steps (IsPastPage bytes.now) (λ s. AreStepsOf bytes.now s.texts s.status)) }
     // A script is refused only if memory is refused.
     ensures only { (s : PlainScript) → Reads bytes.now s → IfErr result (λ fault. fault ≡ BenchFault.OutOfMemory) }
     ensures refused { IfErr result (λ fault. TellsFault fault (read_of bytes.now)) }
@@ -72,11 +72,14 @@ pub(crate) fn read_steps(alloc: Global, bytes: &[u8]) -> Result<ScriptSteps, Ben
     ensures own { IfErr result (λ fault. (fault ≢ BenchFault.Io) × (fault ≢ BenchFault.Spacing)) }
 {
     let read = read_script(alloc, bytes)?;
-    let Ok((session, texts)) = rows::<Cluster<SplitLog>>(alloc, read, bytes) else {
+    let Ok(ran) = rows::<Cluster<SplitLog>>(alloc, read, bytes) else {
         return Err(BenchFault::OutOfMemory);
     };
-    Ok(ScriptSteps {
+    let Some((session, texts)) = ran else {
+        return Ok(None);
+    };
+    Ok(Some(ScriptSteps {
         texts,
         status: status(&session),
-    })
+    }))
 }

@@ -1,7 +1,7 @@
 //! The format of a report.
 
 ghost use Rattle.std.specs.Prelude.{◌≡◌, option_map};
-ghost use Rattle.rb_program.specs.Choices.{is_text, style_of};
+ghost use Rattle.rb_program.specs.Choices.{format_of, is_text, style_of};
 
 use rb_check::Format;
 
@@ -26,7 +26,9 @@ impl Style {
     }
 
     /// The format for programs, if it is one.
-    pub(crate) fn format(self) -> Option<Format> {
+    pub(crate) fn format(self) -> Option<Format>
+        ensures { result ≡ format_of self }
+    {
         match self {
             Style::Text => None,
             Style::Program(format) => Some(format),

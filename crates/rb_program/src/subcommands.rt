@@ -4,7 +4,7 @@ ghost use Rattle.std.specs.Prelude.{◌≡◌, None, Err};
 
 use crate::chart::chart;
 use crate::checking::Terminals;
-use crate::document::{DocumentKind, write_document};
+use crate::document::{DocumentKind, page, write_document};
 use crate::look::look_at;
 use crate::program_error::ProgramError;
 use crate::rewriting::rewrite;
@@ -13,6 +13,7 @@ use crate::usage_error::{UsageError, usage_error_of_every};
 use crate::work::{Work, work_of};
 use rb_args::{CommandChoice, ScriptCommand};
 use rb_bench::Mode;
+use rb_replay::is_checkpoint_interval;
 use rb_report::check::Status;
 use std::io::Write;
 use std::rt::Files;
@@ -40,8 +41,9 @@ pub fn carry_out<R: Files + Input + Print + AllocGlobal, E: Write + Drop>(
     }
     let every = choice.every.as_deref();
     let ended = match work_of(command, every) {
-        Some(Work::Rewriting(every)) if terminals.errors || choice.warns => {
-            rewrite(rt, file, every, errors)
+        Some(Work::Rewriting(every))
+            if is_checkpoint_interval(every) && (terminals.errors || choice.warns) => {
+            rewrite(rt, file, errors)
         }
         Some(work) => done(rt, work, file, choice),
         None => Err(ProgramError::Usage(UsageError::Spacing)),
@@ -63,7 +65,7 @@ fn done<R: Files + Input + Print + AllocGlobal>(
         Work::Rewriting(every) => run(rt, file, Mode::Rewrite, every),
         Work::Session(every) => session(rt, file, every),
         Work::Look => look_at(rt, file),
-        Work::Page => write_document(rt, file, DocumentKind::Page),
+        Work::Page => page(rt, file),
         Work::Chart => chart(rt, file, choice.from.as_deref(), choice.until.as_deref()),
         Work::Trace => write_document(rt, file, DocumentKind::Trace),
     }

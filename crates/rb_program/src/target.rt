@@ -1,6 +1,6 @@
 //! The PATHs of `check`, and FILE:LINE.
 
-ghost use Rattle.std.specs.Prelude.{◌≡◌, option_map};
+ghost use Rattle.std.specs.Prelude.{◌≡◌, IfOk, option_map, string_bytes};
 ghost use Rattle.rb_program.specs.Choices.{path_and_line};
 
 use rb_check::Target;
@@ -36,7 +36,9 @@ pub(crate) fn targets<R: Files + AllocGlobal>(
     Ok(all)
 }
 
-fn target(alloc: Global, path: &str, line: Option<usize>) -> Result<Target, AllocError> {
+fn target(alloc: Global, path: &str, line: Option<usize>) -> Result<Target, AllocError>
+    ensures { IfOk result (λ target. (string_bytes target.path ≡ path.now) × (target.line ≡ line)) }
+{
     let path = String::from_str(alloc, path)?;
     Ok(Target { path, line })
 }
