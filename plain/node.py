@@ -629,8 +629,8 @@ class Node:
         return Hard(self.term, self.vote, self.commit)
 
     def has_ready(self) -> bool:
-        rest = self.restored or self.commit > self.applied or self.sent or self.waiting or self.served
-        return bool(self.hard_state() != self.saved or self.last() > self.durable or rest)
+        rest = self.sent or self.waiting or self.restored or self.commit > self.applied or self.served
+        return bool(rest or self.last() > self.durable or self.hard_state() != self.saved)
 
     def ready(self) -> Ready:
         hard = self.hard_state()

@@ -11,7 +11,7 @@ from .compare import NEVER, Broken, Comparison, Difference, are_joined, failure
 from .likes import Switched
 from .process import Failed, Process
 from .promises import name_of
-from .script import Step, blocks_of
+from .script import Step, blocks_of, directive_of
 from .stage import allowed
 from .steps import steps_above
 from .watched import WatchedHosts, WatchedReference, Watching
@@ -63,18 +63,18 @@ class PromiseRun:
 
     def carry_out(self, place: int, block: Block) -> Difference | None:
         """Runs a directive; answers the failure of a call, or None."""
-        name = block.directive().name.decode("latin-1")
+        directive = directive_of(block)
         try:
             if block.lead and self.chosen.has_steps:
                 self.cluster.carry_out(allowed(steps_above(block), self.process))
                 self.look(place)
-            lines = self.cluster.run(block.directive())
+            lines = self.cluster.run(directive)
             self.came.append(lines)
             if NEVER in lines:
                 self.note(place, f"comes to rest: {NEVER}")
             self.look(place)
         except Failed as failed:
-            return failure(place, name, failed, self.cluster.role_before)
+            return failure(place, directive.name.decode("latin-1"), failed, self.cluster.role_before)
         return None
 
     def look(self, place: int) -> None:

@@ -12,6 +12,7 @@ from plain.texts import config_text, content_text, entry_text, log_texts, messag
 from .likes import Switched
 from .process import Failed, Process
 from .promises import name_of
+from .script import directive_of
 from .stage import Called, Stage, allowed
 from .steps import steps_above
 from .watched import WatchedHosts, WatchedReference, breaks
@@ -238,7 +239,7 @@ def after_of(called: Called, cluster: Stage) -> str:
 
 def are_joined(blocks: Sequence[Block]) -> bool:
     """Whether a script joins clusters by hand: nodes that begin with configurations of their own, or snapshots that nobody needs."""
-    heads = [block.directive() for block in blocks]
+    heads = [directive_of(block) for block in blocks]
     begun = [arguments for name, arguments, _ in heads if name == b"add-nodes" and any(a.key == b"voters" for a in arguments)]
     return len(begun) > 1 or any(name == b"send-snapshot" for name, *_ in heads)
 
@@ -273,19 +274,20 @@ class Run:
 
     def carry_out(self, place: int, block: Block) -> bool:
         """Runs a directive on both sides; answers whether the nodes can go on."""
-        name = block.directive().name.decode("latin-1")
+        directive = directive_of(block)
+        name = directive.name.decode("latin-1")
         ours, theirs = self.beside.ours, self.beside.theirs
         steps = allowed(steps_above(block), self.process) if self.chosen.has_steps and block.lead else []
         self.compared += self.first is None
         if steps:
             ours.carry_out(steps)
             if not self.on_theirs(place, "a step of the runner", lambda: theirs.carry_out(steps)):
-                self.outputs.append(ours.run(block.directive()))
+                self.outputs.append(ours.run(directive))
                 return False
             if self.first is None:
                 self.first = self.beside.differs(place, steps[-1].name, [], [])
-        self.outputs.append(ours.run(block.directive()))
-        if not self.on_theirs(place, name, lambda: self.came.append(theirs.run(block.directive()))):
+        self.outputs.append(ours.run(directive))
+        if not self.on_theirs(place, name, lambda: self.came.append(theirs.run(directive))):
             return False
         if self.first is None:
             try:

@@ -32,7 +32,8 @@ MOST_KNOWN_FAILURES = 4
 # Of this many scripts without the runner's steps the proved program is asked about one.
 JUDGED = 40
 CALIBRATING = 24
-# Of so many scripts that are held to promises alone, one has reads at nodes that don't lead too. Nodes that pass these on aren't asked at once.
+# Of so many scripts that are held to promises alone, one has reads at nodes that don't lead too. Nodes that forward these are asked at once with the
+# switch reads-are-forwarded.
 READ_EVERYWHERE = 4
 # So many scripts are asked at once in any case; after that only if one of so many agreed.
 MOST_TRIED, LEAST_AGREED = 40, 6

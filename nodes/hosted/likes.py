@@ -12,6 +12,7 @@ from plain.node import Node
 from .rules_calls import CallRules
 from .rules_changes import ChangeRules
 from .rules_own import OwnRules
+from .rules_reads import ReadRules
 from .rules_terms import TermRules
 from .rules_views import ViewRules
 from .switches import Unknown, switches_of
@@ -19,7 +20,7 @@ from .switches import Unknown, switches_of
 LIKE = pathlib.Path(__file__).resolve().parents[1] / "like"
 
 
-class Switched(TermRules, ViewRules, ChangeRules, OwnRules):
+class Switched(ReadRules, TermRules, ViewRules, ChangeRules, OwnRules):
     """The plain node with the rules of its switches."""
 
 

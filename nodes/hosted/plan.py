@@ -9,7 +9,7 @@ from typing import Any, Callable, NamedTuple, Sequence
 from plain.config import Config
 from plain.node import Node
 from plain.records import Message, Numbered, Options, Ready
-from plain.script import Block, Directive
+from plain.script import Block
 
 from .alone import Alone, PromiseRun
 from .compare import NEVER, Comparison, Difference, failure
@@ -19,6 +19,7 @@ from .node import options_out
 from .process import Failed, Process
 from .promises import Promises
 from .protocol import Hello, Json, body_out, change_out, config_out, data_out
+from .script import directive_of
 from .stage import Reference, allowed
 from .steps import steps_above
 from .watched import Watching
@@ -96,6 +97,7 @@ class Planned(Reference):
         self.hello, self.has_views = hello, has_views
         self.asked: list[Asked] = []
         self.met: set[int] = set()
+        self.notes_where = True  # where the script leads
         self.number = 0
         self.steps_to = 0  # the node that the last call is a step of, if more may join it
 
@@ -149,12 +151,15 @@ class Planned(Reference):
         self.touched.add(id)
 
     def call(self, id: int, name: str, *parts: Any) -> None:
-        node = self.node(id)
-        before = situation(node, id in self.restarted, id in self.under_way)
-        relation = (*message_relation(node, parts[0]), *view_relation(node, parts[0])) if name == "step" else ()
-        role, term, commit, last = node.role, node.term, node.commit, node.last()
-        super().call(id, name, *parts)
-        self.met.add(number_of((self.what, before, relation, effect(node, role, term, commit, last))))
+        if self.notes_where:
+            node = self.node(id)
+            before = situation(node, id in self.restarted, id in self.under_way)
+            relation = (*message_relation(node, parts[0]), *view_relation(node, parts[0])) if name == "step" else ()
+            role, term, commit, last = node.role, node.term, node.commit, node.last()
+            super().call(id, name, *parts)
+            self.met.add(number_of((self.what, before, relation, effect(node, role, term, commit, last))))
+        else:
+            super().call(id, name, *parts)
         if name == "step":
             self.ask_step(id, parts[0])
         else:
@@ -195,9 +200,12 @@ class Planned(Reference):
         if id not in self.under_way:
             return False
         node = self.node(id)
-        before, role, term, commit, last = situation(node, id in self.restarted, False), node.role, node.term, node.commit, node.last()
-        super().finish(id)
-        self.met.add(number_of(("advance", before, effect(node, role, term, commit, last))))
+        if self.notes_where:
+            before, role, term, commit, last = situation(node, id in self.restarted, False), node.role, node.term, node.commit, node.last()
+            super().finish(id)
+            self.met.add(number_of(("advance", before, effect(node, role, term, commit, last))))
+        else:
+            super().finish(id)
         self.ask(id, "advance")
         self.asked[-1] = self.asked[-1]._replace(end=(node.last(), node.last_term(), node.durable))
         return True
@@ -232,14 +240,6 @@ class Planned(Reference):
             self.asked.append(Asked({"call": "log", "node": id}, [], entries=node.entries_from(node.base + 1), end=end))
 
 
-known_reduced = functools.lru_cache(maxsize=50_000)(reduced)
-
-
-@functools.lru_cache(maxsize=50_000)
-def directive_of(block: Block) -> Directive:
-    return block.directive()
-
-
 class Plan(NamedTuple):
     """What a script asks: `places` are those of the directives of its calls, from 1 on."""
 
@@ -253,7 +253,7 @@ class Plan(NamedTuple):
 
 def plan_of(blocks: Sequence[Block], process: Process, chosen: Comparison) -> Plan:
     """Runs a script on the reference."""
-    kept = [(place, less) for place, block in enumerate(blocks, 1) if (less := known_reduced(block, process.hello)) is not None]
+    kept = [(place, less) for place, block in enumerate(blocks, 1) if (less := reduced(block, process.hello)) is not None]
     cluster = Planned(chosen.kind, chosen.begins_at_0, process.hello, "views" in chosen.aspects and "status" not in process.without)
     places: list[tuple[int, Block]] = []
     is_at_rest = True
@@ -449,7 +449,7 @@ class PlannedAlone(Watching, Planned):
 
     def __init__(self, kind: type[Node], begins_at_0: bool, hello: Hello) -> None:
         super().__init__(kind, begins_at_0, hello, False)
-        self.promises = Promises()
+        self.promises, self.notes_where = Promises(), False
 
 
 def keeps_promises_at_once(blocks: Sequence[Block], process: Process, chosen: Comparison, has_all_reads: bool) -> Alone | None:

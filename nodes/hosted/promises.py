@@ -5,9 +5,10 @@ Scripts that join clusters by hand break promises of any Raft: so the reference 
 """
 from __future__ import annotations
 
-from typing import Mapping, NamedTuple
+from typing import Iterator, Mapping, NamedTuple, Sequence
 
 from plain.config import Config, both
+from plain.node import Node
 from plain.records import AnyNode, Entry, Message, Ready
 
 # The promises, each with its place in the thesis.
@@ -45,21 +46,50 @@ class Known(NamedTuple):
     config: Config
 
 
-class Saved(NamedTuple):
-    """What a node has saved: its term and vote, and its entries by index."""
-
-    term: int
-    vote: int
-    entries: Mapping[int, Entry]
-
-
 def name_of(broken: str) -> str:
     """The promise that a text is about."""
     return broken.split(":")[0]
 
 
-def log_of(node: AnyNode) -> dict[int, Entry]:
-    return dict(node.entries_from(node.base + 1))
+class Held:
+    """A log: entries after an index, which are the first so many of a list that only grows."""
+
+    def __init__(self, base: int, entries: Sequence[Entry]) -> None:
+        self.base, self.list, self.length = base, entries, len(entries)
+
+    def __contains__(self, index: int) -> bool:
+        return self.base < index <= self.last()
+
+    def __eq__(self, other: object) -> bool:
+        if not isinstance(other, Held) or self.length != other.length:
+            return False
+        return not self.length or self.base == other.base and (self.list is other.list or self.list[:self.length] == other.list[:other.length])
+
+    def last(self) -> int:
+        return self.base + self.length
+
+    def get(self, index: int) -> Entry | None:
+        at = index - self.base - 1
+        return self.list[at] if 0 <= at < self.length else None
+
+    def pairs(self, most: int) -> Iterator[tuple[int, Entry]]:
+        """Indexes with their entries, up to an index."""
+        return zip(range(self.base + 1, min(most, self.last()) + 1), self.list)
+
+
+NOTHING = Held(0, ())
+
+
+def log_of(node: AnyNode) -> Held:
+    return Held(node.base, node.entries if isinstance(node, Node) else [entry for _, entry in node.entries_from(node.base + 1)])
+
+
+class Saved(NamedTuple):
+    """What a node has saved: its term and vote, and its log."""
+
+    term: int
+    vote: int
+    entries: Held
 
 
 class Promises:
@@ -73,7 +103,7 @@ class Promises:
         self.before: dict[int, Known] = {}
         self.entries: dict[int, tuple[int, Entry, int]] = {}
         self.contents: dict[int, tuple[bytes, int]] = {}
-        self.logs: dict[int, dict[int, Entry]] = {}
+        self.logs: dict[int, Held] = {}
         self.saved: dict[int, Saved] = {}
         self.acknowledged: dict[int, dict[int, Entry]] = {}
         self.untold: dict[int, dict[int, Entry]] = {}  # acknowledgements that aren't sent yet
@@ -90,7 +120,7 @@ class Promises:
 
     def look(self, node: AnyNode, nodes: Mapping[int, AnyNode], is_restarted: bool = False) -> None:
         id, was = node.id, self.before.get(node.id)
-        self.saved.setdefault(id, Saved(node.term, node.vote, {}))
+        self.saved.setdefault(id, Saved(node.term, node.vote, NOTHING))
         now = self.before[id] = Known(node.role, node.term, node.commit, node.applied, node.config)
         if node.vote and self.votes.setdefault((id, node.term), node.vote) != node.vote:
             self.note(f"one vote per term: {id} voted for {self.votes[id, node.term]} and {node.vote} in term {node.term}")
@@ -149,31 +179,29 @@ class Promises:
                 if other != id and not (other in changed and other < id):
                     self.compare(id, self.logs[id], other, self.logs[other])
 
-    def look_at_committed(self, node: AnyNode, log: Mapping[int, Entry]) -> None:
+    def look_at_committed(self, node: AnyNode, log: Held) -> None:
         if self.shows("commit"):
-            for index, entry in log.items():
-                if index <= node.commit:
-                    _, first, who = self.entries.setdefault(index, (node.term, entry, node.id))
-                    if first != entry:
-                        self.note(f"no two nodes commit different entries: {who} and {node.id} do at {index}")
+            for index, entry in log.pairs(node.commit):
+                _, first, who = self.entries.setdefault(index, (node.term, entry, node.id))
+                if first != entry:
+                    self.note(f"no two nodes commit different entries: {who} and {node.id} do at {index}")
         if self.shows("applied", "content"):
             content, who = self.contents.setdefault(node.applied, (node.content, node.id))
             if content != node.content and node.applied:
                 self.note(f"no two nodes apply different entries: {who} and {node.id} do up to {node.applied}")
 
-    def look_at_leader(self, node: AnyNode, log: Mapping[int, Entry]) -> None:
+    def look_at_leader(self, node: AnyNode, log: Held) -> None:
         for index, (term, entry, _) in self.entries.items():
             if term < node.term and index > node.base and log.get(index) != entry:
                 return self.note(f"a leader has all committed entries: {node.id}, in term {node.term}, lacks {index}")
         return None
 
-    def compare(self, one: int, mine: Mapping[int, Entry], other: int, theirs: Mapping[int, Entry]) -> None:
+    def compare(self, one: int, mine: Held, other: int, theirs: Held) -> None:
         """Logs with an entry of the same index and term are the same up to it."""
-        shared = mine.keys() & theirs.keys()
-        agreed = max((index for index in shared if mine[index].term == theirs[index].term), default=0)
-        wrong = min((index for index in shared if index < agreed and mine[index] != theirs[index]), default=None)
-        if agreed and wrong is None and mine[agreed] != theirs[agreed]:
-            wrong = agreed
+        shared = range(max(mine.base, theirs.base) + 1, min(mine.last(), theirs.last()) + 1)
+        pairs = [(index, mine.list[index - mine.base - 1], theirs.list[index - theirs.base - 1]) for index in shared]
+        agreed = next((index for index, entry, its in reversed(pairs) if entry.term == its.term), 0)
+        wrong = next((index for index, entry, its in pairs if index <= agreed and entry != its), None)
         if wrong is not None:
             self.note(f"logs match: {min(one, other)} and {max(one, other)} agree at {agreed} and not at {wrong}")
 
@@ -203,14 +231,14 @@ class Promises:
             return self.note(f"acknowledged entries are held: {node.id} acknowledges {m.index}, which it lacks")
         if leader and leader.role == "leader" and leader.term == m.term == node.term and m.index in log:
             there = log_of(leader).get(m.index)
-            if there is not None and there != log[m.index]:
+            if there is not None and there != log.get(m.index):
                 self.note(f"acknowledged entries are held: {node.id} acknowledges {m.index} to {m.to}, which has another entry there")
-        self.untold.setdefault(node.id, {}).update((index, entry) for index, entry in log.items() if index <= m.index)
+        self.untold.setdefault(node.id, {}).update(log.pairs(m.index))
         return None
 
     def image(self, node: AnyNode) -> Saved:
         """What a node will have saved once what is ready now is saved."""
-        return Saved(node.term, node.vote, log_of(node) if self.shows("log") else {})
+        return Saved(node.term, node.vote, log_of(node) if self.shows("log") else NOTHING)
 
     def save(self, id: int, image: Saved) -> None:
         self.saved[id] = image
@@ -231,8 +259,9 @@ class Promises:
         if not self.shows("log"):
             return
         log, base = log_of(node), node.base
-        for name, kept in (("a restart keeps acknowledged entries", self.acknowledged.get(id, {})), ("a restart keeps saved entries", saved.entries)):
-            lost = next((index for index, entry in kept.items() if index > base and log.get(index) != entry), None)
+        acknowledged, all_saved = self.acknowledged.get(id, {}).items(), saved.entries.pairs(saved.entries.last())
+        for name, kept in (("a restart keeps acknowledged entries", acknowledged), ("a restart keeps saved entries", all_saved)):
+            lost = next((index for index, entry in kept if index > base and log.get(index) != entry), None)
             if lost is not None:
                 self.note(f"{name}: {id} lacks {lost}")
 

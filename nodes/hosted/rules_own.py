@@ -50,7 +50,9 @@ class OwnRules(Ruled):
             return
         waiting = len(self.waiting)
         super().send(kind, to, **parts)
-        if to != self.id and len(self.waiting) > waiting and self.is_in_order(self.waiting[-1]):
+        # An answer to itself that is no own one is to a snapshot that it was made to send itself.
+        is_message = to != self.id or self.on("own-answers-at-once")
+        if is_message and len(self.waiting) > waiting and self.is_in_order(self.waiting[-1]):
             self.sent.append(self.waiting.pop())
 
     def is_in_order(self, m: Message) -> bool:

@@ -4,7 +4,7 @@ from __future__ import annotations
 import functools
 from typing import NamedTuple, Sequence
 
-from plain.script import Block, Fault, read_block
+from plain.script import Block, Directive, Fault, read_block
 
 from .steps import RunnerStep
 
@@ -31,6 +31,11 @@ def block_of(step: Step) -> Block | None:
         return read_block("\n".join([*(each.text() for each in step.before), step.head, *step.given, "----", ""]).encode("latin-1"))
     except Fault:
         return None
+
+
+@functools.lru_cache(maxsize=50_000)
+def directive_of(block: Block) -> Directive:
+    return block.directive()
 
 
 def blocks_of(steps: Sequence[Step]) -> list[Block]:

@@ -62,9 +62,18 @@ def id_of(message: Message) -> int:
     return id(message)
 
 
-@functools.lru_cache(maxsize=20_000)
-def known_request(name: bytes, arguments: tuple[Argument, ...]) -> Request:
-    return Request(name, arguments)
+class KnownRequest(Request):
+    """A request whose ids are looked for once."""
+
+    def __init__(self, name: bytes, arguments: tuple[Argument, ...]) -> None:
+        super().__init__(name, arguments)
+        self.ids = super().named()
+
+    def named(self) -> list[int]:
+        return self.ids
+
+
+known_request = functools.lru_cache(maxsize=20_000)(KnownRequest)
 
 
 class Stage(Cluster):
@@ -117,7 +126,7 @@ class Stage(Cluster):
     # What is ready, in two halves
 
     def process(self, id: int) -> bool:
-        was_under_way = self.finish(id)
+        was_under_way = id in self.under_way and self.finish(id)
         if not self.nodes[id].has_ready():
             return was_under_way
         self.begin(id)

@@ -77,6 +77,7 @@ after each commit. Heartbeats have no commit. An answer counts only for the call
     "declined-campaign-forgets-leader": "a node that may not campaign forgets its leader",
     "compacted-is-refused": "an append is compared wherever it begins; if the entry before it was compacted and the log has others, it is refused",
     "snapshot-always-installed": "a snapshot is installed, also below what is committed, and later entries stay",
+    "reads-are-forwarded": "a follower forwards a read to its leader, which serves reads in their order, and early ones once it has committed in its term",
     "quorum-by-last-answers": "a leader steps down at the fourth tick after the last answers of a quorum",
 }
 

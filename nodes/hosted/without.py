@@ -1,6 +1,7 @@
 """Directives without what nodes are without, and with what they always do: neither side carries the rest out, and what is left still compares."""
 from __future__ import annotations
 
+import functools
 from typing import AbstractSet, Sequence
 
 from plain.script import Argument, Block, Directive
@@ -48,6 +49,7 @@ def always_on(always: AbstractSet[str]) -> dict[bytes, bytes]:
     return {key: b"1" if name == "inflight" else b"true" for key, name in OPTIONS.items() if name in always or f"{name}=1" in always}
 
 
+@functools.lru_cache(maxsize=50_000)
 def reduced(block: Block, hello: Hello) -> Block | None:
     """The block with what is left of its directive, or None where nothing is."""
     without = hello.without

@@ -4,6 +4,7 @@ when the process ends that started them, by whatever it ends.
 from __future__ import annotations
 
 import contextlib
+import gc
 import multiprocessing
 import multiprocessing.connection
 import os
@@ -17,6 +18,8 @@ from .process import Failed, Process
 
 FORKED = multiprocessing.get_context("fork")
 LOOK_SECONDS = 0.2
+# Scripts leave few cycles: Python's collector looks for them this seldom.
+COLLECTS = 50_000, 50, 1000
 
 
 class Worker(Protocol):
@@ -35,6 +38,7 @@ Task = Callable[[Any, Any], Any]
 def work(make: Callable[[], Worker], items: Any, results: Any) -> None:
     """What a worker does: pairs of a number and a list of tasks with their items, until there is None."""
     signal.signal(signal.SIGINT, signal.SIG_IGN)
+    gc.set_threshold(*COLLECTS)
     threading.Thread(target=end_with_parent, daemon=True).start()
     worker = make()
     try:
