@@ -62,7 +62,7 @@ def messages(*all: dict[str, object]) -> bytes:
 def test_each_view_executes_each_directive_once(room: pathlib.Path) -> None:
     need_tools()
     heads = read_with_lines(SCRIPT.read_bytes())[1]
-    for words in (["run"], ["rewrite"], ["check"], ["check", "--verbose"], ["check", "--why", "--verbose"], ["page"], ["chart"], ["trace"]):
+    for words in (["run"], ["rewrite"], ["rewrite", "--warn"], ["check"], ["check", "--verbose"], ["check", "--why", "--verbose"], ["page"], ["chart"], ["trace"]):
         assert executions(room, [*words, SCRIPT]) == len(heads), words
 
 

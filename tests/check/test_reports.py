@@ -263,6 +263,19 @@ def test_github(room: pathlib.Path) -> Iterator[str]:
                        (1, b"::error file=x%2Cy%3Az%25.txt,line=1,title=log-level info::- no%0A+ ok%0A(- expected, + output)\n", b""))
 
 
+def test_github_cuts_long_diffs(room: pathlib.Path) -> Iterator[str]:
+    """Of a diff of more than 4,096 bytes the whole lines within these are told, and how many bytes follow."""
+    for name, lines in {"long": [b"line %d of many" % at for at in range(300)], "wide": [b"x" * 5_000]}.items():
+        files(room, a_txt=b"log-level info\n----\n" + b"".join(line + b"\n" for line in lines))
+        _, shown, _ = run(room, "a.txt")
+        diff = shown.split(b"a.txt:1: log-level info\n", 1)[1].split(b"\n\n", 1)[0] + b"\n"
+        cut = diff.rfind(b"\n", 0, 4_096) + 1
+        _, output, _ = run(room, "--format", "github", "a.txt")
+        _, _, message = workflow_command(output.splitlines()[0])
+        if message != diff[:cut] + b".. %d more bytes\n(- expected, + output)" % (len(diff) - cut):
+            yield f"{name}: {message!r}, of {len(diff)} bytes"
+
+
 def test_accepting_for_programs(room: pathlib.Path) -> Iterator[str]:
     files(room, a_txt=BAD + b"\ncampain 1\n----\n", b_txt=BAD + b"log-level none\n")
     status, output, told = run(room, "--accept", "--format", "json", ".")

@@ -10,6 +10,8 @@ import time
 from collections.abc import Callable, Iterator
 
 from tests.harness import PROGRAM, Result
+from tests.page.program import PAST_ROOM
+from tests.page.scripts import to_and_fro
 
 # The output, the errors and the status.
 Answer = tuple[bytes, bytes, int]
@@ -130,6 +132,15 @@ def check_ends() -> Iterator[Result]:
         yield result(f"{mode} of messages", ends_soon("messages that nobody takes", mode, UNSENT, 40_000))
 
 
+def check_page() -> str | None:
+    """A page that has no room, by one directive or by many, is refused within 200 MiB."""
+    for script in (to_and_fro(1, 1000), to_and_fro(400, 1)):
+        came = answer(["page", "-"], script, 200 * KIB)
+        if came != (b"", PAST_ROOM, 3):
+            return f"{came[0][:200]!r}, {came[1]!r}, {came[2]}"
+    return None
+
+
 def check_edit() -> str | None:
     """An edit after which a session would print gigabytes is refused; the session goes on, and a later edit is made."""
     show, edit = b"show 5006\n", b"replace 5006 2\nlog-level debug\n----\n"
@@ -149,4 +160,5 @@ def results(word: str) -> Iterator[Result]:
     yield result("an empty script", problem)
     yield from check_steps(least)
     yield from check_ends()
+    yield result("pages that have no room", check_page())
     yield result("an edit that prints gigabytes", check_edit())

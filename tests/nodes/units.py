@@ -320,6 +320,13 @@ def part_other_switches() -> Checks:
     alone = ("add-nodes 2 voters=(1,2) index=10 checkquorum=true", "campaign 1", "stabilize", *["tick-heartbeat 1"] * 3)
     roles = [[switched(*name, *alone, *more).nodes[1].role for more in ((), ("tick-heartbeat 1",))] for name in (["quorum-by-last-answers"],)]
     yield "quorum-by-last-answers", is_equal(roles, [["leader", "follower"]])
+    reads = (*changed, "# node: read 2 / process-ready 2")
+    kinds = [[m.kind for m in cluster.network.pending] for cluster in (run(Reference(), *reads), switched("reads-are-forwarded", *reads))]
+    served = [(id, read.index) for id, ready in switched("reads-are-forwarded", *reads, "stabilize").readies for read in ready.reads]
+    yield "reads-are-forwarded", is_equal((kinds, served), ([[], ["MsgReadIndex"]], [(2, 11)]))
+    early = (*changed, "campaign 2", "process-ready 2", "deliver-msgs 3", "process-ready 3", "deliver-msgs 2", "# node: read 2 / stabilize")
+    served = [(id, read.index) for id, ready in switched("reads-are-forwarded", *early).readies for read in ready.reads]
+    yield "and early ones wait for the first commit", is_equal(served, [(2, 12)])
     applied = ("propose 1 a", "stabilize", "# node: restart 2 / raft-state")
     yield "restart-keeps-applied", is_equal([run(Reference(), *changed, *applied).nodes[2].content, switched("restart-keeps-applied", *changed, *applied).nodes[2].content], [b"", b"a"])
     snapshots = [cluster.nodes[1].snapshot_for(2).snapshot for cluster in (run(Reference(), *changed), switched("last-snapshot-sent", *changed))]
@@ -446,14 +453,13 @@ def part_memory() -> Checks:
 FLEET = """
 import sys, time
 sys.path.insert(0, sys.argv[1])
+from nodes.hosted.process import Process
 from nodes.hosted.workers import Fleet
 
 class Busy:
-    class process:
-        name = "busy"
-        close = staticmethod(lambda: None)
+    process = Process("true")
 
-def work(worker, item):
+def work(worker: Busy, item: bytes) -> int:
     time.sleep(float(sys.argv[3]))
     return 1
 

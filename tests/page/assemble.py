@@ -2,6 +2,7 @@
 
     assemble.py before|after       writes one of the two
     assemble.py page < JSON        writes a whole page
+    assemble.py renew < PAGE       writes a page anew: its rows as they are, and what is around them as the files are today
     assemble.py sources            writes the sources of rb_view's frame, in which the program has the same
 """
 from __future__ import annotations
@@ -12,7 +13,7 @@ import itertools
 import pathlib
 import re
 import sys
-from collections.abc import Sequence
+from collections.abc import Callable, Sequence
 
 sys.dont_write_bytecode = True
 sys.path[:1] = [str(pathlib.Path(__file__).resolve().parents[2])]
@@ -92,6 +93,11 @@ def parts() -> tuple[str, str]:
     """What stands before the JSON text, and what stands after it."""
     head, body, between, end = elements()
     return head + "".join(styles()) + body, between + "".join(codes()) + end
+
+
+def rows_in(page: str) -> str:
+    """The JSON text of a page, in which no element can end."""
+    return page.split('<script type="application/json" id="steps">', 1)[1].split("</script>", 1)[0]
 
 
 # As sources
@@ -180,7 +186,10 @@ def write_sources() -> str:
 
 def main() -> None:
     before, after = parts()
-    text = {"before": lambda: before, "after": lambda: after, "page": lambda: before + sys.stdin.read() + after, "sources": write_sources}
+    text: dict[str, Callable[[], str]] = {
+        "before": lambda: before, "after": lambda: after, "page": lambda: before + sys.stdin.read() + after, "sources": write_sources,
+        "renew": lambda: before + rows_in(sys.stdin.read()) + after,
+    }
     sys.stdout.write(text[sys.argv[1]]())
 
 

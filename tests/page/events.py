@@ -233,6 +233,12 @@ def entries_that_give_way_are_struck_out(reader: Reader) -> None:
     same("what is struck out", struck, [[], [(12, "2"), (13, "2"), (14, "2")], []])
 
 
+def changes_of_members_are_told_in_few_letters(reader: Reader) -> None:
+    reader.open(TOUR[5].read_bytes(), "changes", "#23.20")
+    bodies = reader.browser.value("[...document.querySelectorAll('#logs tr.leader .bodies i, #logs .bodies tr.leader i')].map((it) => it.textContent)")
+    same("the bodies of node 1", bodies, ['""', "◆ l4", "◆ v4", "◆ r1 r2…", '""', '"x"', "◆"])
+
+
 def arrows_go_from_event_to_event(reader: Reader) -> None:
     reader.open(TOUR[0].read_bytes(), "arrows", "#9")
     places = []
@@ -255,5 +261,5 @@ def pages_without_events_step_by_directives(reader: Reader) -> None:
 
 TESTS = [
     events_are_as_printed, events_of_the_program_are_as_printed, each_event_is_marked, entries_become_durable_one_by_one, entries_that_give_way_are_struck_out,
-    arrows_go_from_event_to_event, pages_without_events_step_by_directives,
+    changes_of_members_are_told_in_few_letters, arrows_go_from_event_to_event, pages_without_events_step_by_directives,
 ]

@@ -1,4 +1,6 @@
 """Finding texts and filtering events, also of what isn't drawn."""
+from tests.page.assemble import parts
+from tests.page.plain_steps import Row, json_text, rows_of
 from tests.page.reader import Reader
 from tests.page.scripts import LESS, TOUR, page_of, same
 
@@ -7,8 +9,8 @@ CHOOSE = "((it, value) => { it.value = value; it.dispatchEvent(new Event('change
 
 def look_for(reader: Reader, text: str) -> None:
     reader.browser.press("/")
-    reader.browser.value("document.getElementById('find').value = ''; 0")
     reader.browser.press(*text)
+    same("the text in place of the last one", reader.browser.value("document.getElementById('find').value"), text)
     reader.browser.press("Escape")
 
 
@@ -74,4 +76,42 @@ def filters_leave_what_they_say(reader: Reader) -> None:
     reader.quiet()
 
 
-TESTS = [texts_are_found, what_is_not_drawn_is_found, filters_leave_what_they_say]
+def what_is_seen_is_found(reader: Reader) -> None:
+    """Comments across their lines, also the last one; labels and marks as the picture has them; input; and reasons, hints and warnings."""
+    reader.open(TOUR[2].read_bytes() + b"\n# Nothing\n# comes here.\n", "seen")
+    wanted = {
+        "that went different ways": "#1", "spares the leader": "#22", "Nothing comes": "#25", "App +4 after 1/11": "#21.", "✗14 hint 11": "#21.", "↺ 12+ replaced": "#22.13",
+        "saves 12–15": "#21.", "✓ commit 15": "#21.",
+    }
+    for text, place in wanted.items():
+        reader.browser.press("Home")
+        look_for(reader, text)
+        reader.browser.press("n")
+        same(f"where {text} is", address(reader).startswith(place) or address(reader), True)
+        same(f"what is told of {text}", reader.text("found"), "no other" if address(reader) == "#1" else "")
+    reader.open(TOUR[5].read_bytes(), "seen")
+    look_for(reader, "l4")
+    reader.browser.press("n")
+    same("where the input is", address(reader), "#6")
+    before, after = parts()
+    reader.open_page(before + json_text(remarked(TOUR[0].read_bytes())) + after, "seen")
+    for text, place in {"why it is so": "#9.13", "did you mean": "#21.1", "looks like a directive": "#21"}.items():
+        reader.browser.press("Home")
+        look_for(reader, text)
+        reader.browser.press("n")
+        same(f"where {text} is", address(reader), place)
+    reader.quiet()
+
+
+def remarked(data: bytes) -> list[Row]:
+    """The rows of a script with an error at its end, and with a reason, a hint and a warning."""
+    rows: list[Row] = []
+    for row in rows_of(data + b"\ncampain 1\n----\n\n", "remarks"):
+        rows += [["warning", 999, "this looks like a directive"]] if row[0] == "end" else []
+        rows.append(row)
+        rows += [["reason", "ignored: this is why it is so"]] if row[:3] == ["ignored", 1, "MsgVoteResp"] else []
+        rows += [["hint", 'did you mean "campaign"?']] if row[0] == "error" else []
+    return rows
+
+
+TESTS = [texts_are_found, what_is_seen_is_found, what_is_not_drawn_is_found, filters_leave_what_they_say]

@@ -1,4 +1,4 @@
-"""A page on paper and on a narrow screen."""
+"""A page on paper, on a narrow screen and at widths between."""
 import base64
 import re
 
@@ -15,6 +15,27 @@ PRINTED = """(() => {
   window.dispatchEvent(new Event('afterprint'));
   return { ...found, left: document.getElementById('print').childElementCount };
 })()"""
+# Which labels of the picture overlap: those above it, and those in it.
+MEETING = """(() => {
+  const ofText = (it) => {
+    const range = document.createRange();
+    range.selectNodeContents(it);
+    return range.getBoundingClientRect();
+  };
+  const ofDrawing = (it) => {
+    const [box, at] = [it.getBBox(), it.getScreenCTM()];
+    return new DOMRect(box.x + at.e, box.y + at.f + ABOVE, box.width, box.height - ABOVE);
+  };
+  const boxes = (selector, boxOf) => [...document.querySelectorAll(selector)].filter((it) => it.checkVisibility())
+    .map((it) => ({ text: it.firstChild?.data ?? '', box: boxOf(it) })).filter(({ text }) => text);
+  const meet = ({ box: one }, { box: other }) => Math.min(one.right, other.right) - Math.max(one.left, other.left) > 1
+    && Math.min(one.bottom, other.bottom) - Math.max(one.top, other.top) > 1;
+  const found = (labels) => labels.flatMap((one, at) => labels.slice(at + 1).filter((other) => meet(one, other)).map((other) => `${one.text} | ${other.text}`));
+  const [heads, drawn] = [boxes('#heads .gutter, #heads b, #heads .column span', ofText), boxes('#drawing text', ofDrawing)];
+  return { count: heads.length + drawn.length, meeting: [...found(heads), ...found(drawn)] };
+})()""".replace("ABOVE", "2")  # pixels of a line that are above its capital letters
+WIDTHS = (390, 700, 800, 900, 1050, 1200)
+TALL = 6000
 PAGES = re.compile(rb"/Type\s*/Page\b(?!s)")
 
 
@@ -66,6 +87,8 @@ def narrow_panes_are_below_one_another(reader: Reader) -> None:
     same("whether each is below the one before", all(one[1] <= other[0] + 1 for one, other in zip(boxes, boxes[1:])), True)
     same("how wide they are", [width for _, _, width in boxes], [390] * 3)
     same("whether the page is as wide as the screen", reader.browser.value("document.documentElement.scrollWidth"), 390)
+    filters = "[...document.querySelectorAll('#search select')].filter((it) => it.checkVisibility() && it.getBoundingClientRect().right < 390).length"
+    same("how many filters there are", reader.browser.value(filters), 3)
     same("whether the legend is folded", reader.browser.value("document.getElementById('legend').open"), False)
     same("whether the chosen label is in view", reader.browser.value(
         "(() => { const it = document.querySelector('#drawing .now'); const box = it.getBoundingClientRect(); return box.left >= 0 && box.left < 390; })()"), True)
@@ -73,4 +96,54 @@ def narrow_panes_are_below_one_another(reader: Reader) -> None:
     reader.browser.size(1500, 900)
 
 
-TESTS = [all_of_it_is_printed, paper_is_light, drawing_is_the_same_after_printing, narrow_panes_are_below_one_another]
+def cards_are_in_view(reader: Reader) -> None:
+    """On all but narrow screens a chosen event's item and the first card are in the pane of the state at once."""
+    tops = "['#state li.now', '#state article'].map((it) => document.querySelector(it).getBoundingClientRect().top - document.getElementById('state').getBoundingClientRect().top)"
+    for width, height in [(700, 900), (800, 900), (1000, 800), (1280, 800)]:
+        reader.browser.size(width, height)
+        reader.open(TOUR[2].read_bytes(), "cards", "#22.20")
+        room = reader.browser.value("document.getElementById('state').clientHeight")
+        wide = "[...document.querySelectorAll('#state .views')].every((it) => it.getBoundingClientRect().right <= it.closest('article').getBoundingClientRect().right - 4)"
+        same(f"whether what leaders know is within its card at {width}", reader.browser.value(wide), True)
+        same(f"whether both are in view at {width}", all(0 <= top < room - 60 for top in reader.browser.value(tops)), True)
+    reader.browser.size(1500, 900)
+
+
+def heads_take_the_room_there_is(reader: Reader) -> None:
+    """Between narrow and wide the columns are as far apart as labels need, and the first one is as far right as there is room."""
+    reader.open(TOUR[2].read_bytes(), "heads", "#22")
+    heads = []
+    for width in (390, 800, 1280):
+        reader.browser.size(width, 900)
+        reader.browser.settle()
+        reader.browser.settle()
+        heads.append(reader.browser.value("document.querySelector('#drawing .head.chosen').firstChild.data"))
+    same("the head", heads, ["stabil…", "stabilize 1 3", "stabilize 1 3"])
+    reader.open(TOUR[4].read_bytes(), "heads", "#1")
+    reader.browser.size(800, TALL)
+    reader.browser.settle()
+    reader.browser.settle()
+    labels = "[...document.querySelectorAll('#drawing .label')].map((it) => it.firstChild.data)"
+    same("the labels that are cut", [label for label in reader.browser.value(labels) if label.endswith("…")], [])
+    reader.browser.size(1500, 900)
+
+
+def no_two_labels_meet(reader: Reader) -> None:
+    """Of an election, a repair, a snapshot and changes of members, above the picture and in it."""
+    for path in (TOUR[0], TOUR[2], TOUR[4], TOUR[5]):
+        reader.browser.size(1500, TALL)
+        reader.open(path.read_bytes(), path.stem, "#5")
+        for width in WIDTHS:
+            reader.browser.size(width, TALL)
+            reader.browser.settle()
+            reader.browser.settle()
+            came = reader.browser.value(MEETING)
+            same(f"whether {path.name} has labels at {width}", came["count"] > 40, True)
+            same(f"the labels of {path.name} that overlap at {width}", came["meeting"], [])
+    reader.browser.size(1500, 900)
+
+
+TESTS = [
+    all_of_it_is_printed, paper_is_light, drawing_is_the_same_after_printing, narrow_panes_are_below_one_another, cards_are_in_view,
+    heads_take_the_room_there_is, no_two_labels_meet,
+]

@@ -12,12 +12,13 @@ import time
 from collections.abc import Sequence
 
 from tests.harness import PROGRAM
-from tests.page.scripts import HOSTILE, LESS, LONG, LOST, MANY, TOUR, long_page, mismatched, page_of, same
+from tests.page.scripts import HOSTILE, LESS, LONG, LOST, MANY, TOUR, long_page, mismatched, page_of, same, to_and_fro
 from tests.page.plain_steps import DIRECTIVES, EVENTS_TOO
 
 # The format of the rows that the program writes.
 FORMAT = EVENTS_TOO
 FAILED = b"raftbench: input or output failed\n"
+PAST_ROOM = b"raftbench: a page has room for 60000000 bytes of rows: divide the script, or see a part of it by chart\n"
 MOST_SECONDS = 120
 # A row that says something about others.
 REMARK = re.compile(rb',\n(\["(?:reason|hint|warning)",.*?\])(?=,\n|\]\n)')
@@ -165,6 +166,14 @@ def twenty_thousand_directives_are_written() -> None:
     print(f"the page of 20,000 directives, {len(page):,} bytes, is written in {seconds:.2f} s")
 
 
+def large_pages_are_refused() -> None:
+    """Nothing is written of a page that has no room, whether one directive is too much or all of them are; other documents have room."""
+    for name, data in (("one directive", to_and_fro(1, 1000)), ("directives", to_and_fro(400, 1))):
+        same(f"the page of {name} with too many rows", answer(["page", "-"], data), (b"", PAST_ROOM, 3))
+    few = to_and_fro(1, 10)
+    writes_the_plain_page("a few rounds", ["-"], few, page_of(few, "standard input", FORMAT), 0)
+
+
 def rows_of_events_take_little() -> None:
     """What changed after each event, beside what changed after each directive."""
     for name, data in {**{path.name: path.read_bytes() for path in TOUR}, "many": MANY, "lost": LOST, "less": LESS}.items():
@@ -174,6 +183,6 @@ def rows_of_events_take_little() -> None:
 
 WRITTEN = [
     pages_are_those_of_the_plain_rows, reasons_are_those_of_traces, hints_and_warnings_are_those_of_check, names_are_told_as_they_are,
-    every_changes_no_page, refusals_are_those_of_run, full_devices_are_told, readers_that_go_away_are_told, rows_of_events_take_little,
+    every_changes_no_page, large_pages_are_refused, refusals_are_those_of_run, full_devices_are_told, readers_that_go_away_are_told, rows_of_events_take_little,
     twenty_thousand_directives_are_written,
 ]

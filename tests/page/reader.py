@@ -202,7 +202,8 @@ def hostile_texts_are_text(reader: Reader) -> None:
     reader.browser.size(1500, 5000)
     reader.open(HOSTILE, "hostile")
     seen = reader.text("script")
-    shown = ["</script><script>alert(4)</script>", "<!--<script>", "\"'><svg/onload>", "&lt;b&gt;", "ключ\\u202e日本語", "\\x80\\x81", "\U0001f600"]
+    spelled = ["".join(f"\\x{byte:02x}" for byte in text.encode()) for text in ("ключ\u202e日本語", "\U0001f600")]
+    shown = ["</script><script>alert(4)</script>", "<!--<script>", "\"'><svg/onload>", "&lt;b&gt;", "\\x80\\x81", *spelled]
     for text in shown:
         if text not in re.sub(r"\s", "", seen) and text not in seen:
             raise Failed(f"{text!r} isn't shown")

@@ -56,6 +56,15 @@ OUTPUT = b"".join([
 ])
 
 
+def to_and_fro(directives: int, rounds: int) -> bytes:
+    """Two followers that take each other for the leader hand 4,096 proposals to and fro."""
+    heads = [
+        b"log-level none", b"add-nodes 2 voters=(1,2) index=10", b"send-snapshot 1 2", b"send-snapshot 2 1", b"deliver-msgs 1 2", b"process-ready 1 2",
+        b"deliver-msgs 1 2", *4096 * [b"propose 1 x"], *directives * [b"stabilize rounds=%d" % rounds],
+    ]
+    return b"".join(head + b"\n----\nok\n\n" for head in heads)
+
+
 class Failed(AssertionError):
     """What a test finds wrong."""
 

@@ -6,7 +6,7 @@ mailbox, of 32 nodes, of long output and of 20,000 directives are opened in a he
 by the place in the address and within frames, light and dark. Each arrow is followed from end to end, and each mark, each band and all
 that stands after each step is held to what is printed; so is what stands after each ready and each delivery (events.py). Nothing may stand
 in the console, and nothing may be fetched. Other tests try mismatches (difference.py), finding and filters (finding.py), keys, buttons and
-playing (stepping.py), what is told of a page to readers who can't see it (access.py), print and narrow screens (paper.py), and the types of
+playing (stepping.py), what is told of a page to readers who can't see it (access.py), print and narrow screens (paper.py), how texts are spelled (spelling.py), and the types of
 the page's modules (types_of_modules.py). Where there is no browser, or no program, this says so.
 
 With SEEN=FOLDER in the environment it writes what is seen into a folder, to look at.
@@ -32,7 +32,7 @@ from plain.cluster import Cluster
 from plain.script import Fault, read_script, read_with_lines
 from tests.cases.case import scripts_below
 from tests.harness import PROGRAM, TESTS, TOP, Result, results_of
-from tests.page import access, assemble, beside, chart_parts, difference, events, finding, paper, program, stepping, traces, types_of_modules
+from tests.page import access, assemble, beside, chart_parts, difference, events, finding, paper, program, spelling, stepping, traces, types_of_modules
 from tests.page.browser import Browser, found
 from tests.page.plain_chart import svg_of
 from tests.page.plain_steps import cell, json_text, rows_of
@@ -45,6 +45,8 @@ ACTING = "|".join([
     r"\beval\b", r"\bFunction\(", r"\bimport\(", r"\.on[a-z]+ =",
 ])
 CHARTS = TOP / "crates" / "rb_view"
+# The page of the tour's election, which people can open before anything is built.
+ELECTION = TOP / "docs" / "pictures" / "election.html"
 
 
 @dataclasses.dataclass
@@ -196,9 +198,17 @@ def pictures_of_documents_are_the_plain_ones() -> None:
     same("how it ends", kept.count("★ leader, t1"), 2)
 
 
-def page_of_documents_is_the_plain_one() -> None:
-    """The page that can be opened before anything is built: `plain_steps.py examples/tour/01-election.txt | assemble.py page` writes it."""
-    same("the page of the election", (TOP / "docs" / "pictures" / "election.html").read_text(), page_of(TOUR[0].read_bytes(), TOUR[0].name))
+def page_of_documents_is_todays() -> None:
+    """The page that can be opened before anything is built. `./raftbench page examples/tour/01-election.txt` writes it; where only the files of
+    assets have changed, `assemble.py renew` does, of the page itself. Without the rows that say why it is the plain bench's."""
+    kept = program.without_remarks(ELECTION.read_bytes())
+    same("the page of the election", kept, page_of(TOUR[0].read_bytes(), TOUR[0].name).encode())
+
+
+def page_of_documents_is_the_programs() -> None:
+    kept = ELECTION.read_bytes()
+    same("the page of the election", program.answer(["page", TOUR[0]]), (kept, b"", 0))
+    same("whether it has reasons", len(program.REMARK.findall(kept)) > 3, True)
 
 
 def style_of_pictures_is_its_file() -> None:
@@ -243,16 +253,16 @@ def is_charted_as_plainly(path: pathlib.Path) -> bool:
 
 ALONE = [
     policy_names_its_own_by_hash, sources_are_made_of_the_files, no_code_makes_marks, rows_are_inert_and_read_back, changes_add_up,
-    charts_have_every_message, pictures_of_documents_are_the_plain_ones, page_of_documents_is_the_plain_one, style_of_pictures_is_its_file, beside.rows_tell_what_is_printed,
+    charts_have_every_message, pictures_of_documents_are_the_plain_ones, page_of_documents_is_todays, style_of_pictures_is_its_file, beside.rows_tell_what_is_printed,
     *chart_parts.ALONE, *types_of_modules.ALONE,
 ]
-MODULES = [events, difference, finding, stepping, access, paper]
+MODULES = [events, difference, finding, stepping, access, paper, spelling]
 IN_A_BROWSER = [*SEEN, *beside.BESIDE, *(test for module in MODULES for test in module.TESTS)]
 
 
 def results(word: str) -> Iterator[Result]:
     """What needs nothing, what needs the program, and what needs a browser."""
-    written = [*program.WRITTEN, *traces.TRACES, charts_of_the_program_are_the_plain_ones]
+    written = [*program.WRITTEN, *traces.TRACES, page_of_documents_is_the_programs, charts_of_the_program_are_the_plain_ones]
     yield from results_of(ALONE, word)
     yield from results_of(written, word, "" if program.found() else "the program")
     path = found()

@@ -1,7 +1,9 @@
-"""Looks that each Python file has types on all its functions, as `mypy --strict` reads them, and imports nothing that it doesn't use, as pyflakes sees it.
+"""Looks that each Python file has types on all its functions, as `mypy --strict` reads them, also in programs that stand in strings; and that it imports
+nothing that it doesn't use, as pyflakes sees it.
 
 Where one of the two isn't installed (Debian: mypy, pyflakes3), that is said and not tried.
 """
+import ast
 import pathlib
 import re
 import shutil
@@ -38,6 +40,20 @@ def said_by(tool: str, *words: str | pathlib.Path) -> list[str]:
     return done.stdout.splitlines()
 
 
+def programs_in(text: str) -> list[str]:
+    """The strings of a Python file that are programs with functions."""
+    strings = [node.value for node in ast.walk(ast.parse(text)) if isinstance(node, ast.Constant) and isinstance(node.value, str)]
+    return [string for string in strings if re.search(r"^ *def \w+\(", string, re.MULTILINE) and is_program(string)]
+
+
+def is_program(text: str) -> bool:
+    try:
+        ast.parse(text)
+    except SyntaxError:
+        return False
+    return True
+
+
 def test_each_function_has_types() -> Iterator[str]:
     modules = [path for path in python_files() if path.suffix]
     commands = [path for path in python_files() if not path.suffix]
@@ -47,6 +63,15 @@ def test_each_function_has_types() -> Iterator[str]:
         yield from said_by("mypy", *options, *modules)
         for command in commands:
             yield from said_by("mypy", *options, command)
+        for path in python_files():
+            for program in programs_in(path.read_text()):
+                yield from (f"{path}: a program in it: {line}" for line in said_by("mypy", *options, "-c", program))
+
+
+def test_a_program_in_a_string_is_seen() -> Iterator[str]:
+    wanted = ["def work(item: int) -> int:\n    return item\n", "class It:\n    def work(self) -> None: ...\n"]
+    if programs_in(f"PROGRAMS = {wanted!r}\nOTHERS = ['def work of', 'work(it)']\n") != wanted:
+        yield "programs in strings aren't seen"
 
 
 def test_nothing_is_imported_for_nothing() -> Iterator[str]:

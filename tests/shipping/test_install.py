@@ -167,15 +167,18 @@ def install_stopped_at(place: Clone, at: int, number: int, words: list[str]) -> 
 
 STOPPED = """
 import importlib.machinery, importlib.util, os, shutil, signal, sys
+from typing import Callable
 _, path, at, number, *rest = sys.argv
 changes, words = rest[:rest.index("--")], rest[rest.index("--") + 1:]
 loader = importlib.machinery.SourceFileLoader("install", path)
-module = importlib.util.module_from_spec(importlib.util.spec_from_loader("install", loader))
+spec = importlib.util.spec_from_loader("install", loader)
+assert spec
+module = importlib.util.module_from_spec(spec)
 sys.dont_write_bytecode = True
 loader.exec_module(module)
 left = int(at)
-def stopping(change):
-    def stopped(*words, **how):
+def stopping(change: Callable[..., object]) -> Callable[..., object]:
+    def stopped(*words: object, **how: object) -> object:
         global left
         left -= 1
         if left == 0 and number != "0":
