@@ -181,7 +181,7 @@ func (b *bench) stepped(n *node, c call, put line) (line, error) {
 	}
 	take := func(number int) {
 		m := b.given[number]
-		if most < len(m.Entries) {
+		if most < len(m.Entries) && !isOfRead(m.Type) {
 			m.Entries = m.Entries[:most:most]
 		}
 		if err := n.raw.Step(m); err != nil {

@@ -171,12 +171,20 @@ func shownEntry(e pb.Entry) entry {
 	return shown
 }
 
+// isOfRead tells whether a message has the id of a read in an entry, which no log has.
+func isOfRead(of pb.MessageType) bool {
+	return of == pb.MsgReadIndex || of == pb.MsgReadIndexResp
+}
+
 // shownMessage is a message; its `own` is its number, under which this process keeps it.
 func shownMessage(m pb.Message, own int) message {
 	shown := message{
 		Type: m.Type.String(), From: m.From, To: m.To, Term: m.Term, LogTerm: m.LogTerm, Index: m.Index, Commit: m.Commit,
 		Entries: shownEntries(m.Entries), Reject: m.Reject, RejectHint: m.RejectHint, Transfer: bytes.Equal(m.Context, byTransfer),
 		Own: own,
+	}
+	if isOfRead(m.Type) {
+		shown.Entries = nil
 	}
 	if s := m.Snapshot; m.Type == pb.MsgSnap {
 		shown.Snapshot = &base{s.Metadata.Index, s.Metadata.Term, s.Data, shownConfState(s.Metadata.ConfState)}
