@@ -91,7 +91,7 @@ fn mismatch_kind(first: usize, line: usize) -> DiagnosticKind
 
 /// A directive that ran: the line of its head, whether its output differs from the expectation, its block, and its output.
 #[derive(Clone, Copy)]
-pub(crate) struct RanDirective<'b, 'o> {
+pub(crate) struct CheckedDirective<'b, 'o> {
     pub(crate) line: usize,
     pub(crate) differs: bool,
     pub(crate) block: &'b Block,
@@ -104,7 +104,7 @@ fn mismatch(
     table: &mut Table,
     text: &Lines,
     first: usize,
-    ran: RanDirective<'_, '_>,
+    ran: CheckedDirective<'_, '_>,
 ) -> Result<Diagnostic, AllocError>
     requires { StandsIn text.now ran.line ran.block.now }
     ensures { IfOk result (λ d. d ≡ mismatch text.now (block_lines text.now ran.entry.line ran.entry.block.now) first ran.entry.line ran.entry.block.now ran.entry.output.now) }
@@ -143,7 +143,7 @@ pub(crate) fn finding(
     table: &mut Table,
     text: &Lines,
     first: usize,
-    ran: RanDirective<'_, '_>,
+    ran: CheckedDirective<'_, '_>,
 ) -> Result<Option<Diagnostic>, AllocError>
     requires stands { StandsIn text.now ran.line ran.block.now }
     requires differs { ran.differs ≡ not (same_lines ran.block.now.expected ran.output.now) }

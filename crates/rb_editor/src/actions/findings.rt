@@ -11,7 +11,7 @@ ghost use Rattle.rb_editor.specs.Findings.{before, diagnostics_of, findings, fir
 
 use crate::actions::diagnostic::{Diagnostic, DiagnosticKind};
 use crate::actions::document::AskedDocument;
-use crate::actions::finding::{RanDirective, finding};
+use crate::actions::finding::{CheckedDirective, finding};
 use crate::actions::quiet::is_quiet;
 use crate::actions::run::DocumentRun;
 use rb_machine::{Count, Machine};
@@ -91,7 +91,7 @@ fn each_finding<M: Machine>(
         let block = block_at(session, i);
         let output = output_at(session, i);
         let differs = is_next(mismatches, next, i + 1);
-        let ran = RanDirective {
+        let ran = CheckedDirective {
             line,
             differs,
             block,
