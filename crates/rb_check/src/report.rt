@@ -408,7 +408,7 @@ impl<W: Write + Drop, E: Write + Drop> Report<W, E> {
         }
     }
 
-    // Writes a line for each script with mismatches, and then an empty line. If there are no such scripts, writes nothing.
+    // Lists the scripts with mismatches, if there are any, and ends the list with an empty line.
     fn list_differing(&mut self)
         ensures { self.new.counts ≡ self.old.counts }
     {

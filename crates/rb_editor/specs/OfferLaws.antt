@@ -61,7 +61,7 @@ ValuesAreOfTheOption = (name : List ℕ) (w : PlainWanted) → takes name w.key 
 abbrev pub most_ids : ℕ
 most_ids = MAX_IDS
 
--- so many numbers, from one on
+-- the first n numbers from one on
 abbrev pub numbers_from : ℕ → ℕ → List ℕ
 numbers_from first zero = []
 numbers_from first (suc n) = first ∷ numbers_from (first + 1) n

@@ -90,7 +90,7 @@ abbrev pub reached : Reach → (List ℕ → PlainWanted) → PlainWanted
 reached (Err wanted) goes_on = wanted
 reached (Ok rest) goes_on = goes_on rest
 
--- at most so many arguments after a name, each after a blank
+-- the arguments after a name, at most n, each after a blank
 unfoldable pub in_arguments : ℕ → List ℕ → PlainWanted
 in_arguments zero bytes = nothing
 in_arguments (suc most) bytes = if begins_space bytes then reached (argument_at (after_while is_space bytes)) (in_arguments most) else nothing

@@ -5,7 +5,7 @@ use Rattle.rb_lsp.specs.declared.server.query.Query.{Query}
 use Rattle.rb_lsp.specs.declared.server.client.Client.{Client}
 use Rattle.rb_lsp.specs.declared.server.stop.Stop.{Stop}
 
--- The diagnostics of a text, as a list in JSON: by where its run stopped, if it did, the client that is told, the URI of the document, and its text.
+-- The diagnostics of a text, as a JSON list. They depend on where its run stopped, if it did, on the client, the document's URI, and the text.
 abbrev pub Diagnose : Type 0
 Diagnose = Option Stop → Client → List ℕ → List ℕ → List ℕ
 

@@ -16,9 +16,8 @@ ghost use Rattle.rb_view.specs.PageRoom.{has_room};
 ghost use Rattle.rb_view.specs.Steps.{steps_texts};
 ghost use Rattle.rb_program.specs.Written.{Tells};
 
-/// What is written of a script is told of one script, that of the bytes: if it ends with a status this is that of its mismatches, and the text
-/// of its rows was written; or a page has no room for them, and it is refused. If writing failed, a beginning of it was written. Without a script
-/// neither is so.
+/// The bytes have at most one script, and the result is about it. A status is that of its mismatches, and the text of its rows was written. If a
+/// page has no room for the rows, the script is refused. If writing failed, a beginning of the text was written. Without a script there is no status.
 pub fn pages_are_one()
     ensures ended { (text : List Line → List ℕ) (bytes heads : List ℕ) (s : PlainScript) (status : Status) (old new : Option (List ℕ)) → Reads bytes s → AreHeadLines 1 (lines bytes) s.blocks heads → has_room (steps_texts bytes heads s) ≡ true → Tells text bytes (Ok status) old new
         → (status ≡ status_of (mismatches s)) × Appends old new (text (steps_texts bytes heads s)) }

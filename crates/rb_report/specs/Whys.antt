@@ -99,7 +99,7 @@ abbrev pub told_between : ℕ → ℕ → ℕ → Bool → Colors → List Line 
 told_between left n m grouped colors why es os =
     told_parts left colors why (start grouped) (take n es) (without_last m (drop n es)) (without_last m (drop n os)) (last m (drop n es))
 
--- of the expected lines, and the lines of the output, step by step or not, with so many cells left
+-- the diff of the expected lines and the output, step by step or not, with n cells left
 unfoldable pub laid_out_diff : ℕ → Bool → Colors → List Line → List Line → List Line → List ℕ
 laid_out_diff left grouped colors why es os =
     let n = common Front es os in

@@ -31,7 +31,7 @@ meant_by b output = if is_error output then suggested (directive_of b) else unkn
 abbrev pub hint_of : PlainBlock → List Line → List ℕ
 hint_of b output = hint_text (meant_by b output)
 
--- a block that expects other lines than the output, step by step or not, with so many cells left to compare them
+-- a block whose output differs, step by step or not, with n cells left to compare its lines
 abbrev pub mismatch_shown : ℕ → Bool → Colors → List ℕ → ℕ → PlainBlock → List Line → List ℕ
 mismatch_shown left grouped colors path line b output = mismatch_text left grouped colors path line (head_of b) b.expected output (hint_of b output)
 

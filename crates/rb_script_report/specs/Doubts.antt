@@ -73,7 +73,7 @@ one_warning n (Some doubt) = record { line = n; doubt = doubt } ∷ []
 abbrev pub is_called_rightly : List Line → Warning → Bool
 is_called_rightly ls w = calls_nothing w.doubt || looks_like_directive (slice_index_or ls (w.line - 1) [])
 
--- of so many lines from an index on, which counts from 0
+-- the warnings of n lines from an index on, which counts from 0
 abbrev pub warnings_from : Bool → List Line → List Line → BlockPart → ℕ → ℕ → List Warning
 warnings_from takes output ls part at zero = []
 warnings_from takes output ls part at (suc left) =
@@ -82,7 +82,7 @@ warnings_from takes output ls part at (suc left) =
 abbrev pub takes_input : PlainBlock → Bool
 takes_input b = bytes_eq (directive_of b).name (name_text ProposeConfChange)
 
--- of a block, which is so many lines from an index on: nothing, where it has no input and expects its output
+-- the warnings of a block, whose n lines begin at an index: none if it has no input and expects its output
 abbrev pub warnings_in : List Line → ℕ → ℕ → PlainBlock → List Line → List Warning
 warnings_in ls start count b output = if same_lines b.expected output && length b.input == 0 then [] else warnings_from (takes_input b) output ls Head start count
 

@@ -78,7 +78,7 @@ whys_of s = whys_from empty (directives s)
 abbrev pub why_at : List (List Line) → ℕ → List Line
 why_at whys i = unwrap_or (slice_get whys i) []
 
--- a block that expects other lines than the output, step by step or not, with so many cells left to compare them
+-- a block whose output differs, step by step or not, with n cells left to compare its lines
 abbrev pub told_differing : ℕ → Bool → Colors → List ℕ → ℕ → PlainBlock → List Line → List Line → List ℕ
 told_differing left grouped colors path line b output why = told_mismatch left grouped colors path line (head_of b) b.expected output why (hint_of b output)
 
@@ -104,7 +104,7 @@ abbrev pub told_at : ℕ → Bool → Colors → List ℕ → List (List Line) �
 told_at left grouped colors path whys heads s k =
     told_differing left grouped colors path (head_line heads k) (block_at_place s.blocks k) (slice_index_or (outputs s) (k - 1) []) (why_at whys (k - 1))
 
--- the directive at a place, with so many cells left to compare it
+-- the directive at a place, with n cells left to compare its lines
 abbrev pub told_alone : ℕ → Bool → Colors → List Line → List ℕ → List (List Line) → List ℕ → PlainScript → ℕ → List ℕ
 told_alone left all colors ls path whys heads s k =
     told_directive left all colors ls path (head_line heads k) (block_at_place s.blocks k) (slice_index_or (outputs s) (k - 1) []) (why_at whys (k - 1))

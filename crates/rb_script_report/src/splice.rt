@@ -159,7 +159,7 @@ fn ending(text: Vec<u8>, is_ended: bool) -> Vec<u8>
 
 // ---- the script
 
-// The text so far, and the bytes that are left, which are below so many lines.
+// The text so far, the bytes that are left, and how many lines are above them.
 #[derive(Drop)]
 struct Splicing<'a> {
     made: Vec<u8>,
@@ -198,7 +198,7 @@ impl<'a> Splicing<'a> {
     }
 }
 
-// How many lines the head has that begins below so many lines.
+// How many lines the head has that begins after this number of lines.
 fn head_len(text: &Lines, at: usize) -> usize
     requires { at ≤ length text.now }
     ensures { result ≡ length (head_of (drop at text.now)) }

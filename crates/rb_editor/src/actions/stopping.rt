@@ -151,7 +151,7 @@ fn of_front<M: Machine>(
     })
 }
 
-// Makes those of a text whose run stops where that of the last text did, without a run.
+// Makes the diagnostics of a text whose run stops where the run of the last text stopped. Runs nothing.
 fn of_same_stop<M: Machine>(
     alloc: Global,
     document: AskedDocument<'_, '_>,
@@ -173,7 +173,7 @@ fn of_same_stop<M: Machine>(
     Ok(Some(found))
 }
 
-// Makes those of a text whose run comes to the end. If it stops there are none, and no run is kept.
+// Makes the diagnostics of a text whose run ends. If the run stops earlier, there are none, and no run is kept.
 fn of_whole<M: Bounded>(
     alloc: Global,
     document: AskedDocument<'_, '_>,
@@ -202,7 +202,7 @@ fn of_whole<M: Bounded>(
     }
 }
 
-// Makes those of a text whose run begins with the empty cluster.
+// Makes the diagnostics of a text whose run begins with the empty cluster.
 fn of_fresh<M: Bounded>(
     alloc: Global,
     document: AskedDocument<'_, '_>,
