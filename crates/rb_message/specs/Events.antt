@@ -11,6 +11,7 @@ event_node (events.VoteCounted id type granted from result) = id
 event_node (events.Ignored id type from why) = id
 event_node (events.RefusedVote id type from why) = id
 event_node (events.DroppedProposal id) = id
+event_node (events.RemovedEntries id last entries) = id
 event_node (events.Conflict id index commit) = id
 event_node (events.AppendsNothing id) = id
 event_node (events.ReplacedChange id index why) = id

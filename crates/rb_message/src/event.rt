@@ -4,6 +4,7 @@
 //! dropped. Each event names its node.
 
 use crate::role::Role;
+use rb_raftlog::Entries;
 use rb_tracker::{ChangeFault, Config, VoteResult};
 use rb_vocab::MessageType;
 
@@ -159,6 +160,12 @@ pub enum Event {
     DroppedProposal {
         id: u64,
     },
+    /// Entries of its log, the last of them at an index, give way to a leader's. No line shows this by itself.
+    RemovedEntries {
+        id: u64,
+        last: u64,
+        entries: Entries,
+    },
     /// A leader's append conflicts with a committed entry.
     Conflict {
         id: u64,
@@ -225,6 +232,7 @@ impl Event {
             Event::Ignored { id, .. } => *id,
             Event::RefusedVote { id, .. } => *id,
             Event::DroppedProposal { id } => *id,
+            Event::RemovedEntries { id, .. } => *id,
             Event::Conflict { id, .. } => *id,
             Event::AppendsNothing { id } => *id,
             Event::ReplacedChange { id, .. } => *id,

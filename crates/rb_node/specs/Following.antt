@@ -1,6 +1,7 @@
 -- How a follower handles its leader's messages, and forwards messages to its leader (Ongaro's thesis, sections 3.5, 5.3 and 6.2)
-use Rattle.std.specs.Prelude.{ℕ, ◌≤◌, true, max, min, if◌then◌else◌, nat_le, ◌==◌}
-use Rattle.rb_raftlog.specs.Log.{last, term_at, is_term, appended, answer, restored}
+use Rattle.std.specs.Prelude.{ℕ, ◌≤◌, true, max, min, if◌then◌else◌, nat_le, ◌==◌, List, [], ◌∷◌, ◌++◌}
+use Rattle.rb_raftlog.specs.Log.{LogValue, last, term_at, is_term, appended, given_way, answer, restored}
+use Rattle.rb_raftlog.specs.declared.entry.Entry.{Entry}
 use Rattle.rb_raftlog.specs.declared.raft_log.Appended.{Appended}
 use Rattle.rb_raftlog.specs.declared.raft_log.Appended.TheVariants.{Matched, Refused, BelowCommit}
 use Rattle.rb_raftlog.specs.declared.limits.TheConstants.{MAX_INDEX}
@@ -8,7 +9,8 @@ use Rattle.rb_raftlog.specs.declared.snapshot.Snapshot.{Snapshot}
 use Rattle.rb_tracker.specs.Configs.{config_of}
 use Rattle.rb_tracker.specs.Trackers.{configured}
 use Rattle.rb_message.specs.Appends.{PlainAppend}
-use Rattle.rb_message.specs.declared.event.Event.TheVariants.{DroppedProposal, Conflict, Restored}
+use Rattle.rb_message.specs.declared.event.Event.{Event}
+use Rattle.rb_message.specs.declared.event.Event.TheVariants.{DroppedProposal, RemovedEntries, Conflict, Restored}
 use Rattle.rb_message.specs.declared.event.WhyIgnored.TheVariants as why
 use Rattle.rb_message.specs.declared.kind.MessageKind.{MessageKind}
 use Rattle.rb_message.specs.declared.kind.MessageKind.TheVariants as kind
@@ -44,9 +46,21 @@ abbrev pub with_appended : PlainNode → ℕ → PlainAppend → PlainNode
 with_appended n from append =
     record (leader_contact_recorded n from) { log = appended n.log append.prev append.prev_term append.entries n.commit }
 
+-- the event that these entries of a log are removed, if there are any
+abbrev pub removal : ℕ → LogValue → List Entry → List Event
+removal id v [] = []
+removal id v (e ∷ es) = RemovedEntries id (last v) (e ∷ es) ∷ []
+
+-- entries that give way to an append are reported
+abbrev pub removal_reported : NodeStep → PlainAppend → NodeStep
+removal_reported t append =
+    let gone = given_way t.node.log append.prev append.prev_term append.entries t.node.commit in
+    record t { events = t.events ++ removal t.node.id t.node.log gone }
+
 unfoldable pub append_entries_handled : NodeStep → ℕ → PlainAppend → NodeStep
 append_entries_handled t from append =
-    after_log (answer t.node.log append.prev append.prev_term append.entries t.node.commit) (with_node t (with_appended t.node from append)) from append
+    after_log (answer t.node.log append.prev append.prev_term append.entries t.node.commit)
+    (with_node (removal_reported t append) (with_appended t.node from append)) from append
 
 -- a snapshot replaces log, content and configuration
 abbrev pub restored_to : PlainNode → Snapshot → PlainNode

@@ -29,7 +29,6 @@ fn applying_copies<L: RaftLog>(state: &State<L>) -> Result<Vec<Entry>, AllocErro
     ensures entries { IfOk result (λ copies. copies.items ≡ applying state.now) }
     ensures within { IfOk result (λ copies. state.now.applied + length copies.items ≤ MAX_INDEX) }
 {
-    let _commit = state.commit;
     let len = applying_len(state);
     let mut copies = Vec::with_capacity(state.alloc, len)?;
     for k in 0..len {

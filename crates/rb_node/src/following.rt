@@ -5,16 +5,16 @@
 //! proposals and transfers to its leader (section 6.2).
 
 ghost use Rattle.std.specs.Prelude.{◌≡◌, ◌<◌, ◌≤◌, IfOk, OnOk};
-ghost use Rattle.rb_raftlog.specs.Log.{last, is_term, term_at, hint, answer};
+ghost use Rattle.rb_raftlog.specs.Log.{last, is_term, term_at, hint, answer, given_way};
 ghost use Rattle.rb_raftlog.specs.declared.raft_log.Appended.TheVariants.{Refused};
 ghost use Rattle.rb_raftlog.specs.declared.limits.TheConstants.{MAX_INDEX};
 ghost use Rattle.rb_message.specs.declared.kind.MessageKind.TheVariants.{Proposal, TransferLeader};
 ghost use Rattle.rb_node.specs.Node.{node_step};
-ghost use Rattle.rb_node.specs.Following.{HasLimits, leader_contact_recorded, heartbeat_handled, after_log, with_appended, append_entries_handled, restored_to, with_match, new_snapshot_handled, snapshot_handled, forwarded_to_leader, proposal_forwarded, transfer_forwarded};
+ghost use Rattle.rb_node.specs.Following.{HasLimits, leader_contact_recorded, heartbeat_handled, after_log, with_appended, removal_reported, append_entries_handled, restored_to, with_match, new_snapshot_handled, snapshot_handled, forwarded_to_leader, proposal_forwarded, transfer_forwarded};
 
 use crate::state::State;
 use rb_message::{Append, Event, Install, Message, MessageKind, WhyIgnored};
-use rb_raftlog::{Appended, MAX_INDEX, RaftLog, Snapshot};
+use rb_raftlog::{Appended, Entries, MAX_INDEX, RaftLog, Snapshot};
 use rb_tracker::Config;
 use std::alloc::AllocError;
 
@@ -37,15 +37,14 @@ impl<L: RaftLog> State<L> {
     }
 
     // Refuses entries past the limit of indexes, where the log is empty.
+    #[tactic(auto, using(crate::proofs::Past::hint_past))]
     fn refuse_past(&self, append: &Append) -> Appended
         requires { MAX_INDEX < append.now.prev }
         ensures refused { result ≡ Refused (hint self.now.log append.now.prev append.now.prev_term) }
         ensures past { last self.now.log < append.now.prev }
-        ensures committed { self.now.commit ≤ append.now.prev }
     {
-        let _last = self.log.last_index();
-        let _commit = self.commit;
-        Appended::Refused(self.log.hint(append.prev(), append.prev_term()))
+        let last = self.log.last_index();
+        Appended::Refused(self.log.hint(last, append.prev_term()))
     }
 
     // Appends a message's entries to the log.
@@ -57,11 +56,12 @@ impl<L: RaftLog> State<L> {
     {
         self.record_leader_contact(from);
         let prev = append.prev();
+        let commit = self.commit;
         if prev > MAX_INDEX {
             return Ok(self.refuse_past(append));
         }
         self.log
-            .append_shared(prev, append.prev_term(), append.entries(), self.commit)
+            .append_shared(prev, append.prev_term(), append.entries(), commit)
     }
 
     fn after_log(
@@ -102,6 +102,36 @@ impl<L: RaftLog> State<L> {
         }
     }
 
+    // The entries of the log that give way to a message's entries.
+    #[tactic(auto, using(crate::proofs::Past::given_way_past))]
+    fn given_way(&self, append: &Append) -> Result<Entries, AllocError>
+        ensures { IfOk result (λ gone. gone ≡ given_way self.now.log append.now.prev append.now.prev_term append.now.entries self.now.commit) }
+    {
+        let prev = append.prev();
+        if self.log.last_index() <= prev {
+            return Ok(Entries::empty());
+        }
+        self.log
+            .given_way(prev, append.prev_term(), append.entries(), self.commit)
+    }
+
+    // Reports the entries of the log that give way to a message's entries, if there are any.
+    #[tactic(auto, using(crate::proofs::Past::removal_some))]
+    fn report_removal(&self, append: &Append, events: &mut Vec<Event>) -> Result<(), AllocError>
+        ensures { OnOk result (node_step self.now events.new.items ≡ removal_reported (node_step self.now events.old.items) append.now) }
+    {
+        let entries = self.given_way(append)?;
+        if entries.is_empty() {
+            return Ok(());
+        }
+        events.push(Event::RemovedEntries {
+            id: self.id,
+            last: self.log.last_index(),
+            entries,
+        })?;
+        Ok(())
+    }
+
     // Handles a leader's entries.
     #[tactic(auto, unfolding(crate::specs::Following::append_entries_handled))]
     pub(crate) fn handle_append_entries(
@@ -112,6 +142,7 @@ impl<L: RaftLog> State<L> {
     ) -> Result<(), AllocError>
         ensures { OnOk result (node_step self.new events.new.items ≡ append_entries_handled (node_step self.old events.old.items) from append.now) }
     {
+        self.report_removal(append, events)?;
         let appended = self.append_after(from, append)?;
         self.after_log(appended, from, append, events)
     }

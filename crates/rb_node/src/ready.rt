@@ -3,7 +3,8 @@
 //! Before a node advances, its owner saves the hard state and the new entries, sends messages, and applies committed entries (etcd raft
 //! documentation, "Ready"). The view borrows all of it from the node; nothing is copied.
 
-ghost use Rattle.std.specs.Prelude.{◌≡◌, ◌<◌, length, slice_get};
+ghost use Rattle.std.specs.Prelude.{◌≡◌, ◌+◌, ◌<◌, ◌≤◌, length, slice_get};
+ghost use Rattle.rb_raftlog.specs.declared.limits.TheConstants.{MAX_INDEX};
 ghost use Rattle.rb_node.specs.Readying.{ready, hard_state, is_saved, has_ready, applying};
 
 use crate::node::Node;
@@ -47,7 +48,8 @@ pub(crate) fn is_saved<L: RaftLog>(state: &State<L>) -> bool
 // The number of committed entries that aren't applied.
 #[tactic(auto, using(crate::proofs::Between::between_sizes))]
 pub(crate) fn applying_len<L: RaftLog>(state: &State<L>) -> usize
-    ensures { result ≡ length (applying state.now) }
+    ensures value { result ≡ length (applying state.now) }
+    ensures within { state.now.applied + result ≤ MAX_INDEX }
 {
     let from = state.applied.max(state.log.first_index() - 1);
     state
@@ -63,7 +65,6 @@ pub(crate) fn applying_entry<L: RaftLog>(state: &State<L>, k: usize) -> &Entry
     ensures { slice_get (applying state.now) k ≡ Some result.now }
 {
     let from = state.applied.max(state.log.first_index() - 1);
-    let _last = state.log.last_index();
     held_entry(&state.log, from + 1 + k as u64)
 }
 
@@ -100,7 +101,8 @@ impl<'a, L: RaftLog> ReadyView<'a, L> {
 
     /// The number of committed entries to apply.
     pub fn apply_len(&self) -> usize
-        ensures { result ≡ length (applying self.now) }
+        ensures value { result ≡ length (applying self.now) }
+        ensures within { self.now.applied + result ≤ MAX_INDEX }
     {
         applying_len(self.state)
     }

@@ -134,7 +134,6 @@ impl<L: RaftLog> State<L> {
         ensures value { IfOk result (λ entries. entries ≡ entries_after self.now.log (next - 1)) }
         ensures within { IfOk result (λ entries. length entries ≤ MAX_INDEX - (next - 1)) }
     {
-        let _last = self.log.last_index();
         self.log.entries_after(next.saturating_sub(1))
     }
 

@@ -1,6 +1,6 @@
 -- Laws of appending.
 use Rattle.std.proofs.Common.{◌≡◌, ℕ, ◌+◌, ◌-◌, ◌<◌, ◌≤◌, Bool, true, false, not, if◌then◌else◌, List, [], ◌∷◌, length, take, drop, Option, Some, None, Result, Ok, refl, ap, sym, ◌∙◌, arith, ltb, length-append, length-drop, inl, inr}
-use Rattle.std.proofs.lemmas.Bool.{lt-ltb, le-ltb, cond-true, cond-false, cases_Bool, cases_lt, not-false}
+use Rattle.std.proofs.lemmas.Bool.{lt-ltb, le-ltb, cond-true, cond-false, cases_Bool, cases_lt, not-false, false≢true}
 use Rattle.std.proofs.lemmas.List.{length-take-le}
 use Rattle.std.proofs.lemmas.Option.{slice_get_within}
 use Rattle.std.specs.List.{slice_get}
@@ -109,6 +109,16 @@ put_term v prev c k es x above low high from at =
     let index : prev + 1 + k ≡ v.base + 1 + (prev - v.base + k) = omega arith in
     ap (term_at (put v prev es c)) index ∙ term_past (put v prev es c) (prev - v.base + k)
     ∙ ap (λ (o : Option Entry). term_of o) (put_item v prev c k es above low high from ∙ at)
+
+-- at the first index that is new the log has another term afterwards
+pub first_differs : (v : LogValue) (prev c : ℕ) (es : List Entry) → v.base ≤ prev → prev + 1 ≤ c → c ≤ last v + 1 → first_new v (prev + 1) es ≡ Some c → term_at v c ≡ term_at (put v prev es c) c → ⊥
+first_differs v prev c es above low high e same =
+    let found = new_finds v es (prev + 1) c e in
+    let placed : term_at (put v prev es c) c ≡ Ok found.entry.term =
+    ap (term_at (put v prev es c)) found.at ∙ put_term v prev c found.place es found.entry above low high (omega (arith, found.at)) found.is_entry in
+    let held : term_at v (prev + 1 + found.place) ≡ Ok found.entry.term = sym (ap (term_at v) found.at) ∙ same ∙ placed in
+    let never : false ≡ true = sym (ap not (is_term_from (term_at v (prev + 1 + found.place)) found.entry.term held)) ∙ found.here in
+    false≢true never
 
 -- ---- an append, case by case
 

@@ -2,6 +2,7 @@ pub mod AnswerLaws
 pub mod AppendLaws
 pub mod CutLaws
 pub mod EqualLaws
+pub mod GoneLaws
 pub mod ListLaws
 pub mod LogLaws
 pub mod MatchLaws

@@ -23,7 +23,7 @@ either_way u v m = record {
 -- ---- an index that a log has
 
 -- the entry at an index has the term there
-entry_term : (w : LogValue) (i : ℕ) (e : Entry) → entry_at w i ≡ Ok e → (w.base < i) × (term_at w i ≡ Ok e.term)
+pub entry_term : (w : LogValue) (i : ℕ) (e : Entry) → entry_at w i ≡ Ok e → (w.base < i) × (term_at w i ≡ Ok e.term)
 entry_term w i e h = grind (arith, nat_tests)
 
 -- ---- an append of what another log has

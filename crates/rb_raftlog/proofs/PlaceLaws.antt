@@ -68,7 +68,7 @@ from_is : (v : LogValue) (from : ℕ) (es : List Entry) → entries_from v from 
 from_is v from es e = grind (arith, nat_tests)
 
 -- the entry at a place behind an index that is not below the base
-entry_after : (v : LogValue) (i k : ℕ) → v.base ≤ i → entry_at v (i + 1 + k) ≡ found (slice_get v.entries (i - v.base + k))
+pub entry_after : (v : LogValue) (i k : ℕ) → v.base ≤ i → entry_at v (i + 1 + k) ≡ found (slice_get v.entries (i - v.base + k))
 entry_after v i k above =
     let index : i + 1 + k ≡ v.base + 1 + (i - v.base + k) = omega arith in
     ap (entry_at v) index ∙ entry_past v (i - v.base + k)

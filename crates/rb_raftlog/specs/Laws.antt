@@ -1,5 +1,5 @@
 -- Definitions of the laws of logs.
-use Rattle.std.specs.Prelude.{◌≡◌, ℕ, ◌+◌, ◌<◌, ◌≤◌, Bool, IsTrue, ◌⊎◌, List, Some, Ok, slice_get}
+use Rattle.std.specs.Prelude.{◌≡◌, ℕ, ◌+◌, ◌-◌, ◌<◌, ◌≤◌, Bool, IsTrue, ◌⊎◌, List, Some, Ok, length, slice_get}
 use Rattle.rb_raftlog.specs.declared.entry.Entry.{Entry}
 use Rattle.rb_raftlog.specs.Log.{LogValue, last, last_term, term_at, entry_at, is_term_up_to, is_up_to_date}
 
@@ -36,6 +36,12 @@ pub record IsFirstConflict (v : LogValue) (prev : ℕ) (es : List Entry) (commit
   pub at : i ≡ prev + 1 + place
   pub here : IsConflicting v prev es commit place
   pub first : (k : ℕ) → k < place → IsConflicting v prev es commit k → ⊥
+
+-- a log had these entries at its end, in order, and another, which came of it, has all those before them and not the first of them
+pub record HasLost (v w : LogValue) (gone : List Entry) : Type 0 where
+  pub were_last : (k : ℕ) (e : Entry) → slice_get gone k ≡ Some e → entry_at v (last v - length gone + 1 + k) ≡ Ok e
+  pub others_stay : (i : ℕ) → i + length gone ≤ last v → entry_at w i ≡ entry_at v i
+  pub first_goes : (e : Entry) → slice_get gone 0 ≡ Some e → term_at w (last v - length gone + 1) ≡ Ok e.term → ⊥
 
 -- Where two logs have the same term at an index, they are the same up to it, as far as both still have it: the Log Matching Property
 -- (Ongaro's thesis, section 3.5).

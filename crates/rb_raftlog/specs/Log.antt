@@ -141,6 +141,17 @@ appended v prev term es commit =
     if nat_lt prev commit then v
     else (if is_term (term_at v prev) term then replaced v prev es (first_new v (prev + 1) es) else v)
 
+-- the log's entries from the first index at which those sent are new on
+abbrev pub replaced_entries : LogValue → Option ℕ → List Entry
+replaced_entries v None = []
+replaced_entries v (Some c) = entries_after v (c - 1)
+
+-- the entries that an append removes, in order: they give way to those sent
+abbrev pub given_way : LogValue → ℕ → ℕ → List Entry → ℕ → List Entry
+given_way v prev term es commit =
+    if nat_lt prev commit then []
+    else (if is_term (term_at v prev) term then replaced_entries v (first_new v (prev + 1) es) else [])
+
 -- whether an entry of this term conflicts with a committed one: index i is above the base, at most commit, and the log has another term
 -- there
 abbrev pub is_conflict : LogValue → ℕ → ℕ → ℕ → Bool

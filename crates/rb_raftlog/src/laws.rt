@@ -8,8 +8,8 @@ ghost use Rattle.rb_raftlog.specs.declared.entry.Entry.{Entry};
 ghost use Rattle.rb_raftlog.specs.declared.snapshot.Snapshot.{Snapshot};
 ghost use Rattle.rb_raftlog.specs.declared.limits.TheConstants.{MAX_INDEX};
 ghost use Rattle.rb_raftlog.specs.declared.raft_log.Appended.TheVariants.{Matched, Refused, BelowCommit};
-ghost use Rattle.rb_raftlog.specs.Log.{LogValue, IsLog, last, fresh, term_at, entry_at, is_term, first_new, appended, answer, own, made_durable, compacted, restored, hint, is_up_to_date, entries_from, between, not_durable};
-ghost use Rattle.rb_raftlog.specs.Laws.{IsHint, log_is_up_to_date, IsAsNew, IsConflicting, IsFirstConflict, AreMatching, AreOfLog};
+ghost use Rattle.rb_raftlog.specs.Log.{LogValue, IsLog, last, fresh, term_at, entry_at, is_term, first_new, appended, given_way, answer, own, made_durable, compacted, restored, hint, is_up_to_date, entries_from, between, not_durable};
+ghost use Rattle.rb_raftlog.specs.Laws.{IsHint, log_is_up_to_date, IsAsNew, IsConflicting, IsFirstConflict, HasLost, AreMatching, AreOfLog};
 
 /// No append changes an entry up to commit.
 pub fn committed_entries_stay()
@@ -33,6 +33,13 @@ pub fn held_entries_stay()
 /// An entry that conflicts goes, and all that follow it: from the first that is new on, the log is what was sent and nothing else.
 pub fn conflicting_entries_go()
     ensures { (v : LogValue) (prev term commit new : ℕ) (es : List Entry) → commit ≤ prev → term_at v prev ≡ Ok term → first_new v (prev + 1) es ≡ Some new → last (appended v prev term es commit) ≡ prev + length es }
+{}
+
+/// The entries that give way to an append were the log's last, in order; all others stay. The first of them is replaced by an entry of another
+/// term. If the log matches that of the sender, none of them is in the log at its index any more.
+pub fn what_gives_way_is_gone()
+    ensures lost { (v : LogValue) (prev term commit : ℕ) (es : List Entry) → HasLost v (appended v prev term es commit) (given_way v prev term es commit) }
+    ensures gone { (v w : LogValue) (prev term commit k : ℕ) (es : List Entry) (e : Entry) → AreMatching v w → term_at w prev ≡ Ok term → AreOfLog w prev es → slice_get (given_way v prev term es commit) k ≡ Some e → term_at (appended v prev term es commit) (last v - length (given_way v prev term es commit) + 1 + k) ≡ Ok e.term → ⊥ }
 {}
 
 /// Written entries are durable. Entries that an append replaces aren't durable any more; no other is affected. A leader's own entry isn't

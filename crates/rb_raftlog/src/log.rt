@@ -187,7 +187,6 @@ impl<S: Store> RaftLog for Log<S> {
     }
 
     fn durable(&self) -> u64 {
-        let _len = self.store.len();
         self.base + self.store.durable_len() as u64
     }
 
@@ -266,6 +265,23 @@ impl<S: Store> RaftLog for Log<S> {
         if self.base_term <= term { self.base } else { 0 }
     }
 
+    #[tactic(auto, using(crate::proofs::GoneLaws::none_past))]
+    fn given_way(
+        &self,
+        prev: u64,
+        prev_term: u64,
+        entries: &Entries,
+        commit: u64,
+    ) -> Result<Entries, AllocError> {
+        if self.last_index() <= prev || prev < commit || !self.is_term(prev, prev_term) {
+            return Ok(Entries::empty());
+        }
+        match self.first_new(prev + 1, entries) {
+            Some(index) => self.entries_after(index - 1),
+            None => Ok(Entries::empty()),
+        }
+    }
+
     fn append_after(
         &mut self,
         prev: u64,
@@ -291,7 +307,6 @@ impl<S: Store> RaftLog for Log<S> {
     }
 
     fn not_durable(&self) -> Pieces<'_> {
-        let _len = self.store.len();
         self.store.pieces(self.store.durable_len())
     }
 

@@ -7,8 +7,8 @@
 //! Contracts see a log as one plain record: its base, the base's term, the list of entries, and the last durable index. In costs, n is the
 //! number of entries and p the number of pages, about n / 64. A copy of an entry costs a pointer.
 
-ghost use Rattle.std.specs.Prelude.{◌≡◌, ◌≢◌, ◌+◌, ◌<◌, ◌≤◌, ◌↔◌, Ok, Err, length, IsTrue, IsOk, IfOk, IfErr, OnOk};
-ghost use Rattle.rb_raftlog.specs.Log.{LogValue, IsLog, IsCompacted, fresh, first, last, last_term, is_up_to_date, term_at, entry_at, entries_from, entries_after, has_change, hint, appended, answer, own, not_durable, made_durable, restored};
+ghost use Rattle.std.specs.Prelude.{◌≡◌, ◌≢◌, ◌+◌, ◌-◌, ◌<◌, ◌≤◌, ◌↔◌, Ok, Err, length, IsTrue, IsOk, IfOk, IfErr, OnOk};
+ghost use Rattle.rb_raftlog.specs.Log.{LogValue, IsLog, IsCompacted, fresh, first, last, last_term, is_up_to_date, term_at, entry_at, entries_from, entries_after, has_change, hint, appended, given_way, answer, own, not_durable, made_durable, restored};
 
 use crate::entries::Entries;
 use crate::entry::Entry;
@@ -100,7 +100,8 @@ pub trait RaftLog: Drop {
     /// The entries past an index, as a message holds them; all of them where the index is below the base. A plain log copies each of
     /// them; a split one copies a pointer for each page of them.
     fn entries_after(&self, index: u64) -> Result<Entries, AllocError>
-        ensures { IfOk result (λ entries. entries ≡ entries_after (plain self.now) index) };
+        ensures value { IfOk result (λ entries. entries ≡ entries_after (plain self.now) index) }
+        ensures within { IfOk result (λ entries. length entries ≤ MAX_INDEX - index) };
 
     /// Whether an entry past one index and up to another changes the configuration. The cost is the entries between them.
     fn has_change(&self, after: u64, upto: u64) -> bool
@@ -110,6 +111,18 @@ pub trait RaftLog: Drop {
     /// It goes down from `index` and costs what it goes past: terms need not ascend.
     fn hint(&self, index: u64, term: u64) -> u64
         ensures { result ≡ hint (plain self.now) index term };
+
+    /// The entries that [`RaftLog::append_shared`] with the same arguments removes, in order. It costs nothing if the log ends at `prev` or
+    /// before; otherwise what the append compares, and what `entries_after` costs for the removed entries.
+    fn given_way(
+        &self,
+        prev: u64,
+        prev_term: u64,
+        entries: &Entries,
+        commit: u64,
+    ) -> Result<Entries, AllocError>
+        requires { prev + length entries.now ≤ MAX_INDEX }
+        ensures { IfOk result (λ gone. gone ≡ given_way (plain self.now) prev prev_term entries.now commit) };
 
     /// Appends the entries of a leader after index `prev`, if the log has this term there. The first entry that differs in term from the
     /// log's, or goes past its end, and all after it replace the log's entries there; dropped entries aren't durable any more. Nothing up

@@ -28,7 +28,8 @@ pub trait Store: Drop {
 
     /// The number of durable entries.
     fn durable_len(&self) -> usize
-        ensures { result ≡ (held self.now).durable_len };
+        ensures value { result ≡ (held self.now).durable_len }
+        ensures sound { (held self.now).durable_len ≤ length (held self.now).entries };
 
     /// The entry at a place, without a search.
     fn entry(&self, k: usize) -> &Entry
