@@ -23,7 +23,7 @@ use Rattle.rb_message.specs.declared.role.Role.TheVariants as role
 use Rattle.rb_message.specs.declared.event.WhyIgnored.TheVariants.{HearsLeader}
 use Rattle.rb_node.specs.Node.{PlainNode, NodeStep, with_node, ignored}
 use Rattle.rb_node.specs.Terms.{became_follower, stepped_later, stepped_later_by, stepped_earlier, stepped_earlier_by, term_revealed, answers_earlier, ignores_campaign}
-use Rattle.rb_node.specs.Following.{after_log, with_appended, append_entries_handled}
+use Rattle.rb_node.specs.Following.{after_log, with_appended, removal_reported, append_entries_handled}
 use Rattle.rb_node.specs.Step.{as_follower, leader_followed, as_precandidate, as_candidate, as_leader, by_role_of, at_term_by, at_term, stepped}
 use Rattle.rb_laws.specs.Sound.{IsSound}
 use Rattle.rb_laws.specs.Words.{HasEntries, IsAnswered}
@@ -96,7 +96,7 @@ after_taken (BelowCommit i) t from append says within = (inr refl, inl refl)
 
 taken : (t : NodeStep) (from : ℕ) (append : PlainAppend) → t.node.commit ≤ last t.node.log → Taken t.node.log t.node.commit t.node.waiting from append (append_entries_handled t from append).node
 unfolding append_entries_handled
-taken t from append within = after_taken (answer t.node.log append.prev append.prev_term append.entries t.node.commit) t from append refl within
+taken t from append within = after_taken (answer t.node.log append.prev append.prev_term append.entries t.node.commit) (removal_reported t append) from append refl within
 
 given_taken : (t : NodeStep) (m : Message) (append : PlainAppend) → m.kind ≡ kind.Append append → t.node.commit ≤ last t.node.log → Taken t.node.log t.node.commit t.node.waiting m.from append (leader_followed t m).node
 given_taken t m append asks within =

@@ -22,7 +22,7 @@ use Rattle.rb_message.specs.declared.message.Message.{Message}
 use Rattle.rb_message.specs.declared.role.Role.{Role}
 use Rattle.rb_message.specs.declared.role.Role.TheVariants as role
 use Rattle.rb_node.specs.Campaigns.{why_no_campaign, candidate, became_candidate, became_precandidate, campaigned_unless, campaigned, became_candidate_unless, campaigned_after_pre_vote}
-use Rattle.rb_node.specs.Following.{after_log, with_appended, append_entries_handled, snapshot_handled, new_snapshot_handled, leader_contact_recorded}
+use Rattle.rb_node.specs.Following.{after_log, with_appended, removal_reported, append_entries_handled, snapshot_handled, new_snapshot_handled, leader_contact_recorded}
 use Rattle.rb_node.specs.Leading.{leading, is_log_full, appended, all_sent_append, became_leader}
 use Rattle.rb_node.specs.Node.{PlainNode, NodeStep, with_event, with_node}
 use Rattle.rb_node.specs.Step.{as_follower, leader_followed, as_precandidate, as_candidate, as_leader, by_role_of, at_term_by, stepped}
@@ -115,7 +115,7 @@ answered_learns (BelowCommit i) t from append says = inl refl
 
 append_learns : (t : NodeStep) (from : ℕ) (append : PlainAppend) → Learns t.node (kind.Append append) (append_entries_handled t from append)
 unfolding append_entries_handled
-append_learns t from append = answered_learns (answer t.node.log append.prev append.prev_term append.entries t.node.commit) t from append refl
+append_learns t from append = answered_learns (answer t.node.log append.prev append.prev_term append.entries t.node.commit) (removal_reported t append) from append refl
 
 beat_learns : (n : PlainNode) (commit : ℕ) → (max n.commit (min commit (last n.log)) ≡ n.commit) ⊎ (max n.commit (min commit (last n.log)) ≤ min commit (last n.log))
 beat_learns n commit =

@@ -40,7 +40,7 @@ use Rattle.rb_message.specs.declared.role.Role.TheVariants as role
 use Rattle.rb_node.specs.Calls.{forgotten_by, reported_with, reported_at, reported}
 use Rattle.rb_node.specs.Campaigns.{why_no_campaign, candidate, became_candidate, became_precandidate, campaigned_unless, campaigned, became_candidate_unless, campaigned_after_pre_vote}
 use Rattle.rb_node.specs.Changing.{transfer_to_non_member_cancelled, views_updated, without_views, missing, continued_after_switch, steps_down, switched, change_applied, body_applied, applied_one, applied_all, leaves_joint, joint_left}
-use Rattle.rb_node.specs.Following.{after_log, with_appended, append_entries_handled, snapshot_handled, new_snapshot_handled, leader_contact_recorded}
+use Rattle.rb_node.specs.Following.{after_log, with_appended, removal_reported, append_entries_handled, snapshot_handled, new_snapshot_handled, leader_contact_recorded}
 use Rattle.rb_node.specs.Leading.{can_commit, appended, appended_change, is_log_full, all_sent_append, leading, in_lead, became_leader, with_views, checked_commit}
 use Rattle.rb_node.specs.Acknowledging.{append_response_handled, append_refusal_handled, heartbeat_response_handled}
 use Rattle.rb_node.specs.Transferring.{transfer_leader_handled}
@@ -224,7 +224,7 @@ after_log_never (BelowCommit i) t from append none = none
 
 append_never : (t : NodeStep) (from : ℕ) (append : PlainAppend) → Never t → Never (append_entries_handled t from append)
 unfolding append_entries_handled
-append_never t from append none = after_log_never (answer t.node.log append.prev append.prev_term append.entries t.node.commit) t from append none
+append_never t from append none = after_log_never (answer t.node.log append.prev append.prev_term append.entries t.node.commit) (removal_reported t append) from append none
 
 snapshot_never : (t : NodeStep) (from : ℕ) (x : Snapshot) → Never t → Never (snapshot_handled t from x)
 unfolding snapshot_handled

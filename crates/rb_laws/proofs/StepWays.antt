@@ -1,11 +1,11 @@
 -- A message, as a way of moves: terms, campaigns, votes, what a follower does, and the table of roles
-use Rattle.std.proofs.Common.{[], ℕ, ◌≤◌, ◌≡◌, ◌<◌, arith, refl, false, ◌==◌, eqb-true, List, ◌∷◌, subst, sym, Bool, true, ap, ◌∙◌, ◌+◌, None, Option, Some, ◌&&◌, not, min, max, nat_le, ◌||◌, nat_lt, if◌then◌else◌, ◌⊎◌, Ok, inl, inr}
+use Rattle.std.proofs.Common.{[], ℕ, ◌≤◌, ◌≡◌, ◌<◌, arith, refl, false, ◌==◌, eqb-true, List, ◌∷◌, subst, sym, Bool, true, ap, ◌∙◌, ◌+◌, None, Option, Some, ◌&&◌, not, min, max, nat_le, ◌||◌, nat_lt, if◌then◌else◌, ◌⊎◌, ◌++◌, append-nil, Ok, inl, inr}
 use Rattle.std.proofs.lemmas.Bool.{cases_lt, and_parts, false≢true, leb-false, ltb-false, eqb-false, or_parts}
 use Rattle.rb_raftlog.proofs.TermLaws.{held_in, is_term_is, is_term_from}
 use Rattle.rb_raftlog.proofs.AnswerLaws.{matched-says, committed-says}
 use Rattle.rb_raftlog.proofs.AppendLaws.{by_append, in_place, put_term_below, matched-term}
 use Rattle.rb_raftlog.specs.declared.entry.Entry.{Entry}
-use Rattle.rb_raftlog.specs.Log.{last_term, last, is_up_to_date, answer, appended, is_term, term_at, LogValue}
+use Rattle.rb_raftlog.specs.Log.{last_term, last, is_up_to_date, answer, given_way, appended, is_term, term_at, LogValue}
 use Rattle.rb_raftlog.specs.declared.raft_log.Appended.{Appended}
 use Rattle.rb_raftlog.specs.declared.raft_log.Appended.TheVariants.{Matched, Refused, BelowCommit}
 use Rattle.rb_raftlog.specs.declared.snapshot.Snapshot.{Snapshot}
@@ -16,6 +16,7 @@ use Rattle.rb_tracker.specs.declared.votes.VoteResult.{VoteResult}
 use Rattle.rb_tracker.specs.declared.votes.VoteResult.TheVariants as vote
 use Rattle.rb_message.specs.Appends.{PlainAppend}
 use Rattle.rb_message.specs.Messages.{has_term}
+use Rattle.rb_message.specs.declared.event.Event.{Event}
 use Rattle.rb_message.specs.declared.event.Event.TheVariants.{Became}
 use Rattle.rb_message.specs.declared.event.WhyNoCampaign.{WhyNoCampaign}
 use Rattle.rb_message.specs.declared.kind.MessageKind.{MessageKind}
@@ -24,7 +25,7 @@ use Rattle.rb_message.specs.declared.message.Message.{Message}
 use Rattle.rb_message.specs.declared.role.Role.{Role}
 use Rattle.rb_message.specs.declared.role.Role.TheVariants as role
 use Rattle.rb_node.specs.Campaigns.{asked_one, asked, why_no_campaign, became_candidate, candidate, asked_for_votes, became_precandidate, precandidate, asked_for_pre_votes, campaigned_unless, campaigned, became_candidate_unless, campaigned_after_pre_vote}
-use Rattle.rb_node.specs.Following.{after_log, commits_to, append_entries_handled, with_appended, snapshot_handled, restored_to, with_match, forwarded_to_leader, heartbeat_handled, leader_contact_recorded}
+use Rattle.rb_node.specs.Following.{after_log, commits_to, removal, removal_reported, append_entries_handled, with_appended, snapshot_handled, restored_to, with_match, forwarded_to_leader, heartbeat_handled, leader_contact_recorded}
 use Rattle.rb_message.specs.declared.event.WhyIgnored.TheVariants.{HearsLeader}
 use Rattle.rb_node.specs.Node.{NodeStep, with_node, message, answered_with, PlainNode, ignored}
 use Rattle.rb_node.specs.Step.{as_follower, leader_followed, as_precandidate, as_candidate, as_leader, by_role_of, at_term_by, stepped, at_term}
@@ -259,15 +260,22 @@ answer_holds {w} n from append i came says =
           inr (h, refl)
     ]
 
+-- entries that are removed are shown, if there are any
+removal_way : {w : Ways} (t : NodeStep) (gone : List Entry) → Path (StepMove w) t (record t { events = t.events ++ removal t.node.id t.node.log gone })
+removal_way {w} t [] = subst (λ (es : List Event). Path (StepMove w) t (record t { events = es })) (sym (append-nil t.events)) (stays t)
+removal_way t (e ∷ es) = Shows t _
+
 append_way : {w : Ways} (t : NodeStep) (from : ℕ) (append : PlainAppend) → t.node.role ≡ role.Follower → CameNow w t.node (kind.Append append)
     → Path (StepMove w) t (append_entries_handled t from append)
 unfolding append_entries_handled
 append_way t from append follows came =
     let n = t.node in
-    let u : NodeStep = with_node t (with_appended n from append) in
-    Onward (Goes_on t (One (Takes n from append follows came)))
+    let v : NodeStep = removal_reported t append in
+    let u : NodeStep = with_node v (with_appended n from append) in
+    Onward (removal_way t (given_way n.log append.prev append.prev_term append.entries n.commit))
+    (Onward (Goes_on v (One (Takes n from append follows came)))
     (after_log_way (answer n.log append.prev append.prev_term append.entries n.commit) u from append follows
-    (answer_reaches n.log append.prev append.prev_term append.entries n.commit) (λ i says. answer_holds n from append i came says))
+    (answer_reaches n.log append.prev append.prev_term append.entries n.commit) (λ i says. answer_holds n from append i came says)))
 
 snapshot_way : {w : Ways} (t : NodeStep) (from : ℕ) (s : Snapshot) → t.node.role ≡ role.Follower → CameNow w t.node (kind.Snapshot s)
     → Path (StepMove w) t (snapshot_handled t from s)

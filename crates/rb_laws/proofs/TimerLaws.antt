@@ -14,7 +14,7 @@ use Rattle.rb_message.specs.declared.kind.MessageKind.TheVariants as kind
 use Rattle.rb_message.specs.declared.message.Message.{Message}
 use Rattle.rb_message.specs.declared.role.Role.{Role}
 use Rattle.rb_message.specs.declared.role.Role.TheVariants as role
-use Rattle.rb_node.specs.Following.{after_log, with_appended, append_entries_handled, snapshot_handled, new_snapshot_handled, leader_contact_recorded}
+use Rattle.rb_node.specs.Following.{after_log, with_appended, removal_reported, append_entries_handled, snapshot_handled, new_snapshot_handled, leader_contact_recorded}
 use Rattle.rb_node.specs.Node.{PlainNode, NodeStep, with_node, with_elapsed, with_heartbeat_elapsed}
 use Rattle.rb_node.specs.Step.{as_follower, as_precandidate, as_candidate, by_role_of, at_term_by, stepped}
 use Rattle.rb_node.specs.Terms.{became_follower, stepped_later_by, stepped_earlier_by, ignores_campaign}
@@ -41,7 +41,7 @@ after_log_hears (BelowCommit i) t m append same = record { timer = refl; lead = 
 
 append_hears : (t : NodeStep) (m : Message) (append : PlainAppend) → m.term ≡ t.node.term → Hears m (append_entries_handled t m.from append)
 unfolding append_entries_handled
-append_hears t m append same = after_log_hears (answer t.node.log append.prev append.prev_term append.entries t.node.commit) t m append same
+append_hears t m append same = after_log_hears (answer t.node.log append.prev append.prev_term append.entries t.node.commit) (removal_reported t append) m append same
 
 snapshot_hears : (t : NodeStep) (m : Message) (s : Snapshot) → m.term ≡ t.node.term → Hears m (snapshot_handled (with_node t (leader_contact_recorded t.node m.from)) m.from s)
 unfolding snapshot_handled

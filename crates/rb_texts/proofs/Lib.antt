@@ -5,3 +5,4 @@ pub mod KindLaws
 pub mod OneLineLaws
 pub mod ShownLaws
 pub mod PrintedLaws
+pub mod FewLaws

@@ -1,5 +1,5 @@
--- The line of a reason: why a node does nothing with a message, or refuses a vote. (This project's texts.)
-use Rattle.std.specs.Prelude.{ℕ, Bool, nat_le, if◌then◌else◌, codes, decimal, List, [], ◌∷◌, ◌++◌, Option, Some, None}
+-- The line of a reason: why a node does nothing with a message, or refuses a vote, or which entries of its log give way. (This project's texts.)
+use Rattle.std.specs.Prelude.{ℕ, zero, suc, ◌-◌, ◌==◌, length, Bool, nat_le, if◌then◌else◌, codes, decimal, List, [], ◌∷◌, ◌++◌, Option, Some, None}
 use Rattle.rb_vocab.specs.declared.level.Level.{Level}
 use Rattle.rb_vocab.specs.declared.level.Level.TheVariants as levels
 use Rattle.rb_vocab.specs.Levels.{rank}
@@ -9,10 +9,12 @@ use Rattle.rb_message.specs.declared.event.WhyIgnored.{WhyIgnored}
 use Rattle.rb_message.specs.declared.event.WhyIgnored.TheVariants as ignored
 use Rattle.rb_message.specs.declared.event.WhyRefused.{WhyRefused}
 use Rattle.rb_message.specs.declared.event.WhyRefused.TheVariants as refused
+use Rattle.rb_raftlog.specs.declared.entry.Entry.{Entry}
 use Rattle.rb_script.specs.Lines.{Line}
 use Rattle.rb_texts.specs.declared.reason.Reason.{Reason}
-use Rattle.rb_texts.specs.declared.reason.Reason.TheVariants.{Ignored, Refused}
-use Rattle.rb_texts.specs.Entries.{place_text}
+use Rattle.rb_texts.specs.declared.reason.Reason.TheVariants.{Ignored, Refused, GivesWay}
+use Rattle.rb_texts.specs.declared.reason.TheConstants.{MAX_ENTRIES}
+use Rattle.rb_texts.specs.Entries.{place_text, entry_text}
 use Rattle.rb_texts.specs.Items.{PlainItem, event}
 use Rattle.rb_texts.specs.States.{role_text}
 
@@ -21,6 +23,7 @@ use Rattle.rb_texts.specs.States.{role_text}
 abbrev pub event_reason : Event → Option Reason
 event_reason (events.Ignored id type from why) = Some (Ignored why)
 event_reason (events.RefusedVote id type from why) = Some (Refused why)
+event_reason (events.RemovedEntries id last es) = Some (GivesWay last es)
 event_reason e = None
 
 abbrev pub reason_of : PlainItem → Option Reason
@@ -62,9 +65,33 @@ why_refused_text (refused.Voted term vote) = codes "the vote of term " ++ decima
 why_refused_text (refused.KnowsLeader term lead) = decimal lead ++ codes " leads term " ++ decimal term
 why_refused_text (refused.OlderLog term index own_term own_index) = older_text term index own_term own_index
 
+-- the first few of the entries, the last of which has an index: one text before the first, and a comma before each other
+abbrev pub few_entries_text : ℕ → List ℕ → ℕ → List Entry → List ℕ
+few_entries_text zero before last es = []
+few_entries_text (suc n) before last [] = []
+few_entries_text (suc n) before last (e ∷ es) = before ++ entry_text (last - length es) e ++ few_entries_text n (codes ", ") last es
+
+-- how many more there are
+abbrev pub more_text : ℕ → List ℕ
+more_text n = if n == 0 then [] else codes " and " ++ decimal n ++ codes " more"
+
+abbrev pub give_way_text : ℕ → List ℕ
+give_way_text n = if n == 1 then codes " gives way" else codes " give way"
+
+abbrev pub gives_way_text : ℕ → List Entry → List ℕ
+gives_way_text last es =
+    few_entries_text MAX_ENTRIES (codes "  ") last es ++ more_text (length es - MAX_ENTRIES) ++ give_way_text (length es)
+
 unfoldable pub reason_text : Reason → List ℕ
 reason_text (Ignored why) = codes "  ignored: " ++ why_ignored_text why
 reason_text (Refused why) = codes "  refused: " ++ why_refused_text why
+reason_text (GivesWay last es) = gives_way_text last es
+
+-- the number of its bytes before what it says: blanks, and whether the message is ignored or a vote is refused
+abbrev pub reason_front : Reason → ℕ
+reason_front (Ignored why) = 11
+reason_front (Refused why) = 11
+reason_front (GivesWay last es) = 2
 
 -- ---- its line
 

@@ -37,9 +37,11 @@ item_text (progress id view) = progress_text id view
 item_text (event e) = event_text e
 item_text (error e) = error_text e
 
--- An event is shown if its level is at least the one set. A refused vote has no line of its own, since its answer has one.
+-- An event is shown if its level is at least the one set. A refused vote has no line of its own, since its answer has one. Removed entries have
+-- none: they are the reason below a line.
 abbrev pub is_event_shown : Level → Event → Bool
 is_event_shown level (events.RefusedVote id type from why) = false
+is_event_shown level (events.RemovedEntries id last es) = false
 is_event_shown level e = nat_le (rank level) (rank (event_level e))
 
 -- Errors and `ok` are always shown, an event if its level is at least the one set, and everything else unless the level is none.

@@ -22,7 +22,9 @@ pub(crate) fn event_level(event: &Event) -> Level
     ensures { result ≡ event_level event.now }
 {
     match event {
-        Event::Ignored { .. } | Event::RefusedVote { .. } => Level::Debug,
+        Event::Ignored { .. } | Event::RefusedVote { .. } | Event::RemovedEntries { .. } => {
+            Level::Debug
+        }
         Event::Started { .. }
         | Event::Became { .. }
         | Event::VoteCounted { .. }
@@ -308,6 +310,9 @@ fn add_happening(line: &mut LineText, event: &Event) -> Result<(), AllocError>
             ..
         } => add_turned_down(line, *id, b" refused ", *message_type, *from),
         Event::DroppedProposal { id } => add_node_text(line, *id, b" dropped a proposal"),
+        Event::RemovedEntries { id, last, .. } => {
+            add_counted(line, *id, b" removed entries up to ", *last)
+        }
         Event::Conflict { id, index, commit } => add_conflict(line, *id, *index, *commit),
         Event::AppendsNothing { id } => {
             add_node_text(line, *id, b" appends nothing: index limit")

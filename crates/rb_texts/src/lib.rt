@@ -18,6 +18,6 @@ pub use events::{fault_name, no_campaign_name, replaced_name, votes_name};
 pub use item::{Item, LogLine, NodeLine, Verb};
 pub use laws::{lines_are_solid, printed_lines_can_be_expected, printed_plain};
 pub use rb_vocab::{DirectiveError, Level, ScriptWord, level_of};
-pub use reason::{Reason, put_reason, reason_of};
+pub use reason::{Reason, put_reason, reason_front, reason_of};
 pub use states::{progress_state_name, role_name};
 pub use texts::{is_shown, put};

@@ -1,44 +1,56 @@
 //! The line of a reason.
 //!
-//! It is indented below the message that has no effect, and begins with whether the message is ignored or a vote is refused.
+//! It is indented below a message, and says why the message is ignored or a vote is refused, or which entries of a follower's log give way to its
+//! leader's (Ongaro's thesis, section 3.5).
 
-ghost use Rattle.std.specs.Prelude.{◌≡◌, ◌++◌, codes, decimal, OnOk};
+ghost use Rattle.std.specs.Prelude.{◌≡◌, ◌-◌, ◌++◌, length, codes, decimal, IfOk, OnOk};
 ghost use Rattle.rb_texts.specs.Items.{plain_item};
-ghost use Rattle.rb_texts.specs.Reasons.{event_reason, reason_of, earlier_text, outdated_text, why_ignored_text, end_text, older_text, why_refused_text, reason_text, shows_reasons, reason_line};
+ghost use Rattle.rb_texts.specs.Reasons.{event_reason, reason_of, earlier_text, outdated_text, why_ignored_text, end_text, older_text, why_refused_text, few_entries_text, more_text, give_way_text, gives_way_text, reason_text, reason_front, shows_reasons, reason_line};
 ghost use Rattle.rb_texts.specs.States.{role_text};
 
+use crate::entries::add_entry;
 use crate::item::Item;
 use crate::piece::{LinePiece, add_bytes, add_field, add_numbered, add_pieces};
 use crate::states::role_name;
 use rb_message::{Event, Role, WhyIgnored, WhyRefused};
+use rb_raftlog::Entries;
 use rb_script::{LineText, Lines, WrittenLine};
 use rb_vocab::Level;
 use std::alloc::AllocError;
 
-/// Why a message has no effect.
-#[derive(Clone, Copy, PartialEq, Eq, Debug)]
+// The most entries that a reason shows.
+const MAX_ENTRIES: usize = 3;
+
+/// Why a message has no effect, or which entries of a log give way to those of a message.
+#[derive(Drop)]
 pub enum Reason {
     Ignored(WhyIgnored),
     Refused(WhyRefused),
+    /// The entries, and the index of the last of them.
+    GivesWay { last: u64, entries: Entries },
 }
 
-fn event_reason(event: &Event) -> Option<Reason>
-    ensures { result ≡ event_reason event.now }
+fn event_reason(event: &Event) -> Result<Option<Reason>, AllocError>
+    ensures { IfOk result (λ reason. reason ≡ event_reason event.now) }
 {
     match event {
-        Event::Ignored { why, .. } => Some(Reason::Ignored(*why)),
-        Event::RefusedVote { why, .. } => Some(Reason::Refused(*why)),
-        _ => None,
+        Event::Ignored { why, .. } => Ok(Some(Reason::Ignored(*why))),
+        Event::RefusedVote { why, .. } => Ok(Some(Reason::Refused(*why))),
+        Event::RemovedEntries { last, entries, .. } => Ok(Some(Reason::GivesWay {
+            last: *last,
+            entries: entries.try_copy()?,
+        })),
+        _ => Ok(None),
     }
 }
 
-/// The reason that an item tells: an event that a message is ignored, or a vote refused.
-pub fn reason_of(item: &Item<'_>) -> Option<Reason>
-    ensures { result ≡ reason_of (plain_item item.now) }
+/// The reason that an item tells: an event that a message is ignored, a vote refused, or that entries give way. Entries cost a pointer.
+pub fn reason_of(item: &Item<'_>) -> Result<Option<Reason>, AllocError>
+    ensures { IfOk result (λ reason. reason ≡ reason_of (plain_item item.now)) }
 {
     match item {
         Item::Event(event) => event_reason(event),
-        _ => None,
+        _ => Ok(None),
     }
 }
 
@@ -189,6 +201,59 @@ fn add_why_refused(line: &mut LineText, why: WhyRefused) -> Result<(), AllocErro
     }
 }
 
+// Adds the first few entries, the last of which has an index: one text before the first, and a comma before each other.
+fn add_few_entries<'a>(
+    line: &mut LineText,
+    before: &'a [u8],
+    last: u64,
+    entries: &Entries,
+) -> Result<(), AllocError>
+    ensures { OnOk result (line.new ≡ line.old ++ few_entries_text MAX_ENTRIES before.now last entries.now) }
+{
+    let len = entries.len();
+    let mut separator = before;
+    for k in 0..len.min(MAX_ENTRIES) {
+        add_bytes(line, separator)?;
+        add_entry(
+            line,
+            last.saturating_sub((len - 1 - k) as u64),
+            entries.entry(k),
+        )?;
+        separator = b", ";
+    }
+    Ok(())
+}
+
+// Adds how many more entries there are.
+fn add_more(line: &mut LineText, more: u64) -> Result<(), AllocError>
+    ensures { OnOk result (line.new ≡ line.old ++ more_text more) }
+{
+    if more == 0 {
+        return Ok(());
+    }
+    let pieces = [LinePiece::Field(b" and ", more), LinePiece::Bytes(b" more")];
+    add_pieces(line, &pieces)
+}
+
+fn give_way_text(len: usize) -> &'static [u8]
+    ensures { result.now ≡ give_way_text len }
+{
+    if len == 1 {
+        b" gives way"
+    } else {
+        b" give way"
+    }
+}
+
+fn add_gives_way(line: &mut LineText, last: u64, entries: &Entries) -> Result<(), AllocError>
+    ensures { OnOk result (line.new ≡ line.old ++ gives_way_text last entries.now) }
+{
+    let len = entries.len();
+    add_few_entries(line, b"  ", last, entries)?;
+    add_more(line, len.saturating_sub(MAX_ENTRIES) as u64)?;
+    add_bytes(line, give_way_text(len))
+}
+
 impl WrittenLine for Reason {
     ghost use Rattle.rb_texts.specs.Reasons.{reason_text};
 
@@ -205,7 +270,18 @@ impl WrittenLine for Reason {
                 add_bytes(text, b"  refused: ")?;
                 add_why_refused(text, *why)
             }
+            Reason::GivesWay { last, entries } => add_gives_way(text, *last, entries),
         }
+    }
+}
+
+/// The number of bytes at the beginning of a reason's line, before what it says: blanks, and whether the message is ignored or a vote is refused.
+pub fn reason_front(reason: &Reason) -> usize
+    ensures { result ≡ reason_front reason.now }
+{
+    match reason {
+        Reason::Ignored(_) | Reason::Refused(_) => 11,
+        Reason::GivesWay { .. } => 2,
     }
 }
 
@@ -217,11 +293,11 @@ fn shows_reasons(level: Level) -> bool
 
 /// Adds the line of a reason, or nothing at level `none`. Where memory runs out, nothing is known of what `lines` holds then: it is only
 /// good for being dropped.
-pub fn put_reason(lines: &mut Lines, level: Level, reason: Reason) -> Result<(), AllocError>
-    ensures { OnOk result (lines.new ≡ lines.old ++ reason_line level reason) }
+pub fn put_reason(lines: &mut Lines, level: Level, reason: &Reason) -> Result<(), AllocError>
+    ensures { OnOk result (lines.new ≡ lines.old ++ reason_line level reason.now) }
 {
     if !shows_reasons(level) {
         return Ok(());
     }
-    lines.push_written(&reason)
+    lines.push_written(reason)
 }

@@ -46,7 +46,7 @@ fn is_event_shown(level: Level, event: &Event) -> bool
     ensures { result ≡ is_event_shown level event.now }
 {
     match event {
-        Event::RefusedVote { .. } => false,
+        Event::RefusedVote { .. } | Event::RemovedEntries { .. } => false,
         _ => level.rank() <= event_level(event).rank(),
     }
 }
