@@ -2,20 +2,18 @@
 
 ghost use Rattle.std.specs.Prelude.{◌≡◌, OnOk};
 ghost use Rattle.rb_node.specs.Node.{node_step};
-ghost use Rattle.rb_message.specs.declared.kind.MessageKind.TheVariants as kinds;
-ghost use Rattle.rb_raftlog.specs.declared.entry.Body.TheVariants as bodies;
-ghost use Rattle.rb_node.specs.Calls.{called};
 ghost use Rattle.rb_machine.specs.Acts.{ticked_times, step_by, act, propose, set_timeout, transfer, report_unreachable};
-ghost use Rattle.rb_machine.specs.Effects.{node_moved};
+ghost use Rattle.rb_machine.specs.Effects.{acted, node_moved};
 ghost use Rattle.rb_machine.specs.Observers.{watched, after};
+ghost use Rattle.rb_cluster.specs.Calls.{step_of};
 
 use crate::cluster::{Cluster, place_of};
 use rb_directive::NodeCommand;
 use rb_machine::{Observer, show_events};
-use rb_message::Event;
+use rb_message::{Event, Message};
 use rb_node::{ELECTION_TICKS, Node};
 use rb_raftlog::RaftLog;
-use rb_vocab::{ScriptWord, Shared};
+use rb_vocab::{ScriptWord, Shared, Transition, Word};
 use std::alloc::AllocError;
 
 // Ticks a node n times.
@@ -33,28 +31,88 @@ fn tick_times<L: RaftLog>(
     Ok(())
 }
 
+// Calls a node, as the directive says.
+fn call_node<L: RaftLog>(
+    node: &mut Node<L>,
+    what: NodeCommand,
+    events: &mut Vec<Event>,
+) -> Result<(), AllocError>
+    ensures { OnOk result (node_step node.new events.new.items ≡ step_by what (node_step node.old events.old.items)) }
+{
+    match what {
+        NodeCommand::Campaign => node.campaign(events),
+        NodeCommand::TickElection => tick_times(node, ELECTION_TICKS, events),
+        NodeCommand::TickHeartbeat => node.tick(events),
+        NodeCommand::ForgetLeader => {
+            node.forget_leader();
+            Ok(())
+        }
+    }
+}
+
+/// A call of a node, by a directive or by a message.
+#[derive(Drop)]
+pub(crate) enum NodeCall<'m> {
+    /// A directive that has no more arguments.
+    Command(NodeCommand),
+    /// A payload is proposed.
+    Propose(Shared<u8>),
+    /// A change of the configuration is proposed.
+    ProposeChange(Transition, Shared<Word>),
+    /// Leadership is to be transferred to a node.
+    Transfer(u64),
+    /// A message is stepped.
+    Step(&'m Message),
+}
+
+fn make_call<L: RaftLog>(
+    node: &mut Node<L>,
+    call: NodeCall<'_>,
+    events: &mut Vec<Event>,
+) -> Result<(), AllocError>
+    ensures { OnOk result (node_step node.new events.new.items ≡ step_of call.entry (node_step node.old events.old.items)) }
+{
+    match call {
+        NodeCall::Command(what) => call_node(node, what, events),
+        NodeCall::Propose(payload) => node.propose(payload, events),
+        NodeCall::ProposeChange(transition, words) => {
+            node.propose_change(transition, words, events)
+        }
+        NodeCall::Transfer(to) => node.transfer(to, events),
+        NodeCall::Step(message) => node.step(message, events),
+    }
+}
+
 impl<L: RaftLog> Cluster<L> {
-    // Calls a node, as the directive says.
-    fn call_node<O: Observer<L>>(
+    // Calls a node, and shows its events.
+    fn call<O: Observer<L>>(
         &mut self,
-        what: NodeCommand,
         id: u64,
+        call: NodeCall<'_>,
         observer: &mut O,
     ) -> Result<(), AllocError>
-        ensures { OnOk result (watched self.new (O.meaning observer.new) ≡ after O.taking O.settling (O.meaning observer.old) (node_moved self.old id (step_by what))) }
+        ensures { OnOk result (watched self.new (O.meaning observer.new) ≡ after O.taking O.settling (O.meaning observer.old) (node_moved self.old id (step_of call.entry))) }
     {
         let mut events = Vec::new(self.alloc);
         let Some(shared) = self.nodes.get_mut(place_of(id)) else {
             return Ok(());
         };
         let node = shared.make_mut()?;
-        match what {
-            NodeCommand::Campaign => node.campaign(&mut events)?,
-            NodeCommand::TickElection => tick_times(node, ELECTION_TICKS, &mut events)?,
-            NodeCommand::TickHeartbeat => node.tick(&mut events)?,
-            NodeCommand::ForgetLeader => node.forget_leader(),
-        }
+        make_call(node, call, &mut events)?;
         show_events(observer, &events)
+    }
+
+    /// Calls a node. Shows its events, and then the node, which has settled.
+    pub(crate) fn call_and_settle<O: Observer<L>>(
+        &mut self,
+        id: u64,
+        call: NodeCall<'_>,
+        observer: &mut O,
+    ) -> Result<(), AllocError>
+        ensures { OnOk result (watched self.new (O.meaning observer.new) ≡ after O.taking O.settling (O.meaning observer.old) (acted self.old id (step_of call.entry))) }
+    {
+        self.call(id, call, observer)?;
+        self.show_settled(id, observer)
     }
 
     /// Calls a node, as the directive says.
@@ -66,27 +124,7 @@ impl<L: RaftLog> Cluster<L> {
     ) -> Result<(), AllocError>
         ensures { OnOk result (watched self.new (O.meaning observer.new) ≡ after O.taking O.settling (O.meaning observer.old) (act what id self.old)) }
     {
-        self.call_node(what, id, observer)?;
-        self.show_settled(id, observer)
-    }
-
-    // Proposes a payload at a node.
-    fn propose_payload<O: Observer<L>>(
-        &mut self,
-        id: u64,
-        payload: &ScriptWord<'_>,
-        observer: &mut O,
-    ) -> Result<(), AllocError>
-        ensures { OnOk result (watched self.new (O.meaning observer.new) ≡ after O.taking O.settling (O.meaning observer.old) (node_moved self.old id (λ t. called t (kinds.Proposal (bodies.Payload payload.now))))) }
-    {
-        let bytes = Shared::new(Vec::from_slice(self.alloc, payload.bytes())?)?;
-        let mut events = Vec::new(self.alloc);
-        let Some(shared) = self.nodes.get_mut(place_of(id)) else {
-            return Ok(());
-        };
-        let node = shared.make_mut()?;
-        node.propose(bytes, &mut events)?;
-        show_events(observer, &events)
+        self.call_and_settle(id, NodeCall::Command(what), observer)
     }
 
     /// Proposes a payload at a node.
@@ -98,8 +136,8 @@ impl<L: RaftLog> Cluster<L> {
     ) -> Result<(), AllocError>
         ensures { OnOk result (watched self.new (O.meaning observer.new) ≡ after O.taking O.settling (O.meaning observer.old) (propose id payload.now self.old)) }
     {
-        self.propose_payload(id, payload, observer)?;
-        self.show_settled(id, observer)
+        let bytes = Shared::new(Vec::from_slice(self.alloc, payload.bytes())?)?;
+        self.call_and_settle(id, NodeCall::Propose(bytes), observer)
     }
 
     /// Sets a node's election timeout in ticks.
@@ -112,24 +150,6 @@ impl<L: RaftLog> Cluster<L> {
         Ok(())
     }
 
-    // Asks a node to transfer leadership to another.
-    fn ask_transfer<O: Observer<L>>(
-        &mut self,
-        from: u64,
-        to: u64,
-        observer: &mut O,
-    ) -> Result<(), AllocError>
-        ensures { OnOk result (watched self.new (O.meaning observer.new) ≡ after O.taking O.settling (O.meaning observer.old) (node_moved self.old from (λ t. called t (kinds.TransferLeader to)))) }
-    {
-        let mut events = Vec::new(self.alloc);
-        let Some(shared) = self.nodes.get_mut(place_of(from)) else {
-            return Ok(());
-        };
-        let node = shared.make_mut()?;
-        node.transfer(to, &mut events)?;
-        show_events(observer, &events)
-    }
-
     /// Asks a node to transfer leadership to another.
     pub(crate) fn transfer<O: Observer<L>>(
         &mut self,
@@ -139,8 +159,7 @@ impl<L: RaftLog> Cluster<L> {
     ) -> Result<(), AllocError>
         ensures { OnOk result (watched self.new (O.meaning observer.new) ≡ after O.taking O.settling (O.meaning observer.old) (transfer from to self.old)) }
     {
-        self.ask_transfer(from, to, observer)?;
-        self.show_settled(from, observer)
+        self.call_and_settle(from, NodeCall::Transfer(to), observer)
     }
 
     /// Reports to a node that another can't be reached.

@@ -3,15 +3,14 @@
 ghost use Rattle.std.specs.Prelude.{◌≡◌, IfOk, OnOk, fold, map};
 ghost use Rattle.rb_machine.specs.Pending.{mail, other_mail, with_pending};
 ghost use Rattle.rb_machine.specs.Deliveries.{received, all_received, delivered, delivered_each, drop_item, dropped, dropped_each, is_for_any, selects_any, msgs_delivered};
-ghost use Rattle.rb_node.specs.Step.{stepped};
-ghost use Rattle.rb_machine.specs.Effects.{node_moved};
 ghost use Rattle.rb_machine.specs.Observers.{watched, after};
 
-use crate::cluster::{Cluster, place_of};
+use crate::acts::NodeCall;
+use crate::cluster::Cluster;
 use crate::pending::{is_for, split};
 use crate::shared_message::SharedMessage;
 use rb_directive::{DeliverMsgs, TypeSet};
-use rb_machine::{Observer, show_events};
+use rb_machine::Observer;
 use rb_message::Message;
 use rb_raftlog::RaftLog;
 use rb_texts::{Item, Verb};
@@ -51,24 +50,6 @@ fn selects_any(asked: &DeliverMsgs, pending: &[SharedMessage]) -> bool
 }
 
 impl<L: RaftLog> Cluster<L> {
-    // A node steps a message.
-    fn step_message<O: Observer<L>>(
-        &mut self,
-        id: u64,
-        message: &Message,
-        observer: &mut O,
-    ) -> Result<(), AllocError>
-        ensures { OnOk result (watched self.new (O.meaning observer.new) ≡ after O.taking O.settling (O.meaning observer.old) (node_moved self.old id (λ t. stepped t message.now))) }
-    {
-        let mut events = Vec::new(self.alloc);
-        let Some(shared) = self.nodes.get_mut(place_of(id)) else {
-            return Ok(());
-        };
-        let node = shared.make_mut()?;
-        node.step(message, &mut events)?;
-        show_events(observer, &events)
-    }
-
     // Delivers a message to its node.
     fn receive<O: Observer<L>>(
         &mut self,
@@ -79,8 +60,7 @@ impl<L: RaftLog> Cluster<L> {
         ensures { OnOk result (watched self.new (O.meaning observer.new) ≡ after O.taking O.settling (O.meaning observer.old) (received id self.old message.now)) }
     {
         observer.observe(&Item::Moved(Verb::Deliver, message))?;
-        self.step_message(id, message, observer)?;
-        self.show_settled(id, observer)
+        self.call_and_settle(id, NodeCall::Step(message), observer)
     }
 
     // Delivers messages to their node, in order.

@@ -45,8 +45,8 @@ fn show_snapshot<O: Observer<L>, L: RaftLog>(
 fn show_unsaved<O: Observer<L>, L: RaftLog>(observer: &mut O, log: &L) -> Result<(), AllocError>
     ensures { OnOk result (O.meaning observer.new ≡ fold O.taking (O.meaning observer.old) (entry_items items.save ((L.plain log.now).durable + 1) (not_durable (L.plain log.now)))) }
 {
-    let _last = log.last_index();
-    for index in log.durable() + 1..log.last_index() + 1 {
+    let last = log.last_index();
+    for index in log.durable() + 1..last + 1 {
         match log.entry_at(index) {
             Ok(entry) => observer.observe(&Item::Save(index, entry))?,
             Err(_) => unreachable!(),

@@ -13,21 +13,7 @@ fn place(message_type: MessageType) -> usize
     ensures place { result ≡ type_place message_type }
     ensures within { result < 13 }
 {
-    match message_type {
-        MessageType::Vote => 0,
-        MessageType::PreVote => 1,
-        MessageType::VoteResponse => 2,
-        MessageType::PreVoteResponse => 3,
-        MessageType::Append => 4,
-        MessageType::AppendResponse => 5,
-        MessageType::Heartbeat => 6,
-        MessageType::HeartbeatResponse => 7,
-        MessageType::Snapshot => 8,
-        MessageType::Proposal => 9,
-        MessageType::TransferLeader => 10,
-        MessageType::TimeoutNow => 11,
-        MessageType::Unreachable => 12,
-    }
+    message_type as usize
 }
 
 /// A set of message types.

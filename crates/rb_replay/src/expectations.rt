@@ -1,7 +1,7 @@
 //! Edits that only change expectations.
 
 use crate::session::{Changed, Session};
-use crate::splice::Splice;
+use crate::splice::{Compared, Splice};
 use rb_machine::Machine;
 use rb_script::Script;
 use std::alloc::AllocError;
@@ -32,7 +32,12 @@ impl<M: Machine> Session<M> {
             old_rest: 0,
             new_rest: 0,
         };
-        let mismatches = self.new_mismatches(&new, splice, &self.outputs, place - 1, place, place)?;
+        let compared = Compared {
+            from: place - 1,
+            to: place,
+            old_stop: place,
+        };
+        let mismatches = self.new_mismatches(&new, splice, &self.outputs, compared)?;
         self.mismatches = mismatches;
         self.script = new;
         Ok(Changed {

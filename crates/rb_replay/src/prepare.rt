@@ -5,7 +5,7 @@ use crate::points::{count_below, joined};
 use crate::ready::Ready;
 use crate::run::Rerun;
 use crate::session::Session;
-use crate::splice::{Common, Splice};
+use crate::splice::{Common, Compared, Splice};
 use rb_machine::{Count, Machine};
 use rb_script::{ChunkedList, Lines, Script};
 use std::alloc::AllocError;
@@ -17,26 +17,24 @@ impl<M: Machine> Session<M> {
     ghost use Rattle.rb_replay.specs.Report.{mismatches};
     ghost use Rattle.rb_replay.specs.Holding.{Holding};
     ghost use Rattle.rb_replay.specs.Reuse.{change_by, IsChange, StayWhole, IsCost};
-    ghost use Rattle.rb_replay.specs.Splices.{old_stop as old_stop_of, IsRerun, IsRejoin, IsUpdated, IsReady};
+    ghost use Rattle.rb_replay.specs.Splices.{IsRerun, IsRejoin, IsUpdated, IsReady};
 
-    /// The mismatches of the new script. Those of the front stay, outputs after `from` and up to `to` are compared, and those of the
-    /// rest are moved.
+    /// The mismatches of the new script. Those of the front stay, outputs are compared between two points, and those of the rest are moved.
     pub(crate) fn new_mismatches(
         &self,
         new: &Script,
         splice: Splice,
         new_outputs: &ChunkedList<Lines>,
-        from: usize,
-        to: usize,
-        old_stop: usize,
+        compared: Compared,
     ) -> Result<Vec<usize>, AllocError>
         requires few { length new.now.blocks ≤ MAX_DIRECTIVES }
         requires small { splice.new_rest ≤ MAX_DIRECTIVES }
-        requires order { from ≤ to }
-        requires there { to ≤ length new_outputs.now }
-        requires new_mismatches { IsUpdated self.now.script new.now splice from (take (to - from) (drop from new_outputs.now)) old_stop }
+        requires order { compared.from ≤ compared.to }
+        requires there { compared.to ≤ length new_outputs.now }
+        requires new_mismatches { IsUpdated self.now.script new.now splice compared.from (take (compared.to - compared.from) (drop compared.from new_outputs.now)) compared.old_stop }
         ensures { IfOk result (λ v. v.items ≡ mismatches new.now) }
     {
+        let Compared { from, to, old_stop } = compared;
         let fresh = list_differing(self.alloc, new, new_outputs, from, to)?;
         let front = count_below(&self.mismatches, from + 1);
         let rest = count_below(&self.mismatches, old_stop + 1);
@@ -57,26 +55,23 @@ impl<M: Machine> Session<M> {
         common: Common,
         run: &Rerun<M>,
         new_outputs: &ChunkedList<Lines>,
-        old_stop: usize,
     ) -> Result<Vec<usize>, AllocError>
         requires change { IsChange (change_by self.now new.now splice) }
         requires whole { common ≡ Common.Blocks → StayWhole (change_by self.now new.now splice) }
         requires few { length new.now.blocks ≤ MAX_DIRECTIVES }
         requires run { IsRerun M.meaning (change_by self.now new.now splice) run.now }
         requires outputs { new_outputs.now ≡ outputs new.now }
-        requires old_stop { old_stop ≡ old_stop_of (change_by self.now new.now splice) run.now.met }
         ensures { IfOk result (λ v. v.items ≡ mismatches new.now) }
     {
-        let running = &run.running;
         match common {
-            Common::Blocks => self.new_mismatches(
-                new,
-                splice,
-                new_outputs,
-                running.from,
-                running.at,
-                old_stop,
-            ),
+            Common::Blocks => {
+                let compared = Compared {
+                    from: run.running.from,
+                    to: run.running.at,
+                    old_stop: self.bounds(new, splice, run).old_stop,
+                };
+                self.new_mismatches(new, splice, new_outputs, compared)
+            }
             Common::Directives => list_differing(self.alloc, new, new_outputs, 0, new.len()),
         }
     }
@@ -105,14 +100,7 @@ impl<M: Machine> Session<M> {
             &run.running.outputs,
             rejoin.old_stop,
         )?;
-        let mismatches = self.mismatches_after(
-            new,
-            splice,
-            common,
-            &run,
-            &outputs,
-            rejoin.old_stop,
-        )?;
+        let mismatches = self.mismatches_after(new, splice, common, &run, &outputs)?;
         let points = joined(
             self.alloc,
             &self.points[..rejoin.front],

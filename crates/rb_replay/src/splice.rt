@@ -8,6 +8,14 @@ pub(crate) struct Splice {
     pub(crate) new_rest: usize,
 }
 
+/// The points of the new script between which outputs are compared, and the old point after which the old mismatches are kept.
+#[derive(Clone, Copy)]
+pub(crate) struct Compared {
+    pub(crate) from: usize,
+    pub(crate) to: usize,
+    pub(crate) old_stop: usize,
+}
+
 /// What the common front and rest contain.
 #[derive(Clone, Copy)]
 pub(crate) enum Common {

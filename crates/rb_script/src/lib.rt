@@ -58,4 +58,5 @@ pub use script::Script;
 pub use sink::{Sink, Through, WriteFault};
 pub use span::Span;
 pub use with_lines::ScriptWithLines;
+pub use writing::needs_double;
 pub use written_line::WrittenLine;

@@ -23,8 +23,8 @@ const CLOSING: &[u8] = b"----\n----\n\n";
 /// The length of the lines `----` that only the double form has.
 const DOUBLE_LEN: usize = RULE_LINE.len() + RULE_PAIR.len();
 
-/// Whether these lines need the double form.
-pub(crate) fn needs_double(expected: &Lines) -> bool
+/// Whether expected lines need the double form: a line is blank or `----`.
+pub fn needs_double(expected: &Lines) -> bool
     ensures { result ≡ needs_double expected.now }
 {
     for i in 0..expected.len() {

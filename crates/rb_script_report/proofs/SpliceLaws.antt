@@ -1,9 +1,9 @@
 -- A script's bytes with other expectations.
-use Rattle.std.proofs.Common.{◌≡◌, ◌∙◌, ℕ, suc, ◌+◌, ◌-◌, ◌<◌, ◌≤◌, Bool, true, false, cond, eqb, ◌⊎◌, inl, inr, List, [], ◌∷◌, ◌++◌, length, take, drop, Some, refl, ap, ap₂, sym, subst, arith, append_assoc, append-nil, length-append, length-take-le}
+use Rattle.std.proofs.Common.{◌≡◌, ◌∙◌, ℕ, suc, ◌+◌, ◌-◌, ◌<◌, ◌≤◌, Bool, true, false, cond, ◌⊎◌, inl, inr, List, [], ◌∷◌, ◌++◌, length, take, drop, Some, refl, ap, ap₂, sym, subst, arith, append_assoc, append-nil, length-append, length-take-le}
 use Rattle.std.specs.Prelude.{slice_get, slice_index}
-use Rattle.std.proofs.lemmas.List.{drop_all, drop_at, length-map, take-append-drop}
+use Rattle.std.proofs.lemmas.List.{drop_all, drop_at, take-append-drop}
 use Rattle.std.proofs.lemmas.Option.{get_or_from_slice_get, slice_get_within}
-use Rattle.rb_script.specs.Lines.{Line, cut, in_first, lines, without_returns}
+use Rattle.rb_script.specs.Lines.{Line}
 use Rattle.rb_script.specs.Marks.{is_blank, continues, rule}
 use Rattle.rb_script.specs.Runs.{head_of}
 use Rattle.rb_script.specs.Script.{PlainBlock, PlainScript, text}
@@ -118,27 +118,6 @@ pub splice_end : (made bytes heads all : List ℕ) (passed : ℕ) (bs : List Pla
 unfolding spliced_from
 splice_end made bytes heads all passed bs es i past so_far =
     sym (ap (λ (l : List ℕ). made ++ spliced_from passed bytes l bs es) (drop_all i heads past)) ∙ so_far
-
--- ---- how many lines there are
-
-in_first_len : (b : ℕ) (ls : List Line) → length (in_first b ls) ≤ suc (length ls)
-in_first_len b [] = omega arith
-in_first_len b (line ∷ ls) = omega arith
-
-cut_few : (bytes : List ℕ) → length (cut bytes) ≤ length bytes
-unfolding cut
-cut_few [] = omega arith
-cut_few (b ∷ bytes) =
-    let rest = cut_few bytes in
-    elim (eqb b 10) as (λ t. length (cond t ([] ∷ cut bytes) (in_first b (cut bytes))) ≤ suc (length bytes)) [
-      | true ↦ omega (arith, rest)
-      | false ↦ omega (arith, rest, in_first_len b (cut bytes))
-    ]
-
--- no more than bytes
-pub lines_few : (bytes : List ℕ) → length (lines bytes) ≤ length bytes
-unfolding lines
-lines_few bytes = let few = cut_few bytes in omega (arith, few, length-map (cut bytes) without_returns)
 
 -- ---- the text that is written
 

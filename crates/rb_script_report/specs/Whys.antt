@@ -1,4 +1,5 @@
--- Why nothing came of messages, below the lines of the outputs that they belong to: what `check` shows of a script where reasons are asked for.
+-- Why nothing came of messages, or which entries give way to theirs, below the lines of the outputs that they belong to: what `check` shows of a
+-- script where reasons are asked for.
 -- (This project's.)
 use Rattle.std.specs.Prelude.{ℕ, ◌+◌, ◌-◌, Bool, true, false, fold, if◌then◌else◌, List, [], ◌∷◌, ◌++◌, Option, Some, None, slice_get, slice_index_or, unwrap_or}
 use Rattle.std.specs.Option.{option_or}

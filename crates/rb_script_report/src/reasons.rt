@@ -1,4 +1,4 @@
-//! The reasons of an output: why a message had no effect, below the message's last line.
+//! The reasons of an output, below a message's last line: why the message had no effect, or which entries give way to its own.
 
 ghost use Rattle.std.specs.Prelude.{◌≡◌, ◌++◌, [], IfOk, OnOk, None, false};
 ghost use Rattle.rb_texts.specs.declared.reason.Reason.{Reason};
@@ -14,8 +14,8 @@ use rb_texts::{Item, Reason, is_shown, put_reason, reason_of};
 use rb_vocab::Level;
 use std::alloc::{AllocError, Global};
 
-/// The reasons below the lines that a directive prints, collected while it runs: why a message had no effect. A line has at most one reason, the
-/// first. A reason that comes before any line belongs to the first line, which is `ok` then.
+/// The reasons below the lines that a directive prints, collected while it runs: why a message had no effect, or which entries give way to its
+/// own. A line has at most one reason, the first. A reason that comes before any line belongs to the first line, which is `ok` then.
 #[derive(Drop)]
 pub struct LineReasons {
     pub level: Level,
@@ -27,8 +27,8 @@ pub struct LineReasons {
 }
 
 // Adds the reason below a line, or an empty one.
-fn push_last(reasons: &mut Lines, level: Level, reason: Option<Reason>) -> Result<(), AllocError>
-    ensures { OnOk result (reasons.new ≡ reasons.old ++ last_reason level reason) }
+fn push_last(reasons: &mut Lines, level: Level, reason: &Option<Reason>) -> Result<(), AllocError>
+    ensures { OnOk result (reasons.new ≡ reasons.old ++ last_reason level reason.now) }
 {
     match reason {
         Some(reason) => put_reason(reasons, level, reason),
@@ -58,11 +58,17 @@ impl LineReasons {
     pub fn all(self) -> Result<Lines, AllocError>
         ensures { IfOk result (λ reasons. reasons ≡ all_reasons self) }
     {
-        let mut own = self;
-        if own.has_begun {
-            push_last(&mut own.above, own.level, own.last)?;
+        let LineReasons {
+            level,
+            above,
+            has_begun,
+            last,
+        } = self;
+        let mut reasons = above;
+        if has_begun {
+            push_last(&mut reasons, level, &last)?;
         }
-        Ok(own.above)
+        Ok(reasons)
     }
 
     // A line is printed.
@@ -70,7 +76,7 @@ impl LineReasons {
         ensures { OnOk result (self.new ≡ below_line self.old) }
     {
         if self.has_begun {
-            push_last(&mut self.above, self.level, self.last)?;
+            push_last(&mut self.above, self.level, &self.last)?;
         }
         self.has_begun = true;
         self.last = None;
@@ -112,7 +118,7 @@ impl<L: RaftLog> Observer<L> for LineReasons {
         if is_shown(self.level, item) {
             self.add_line()?;
         }
-        if let Some(reason) = reason_of(item) {
+        if let Some(reason) = reason_of(item)? {
             self.add_reason(reason);
         }
         Ok(())

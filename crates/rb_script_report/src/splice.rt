@@ -19,23 +19,10 @@ use crate::put::is_same;
 use crate::whole_lines::{after_lines, is_ended, last_end, split_lines, unended};
 use rb_machine::Machine;
 use rb_replay::Session;
-use rb_script::{Block, ChunkedList, Lines, continues, is_blank, is_rule, next_line};
+use rb_script::{Block, ChunkedList, Lines, continues, is_rule, needs_double, next_line};
 use std::alloc::{AllocError, Global};
 
 // ---- an expectation
-
-// Whether only the double form can show these lines.
-fn needs_double(lines: &Lines) -> bool
-    ensures { result ≡ needs_double lines.now }
-{
-    for i in 0..lines.len() {
-        let line = lines.line(i);
-        if is_blank(line) || is_rule(line) {
-            return true;
-        }
-    }
-    false
-}
 
 // Whether the bytes begin with an expectation in the double form.
 fn is_double(bytes: &[u8]) -> bool

@@ -19,7 +19,7 @@ pub unreachable-requires : goal.unreachable-requires
 unreachable-requires g c =
     let v : LogValue = g.L.RaftLog.plain c.args.log.now in
     let above : v.base < c.loop-index.index = omega (arith, c.durable-index.ensures, c.last_index-last.ensures.sound.above_base) in
-    let below : c.loop-index.index < last v + 1 = omega (arith, c.last_index-index-end.ensures.value) in
+    let below : c.loop-index.index < last v + 1 = omega (arith, c.last_index-last.ensures.value) in
     entry_held v c.loop-index.index c.in-Err.field-0 above below c.in-Err.ensures.none
 
 pub loop-index-preserved : goal.loop-index-preserved
@@ -33,5 +33,5 @@ pub returns : goal.returns
 returns g c =
     let v : LogValue = g.L.RaftLog.plain c.args.log.now in
     let all = fold g.O.Observer.taking (g.O.Observer.meaning c.args.observer.now) (entry_items items.save (v.durable + 1) (not_durable v)) in
-    let past : last v + 1 ≤ c.loop-index.index = omega (arith, c.last_index-index-end.ensures.value) in
+    let past : last v + 1 ≤ c.loop-index.index = omega (arith, c.last_index-last.ensures.value) in
     entries_shown g.O.Observer.taking items.save v c.loop-index.index (g.O.Observer.meaning c.loop-index.observer) all past c.loop-index.invariant

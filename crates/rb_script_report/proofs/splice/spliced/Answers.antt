@@ -5,7 +5,8 @@ use Rattle.rb_script.specs.HeadLines.{AreHeadLines}
 use Rattle.rb_script.specs.Lines.{Line, lines}
 use Rattle.rb_script_report.specs.WholeLines.{unended}
 use Rattle.rb_script_report.specs.Splices.{ending_as, spliced_from}
-use Rattle.rb_script_report.proofs.SpliceLaws.{is_above, lines_few, splice_end, splice_there}
+use Rattle.rb_script.proofs.ShortLaws.{lines_few}
+use Rattle.rb_script_report.proofs.SpliceLaws.{is_above, splice_end, splice_there}
 use Rattle.rb_script_report.proofs.splice.spliced.Goals as goal
 
 pub lines_above-above-requires-clause-above : goal.lines_above-above-requires-clause-above

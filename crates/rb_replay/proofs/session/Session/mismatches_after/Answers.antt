@@ -20,7 +20,7 @@ new_mismatches-requires-clause-new_mismatches g c =
     let met = c.args.run.now.met in
     let all = outputs c.args.new.now in
     let on = take-between (start ch) (stop ch met) all (start-first ch met c.requires.change run.is_first) in
-    rw (c.requires.outputs, run.from_is, run.at_is, c.requires.old_stop)
+    rw (c.requires.outputs, run.from_is, run.at_is, c.bounds.ensures.old_stop)
     (new_mismatches-ready ch c.args.splice met (take (stop ch met - start ch) (drop (start ch) all)) refl refl c.requires.change (c.requires.whole c.in-Blocks.is) run.is_first on)
 
 pub list_differing-requires-clause-there : goal.list_differing-requires-clause-there

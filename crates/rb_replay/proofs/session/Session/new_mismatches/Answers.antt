@@ -12,8 +12,8 @@ use Rattle.rb_replay.proofs.session.Session.new_mismatches.Goals as goal
 
 pub list_differing-requires-clause-within : goal.list_differing-requires-clause-within
 list_differing-requires-clause-within g c =
-    let held = length-drop c.args.from c.args.new_outputs.now in
-    let long = length-take-le (c.args.to - c.args.from) (drop c.args.from c.args.new_outputs.now) (omega (arith, held, c.requires.there)) in
+    let held = length-drop c.args.compared.from c.args.new_outputs.now in
+    let long = length-take-le (c.args.compared.to - c.args.compared.from) (drop c.args.compared.from c.args.new_outputs.now) (omega (arith, held, c.requires.there)) in
     omega (arith, long, c.requires.order, c.requires.new_mismatches.new_within)
 
 pub count_below-front-requires : goal.count_below-front-requires
@@ -40,12 +40,12 @@ parts ms one three five front rest a b f fresh made first third fifth new fronts
 pub returns : goal.returns
 returns g c =
     let held : c.self.inside.mismatches.items ≡ mismatches c.args.self.now.script = held-mismatches c.self.view_is c.self.invariant in
-    let rests : drop c.count_below-rest.result c.deref-5.result.now ≡ filter (λ p. nat_le (c.args.old_stop + 1) p) c.deref-5.result.now =
+    let rests : drop c.count_below-rest.result c.deref-5.result.now ≡ filter (λ p. nat_le (c.args.compared.old_stop + 1) p) c.deref-5.result.now =
     rw (c.deref-2.ensures.value ∙ sym c.deref-5.ensures.value) at c.count_below-rest.ensures.rest in
     IfOk-weaker c.joined.result _ _
-    (λ v e. e ∙ parts (mismatches c.args.self.now.script) c.deref-3.result.now c.deref.result.now c.deref-5.result.now c.count_below-front.result c.count_below-rest.result (c.args.from + 1) (c.args.old_stop + 1)
+    (λ v e. e ∙ parts (mismatches c.args.self.now.script) c.deref-3.result.now c.deref.result.now c.deref-5.result.now c.count_below-front.result c.count_below-rest.result (c.args.compared.from + 1) (c.args.compared.old_stop + 1)
     (λ (p : ℕ). p - c.args.splice.old_rest + c.args.splice.new_rest) c.deref-4.result.now
-    (differing (c.args.from + 1) (drop c.args.from c.args.new.now.blocks) (take (c.args.to - c.args.from) (drop c.args.from c.args.new_outputs.now)))
+    (differing (c.args.compared.from + 1) (drop c.args.compared.from c.args.new.now.blocks) (take (c.args.compared.to - c.args.compared.from) (drop c.args.compared.from c.args.new_outputs.now)))
     (c.deref-3.ensures.value ∙ held) (c.deref.ensures.value ∙ held) (c.deref-5.ensures.value ∙ held) (c.deref-4.ensures.value ∙ c.in_ok-fresh.ensures) c.count_below-front.ensures.front rests
-    ∙ new_mismatches-differing c.args.self.now.script c.args.new.now c.args.splice c.args.from
-    (take (c.args.to - c.args.from) (drop c.args.from c.args.new_outputs.now)) c.args.old_stop c.requires.new_mismatches) c.joined.ensures
+    ∙ new_mismatches-differing c.args.self.now.script c.args.new.now c.args.splice c.args.compared.from
+    (take (c.args.compared.to - c.args.compared.from) (drop c.args.compared.from c.args.new_outputs.now)) c.args.compared.old_stop c.requires.new_mismatches) c.joined.ensures
