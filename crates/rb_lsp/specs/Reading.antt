@@ -14,6 +14,10 @@ left_of reader known = if reader.has_ended then Some reader.held.items else prep
 abbrev pub waiting : MessageReader → List ℕ
 waiting reader = reader.held.items
 
+-- how many calls of the source may still be made
+abbrev pub calls_of : MessageReader → ℕ
+calls_of reader = reader.calls
+
 -- the body that was read last
 abbrev pub body_of : MessageReader → List ℕ
 body_of reader = reader.body.items

@@ -1,7 +1,8 @@
 //! The messages of a source.
 
-ghost use Rattle.std.specs.Prelude.{◌≡◌, ◌<◌, ◌≤◌, ◌↔◌, ℕ, List, Option, IsTrue, false, IfOk, OnOk, length, drop, slice_range};
+ghost use Rattle.std.specs.Prelude.{Err, ◌≡◌, ◌<◌, ◌≤◌, ◌↔◌, ℕ, List, Option, IsTrue, false, IfOk, OnOk, length, drop, slice_range};
 ghost use Rattle.std.specs.Io.KnownBytes.{Keeps};
+ghost use Rattle.rb_text.specs.Asked.{Fails};
 ghost use Rattle.rb_lsp.specs.Cancels.{CancelWaits};
 ghost use Rattle.rb_lsp.specs.Reading.{GivesNext, body_of, end_of, left_of, waiting};
 ghost use Rattle.rb_lsp.specs.declared.rpc.limits.TheConstants.{MAX_WAITING};
@@ -57,7 +58,9 @@ impl MessageReader {
     ///
     /// At the first error of the source, after the last call that may be made, and if memory is refused. Bytes may be lost then.
     pub fn next<S: Source>(&mut self, source: &mut S) -> Result<NextMessage, ServeFault>
-        ensures { IfOk result (λ next. GivesNext next (left_of self.old (S.left source.old)) (left_of self.new (S.left source.new)) (body_of self.new)) }
+        ensures given { IfOk result (λ next. GivesNext next (left_of self.old (S.left source.old)) (left_of self.new (S.left source.new)) (body_of self.new)) }
+        // Over a source that never fails, reading fails only once all calls are made.
+        ensures io { S.gives_all source.old → S.gives_all source.new × (result ≡ Err ServeFault.Io → self.new.calls ≡ 0) }
     {
         'reading: loop {
             match message_at(self.held.as_slice()) {
@@ -139,6 +142,9 @@ impl MessageReader {
         requires going { self.old.has_ended ≡ false }
         ensures counted { OnOk result (self.new.calls < self.old.calls) }
         ensures left { OnOk result (Keeps (left_of self.old (S.left source.old)) (left_of self.new (S.left source.new))) }
+        ensures io { S.gives_all source.old → S.gives_all source.new × (result ≡ Err ServeFault.Io → self.new.calls ≡ 0) }
+        // A failed call is told as such.
+        ensures memory { result ≡ Err ServeFault.OutOfMemory → Fails (S.asked source.old) (S.asked source.new) 0 }
     {
         if self.calls == 0 {
             return Err(ServeFault::Io);

@@ -1,6 +1,6 @@
 //! Answers to requests about documents.
 
-ghost use Rattle.std.specs.Prelude.{◌≡◌, ◌≤◌, ◌++◌, None, Some, false, IfOk, OnOk, length, option_map};
+ghost use Rattle.std.specs.Prelude.{◌≡◌, ◌≢◌, ◌↔◌, ◌≤◌, ◌++◌, None, Some, true, false, IfOk, OnOk, length, option_map};
 ghost use Rattle.serde_json.specs.View.{view};
 ghost use Rattle.serde_json.specs.Written.{compact_text, has_float};
 ghost use Rattle.rb_lsp.specs.declared.document.limits.TheConstants.{MAX_TEXT};
@@ -111,7 +111,8 @@ fn answered<V: Service>(
 ) -> Result<OutgoingText, AllocError>
     requires plain { has_float (view request.now.id.now) ≡ false }
     requires bounded { length text.now ≤ MAX_TEXT }
-    ensures { IfOk result (λ told. told.out.items ≡ frame (text_by V.meaning told.reach request.now.encoding request.now.query request.now.uri.now (view request.now.id.now) text.now)) }
+    ensures reach { IfOk result (λ told. told.reach ≢ Reach.Cancelled) }
+    ensures said { IfOk result (λ told. told.out.items ≡ frame (text_by V.meaning told.reach request.now.encoding request.now.query request.now.uri.now (view request.now.id.now) text.now)) }
 {
     let mut body = Vec::new(alloc);
     body.extend_from_slice(b"{\"id\":")?;
@@ -144,7 +145,9 @@ fn of_text<V: Service>(
 ) -> Result<OutgoingText, AllocError>
     requires plain { has_float (view request.now.id.now) ≡ false }
     requires bounded { length text.now ≤ MAX_TEXT }
-    ensures { IfOk result (λ told. told.out.items ≡ frame (of_text V.meaning told.reach request.now.encoding request.now.query request.now.uri.now (view request.now.id.now) (Some text.now))) }
+    ensures said { IfOk result (λ told. told.out.items ≡ frame (of_text V.meaning told.reach request.now.encoding request.now.query request.now.uri.now (view request.now.id.now) (Some text.now))) }
+    // It isn't done exactly if it is cancelled.
+    ensures cancelled { IfOk result (λ told. told.reach ≡ Reach.Cancelled ↔ request.now.is_cancelled ≡ true) }
 {
     if request.is_cancelled {
         return cancelled_for(alloc, request.id);

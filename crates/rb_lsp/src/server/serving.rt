@@ -1,11 +1,11 @@
 //! A server over a source and a sink.
 
-ghost use Rattle.std.specs.Prelude.{◌≡◌, ◌↔◌, None, Some, IsTrue, IfOk, OnErr, OnOk};
+ghost use Rattle.std.specs.Prelude.{◌≡◌, ◌≢◌, ◌↔◌, Err, None, Some, IsTrue, IfOk, OnErr, OnOk};
 ghost use Rattle.std.specs.Io.KnownBytes.{Appends};
 ghost use Rattle.serde_json.specs.View.{view};
 ghost use Rattle.rb_script.specs.Writes.{AppendsFront};
 ghost use Rattle.rb_lsp.specs.Cancels.{IsCancelled};
-ghost use Rattle.rb_lsp.specs.Reading.{left_of, waiting};
+ghost use Rattle.rb_lsp.specs.Reading.{calls_of, left_of, waiting};
 ghost use Rattle.rb_lsp.specs.Said.{said};
 ghost use Rattle.rb_lsp.specs.Talk.{goes};
 ghost use Rattle.rb_lsp.specs.Serves.{BreaksOff, Responds, Served, StartsAnswer, StartsTelling, Tells, TurnBreaks, TurnsOut, turned_of};
@@ -63,6 +63,8 @@ fn turn<V: Service, S: Source, W: Sink>(
 ) -> Result<Option<ExitStatus>, ServeFault>
     ensures ok { IfOk result (λ over. TurnsOut V.meaning server.old (turned_of over server.new) (left_of reader.old (S.left source.old)) (left_of reader.new (S.left source.new)) (W.held sink.old) (W.held sink.new)) }
     ensures failed { OnErr result (TurnBreaks V.meaning server.old (left_of reader.old (S.left source.old)) (W.held sink.old) (W.held sink.new)) }
+    // Without a failed call the conversation breaks off only once all calls are made.
+    ensures io { S.gives_all source.old → W.takes_all sink.old → S.gives_all source.new × W.takes_all sink.new × (result ≡ Err ServeFault.Io → calls_of reader.new ≡ 0) }
 {
     match reader.next(source)? {
         NextMessage::Message => respond(alloc, service, server, reader, reader.body(), sink),
@@ -83,6 +85,7 @@ fn respond<V: Service, W: Sink>(
 ) -> Result<Option<ExitStatus>, ServeFault>
     ensures ok { IfOk result (λ over. Responds V.meaning server.old body.now (turned_of over server.new) (W.held sink.old) (W.held sink.new)) }
     ensures failed { OnErr result (StartsAnswer V.meaning server.old body.now (W.held sink.old) (W.held sink.new)) }
+    ensures io { W.takes_all sink.old → (result ≢ Err ServeFault.Io) × W.takes_all sink.new }
 {
     match read(alloc, body) {
         Ok(message) => respond_to(alloc, service, server, reader, &message, sink),
@@ -117,6 +120,7 @@ fn respond_to<V: Service, W: Sink>(
     ensures turned { IfOk result (λ over. turned_of over server.new ≡ goes server.old (Some (said (view message.now)))) }
     ensures tells { OnOk result (Tells V.meaning server.old (Some (said (view message.now))) (W.held sink.old) (W.held sink.new)) }
     ensures failed { OnErr result (StartsTelling V.meaning server.old (Some (said (view message.now))) (W.held sink.old) (W.held sink.new)) }
+    ensures io { W.takes_all sink.old → (result ≢ Err ServeFault.Io) × W.takes_all sink.new }
 {
     // If memory is refused for that, the request is done.
     let is_cancelled = is_cancelled(alloc, reader, message).unwrap_or(false);
@@ -134,6 +138,7 @@ fn refuse<V: Service, W: Sink>(
     ensures turned { IfOk result (λ over. turned_of over server.new ≡ goes server.old None) }
     ensures tells { OnOk result (Tells V.meaning server.old None (W.held sink.old) (W.held sink.new)) }
     ensures failed { OnErr result (StartsTelling V.meaning server.old None (W.held sink.old) (W.held sink.new)) }
+    ensures io { W.takes_all sink.old → (result ≢ Err ServeFault.Io) × W.takes_all sink.new }
 {
     let out = refused(alloc)?;
     sink.put(out.as_slice())?;

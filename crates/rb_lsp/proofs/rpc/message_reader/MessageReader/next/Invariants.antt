@@ -4,7 +4,10 @@ use Rattle.rb_lsp.specs.Reading.{left_of}
 use Rattle.rb_lsp.proofs.rpc.message_reader.MessageReader.next.Given as goal
 
 abbrev pub invariant-reading : goal.invariant-reading
-invariant-reading g l = Keeps (left_of l.initial.self (g.S.Source.left l.initial.source)) (left_of l.self (g.S.Source.left l.source))
+invariant-reading g l = record {
+  left : Keeps (left_of l.initial.self (g.S.Source.left l.initial.source)) (left_of l.self (g.S.Source.left l.source));
+  all : g.S.Source.gives_all l.initial.source → g.S.Source.gives_all l.source;
+}
 
 abbrev pub decreases-reading : goal.decreases-reading
 decreases-reading g l = l.self.calls
