@@ -12,6 +12,7 @@ use Rattle.rb_script.specs.HeadLines.{AreHeadLines}
 use Rattle.rb_script.proofs.ScriptLaws.{read_complete}
 use Rattle.rb_replay.specs.Run.{outputs}
 use Rattle.rb_replay.specs.Report.{mismatches}
+use Rattle.rb_report.specs.declared.check.table.TheConstants.{MAX_SCRIPT_CELLS}
 use Rattle.rb_script_report.specs.declared.warning.Warning.{Warning}
 use Rattle.rb_editor.specs.BlockLines.{StandsIn}
 use Rattle.rb_editor.proofs.BlockLaws.{all_stand}
@@ -56,14 +57,14 @@ of_read bytes s reads = ap (of_reading bytes) (sym (read_complete bytes s reads)
 -- of the text of a run
 pub of_run : (e : Encoding) (bytes text : List ℕ) (s t : PlainScript) (layout : ScriptLayout) (heads : List ℕ) (ws : List Warning) (list new : List PlainDiagnostic) → IsLayout e bytes s layout
     → bytes ≡ text → t ≡ s → heads ≡ layout.script.heads.items → ws ≡ layout.slips.items
-    → list ≡ findings (first_head heads (mismatches t)) layout.script.text heads t.blocks (outputs t) → new ≡ list ++ map slip ws → new ≡ diagnostics_of text
+    → list ≡ findings MAX_SCRIPT_CELLS (first_head heads (mismatches t)) layout.script.text heads t.blocks (outputs t) → new ≡ list ++ map slip ws → new ≡ diagnostics_of text
 of_run e bytes text s t layout heads ws list new is same script numbers slips found all =
     let named : heads ≡ heads_of bytes s = numbers ∙ is.heads_are in
-    let said : list ≡ findings (first_head (heads_of bytes s) (mismatches s)) (lines bytes) (heads_of bytes s) s.blocks (outputs s) =
+    let said : list ≡ findings MAX_SCRIPT_CELLS (first_head (heads_of bytes s) (mismatches s)) (lines bytes) (heads_of bytes s) s.blocks (outputs s) =
     found
-    ∙ ap (λ (x : PlainScript). findings (first_head heads (mismatches x)) layout.script.text heads x.blocks (outputs x)) script
-    ∙ ap (λ (ns : List ℕ). findings (first_head ns (mismatches s)) layout.script.text ns s.blocks (outputs s)) named
-    ∙ ap (λ (l : List Line). findings (first_head (heads_of bytes s) (mismatches s)) l (heads_of bytes s) s.blocks (outputs s)) is.lines_are in
+    ∙ ap (λ (x : PlainScript). findings MAX_SCRIPT_CELLS (first_head heads (mismatches x)) layout.script.text heads x.blocks (outputs x)) script
+    ∙ ap (λ (ns : List ℕ). findings MAX_SCRIPT_CELLS (first_head ns (mismatches s)) layout.script.text ns s.blocks (outputs s)) named
+    ∙ ap (λ (l : List Line). findings MAX_SCRIPT_CELLS (first_head (heads_of bytes s) (mismatches s)) l (heads_of bytes s) s.blocks (outputs s)) is.lines_are in
     all
     ∙ ap₂ (λ (ds : List PlainDiagnostic) (l : List Warning). ds ++ map slip l) said (slips ∙ is.slips_are)
     ∙ of_read bytes s is.reads

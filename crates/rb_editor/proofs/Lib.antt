@@ -1,4 +1,5 @@
 pub mod FindingLaws
+pub mod EachFindingLaws
 pub mod QuietLaws
 pub mod MismatchLaws
 pub mod CameLaws

@@ -11,6 +11,8 @@ use Rattle.rb_script_report.specs.declared.warning.Warning.{Warning}
 use Rattle.rb_replay.specs.Run.{outputs}
 use Rattle.rb_replay.specs.Report.{same_lines, differing, mismatches}
 use Rattle.rb_script_report.specs.Errors.{is_error, is_unexpected, says_error}
+use Rattle.rb_script_report.specs.Checked.{left_next}
+use Rattle.rb_report.specs.declared.check.table.TheConstants.{MAX_SCRIPT_CELLS}
 use Rattle.rb_lsp.proofs.PlaceLaws.{test_cases}
 use Rattle.rb_editor.specs.Diagnostics.{PlainDiagnostic}
 use Rattle.rb_editor.specs.Heads.{heads_of}
@@ -20,19 +22,19 @@ use Rattle.rb_editor.specs.Published.{diagnose, diagnostic_text}
 use Rattle.rb_editor.specs.ActionLaws.{IsQuietText}
 use Rattle.rb_editor.proofs.FindingLaws.{of_read}
 
-nothing_found : (first : ℕ) (ls : List Line) (line : ℕ) (b : PlainBlock) (o : List Line) → same_lines b.expected o ≡ true → is_unexpected ls line o ≡ false → finding first ls line b o ≡ None
+nothing_found : (left first : ℕ) (ls : List Line) (line : ℕ) (b : PlainBlock) (o : List Line) → same_lines b.expected o ≡ true → is_unexpected ls line o ≡ false → finding left first ls line b o ≡ None
 unfolding finding
-nothing_found first ls line b o same unnamed = rw (same, unnamed) refl
+nothing_found left first ls line b o same unnamed = rw (same, unnamed) refl
 
-quiet : (first : ℕ) (ls : List Line) (heads : List ℕ) (bs : List PlainBlock) (os : List (List Line)) (p : ℕ) → differing p bs os ≡ [] → list_any is_error os ≡ false → findings first ls heads bs os ≡ []
-quiet first ls (line ∷ heads) (b ∷ bs) (o ∷ os) p same none =
+quiet : (left first : ℕ) (ls : List Line) (heads : List ℕ) (bs : List PlainBlock) (os : List (List Line)) (p : ℕ) → differing p bs os ≡ [] → list_any is_error os ≡ false → findings left first ls heads bs os ≡ []
+quiet left first ls (line ∷ heads) (b ∷ bs) (o ∷ os) p same none =
     let no = or_parts (is_error o) (list_any is_error os) none in
     let unnamed : is_unexpected ls line o ≡ false = ap (λ (t : Bool). t && not (says_error ls line)) no.0 in
     test_cases (same_lines b.expected o)
     (λ yes. let later : differing (p + 1) bs os ≡ [] = rw yes at same in
-    ap (λ (found : Option PlainDiagnostic). before found [] ++ findings first ls heads bs os) (nothing_found first ls line b o yes unnamed) ∙ quiet first ls heads bs os (p + 1) later no.1)
+    ap (λ (found : Option PlainDiagnostic). before found [] ++ findings (left_next left b o) first ls heads bs os) (nothing_found left first ls line b o yes unnamed) ∙ quiet (left_next left b o) first ls heads bs os (p + 1) later no.1)
     (λ other. let one : p ∷ differing (p + 1) bs os ≡ [] = rw other at same in absurd cc)
-quiet first ls heads bs os p same none = refl
+quiet left first ls heads bs os p same none = refl
 
 empty_list : (text : PlainDiagnostic → List ℕ) (ds : List PlainDiagnostic) → ds ≡ [] → list_text text ds ≡ codes "[]"
 unfolding list_text listed
@@ -40,10 +42,10 @@ empty_list text ds none = ap (list_text text) none
 
 -- ---- without its text
 
-pub nothing_said : (ls : List Line) (heads : List ℕ) (s : PlainScript) → is_quiet s ≡ true → [] ≡ findings (first_head heads (mismatches s)) ls heads s.blocks (outputs s)
-nothing_said ls heads s is =
+pub nothing_said : (left : ℕ) (ls : List Line) (heads : List ℕ) (s : PlainScript) → is_quiet s ≡ true → [] ≡ findings left (first_head heads (mismatches s)) ls heads s.blocks (outputs s)
+nothing_said left ls heads s is =
     let p = and_parts (length (mismatches s) == 0) (not (list_any is_error (outputs s))) is in
-    sym (quiet (first_head heads (mismatches s)) ls heads s.blocks (outputs s) 1 (nil_from_length (mismatches s) (eqb-true (length (mismatches s)) 0 p.0)) (not-true (list_any is_error (outputs s)) p.1))
+    sym (quiet left (first_head heads (mismatches s)) ls heads s.blocks (outputs s) 1 (nil_from_length (mismatches s) (eqb-true (length (mismatches s)) 0 p.0)) (not-true (list_any is_error (outputs s)) p.1))
 
 pub none_listed : (text : PlainDiagnostic → List ℕ) (ds : List PlainDiagnostic) → (length ds == 0) ≡ true → codes "[]" ≡ list_text text ds
 none_listed text ds none = sym (empty_list text ds (nil_from_length ds (eqb-true (length ds) 0 none)))
@@ -54,4 +56,4 @@ quiet_text client uri text q =
     let first = first_head heads (mismatches q.script) in
     empty_list (diagnostic_text client uri text) (diagnostics_of text)
     (sym (of_read text q.script q.reads)
-    ∙ ap₂ (λ (ds : List PlainDiagnostic) (ws : List Warning). ds ++ map slip ws) (quiet first (lines text) heads q.script.blocks (outputs q.script) 1 q.same q.no_error) q.no_slip)
+    ∙ ap₂ (λ (ds : List PlainDiagnostic) (ws : List Warning). ds ++ map slip ws) (quiet MAX_SCRIPT_CELLS first (lines text) heads q.script.blocks (outputs q.script) 1 q.same q.no_error) q.no_slip)

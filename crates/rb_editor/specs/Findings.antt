@@ -1,5 +1,5 @@
 -- The diagnostics of a text: of each directive of one fresh run, or of a text that isn't a script. (This project's.)
-use Rattle.std.specs.Prelude.{ℕ, suc, ◌-◌, ◌==◌, nat_lt, Bool, false, ◌&&◌, not, if◌then◌else◌, List, [], ◌∷◌, ◌++◌, codes, length, drop, take, map, slice_get, slice_index_or, Option, Some, None, unwrap_or, Result, Ok, Err}
+use Rattle.std.specs.Prelude.{ℕ, suc, ◌+◌, ◌-◌, ◌==◌, nat_lt, Bool, false, ◌&&◌, not, if◌then◌else◌, List, [], ◌∷◌, ◌++◌, codes, length, drop, take, map, slice_get, slice_index_or, Option, Some, None, unwrap_or, Result, Ok, Err}
 use Rattle.std.specs.List.{list_any}
 use Rattle.std.specs.Str.{bytes_eq}
 use Rattle.rb_script.specs.declared.fault.ScriptFault.{ScriptFault}
@@ -14,9 +14,10 @@ use Rattle.rb_report.specs.Suggestions.{suggested}
 use Rattle.rb_report.specs.Hints.{PlainHint, meant, sentence, unknown}
 use Rattle.rb_report.specs.Notices.{warning_sentence}
 use Rattle.rb_report.specs.Refusals.{sentence as fault_sentence, fault_line}
-use Rattle.rb_report.specs.Diffs.{parts}
+use Rattle.rb_report.specs.declared.check.table.TheConstants.{MAX_SCRIPT_CELLS}
+use Rattle.rb_report.specs.Diffs.{cells_within, parts_within}
 use Rattle.rb_report.specs.Folds.{folded_text}
-use Rattle.rb_script_report.specs.Checked.{of_each}
+use Rattle.rb_script_report.specs.Checked.{left_next}
 use Rattle.rb_lsp.specs.Tables.{feed_start}
 use Rattle.rb_lsp.specs.declared.server.stop.Stop.{Stop}
 use Rattle.rb_script_report.specs.declared.warning.Warning.{Warning}
@@ -30,9 +31,9 @@ use Rattle.rb_editor.specs.Heads.{heads_of}
 use Rattle.rb_editor.specs.Came.{actual_output_of, without_end}
 use Rattle.rb_editor.specs.Diagnostics.{PlainDiagnostic}
 
--- the diff that `check` shows
-abbrev pub diff_message : List Line → List Line → List ℕ
-diff_message expected output = without_end (folded_text Off (parts expected output))
+-- the diff that `check` shows, with so many cells left for the script
+abbrev pub diff_message : ℕ → List Line → List Line → List ℕ
+diff_message left expected output = without_end (folded_text Off (parts_within left expected output))
 
 -- how many lines the two lists share at the beginning
 abbrev pub common_front : List Line → List Line → ℕ
@@ -56,8 +57,8 @@ hint_end unknown = []
 hint_end (meant word) = codes "\ndid you mean \"" ++ (word ++ codes "\"?")
 hint_end (sentence text) = codes "\n" ++ text
 
-abbrev pub mismatch_message : PlainBlock → List Line → List ℕ
-mismatch_message b output = (opening (common_front b.expected output) b.expected output ++ diff_message b.expected output) ++ hint_end (suggested (directive_of b))
+abbrev pub mismatch_message : ℕ → PlainBlock → List Line → List ℕ
+mismatch_message left b output = (opening (common_front b.expected output) b.expected output ++ diff_message left b.expected output) ++ hint_end (suggested (directive_of b))
 
 -- The number, counted from 1, of the first expected line that differs, in a block with these lines. If all expected lines are equal, that of the
 -- expectation's last line, or of the block's if the expectation is empty. The double form has two lines after the expectation.
@@ -68,29 +69,38 @@ marked_at ls p expected output = p.end - (length expected - common_front expecte
 abbrev pub mismatch_kind : ℕ → ℕ → DiagnosticKind
 mismatch_kind first line = if nat_lt first line then LaterMismatch else Mismatch
 
--- the diagnostic of a mismatch, in a block with these lines whose head is on this line
-abbrev pub mismatch : List Line → BlockLines → ℕ → ℕ → PlainBlock → List Line → PlainDiagnostic
-mismatch ls p first line b output =
-    record { line = marked_at ls p b.expected output; kind = mismatch_kind first line; message = mismatch_message b output; came = Some (actual_output_of p output) }
+-- the diagnostic of a mismatch, with so many cells left, in a block with these lines whose head is on this line
+abbrev pub mismatch : ℕ → List Line → BlockLines → ℕ → ℕ → PlainBlock → List Line → PlainDiagnostic
+mismatch left ls p first line b output =
+    record { line = marked_at ls p b.expected output; kind = mismatch_kind first line; message = mismatch_message left b output; came = Some (actual_output_of p output) }
 
 abbrev pub error_output : ℕ → PlainBlock → List Line → PlainDiagnostic
 error_output line b output = record { line = line; kind = ErrorOutput; message = first_line output ++ hint_end (suggested (directive_of b)); came = None }
 
--- The diagnostic of a directive whose head is on a line: a mismatch, or an error that no comment expects. The line of the first mismatch's head is
--- given.
-unfoldable pub finding : ℕ → List Line → ℕ → PlainBlock → List Line → Option PlainDiagnostic
-finding first ls line b output =
+-- The diagnostic of a directive whose head is on a line, with so many cells left: a mismatch, or an error that no comment expects. The line of the
+-- first mismatch's head is given.
+unfoldable pub finding : ℕ → ℕ → List Line → ℕ → PlainBlock → List Line → Option PlainDiagnostic
+finding left first ls line b output =
     if same_lines b.expected output then (if is_unexpected ls line output then Some (error_output line b output) else None)
-    else Some (mismatch ls (block_lines ls line b) first line b output)
+    else Some (mismatch left ls (block_lines ls line b) first line b output)
 
 -- a list with this one in front, if there is one
 abbrev pub before : Option PlainDiagnostic → List PlainDiagnostic → List PlainDiagnostic
 before None ds = ds
 before (Some d) ds = d ∷ ds
 
--- those of directives in order, by the lines of their heads and their outputs
-abbrev pub findings : ℕ → List Line → List ℕ → List PlainBlock → List (List Line) → List PlainDiagnostic
-findings first ls heads bs os = of_each (λ line b output. before (finding first ls line b output) []) heads bs os
+-- those of directives in order, by the lines of their heads and their outputs: each has the cells that those before it left
+abbrev pub findings : ℕ → ℕ → List Line → List ℕ → List PlainBlock → List (List Line) → List PlainDiagnostic
+findings left first ls [] bs os = []
+findings left first ls (line ∷ heads) [] os = []
+findings left first ls (line ∷ heads) (b ∷ bs) [] = []
+findings left first ls (line ∷ heads) (b ∷ bs) (output ∷ os) = before (finding left first ls line b output) [] ++ findings (left_next left b output) first ls heads bs os
+
+-- how many cells it takes to compare the outputs of directives in order: what matches takes none
+abbrev pub cells_for : ℕ → List PlainBlock → List (List Line) → ℕ
+cells_for left [] os = 0
+cells_for left (b ∷ bs) [] = 0
+cells_for left (b ∷ bs) (output ∷ os) = (if same_lines b.expected output then 0 else cells_within left b.expected output) + cells_for (left_next left b output) bs os
 
 -- the line of the head at the first of these numbers; 0 if there is none
 abbrev pub first_head : List ℕ → List ℕ → ℕ
@@ -125,7 +135,7 @@ refused fault = record { line = or_first (fault_line fault); kind = NoScript; me
 
 -- those of a script, by one run from the empty cluster
 abbrev pub of_script : List ℕ → PlainScript → List PlainDiagnostic
-of_script bytes s = findings (first_head (heads_of bytes s) (mismatches s)) (lines bytes) (heads_of bytes s) s.blocks (outputs s) ++ map slip (slips_of bytes s)
+of_script bytes s = findings MAX_SCRIPT_CELLS (first_head (heads_of bytes s) (mismatches s)) (lines bytes) (heads_of bytes s) s.blocks (outputs s) ++ map slip (slips_of bytes s)
 
 abbrev pub of_reading : List ℕ → Result PlainScript ScriptFault → List PlainDiagnostic
 of_reading bytes (Err fault) = refused fault ∷ []

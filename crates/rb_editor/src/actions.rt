@@ -32,6 +32,7 @@ mod work_meter;
 
 pub use bench::lsp;
 pub use laws::{
-    accepts_as_check_does, edited_lines_read, edited_texts_read, edits_replace_lines,
-    ids_are_those_of_the_cluster, matching_texts_have_none, texts_have_one_run,
+    accepts_as_check_does, comparing_is_bounded, edited_lines_read, edited_texts_read,
+    edits_replace_lines, ids_are_those_of_the_cluster, matching_texts_have_none,
+    texts_have_one_run,
 };

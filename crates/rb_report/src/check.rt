@@ -39,7 +39,7 @@ mod why;
 pub use accepted::put_accepted;
 pub use brief::put_brief;
 pub use colors::Colors;
-pub use diff::{put_diff, put_diff_within, put_explained_diff};
+pub use diff::{put_diff_within, put_explained_diff};
 pub use failure::{Failure, failure_sentence, put_failure};
 pub use file_line::FileLine;
 pub use head::put_head;

@@ -1,8 +1,10 @@
 //! The diagnostic of a directive that ran.
 
 ghost use Rattle.std.specs.Prelude.{◌≡◌, ◌++◌, not, IfOk, OnOk};
+ghost use Rattle.rb_report.specs.Diffs.{left_after};
 ghost use Rattle.rb_report.specs.Hints.{plain_hint};
 ghost use Rattle.rb_replay.specs.Report.{same_lines};
+ghost use Rattle.rb_script_report.specs.Checked.{left_next};
 ghost use Rattle.rb_editor.specs.BlockLines.{StandsIn, block_lines};
 ghost use Rattle.rb_editor.specs.Findings.{diff_message, error_output, finding, hint_end, mismatch, mismatch_kind, mismatch_message};
 
@@ -10,24 +12,25 @@ use crate::actions::actual_output::actual_output_of;
 use crate::actions::diagnostic::{Diagnostic, DiagnosticKind};
 use crate::actions::front::{add_opening, common_front, marked_at};
 use crate::offers::BlockLines;
-use rb_report::check::{Colors, Hint, Table, put_diff};
+use rb_report::check::{Colors, Hint, Table, put_diff_within};
 use rb_report::help::suggested;
 use rb_script::{Block, Lines, Through};
 use rb_script_report::{first_line, is_unexpected};
 use rb_text::{Piece, add_pieces};
 use std::alloc::{AllocError, Global};
 
-// Makes the diff that `check` shows, without the end of its last line.
+// Makes the diff that `check` shows, without the end of its last line. It takes its cells off those that are left.
 fn diff_message(
     alloc: Global,
     table: &mut Table,
     expected: &Lines,
     output: &Lines,
 ) -> Result<Vec<u8>, AllocError>
-    ensures { IfOk result (λ message. message.items ≡ diff_message expected.now output.now) }
+    ensures message { IfOk result (λ message. message.items ≡ diff_message table.old.left expected.now output.now) }
+    ensures left { OnOk result (table.new.left ≡ left_after table.old.left expected.now output.now) }
 {
     let mut sink = Through(Vec::new(alloc));
-    let Ok(()) = put_diff(&mut sink, table, expected, output, Colors::Off) else {
+    let Ok(()) = put_diff_within(&mut sink, table, expected, output, Colors::Off) else {
         return Err(AllocError);
     };
     let mut message = sink.0;
@@ -62,7 +65,8 @@ fn mismatch_message(
     block: &Block,
     output: &Lines,
 ) -> Result<Vec<u8>, AllocError>
-    ensures { IfOk result (λ message. message.items ≡ mismatch_message block.now output.now) }
+    ensures message { IfOk result (λ message. message.items ≡ mismatch_message table.old.left block.now output.now) }
+    ensures left { OnOk result (table.new.left ≡ left_after table.old.left block.now.expected output.now) }
 {
     let expected = block.expected();
     let mut message = Vec::new(alloc);
@@ -107,7 +111,8 @@ fn mismatch(
     ran: CheckedDirective<'_, '_>,
 ) -> Result<Diagnostic, AllocError>
     requires { StandsIn text.now ran.line ran.block.now }
-    ensures { IfOk result (λ d. d ≡ mismatch text.now (block_lines text.now ran.entry.line ran.entry.block.now) first ran.entry.line ran.entry.block.now ran.entry.output.now) }
+    ensures mismatch { IfOk result (λ d. d ≡ mismatch table.old.left text.now (block_lines text.now ran.entry.line ran.entry.block.now) first ran.entry.line ran.entry.block.now ran.entry.output.now) }
+    ensures left { OnOk result (table.new.left ≡ left_after table.old.left ran.entry.block.now.expected ran.entry.output.now) }
 {
     let lines = BlockLines::of_block(text, ran.line, ran.block);
     Ok(Diagnostic {
@@ -136,7 +141,8 @@ fn error_output(
     })
 }
 
-/// Makes the diagnostic of a directive, if it has one. The head of the first mismatch is on a line that is known.
+/// Makes the diagnostic of a directive, if it has one, with the cells that the directives before it left. The head of the first mismatch is on a
+/// line that is known.
 #[tactic(auto, unfolding(crate::specs::Findings::finding))]
 pub(crate) fn finding(
     alloc: Global,
@@ -147,7 +153,8 @@ pub(crate) fn finding(
 ) -> Result<Option<Diagnostic>, AllocError>
     requires stands { StandsIn text.now ran.line ran.block.now }
     requires differs { ran.differs ≡ not (same_lines ran.block.now.expected ran.output.now) }
-    ensures { IfOk result (λ found. found ≡ finding first text.now ran.entry.line ran.entry.block.now ran.entry.output.now) }
+    ensures found { IfOk result (λ found. found ≡ finding table.old.left first text.now ran.entry.line ran.entry.block.now ran.entry.output.now) }
+    ensures left { OnOk result (table.new.left ≡ left_next table.old.left ran.entry.block.now ran.entry.output.now) }
 {
     if ran.differs {
         return Ok(Some(mismatch(alloc, table, text, first, ran)?));

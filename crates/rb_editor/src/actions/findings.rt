@@ -16,7 +16,7 @@ use crate::actions::quiet::is_quiet;
 use crate::actions::run::DocumentRun;
 use rb_machine::{Count, Machine};
 use rb_replay::Session;
-use rb_report::check::{Table, fault_line, sentence, warning_sentence};
+use rb_report::check::{MAX_SCRIPT_CELLS, Table, fault_line, sentence, warning_sentence};
 use rb_script::{Lines, ScriptFault, ScriptWithLines};
 use rb_script_report::{Warning, block_at, number_at, output_at};
 use std::alloc::{AllocError, Global};
@@ -71,7 +71,8 @@ fn number_or_none(numbers: &[usize], index: usize) -> usize
     }
 }
 
-// Makes the diagnostics of the directives of a script that ran, by its lines and the lines of its heads. The session knows the mismatches.
+// Makes the diagnostics of the directives of a script that ran, by its lines and the lines of its heads. The session knows the mismatches. The
+// table has the cells that are left to compare outputs.
 fn each_finding<M: Machine>(
     alloc: Global,
     table: &mut Table,
@@ -80,7 +81,7 @@ fn each_finding<M: Machine>(
     heads: &[usize],
 ) -> Result<Vec<Diagnostic>, AllocError>
     requires { AreHeadLines 1 text.now session.now.script.blocks heads.now }
-    ensures { IfOk result (λ list. list.items ≡ findings (first_head heads.now (mismatches session.now.script)) text.now heads.now session.now.script.blocks (outputs session.now.script)) }
+    ensures { IfOk result (λ list. list.items ≡ findings table.old.left (first_head heads.now (mismatches session.now.script)) text.now heads.now session.now.script.blocks (outputs session.now.script)) }
 {
     let mismatches = session.mismatches();
     let first = first_head(heads, mismatches);
@@ -104,7 +105,8 @@ fn each_finding<M: Machine>(
     Ok(list)
 }
 
-/// Makes the diagnostics of the directives of a script that ran, by its lines and the lines of its heads.
+/// Makes the diagnostics of the directives of a script that ran, by its lines and the lines of its heads. The table has the cells that are left to
+/// compare outputs.
 ///
 /// # Errors
 ///
@@ -118,7 +120,7 @@ pub(crate) fn of_session<M: Machine>(
     heads: &[usize],
 ) -> Result<Vec<Diagnostic>, AllocError>
     requires { AreHeadLines 1 text.now session.now.script.blocks heads.now }
-    ensures { IfOk result (λ list. list.items ≡ findings (first_head heads.now (mismatches session.now.script)) text.now heads.now session.now.script.blocks (outputs session.now.script)) }
+    ensures { IfOk result (λ list. list.items ≡ findings table.old.left (first_head heads.now (mismatches session.now.script)) text.now heads.now session.now.script.blocks (outputs session.now.script)) }
 {
     if is_quiet(session) {
         return Ok(Vec::new(alloc));
@@ -170,6 +172,8 @@ fn of_read<M: Machine>(
     let run = DocumentRun::of_read(alloc, document.encoding, last, document.text, read, meter)?;
     let layout = run.layout();
     let heads = layout.script.heads.as_slice();
+    // Each list of diagnostics has all cells of a script.
+    table.left = MAX_SCRIPT_CELLS;
     let mut list = of_session(alloc, table, run.session(), &layout.script.text, heads)?;
     add_slips(alloc, &mut list, layout.slips.as_slice())?;
     *kept = Some(run);

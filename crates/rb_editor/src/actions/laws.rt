@@ -1,8 +1,12 @@
 //! Theorems about what an editor is sent. The functions do nothing: their contracts are the theorems.
 
-ghost use Rattle.std.specs.Prelude.{◌≡◌, List, ℕ, None, codes};
+ghost use Rattle.std.specs.Prelude.{◌≡◌, ◌≤◌, List, ℕ, None, codes};
+ghost use Rattle.rb_script.specs.Script.{PlainScript};
+ghost use Rattle.rb_replay.specs.Run.{outputs};
+ghost use Rattle.rb_report.specs.declared.check.table.TheConstants.{MAX_SCRIPT_CELLS};
 ghost use Rattle.rb_lsp.specs.declared.server.client.Client.{Client};
 ghost use Rattle.rb_editor.specs.ActionLaws.{AcceptsAsCheckDoes, EditedLinesRead, EditedTextsRead, EditsReplaceLines, IdsAreOfTheCluster, IsQuietText, MakesWhatCheckWrites, TextsHaveOneRun};
+ghost use Rattle.rb_editor.specs.Findings.{cells_for};
 ghost use Rattle.rb_editor.specs.Published.{diagnose};
 
 /// A script has no diagnostics if all outputs are expected, none is an error, and there is no warning.
@@ -17,6 +21,13 @@ pub fn matching_texts_have_none()
 #[tactic(auto, using(rb_lsp::proofs::NoticeLaws::diagnosed))]
 pub fn texts_have_one_run()
     ensures { TextsHaveOneRun }
+{}
+
+/// The diagnostics of a script compare at most as many pairs of lines as the report of `check` does: [`rb_report::check::MAX_SCRIPT_CELLS`]. After that
+/// the lines between the common beginning and the common end of a mismatch are shown whole.
+#[tactic(auto, using(crate::proofs::EachFindingLaws::cells_bounded))]
+pub fn comparing_is_bounded()
+    ensures { (s : PlainScript) → cells_for MAX_SCRIPT_CELLS s.blocks (outputs s) ≤ MAX_SCRIPT_CELLS }
 {}
 
 /// The ids that completion offers are those of the nodes of the cluster after the directives above, by one fresh run of these.

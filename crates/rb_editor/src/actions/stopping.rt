@@ -151,8 +151,42 @@ fn of_front<M: Machine>(
     })
 }
 
-// Makes the diagnostics of a text whose run stops where the run of the last text stopped. Runs nothing.
-fn of_same_stop<M: Machine>(
+// Runs the text above a stop, and keeps its run. Says whether that executed nothing.
+fn runs_nothing<M: Bounded>(
+    alloc: Global,
+    document: AskedDocument<'_, '_>,
+    kept: &mut KeptRun<M>,
+    meter: &mut M::Meter,
+    stop: Stop,
+) -> Result<bool, AllocError>
+    requires { length document.text.now ≤ MAX_TEXT }
+{
+    let count = meter.count();
+    if count > MAX_COUNT {
+        return Err(AllocError);
+    }
+    let text = above(document.text, stop.line);
+    let read = match ScriptWithLines::read(alloc, text) {
+        Ok(read) => read,
+        Err(ScriptFault::OutOfMemory) => return Err(AllocError),
+        Err(_) => return Ok(true),
+    };
+    let last = kept.run.take();
+    match DocumentRun::of_read(alloc, document.encoding, last, text, read, meter) {
+        Ok(run) => {
+            kept.run = Some(run);
+            Ok(meter.count() == count)
+        }
+        // The edit made more work above the stop.
+        Err(AllocError) => match M::refused_at(meter) {
+            Some(_) => Ok(false),
+            None => Err(AllocError),
+        },
+    }
+}
+
+// Makes the diagnostics of a text whose run stops where the run of the last text stopped. Otherwise there are none, and nothing was compared.
+fn of_same_stop<M: Bounded>(
     alloc: Global,
     document: AskedDocument<'_, '_>,
     table: &mut Table,
@@ -165,11 +199,10 @@ fn of_same_stop<M: Machine>(
     let Some(stop) = same_stop(alloc, kept, document.text)? else {
         return Ok(None);
     };
-    let count = meter.count();
-    let found = of_front(alloc, document, table, kept, meter, stop)?;
-    if meter.count() != count {
+    if !runs_nothing(alloc, document, kept, meter, stop)? {
         return Ok(None);
     }
+    let found = of_front(alloc, document, table, kept, meter, stop)?;
     Ok(Some(found))
 }
 

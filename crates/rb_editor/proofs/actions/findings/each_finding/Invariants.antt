@@ -7,8 +7,8 @@ use Rattle.rb_editor.proofs.actions.findings.each_finding.Given as goal
 
 abbrev pub invariant-loop-i : goal.invariant-loop-i
 invariant-loop-i g l = record {
-  said : l.list.items ++ findings l.first l.text (drop l.i l.heads) (drop l.i l.session.script.blocks) (drop l.i (outputs l.session.script))
-      ≡ findings l.first l.text l.heads l.session.script.blocks (outputs l.session.script);
+  said : l.list.items ++ findings l.table.left l.first l.text (drop l.i l.heads) (drop l.i l.session.script.blocks) (drop l.i (outputs l.session.script))
+      ≡ findings l.initial.table.left l.first l.text l.heads l.session.script.blocks (outputs l.session.script);
   left : drop l.next l.mismatches ≡ differing (l.i + 1) (drop l.i l.session.script.blocks) (drop l.i (outputs l.session.script));
   few : l.next ≤ l.i;
 }
