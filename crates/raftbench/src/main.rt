@@ -27,7 +27,7 @@ fn main(rt: HostRuntime) -> ExitCode {
     ExitCode::from(code)
 }
 
-fn answered<R: Files + Input + Print + Env + Clock + AllocGlobal, E: Write + Drop>(
+fn answered<R: Files + Input + Print + Eprint + Env + Clock + AllocGlobal, E: Write + Drop>(
     rt: &R,
     errors: E,
     terminals: Terminals,

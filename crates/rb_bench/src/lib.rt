@@ -1,7 +1,7 @@
 //! Runs and sessions over any source and outlet.
 //!
-//! [`run_over`] reads and runs a script, and [`run_bytes`] runs one that is already read. [`serve`] serves a session: it reads one command a
-//! line, and answers each before it reads the next.
+//! [`run_over`] reads and runs a script, and [`run_bytes`] runs one that is already read; [`run_over_with_progress`] tells where the run is.
+//! [`serve`] serves a session: it reads one command a line, and answers each before it reads the next.
 //!
 //! [`command_of`] reads the command of a line. A line that isn't a command is [`Command::Bad`], and a blank one is
 //! [`Command::Blank`]. It never fails, and allocates nothing.
@@ -9,6 +9,7 @@
 
 mod choosing;
 mod command;
+mod directives;
 mod fault;
 mod gather;
 mod given_lines;
@@ -17,6 +18,7 @@ mod laws;
 mod limits;
 mod names;
 mod outlet;
+mod progress;
 mod reply;
 mod respond;
 mod running;
@@ -26,6 +28,7 @@ mod starting;
 
 pub use choosing::{Choice, chosen};
 pub use command::{Command, Purpose, command_of};
+pub use directives::run_directive;
 pub use fault::BenchFault;
 pub use laws::{
     conversations_answer_as_one_run, conversations_are_one, names_are_distinct, runs_are_one,
@@ -34,7 +37,8 @@ pub use laws::{
 pub use limits::{DEFAULT_CHECKPOINT_INTERVAL, MAX_GIVEN, MAX_READS, limits_are};
 pub use names::{edit_fault_name, script_fault_name};
 pub use outlet::Outlet;
+pub use progress::{NoProgress, RunProgress, ToldLines};
 pub use rb_args::ChoiceFault;
 pub use rb_report::check::Status;
-pub use running::{Mode, run_bytes, run_over, write_run};
+pub use running::{Mode, run_bytes, run_over, run_over_with_progress, write_run};
 pub use session::serve;

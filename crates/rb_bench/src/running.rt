@@ -11,6 +11,7 @@ ghost use Rattle.rb_bench.specs.Runs.{Answers, RunsOver, IsWritten, text_for, st
 
 use crate::fault::BenchFault;
 use crate::outlet::Outlet;
+use crate::progress::{NoProgress, RunProgress};
 use crate::starting::{BenchSession, run_once};
 use rb_replay::is_checkpoint_interval;
 use rb_report::check::Status;
@@ -59,11 +60,42 @@ pub fn run_over<S: Source, W: Outlet>(
     // No failure is answered where no call failed.
     ensures io { S.gives_all source.old → W.takes_all writer.old → result ≢ Err BenchFault.Io }
 {
+    run_over_with_progress(alloc, source, writer, mode, every, &NoProgress)
+}
+
+/// Does what [`run_over`] does, and tells the progress where the run is. The run has ended for it before anything is written.
+///
+/// # Errors
+///
+/// Those of [`run_over`].
+pub fn run_over_with_progress<S: Source, W: Outlet, P: RunProgress>(
+    alloc: Global,
+    source: &mut S,
+    writer: &mut W,
+    mode: Mode,
+    every: u64,
+    progress: &P,
+) -> Result<Status, BenchFault>
+    // Found before anything is read.
+    ensures checkpoint_interval { IsErrOf result BenchFault.Spacing ↔ (is_checkpoint_interval every ≡ false) }
+    ensures unread { IsErrOf result BenchFault.Spacing → (source.new ≡ source.old) × (writer.new ≡ writer.old) }
+    // At most one byte more than a script may have is read, by at most as many calls.
+    ensures consumed { (taken : List ℕ) × (length taken ≤ most_read) × Consumes (S.left source.old) (S.left source.new) taken }
+    ensures asked { IsErrOf result BenchFault.Spacing ⊎ AsksFor (S.left source.old) (S.asked source.old) (S.asked source.new) most_read }
+    // Where the source's bytes are known.
+    // A call of the source that failed is a failure of the whole.
+    ensures unfailed { OnOk result (Fails (S.asked source.old) (S.asked source.new) 0) }
+    ensures answered { is_checkpoint_interval every ≡ true → IfSome (S.left source.old) (λ all. RunsOver mode all (S.left source.new) result (W.held writer.old) (W.held writer.new)) }
+    // The text is flushed.
+    ensures handed { OnOk result (IsHandedOn (W.handed writer.new) (W.held writer.new)) }
+    // No failure is answered where no call failed.
+    ensures io { S.gives_all source.old → W.takes_all writer.old → result ≢ Err BenchFault.Io }
+{
     if !is_checkpoint_interval(every) {
         return Err(BenchFault::Spacing);
     }
     let bytes = read_up_to(alloc, source, MAX_SCRIPT + 1)?;
-    run_bytes(alloc, bytes, writer, mode, every)
+    run_read(alloc, bytes, writer, mode, progress)
 }
 
 /// Runs the script of the bytes and writes the text of `mode`, as [`run_over`] does after reading. Its memory isn't freed either.
@@ -90,8 +122,26 @@ pub fn run_bytes<W: Outlet>(
     if !is_checkpoint_interval(every) {
         return Err(BenchFault::Spacing);
     }
+    run_read(alloc, bytes, writer, mode, &NoProgress)
+}
+
+// Runs the script of the bytes and writes the text of `mode`.
+fn run_read<W: Outlet, P: RunProgress>(
+    alloc: Global,
+    bytes: Vec<u8>,
+    writer: &mut W,
+    mode: Mode,
+    progress: &P,
+) -> Result<Status, BenchFault>
+    ensures own { result ≢ Err BenchFault.Spacing }
+    ensures answered { Answers mode bytes.items result (W.held writer.old) (W.held writer.new) }
+    // Faults of length are found whether or not there is memory.
+    ensures early { IfSome (early_fault bytes.items) (λ fault. result ≡ Err (BenchFault.Script fault)) }
+    ensures handed { OnOk result (IsHandedOn (W.handed writer.new) (W.held writer.new)) }
+    ensures io { W.takes_all writer.old → result ≢ Err BenchFault.Io }
+{
     // No edit follows, and no text depends on checkpoints.
-    let session = run_once(alloc, &bytes)?;
+    let session = run_once(alloc, &bytes, progress)?;
     drop(bytes);
     let status = write_run(&session, writer, mode);
     // To give it back piece by piece would take a short run a tenth of its time.

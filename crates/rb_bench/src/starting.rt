@@ -5,14 +5,17 @@ ghost use Rattle.rb_script.specs.Script.{PlainScript};
 ghost use Rattle.rb_script.specs.Reads.{Reads};
 ghost use Rattle.rb_script.specs.Reading.{read_of, early_fault};
 ghost use Rattle.rb_replay.specs.Holding.{IsOneRun};
-ghost use Rattle.rb_replay.specs.Start.{is_checkpoint_interval};
+ghost use Rattle.rb_replay.specs.Start.{TellsStartFault, is_checkpoint_interval};
 ghost use Rattle.rb_bench.specs.Faults.{TellsFault};
 ghost use Rattle.rb_bench.specs.Serves.{IsStarted};
 
+use crate::directives::run_directives;
 use crate::fault::BenchFault;
+use crate::progress::RunProgress;
 use rb_cluster::{Cluster, Meter};
 use rb_raftlog::SplitLog;
-use rb_replay::Session;
+use rb_replay::{Session, StartFault};
+use rb_script::Script;
 use std::alloc::Global;
 
 /// The sessions that the program holds: over the cluster of scripts.
@@ -35,8 +38,30 @@ pub(crate) fn started(alloc: Global, bytes: &[u8], every: u64) -> Result<BenchSe
     Ok(Session::start(alloc, bytes, every, &mut meter)?)
 }
 
-/// Starts a session of the script without checkpoints, for a script that isn't edited.
-pub(crate) fn run_once(alloc: Global, bytes: &[u8]) -> Result<BenchSession, BenchFault>
+// Reads the script of the bytes, and runs each directive once.
+fn run_script<P: RunProgress>(
+    alloc: Global,
+    bytes: &[u8],
+    progress: &P,
+) -> Result<BenchSession, StartFault>
+    ensures script { IfOk result (λ s. Reads bytes.now s.script) }
+    ensures run { IfOk result IsOneRun }
+    ensures only { (s : PlainScript) → Reads bytes.now s → IfErr result (λ fault. fault ≡ StartFault.OutOfMemory) }
+    ensures refused { IfErr result (λ fault. TellsStartFault fault (read_of bytes.now)) }
+    ensures early { IfSome (early_fault bytes.now) (λ fault. result ≡ Err (StartFault.Script fault)) }
+    ensures spaced { result ≢ Err StartFault.BadSpacing }
+{
+    let script = Script::read(alloc, bytes)?;
+    let outputs = run_directives(alloc, &script, progress)?;
+    Ok(Session::from_outputs(alloc, script, outputs)?)
+}
+
+/// Starts a session of the script without checkpoints, for a script that isn't edited. The progress is told where the run is.
+pub(crate) fn run_once<P: RunProgress>(
+    alloc: Global,
+    bytes: &[u8],
+    progress: &P,
+) -> Result<BenchSession, BenchFault>
     ensures script { IfOk result (λ s. Reads bytes.now s.script) }
     ensures run { IfOk result IsOneRun }
     // A script is refused only if there is no memory.
@@ -47,6 +72,5 @@ pub(crate) fn run_once(alloc: Global, bytes: &[u8]) -> Result<BenchSession, Benc
     // Nothing else is read or written, and there is no checkpoint interval to check.
     ensures own { IfErr result (λ fault. (fault ≢ BenchFault.Io) × (fault ≢ BenchFault.Spacing)) }
 {
-    let mut meter = Meter::new();
-    Ok(Session::run_once(alloc, bytes, &mut meter)?)
+    Ok(run_script(alloc, bytes, progress)?)
 }

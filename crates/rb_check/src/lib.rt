@@ -53,6 +53,7 @@ pub use laws::{
 };
 pub use paths::check;
 pub use place::place_at;
+pub use progress::ProgressClock;
 pub use reasons::{ScriptRun, run_script};
 pub use runner::{ExplainedRun, Runner};
 pub use target::Target;

@@ -1,4 +1,4 @@
-//! How far a long check is.
+//! When it is time to show how far long work is.
 
 use std::time::{Clock, Duration, Instant};
 
@@ -7,9 +7,9 @@ const FIRST_MILLISECONDS: u64 = 1_000;
 
 const MILLISECONDS_APART: u64 = 100;
 
-/// When it is time to show how far a check is.
+/// When it is time to show how far the work is.
 #[derive(Clone, Copy)]
-pub(crate) struct ProgressClock {
+pub struct ProgressClock {
     // None if the clock can't be read
     start: Option<Instant>,
     // the time after the start at which it is next due
@@ -18,8 +18,12 @@ pub(crate) struct ProgressClock {
 }
 
 impl ProgressClock {
+    ghost use Rattle.std.specs.Prelude.{◌≡◌, IsTrue, true};
+
     /// Starts now. It is never due if it isn't wanted.
-    pub(crate) fn from_now<C: Clock>(clock: &C, is_wanted: bool) -> ProgressClock {
+    pub fn from_now<C: Clock>(clock: &C, is_wanted: bool) -> ProgressClock
+        ensures { result.is_wanted ≡ is_wanted }
+    {
         ProgressClock {
             start: Instant::now(clock).ok(),
             next: Duration::from_millis(FIRST_MILLISECONDS),
@@ -36,7 +40,10 @@ impl ProgressClock {
     }
 
     /// Whether it is time to show how far the work is.
-    pub(crate) fn is_due<C: Clock>(&mut self, clock: &C) -> bool {
+    pub fn is_due<C: Clock>(&mut self, clock: &C) -> bool
+        ensures wanted { IsTrue result → self.old.is_wanted ≡ true }
+        ensures as_before { self.new.is_wanted ≡ self.old.is_wanted }
+    {
         if !self.is_wanted {
             return false;
         }

@@ -70,12 +70,29 @@ fn run_read<T: Runner>(
     ensures script { IfOk result (λ ran. ran.0.script ≡ script) }
     ensures whys { IfOk result (λ ran. ran.1.items ≡ asked_reasons explains script) }
 {
-    let (printed, whys) = if explains {
-        run_directives(alloc, runner, &script)?
-    } else {
-        (run_plainly(alloc, runner, &script)?, Vec::new(alloc))
-    };
+    runner.begin(script.len());
+    let ran = run_each(alloc, runner, explains, &script);
+    runner.end();
+    let (printed, whys) = ran?;
     Ok((Session::from_outputs(alloc, script, printed)?, whys))
+}
+
+// Runs the directives; returns their outputs, and the reasons of these if they were asked for.
+fn run_each<T: Runner>(
+    alloc: Global,
+    runner: &mut T,
+    explains: bool,
+    script: &Script,
+) -> Result<(Outputs, Vec<Lines>), AllocError>
+    requires { length script.now.blocks ≤ MAX_DIRECTIVES }
+    ensures outputs { IfOk result (λ ran. ran.0 ≡ outputs script.now) }
+    ensures whys { IfOk result (λ ran. ran.1.items ≡ asked_reasons explains script.now) }
+{
+    if explains {
+        run_directives(alloc, runner, script)
+    } else {
+        Ok((run_plainly(alloc, runner, script)?, Vec::new(alloc)))
+    }
 }
 
 // The block of the directive at an index, which counts from 0.

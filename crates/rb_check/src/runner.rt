@@ -22,6 +22,12 @@ pub trait Runner {
     /// The machine that directives run on.
     type Machine: Machine;
 
+    /// A script of this many directives begins to run.
+    fn begin(&mut self, directives: usize);
+
+    /// The script has run, or memory was refused. Nothing was written meanwhile.
+    fn end(&mut self);
+
     /// Runs a directive; returns the machine after it and its output.
     fn run(
         &mut self,

@@ -6,6 +6,7 @@ ghost use Rattle.rb_program.specs.Choices.{IsAskedBy, accepts, color_choice_of, 
 use crate::clusters::Clusters;
 use crate::colors::{ColorChoice, color_choice_of, colors};
 use crate::program_error::ProgramError;
+use crate::progress::TerminalProgress;
 use crate::style::{Style, style_of};
 use crate::target::targets;
 use crate::usage_error::{UsageError, misused};
@@ -31,7 +32,7 @@ pub struct Terminals {
 /// # Errors
 ///
 /// If the arguments are wrong, or memory was refused at the beginning.
-pub fn check_all<R: Files + Input + Print + Env + Clock + AllocGlobal, E: Write + Drop>(
+pub fn check_all<R: Files + Input + Print + Eprint + Env + Clock + AllocGlobal, E: Write + Drop>(
     rt: &R,
     choice: &CheckChoice,
     errors: E,
@@ -44,7 +45,12 @@ pub fn check_all<R: Files + Input + Print + Env + Clock + AllocGlobal, E: Write 
     let targets = targets(rt, &choice.paths)?;
     let colors = colors(rt, color, terminals.output);
     let asked = request(choice, &targets, style, colors, terminals);
-    Ok(check(rt, &mut Clusters, asked, errors)?)
+    let progress = TerminalProgress::new(rt, asked.wants_progress);
+    let mut clusters = Clusters {
+        alloc: rt.alloc(),
+        progress: &progress,
+    };
+    Ok(check(rt, &mut clusters, asked, errors)?)
 }
 
 // What the command line asks for.

@@ -21,6 +21,7 @@ mod look;
 mod noting;
 mod page_over;
 mod program_error;
+mod progress;
 mod reading;
 mod rewriting;
 mod running;

@@ -15,7 +15,7 @@ use crate::clusters::Clusters;
 use crate::noting::notes_of;
 use crate::program_error::ProgramError;
 use crate::running::script;
-use rb_bench::{BenchFault, Mode, Outlet, write_run};
+use rb_bench::{BenchFault, Mode, Outlet, RunProgress, write_run};
 use rb_check::{ScriptRun, run_script};
 use rb_cluster::Cluster;
 use rb_raftlog::SplitLog;
@@ -29,10 +29,11 @@ use std::rt::Files;
 
 /// Writes the script in the file, or on standard input, with its outputs. `errors` gets its probable mistakes: that changes neither
 /// the output nor the status.
-pub(crate) fn rewrite<R: Files + Input + Print + AllocGlobal, E: Write + Drop>(
+pub(crate) fn rewrite<R: Files + Input + Print + AllocGlobal, E: Write + Drop, P: RunProgress>(
     rt: &R,
     file: &str,
     errors: E,
+    progress: &P,
 ) -> Result<Status, ProgramError> {
     let alloc = rt.alloc();
     let (path, bytes) = if file == "-" {
@@ -41,7 +42,13 @@ pub(crate) fn rewrite<R: Files + Input + Print + AllocGlobal, E: Write + Drop>(
         (file, script(rt, file)?)
     };
     let mut writer = Through(BufWriter::new(alloc, FailFast(io::writer(rt)))?);
-    let Rewritten { status, notes } = rewrite_bytes(alloc, path.as_bytes(), &bytes, &mut writer)?;
+    let Rewritten { status, notes } = rewrite_bytes(
+        alloc,
+        path.as_bytes(),
+        &bytes,
+        &mut writer,
+        progress,
+    )?;
     if let Some(notes) = notes {
         let mut errors = errors;
         let _ = errors.write_all(&notes);
@@ -58,30 +65,36 @@ struct Rewritten {
 }
 
 // Runs the script of the bytes once, and writes it with its outputs.
-fn rewrite_bytes<W: Outlet>(
+fn rewrite_bytes<W: Outlet, P: RunProgress>(
     alloc: Global,
     path: &[u8],
     bytes: &[u8],
     writer: &mut W,
+    progress: &P,
 ) -> Result<Rewritten, BenchFault>
     ensures answered { Answers modes.Rewrite bytes.now (status_of_rewriting result) (W.held writer.old) (W.held writer.new) }
     ensures handed { OnOk result (IsHandedOn (W.handed writer.new) (W.held writer.new)) }
     ensures io { W.takes_all writer.old → result ≢ Err BenchFault.Io }
 {
-    let run = run_once(alloc, bytes)?;
+    let run = run_once(alloc, bytes, progress)?;
     let status = write_run(&run.session, writer, Mode::Rewrite)?;
     let notes = notes_of(alloc, path, bytes, &run);
     Ok(Rewritten { status, notes })
 }
 
 // The run of the script of the bytes.
-fn run_once(alloc: Global, bytes: &[u8]) -> Result<ScriptRun<Cluster<SplitLog>>, BenchFault>
+fn run_once<P: RunProgress>(
+    alloc: Global,
+    bytes: &[u8],
+    progress: &P,
+) -> Result<ScriptRun<Cluster<SplitLog>>, BenchFault>
     ensures script { IfOk result (λ run. IsLayout bytes.now run.session.script run.layout) }
     ensures only { (s : PlainScript) → Reads bytes.now s → IfErr result (λ fault. fault ≡ BenchFault.OutOfMemory) }
     ensures refused { IfErr result (λ fault. TellsFault fault (read_of bytes.now)) }
     ensures own { IfErr result (λ fault. (fault ≢ BenchFault.Io) × (fault ≢ BenchFault.Spacing)) }
 {
-    let run = run_script(alloc, &mut Clusters, false, bytes)?;
+    let mut clusters = Clusters { alloc, progress };
+    let run = run_script(alloc, &mut clusters, false, bytes)?;
     Ok(run)
 }
 

@@ -2,7 +2,7 @@
 
 use crate::job::{Job, run_from, run_job};
 use crate::program_error::ProgramError;
-use rb_bench::{BenchFault, Mode, Outlet, run_over, serve};
+use rb_bench::{BenchFault, Mode, Outlet, RunProgress, run_over_with_progress, serve};
 use rb_report::check::Status;
 use rb_script::MAX_SCRIPT;
 use rb_text::{ReadSource, Source, read_up_to};
@@ -11,31 +11,41 @@ use std::fs;
 use std::fs::File;
 use std::rt::Files;
 
-/// Writes the report of the script in the file, or on standard input, or its text with its outputs.
-pub(crate) fn run<R: Files + Input + Print + AllocGlobal>(
+/// Writes the report of the script in the file, or on standard input, or its text with its outputs. The progress is told where the run is.
+pub(crate) fn run<R: Files + Input + Print + AllocGlobal, P: RunProgress>(
     rt: &R,
     file: &str,
     mode: Mode,
     every: u64,
+    progress: &P,
 ) -> Result<Status, ProgramError> {
-    run_job(rt, file, &Running { mode, every })
+    run_job(
+        rt,
+        file,
+        &Running {
+            mode,
+            every,
+            progress,
+        },
+    )
 }
 
 // The report of a script, or its text with its outputs.
 #[derive(Drop)]
-struct Running {
+struct Running<'p, P> {
     mode: Mode,
     every: u64,
+    progress: &'p P,
 }
 
-impl Job for Running {
+impl<'p, P: RunProgress> Job for Running<'p, P> {
     fn run<S: Source, W: Outlet>(
         &self,
         alloc: Global,
         source: &mut S,
         writer: &mut W,
     ) -> Result<Status, BenchFault> {
-        run_over(alloc, source, writer, self.mode, self.every)
+        run_over_with_progress(alloc, source, writer, self.mode, self.every, self.progress)
     }
 }
 
