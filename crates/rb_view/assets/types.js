@@ -28,7 +28,7 @@
  */
 
 /**
- * Something that a directive did. `id` is its node; `reasons` say why a message was ignored or refused.
+ * Something that a directive did. `id` is its node; `reasons` say why a message was ignored or refused, or which entries gave way.
  * @typedef {object} Event
  * @property {string} name
  * @property {number} id

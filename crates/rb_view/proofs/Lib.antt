@@ -2,6 +2,14 @@ pub mod EscapeLaws
 pub mod AlikeLaws
 pub mod SentLaws
 pub mod WaitingLaws
+pub mod AlikeMessages
+pub mod FlightLists
+pub mod FlightLaws
+pub mod FlightMail
+pub mod FlightReady
+pub mod FlightDirectives
+pub mod PendingArrows
+pub mod PicturesEnd
 pub mod ViewLaws
 pub mod PathLaws
 pub mod LookLaws

@@ -1,19 +1,18 @@
 -- The text of a reason is one line.
-use Rattle.std.proofs.Common.{◌≡◌, ℕ, true, List, [], ◌++◌, Option, Some, None, refl, codes, decimal}
-use Rattle.std.specs.Prelude.{◌&&◌}
-use Rattle.std.specs.List.{list_all}
-use Rattle.std.proofs.lemmas.Bool.{and_from}
+use Rattle.std.proofs.Common.{◌≡◌, ℕ, zero, suc, ◌-◌, true, false, List, [], ◌∷◌, ◌++◌, length, refl, codes, decimal}
+use Rattle.std.specs.Prelude.{◌==◌, if◌then◌else◌}
+use Rattle.rb_raftlog.specs.declared.entry.Entry.{Entry}
 use Rattle.rb_message.specs.declared.event.WhyIgnored.{WhyIgnored}
 use Rattle.rb_message.specs.declared.event.WhyIgnored.TheVariants as ignored
 use Rattle.rb_message.specs.declared.event.WhyRefused.{WhyRefused}
 use Rattle.rb_message.specs.declared.event.WhyRefused.TheVariants as refused
 use Rattle.rb_texts.specs.declared.reason.Reason.{Reason}
-use Rattle.rb_texts.specs.declared.reason.Reason.TheVariants.{Ignored, Refused}
-use Rattle.rb_texts.specs.Entries.{place_text}
-use Rattle.rb_texts.specs.Reasons.{earlier_text, end_text, older_text, outdated_text, reason_text, why_ignored_text, why_refused_text}
+use Rattle.rb_texts.specs.declared.reason.Reason.TheVariants.{Ignored, Refused, GivesWay}
+use Rattle.rb_texts.specs.Entries.{entry_text, place_text}
+use Rattle.rb_texts.specs.Reasons.{earlier_text, end_text, few_entries_text, give_way_text, gives_way_text, more_text, outdated_text, reason_text, why_ignored_text, why_refused_text}
 use Rattle.rb_texts.specs.Shapes.{is_one_line}
 use Rattle.rb_texts.specs.States.{role_text}
-use Rattle.rb_texts.proofs.OneLineLaws.{decimal_one_line, joined, place_one_line, role_one_line}
+use Rattle.rb_texts.proofs.OneLineLaws.{decimal_one_line, entry_one_line, joined, place_one_line, role_one_line}
 
 -- a number behind a text
 numbered : (before : List ℕ) (n : ℕ) → is_one_line before ≡ true → is_one_line (before ++ decimal n) ≡ true
@@ -67,7 +66,34 @@ refused_one_line (refused.OlderLog term index own_term own_index) =
     joined (end_text (codes "its log ends at ") term index) (end_text (codes ", the voter's at ") own_term own_index)
     (end_one_line (codes "its log ends at ") term index refl) (end_one_line (codes ", the voter's at ") own_term own_index refl)
 
+few_one_line : (n : ℕ) (before : List ℕ) (last : ℕ) (es : List Entry) → is_one_line before ≡ true → is_one_line (few_entries_text n before last es) ≡ true
+few_one_line zero before last es h = refl
+few_one_line (suc n) before last [] h = refl
+few_one_line (suc n) before last (e ∷ es) h =
+    let text = entry_text (last - length es) e in
+    joined (before ++ text) (few_entries_text n (codes ", ") last es) (joined before text h (entry_one_line (last - length es) e)) (few_one_line n (codes ", ") last es refl)
+
+more_one_line : (n : ℕ) → is_one_line (more_text n) ≡ true
+more_one_line n =
+    elim (n == 0) as (λ b. is_one_line (if b then [] else codes " and " ++ decimal n ++ codes " more") ≡ true)
+    [ true ↦ refl | false ↦ between (codes " and ") (codes " more") n refl refl ]
+
+give_way_one_line : (n : ℕ) → is_one_line (give_way_text n) ≡ true
+give_way_one_line n = elim (n == 1) as (λ b. is_one_line (if b then codes " gives way" else codes " give way") ≡ true) [ true ↦ refl | false ↦ refl ]
+
+-- the first few entries, how many more there are, and that they give way (three are shown)
+parts_one_line : (n last : ℕ) (es : List Entry) → is_one_line ((few_entries_text n (codes "  ") last es ++ more_text (length es - n)) ++ give_way_text (length es)) ≡ true
+parts_one_line n last es =
+    let few = few_entries_text n (codes "  ") last es in
+    let more = more_text (length es - n) in
+    joined (few ++ more) (give_way_text (length es)) (joined few more (few_one_line n (codes "  ") last es refl) (more_one_line (length es - n)))
+    (give_way_one_line (length es))
+
+gives_way_one_line : (last : ℕ) (es : List Entry) → is_one_line (gives_way_text last es) ≡ true
+gives_way_one_line last es = parts_one_line 3 last es
+
 pub reason_one_line : (reason : Reason) → is_one_line (reason_text reason) ≡ true
 unfolding reason_text
 reason_one_line (Ignored why) = joined (codes "  ignored: ") (why_ignored_text why) refl (ignored_one_line why)
 reason_one_line (Refused why) = joined (codes "  refused: ") (why_refused_text why) refl (refused_one_line why)
+reason_one_line (GivesWay last es) = gives_way_one_line last es

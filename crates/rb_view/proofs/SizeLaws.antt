@@ -36,5 +36,6 @@ pub rows_counted : (item : PlainItem) → length (item_rows item) ≡ count_of i
 unfolding item_rows event_rows
 rows_counted items.nothing_else = refl
 rows_counted (items.event (events.RefusedVote id type from why)) = refl
+rows_counted (items.event (events.RemovedEntries id last es)) = refl
 rows_counted (items.event e) = refl
 rows_counted item = refl

@@ -17,7 +17,8 @@ use Rattle.rb_node.specs.Node.{PlainNode}
 use Rattle.rb_machine.specs.Cluster.{Cluster}
 use Rattle.rb_machine.specs.Observations.{Observation, Shown, Settled}
 use Rattle.rb_machine.specs.Outcome.{outcome}
-use Rattle.rb_view.specs.Meant.{hint_rows, meant_by}
+use Rattle.rb_script_report.specs.Checked.{meant_by}
+use Rattle.rb_view.specs.Meant.{hint_rows}
 use Rattle.rb_view.specs.Steps.{done_texts, hints, left_next, step, step_texts, steps_from, script_rows}
 use Rattle.rb_view.specs.Watching.{observed_rows, observed_texts, reason_rows, rewritten, rows_since, shown_rows, shown_texts}
 use Rattle.rb_view.specs.Values.{BlockShowsBytes, GoOnShowingBytes}

@@ -24,7 +24,8 @@ use Rattle.rb_machine.specs.Cluster.{Cluster, empty}
 use Rattle.rb_machine.specs.Outcome.{outcome}
 use Rattle.rb_cluster.proofs.OutcomeLaws.{outcome_is_output}
 use Rattle.rb_view.specs.Pages.{first_row, steps_text}
-use Rattle.rb_view.specs.Meant.{IsOfBytes, hint_rows, meant_by}
+use Rattle.rb_script_report.specs.Checked.{meant_by}
+use Rattle.rb_view.specs.Meant.{IsOfBytes, hint_rows}
 use Rattle.rb_view.specs.Steps.{Step, end_row, hints, left_next, script_rows, source_row, step, step_texts, steps, steps_from, steps_texts, warning_row, warning_rows}
 use Rattle.rb_view.specs.Watching.{observed_rows, observed_texts, written_last}
 use Rattle.rb_view.specs.Values.{GoOnShowingBytes, all_rows, step_rows}

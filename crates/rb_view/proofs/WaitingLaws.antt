@@ -1,6 +1,6 @@
 -- The messages on their way are those whose arrows wait.
 use Rattle.std.proofs.Common.{◌≡◌, ◌∙◌, ℕ, zero, suc, ◌+◌, Bool, true, false, List, [], ◌∷◌, ◌++◌, length, Option, Some, None, refl, ap, sym, arith}
-use Rattle.std.specs.Prelude.{fold, if◌then◌else◌, slice_get}
+use Rattle.std.specs.Prelude.{fold, if◌then◌else◌, cond, slice_get}
 use Rattle.std.specs.List.{remove}
 use Rattle.std.specs.Option.{unwrap_or}
 use Rattle.rb_message.specs.declared.message.Message.{Message}
@@ -12,7 +12,7 @@ use Rattle.rb_view.specs.declared.chart.css_class.DeliveryState.TheVariants as s
 use Rattle.rb_view.specs.declared.chart.in_flight.MessageChange.TheVariants as changes
 use Rattle.rb_view.specs.InFlight.{arrow, ended, first_alike, last_alike, taken, taking}
 use Rattle.rb_view.specs.Arrows.{PlainArrows, drawing, drawn_as, end_arrow, set_state, set_state_of, with_state}
-use Rattle.rb_view.specs.Promises.{waits, waiting_from}
+use Rattle.rb_view.specs.Promises.{waiting_arrows, waits, waiting_from}
 
 -- ---- an arrow more
 
@@ -38,11 +38,29 @@ set_next : (x : Arrow) (arrows : List Arrow) (i : ℕ) (s : DeliveryState) (o : 
 set_next x arrows i s None = refl
 set_next x arrows i s (Some a) = refl
 
+-- after one that waits, and after one that doesn't
+waits_more : (x : Arrow) (arrows : List Arrow) (at k : ℕ) (s : DeliveryState) → waits x.state ≡ true → waiting_arrows (set_state at s arrows) ≡ remove (waiting_arrows arrows) k
+    → waiting_arrows (set_state (suc at) s (x ∷ arrows)) ≡ remove (waiting_arrows (x ∷ arrows)) (suc k)
+waits_more x arrows at k s is later =
+    let old : List Arrow = waiting_arrows arrows in
+    let new : List Arrow = waiting_arrows (set_state at s arrows) in
+    ap waiting_arrows (set_next x arrows at s (slice_get arrows at)) ∙ ap (λ (t : Bool). cond t (x ∷ new) new) is ∙ ap (λ (l : List Arrow). x ∷ l) later
+    ∙ sym (ap (λ (t : Bool). remove (cond t (x ∷ old) old) (suc k)) is)
+
+waits_same : (x : Arrow) (arrows : List Arrow) (at k : ℕ) (s : DeliveryState) → waits x.state ≡ false → waiting_arrows (set_state at s arrows) ≡ remove (waiting_arrows arrows) k
+    → waiting_arrows (set_state (suc at) s (x ∷ arrows)) ≡ remove (waiting_arrows (x ∷ arrows)) k
+waits_same x arrows at k s is later =
+    let old : List Arrow = waiting_arrows arrows in
+    let new : List Arrow = waiting_arrows (set_state at s arrows) in
+    ap waiting_arrows (set_next x arrows at s (slice_get arrows at)) ∙ ap (λ (t : Bool). cond t (x ∷ new) new) is ∙ later
+    ∙ sym (ap (λ (t : Bool). remove (cond t (x ∷ old) old) k) is)
+
 -- the arrow at a position among those that wait, and how the others stay
 pub record Ends (n : ℕ) (arrows : List Arrow) (ws : List ℕ) (k p : ℕ) (s : DeliveryState) : Type 0 where
   pub at : ℕ
   pub is : p ≡ n + at
   pub left : waiting_from n (set_state at s arrows) ≡ remove ws k
+  pub waiting : waiting_arrows (set_state at s arrows) ≡ remove (waiting_arrows arrows) k
 
 ends_by : (n : ℕ) (x : Arrow) (arrows : List Arrow) (k p : ℕ) (s : DeliveryState) (b : Bool) → waits x.state ≡ b → waits s ≡ false
     → slice_get (if b then n ∷ waiting_from (n + 1) arrows else waiting_from (n + 1) arrows) k ≡ Some p
@@ -50,7 +68,13 @@ ends_by : (n : ℕ) (x : Arrow) (arrows : List Arrow) (k p : ℕ) (s : DeliveryS
     → Ends n (x ∷ arrows) (if b then n ∷ waiting_from (n + 1) arrows else waiting_from (n + 1) arrows) k p s
 ends_by n x arrows zero p s true is lost got rest =
     let here : n ≡ p = ap (λ (o : Option ℕ). unwrap_or o 0) got in
-    record { at = zero; is = omega (arith, here); left = ap (λ (t : Bool). if t then n ∷ waiting_from (n + 1) arrows else waiting_from (n + 1) arrows) lost }
+    let others : List Arrow = waiting_arrows arrows in
+    record {
+      at = zero;
+      is = omega (arith, here);
+      left = ap (λ (t : Bool). if t then n ∷ waiting_from (n + 1) arrows else waiting_from (n + 1) arrows) lost;
+      waiting = ap (λ (t : Bool). cond t (with_state s x ∷ others) others) lost ∙ sym (ap (λ (t : Bool). remove (cond t (x ∷ others) others) zero) is);
+    }
 ends_by n x arrows (suc k) p s true is lost got rest =
     let later = rest k got in
     let e = later.is in
@@ -60,6 +84,7 @@ ends_by n x arrows (suc k) p s true is lost got rest =
       left = ap (waiting_from n) (set_next x arrows later.at s (slice_get arrows later.at))
           ∙ ap (λ (t : Bool). if t then n ∷ waiting_from (n + 1) (set_state later.at s arrows) else waiting_from (n + 1) (set_state later.at s arrows)) is
           ∙ ap (λ (w : List ℕ). n ∷ w) later.left;
+      waiting = waits_more x arrows later.at k s is later.waiting;
     }
 ends_by n x arrows k p s false is lost got rest =
     let later = rest k got in
@@ -70,9 +95,10 @@ ends_by n x arrows k p s false is lost got rest =
       left = ap (waiting_from n) (set_next x arrows later.at s (slice_get arrows later.at))
           ∙ ap (λ (t : Bool). if t then n ∷ waiting_from (n + 1) (set_state later.at s arrows) else waiting_from (n + 1) (set_state later.at s arrows)) is
           ∙ later.left;
+      waiting = waits_same x arrows later.at k s is later.waiting;
     }
 
-ends : (n : ℕ) (arrows : List Arrow) (k p : ℕ) (s : DeliveryState) → waits s ≡ false → slice_get (waiting_from n arrows) k ≡ Some p → Ends n arrows (waiting_from n arrows) k p s
+pub ends : (n : ℕ) (arrows : List Arrow) (k p : ℕ) (s : DeliveryState) → waits s ≡ false → slice_get (waiting_from n arrows) k ≡ Some p → Ends n arrows (waiting_from n arrows) k p s
 ends n [] k p s lost got = absurd cc
 ends n (x ∷ arrows) k p s lost got = ends_by n x arrows k p s (waits x.state) refl lost got (λ j there. ends (n + 1) arrows j p s lost there)
 

@@ -9,7 +9,7 @@ use Rattle.rb_texts.specs.States.{role_text}
 use Rattle.rb_view.specs.MessageRows.{flag}
 use Rattle.rb_view.specs.Rows.{number, text, Row, row}
 
--- A vote that is refused has none: the answer that says so has one.
+-- A vote that is refused has none: the answer that says so has one. Entries that are removed have none: the reason has one.
 unfoldable pub event_rows : Event → List Row
 event_rows (events.Started id term index config) = row (codes "started") (number id ∷ []) ∷ []
 event_rows (events.Became id role term) = row (codes "became") (number id ∷ text (role_text role) ∷ number term ∷ []) ∷ []
@@ -18,6 +18,7 @@ event_rows (events.VoteCounted id type granted from result) =
     row (codes "vote") (number id ∷ text (type_text type) ∷ number (flag granted) ∷ number from ∷ text (votes_text result) ∷ []) ∷ []
 event_rows (events.Ignored id type from why) = row (codes "ignored") (number id ∷ text (type_text type) ∷ number from ∷ []) ∷ []
 event_rows (events.RefusedVote id type from why) = []
+event_rows (events.RemovedEntries id last es) = []
 event_rows (events.DroppedProposal id) = row (codes "dropped-proposal") (number id ∷ []) ∷ []
 event_rows (events.Conflict id index commit) = row (codes "conflict") (number id ∷ number index ∷ number commit ∷ []) ∷ []
 event_rows (events.AppendsNothing id) = row (codes "appends-nothing") (number id ∷ []) ∷ []

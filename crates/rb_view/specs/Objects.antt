@@ -11,7 +11,7 @@ use Rattle.rb_texts.specs.declared.item.Verb.TheVariants as verbs
 use Rattle.rb_texts.specs.declared.reason.Reason.{Reason}
 use Rattle.rb_texts.specs.Items.{PlainItem}
 use Rattle.rb_texts.specs.Items as items
-use Rattle.rb_texts.specs.Reasons.{reason_of, reason_text}
+use Rattle.rb_texts.specs.Reasons.{reason_front, reason_of, reason_text}
 use Rattle.rb_texts.specs.Texts as lines
 use Rattle.rb_view.specs.ItemRows as rows
 
@@ -70,10 +70,10 @@ abbrev pub message_members : ℕ → Option Message → List ℕ
 message_members number None = []
 message_members number (Some m) = kind_members number m ++ way_members m
 
--- why nothing came of a message: its line, after what it is the reason for
+-- why nothing came of a message, or which entries give way: its line, after blanks and what it is the reason for
 abbrev pub reason_member : Option Reason → List ℕ
 reason_member None = []
-reason_member (Some reason) = text_member (codes "reason") (drop 11 (reason_text reason))
+reason_member (Some reason) = text_member (codes "reason") (drop (reason_front reason) (reason_text reason))
 
 -- a page's row, after the comma and the line end that are before it there; what a page doesn't have has none
 abbrev pub row_member : List ℕ → List ℕ

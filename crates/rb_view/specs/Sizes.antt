@@ -24,9 +24,10 @@ is_view (items.config c) = true
 is_view (items.progress id view) = true
 is_view _ = false
 
--- that a vote is refused has no row of its own either: the answer shows it
+-- that a vote is refused has no row of its own either, since the answer shows it; nor that entries are removed, since the reason does
 abbrev pub has_no_row : PlainItem → Bool
 has_no_row (items.event (events.RefusedVote id type from why)) = true
+has_no_row (items.event (events.RemovedEntries id last es)) = true
 has_no_row item = is_view item
 
 -- how many rows an item has, without its reason

@@ -11,13 +11,14 @@ use Rattle.rb_machine.specs.Cluster.{Cluster, empty}
 use Rattle.rb_machine.specs.Outcome.{execution, outcome}
 use Rattle.rb_replay.specs.Report.{same_lines, mismatches}
 use Rattle.rb_replay.specs.Run.{outputs}
+use Rattle.rb_script_report.specs.Checked.{meant_by}
 use Rattle.rb_script_report.specs.Doubts.{all_warnings}
 use Rattle.rb_script_report.specs.declared.warning.Warning.{Warning}
 use Rattle.rb_node.specs.Node.{PlainNode}
 use Rattle.rb_script.specs.Directive.{PlainDirective}
 use Rattle.rb_machine.specs.Observations.{Observation}
 use Rattle.rb_view.specs.Kept.{texts_of, line_rows}
-use Rattle.rb_view.specs.Meant.{hint_rows, meant_by}
+use Rattle.rb_view.specs.Meant.{hint_rows}
 use Rattle.rb_view.specs.Rows.{Row, row, number, text}
 use Rattle.rb_view.specs.States.{state_rows}
 use Rattle.rb_view.specs.Watching.{observed_texts, written_last}

@@ -7,7 +7,8 @@ use Rattle.rb_script.specs.Directive.{PlainDirective}
 use Rattle.rb_script.specs.Script.{PlainBlock, PlainScript}
 use Rattle.rb_node.specs.Node.{PlainNode}
 use Rattle.rb_view.specs.Json.{is_byte}
-use Rattle.rb_view.specs.Meant.{IsOfBytes, meant_by}
+use Rattle.rb_script_report.specs.Checked.{meant_by}
+use Rattle.rb_view.specs.Meant.{IsOfBytes}
 use Rattle.rb_view.specs.Rows.{Row}
 use Rattle.rb_machine.specs.Cluster.{Cluster}
 use Rattle.rb_machine.specs.Outcome.{execution, outcome}

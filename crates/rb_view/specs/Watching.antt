@@ -29,7 +29,7 @@ rewritten nodes id n = slice_set nodes (id - 1) n
 
 -- ---- an item
 
--- why nothing came of a message, or why a vote was refused: its line, without the blanks before it
+-- why nothing came of a message, why a vote was refused, or which entries give way: its line, without the blanks before it
 abbrev pub reason_row : Reason → Row
 reason_row reason = row (codes "reason") (text (drop 2 (reason_text reason)) ∷ [])
 

@@ -315,7 +315,10 @@ impl<'a> Canvas<'a> {
         if let Event::Started { .. } = event {
             return self.start(id);
         }
-        if let Event::RefusedVote { .. } = event {
+        if matches!(
+            event,
+            Event::RefusedVote { .. } | Event::RemovedEntries { .. }
+        ) {
             return Ok(());
         }
         let words = event_words(self.alloc, event)?;

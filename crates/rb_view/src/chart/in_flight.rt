@@ -1,7 +1,8 @@
 //! Keeps the messages in flight.
 //!
 //! A node gets its messages in the order in which they were sent. So of the messages of one type to one node, the earliest is
-//! delivered or dropped first (docs/FORMATS.md, "The rows of a page").
+//! delivered or dropped first (docs/FORMATS.md, "The rows of a page"). `messages_end_their_own_arrows` proves that it is the
+//! message itself.
 
 ghost use Rattle.std.specs.Prelude.{◌≡◌, ◌<◌, ℕ, IfSome, None, Some, if◌then◌else◌, length, slice_get};
 ghost use Rattle.std.specs.Option.{option_or};

@@ -127,7 +127,7 @@ pub(crate) fn event_words(alloc: Global, event: &Event) -> Result<Vec<u8>, Alloc
         Event::DroppedProposal { .. } => b"! proposal dropped",
         Event::AppendsNothing { .. } => b"! appends nothing: index limit",
         Event::LostQuorum { .. } => b"! lost its quorum",
-        Event::Started { .. } | Event::RefusedVote { .. } => b"",
+        Event::Started { .. } | Event::RefusedVote { .. } | Event::RemovedEntries { .. } => b"",
     };
     Vec::from_slice(alloc, words)
 }
@@ -152,7 +152,9 @@ pub(crate) fn event_class(event: &Event) -> CssClass {
         | Event::ReplacedChange { .. }
         | Event::RefusedChange { .. }
         | Event::LostQuorum { .. } => CssClass::Bad,
-        Event::Started { .. } | Event::RefusedVote { .. } => CssClass::Quiet,
+        Event::Started { .. } | Event::RefusedVote { .. } | Event::RemovedEntries { .. } => {
+            CssClass::Quiet
+        }
     }
 }
 

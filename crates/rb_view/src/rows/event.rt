@@ -19,7 +19,7 @@ use rb_texts::{fault_name, no_campaign_name, replaced_name, role_name, votes_nam
 use rb_tracker::{Config, VoteResult};
 use rb_vocab::MessageType;
 
-/// Writes the row of an event. A refused vote has none: the answer has one.
+/// Writes the row of an event. A refused vote has none: the answer has one. Removed entries have none: their reason has one.
 #[tactic(auto, unfolding(crate::specs::EventRows::event_rows))]
 pub(crate) fn put_event<S: Sink>(sink: &mut S, event: &Event) -> Result<(), WriteFault>
     ensures wrote { Writes result (S.held sink.old) (S.held sink.new) (flat_map next_text (event_rows event.now)) }
@@ -46,7 +46,7 @@ pub(crate) fn put_event<S: Sink>(sink: &mut S, event: &Event) -> Result<(), Writ
             from,
             ..
         } => put_named(sink, b"ignored", *id, message_type.text(), *from),
-        Event::RefusedVote { .. } => Ok(()),
+        Event::RefusedVote { .. } | Event::RemovedEntries { .. } => Ok(()),
         Event::DroppedProposal { id } => put_of(sink, b"dropped-proposal", *id),
         Event::Conflict { id, index, commit } => {
             put_numbers(sink, b"conflict", *id, *index, *commit)

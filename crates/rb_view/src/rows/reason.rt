@@ -1,4 +1,4 @@
-//! Why nothing came of a message, as a text.
+//! Why nothing came of a message, or which entries give way to its own, as a text.
 
 ghost use Rattle.std.specs.Prelude.{◌≡◌, ◌∷◌, [], IfOk, drop};
 ghost use Rattle.rb_texts.specs.Reasons.{reason_text};
@@ -8,11 +8,11 @@ use rb_texts::Reason;
 use std::alloc::{AllocError, Global};
 
 /// The line of a reason.
-pub(crate) fn reason_line(alloc: Global, reason: Reason) -> Result<Lines, AllocError>
-    ensures { IfOk result (λ lines. lines ≡ reason_text reason ∷ []) }
+pub(crate) fn reason_line(alloc: Global, reason: &Reason) -> Result<Lines, AllocError>
+    ensures { IfOk result (λ lines. lines ≡ reason_text reason.now ∷ []) }
 {
     let mut lines = Lines::new(alloc);
-    lines.push_written(&reason)?;
+    lines.push_written(reason)?;
     Ok(lines)
 }
 

@@ -3,29 +3,16 @@
 ghost use Rattle.std.specs.Prelude.{◌≡◌, ◌++◌, IfOk, OnOk, codes};
 ghost use Rattle.rb_report.specs.Hints.{meant, plain_hint};
 ghost use Rattle.rb_view.specs.Kept.{texts_of};
-ghost use Rattle.rb_view.specs.Meant.{IsOfBytes, hint_rows, meant_by};
+ghost use Rattle.rb_view.specs.Meant.{IsOfBytes, hint_rows};
 
 use crate::rows::{Cell, keep_row};
 use crate::steps::node::as_bytes;
 use rb_report::check::Hint;
-use rb_report::help::suggested;
-use rb_script::{Block, Lines};
-use rb_script_report::is_error;
+use rb_script::Lines;
 use std::alloc::AllocError;
 
 // Most words are shorter, and one that is longer takes more room.
 const ROOM: usize = 60;
-
-/// What was probably meant by a directive of this output.
-pub(crate) fn meant_by(block: &Block, output: &Lines) -> Hint<'static>
-    ensures { plain_hint result ≡ meant_by block.now output.now }
-{
-    if is_error(output) {
-        suggested(&block.directive())
-    } else {
-        Hint::Unknown
-    }
-}
 
 fn question(lines: &Lines, word: &[u8]) -> Result<Vec<u8>, AllocError>
     ensures { IfOk result (λ text. text.items ≡ codes "did you mean \"" ++ (word.now ++ codes "\"?")) }

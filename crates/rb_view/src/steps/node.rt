@@ -305,6 +305,13 @@ pub(crate) fn as_bytes(bytes: &[u8]) -> &[u8]
     bytes
 }
 
+/// What is shown of a node's content is bytes.
+pub(crate) fn content_is_bytes<L: RaftLog>(node: &Node<L>)
+    ensures { list_all is_byte (content_end node.now.content) ≡ true }
+{
+    as_bytes(node.status().content.end());
+}
+
 // The node at an index. Its visible content is bytes.
 fn node_at<L: RaftLog>(nodes: &[SharedNode<L>], index: usize) -> &Node<L>
     requires { index < length nodes.now }
@@ -312,7 +319,7 @@ fn node_at<L: RaftLog>(nodes: &[SharedNode<L>], index: usize) -> &Node<L>
     ensures bytes { list_all is_byte (content_end result.now.content) ≡ true }
 {
     let node = nodes[index].node();
-    let _shown = as_bytes(node.status().content.end());
+    content_is_bytes(node);
     node
 }
 

@@ -1,15 +1,12 @@
 //! The rows of what a directive does.
 
-ghost use Rattle.std.specs.Prelude.{◌≡◌, ◌++◌, [], IfOk, OnOk, Some, slice_get, slice_set, true};
-ghost use Rattle.std.specs.List.{list_all};
-ghost use Rattle.rb_raftlog.specs.Content.{content_end};
-ghost use Rattle.rb_view.specs.Json.{is_byte};
+ghost use Rattle.std.specs.Prelude.{◌≡◌, ◌++◌, [], IfOk, OnOk, Some, slice_get, slice_set};
 ghost use Rattle.rb_view.specs.Kept.{texts_of};
 ghost use Rattle.rb_view.specs.Watching.{reason_rows, shown_texts};
 ghost use Rattle.rb_texts.specs.Items.{plain_item};
 
 use crate::rows::{Cell, keep_item, keep_row, past, reason_line};
-use crate::steps::node::{as_bytes, keep_node_at};
+use crate::steps::node::{content_is_bytes, keep_node_at};
 use crate::steps::room::held;
 use rb_cluster::{Cluster, SharedNode};
 use rb_machine::Observer;
@@ -33,15 +30,6 @@ pub(crate) struct EventRows<L: RaftLog> {
     pub(crate) nodes: Vec<SharedNode<L>>,
 }
 
-// Whether what is shown of a node's content is bytes, which it is by its type.
-fn shows_bytes<L: RaftLog>(node: &Node<L>) -> bool
-    ensures value { result ≡ true }
-    ensures bytes { list_all is_byte (content_end node.now.content) ≡ true }
-{
-    let _shown = as_bytes(node.status().content.end());
-    true
-}
-
 // Puts a copy of a node at an index, if there is one.
 fn rewrite<L: RaftLog>(
     alloc: Global,
@@ -63,17 +51,17 @@ fn keep_shown(alloc: Global, texts: &mut Lines, item: &Item<'_>) -> Result<(), A
     ensures { OnOk result (texts.new ≡ texts.old ++ shown_texts (plain_item item.now)) }
 {
     keep_item(texts, item)?;
-    keep_reason(alloc, texts, reason_of(item))
+    keep_reason(alloc, texts, reason_of(item)?)
 }
 
-// Adds why nothing came of a message, or why a vote was refused.
+// Adds why nothing came of a message, why a vote was refused, or which entries give way.
 fn keep_reason(alloc: Global, texts: &mut Lines, reason: Option<Reason>) -> Result<(), AllocError>
     ensures { OnOk result (texts.new ≡ texts.old ++ texts_of (reason_rows reason)) }
 {
     let Some(reason) = reason else {
         return Ok(());
     };
-    let lines = reason_line(alloc, reason)?;
+    let lines = reason_line(alloc, &reason)?;
     let said = past(lines.line(0), INDENTATION);
     keep_row(texts, b"reason", &[Cell::Text(said)])
 }
@@ -150,7 +138,7 @@ impl<L: RaftLog> Observer<L> for EventRows<L> {
 
     fn settle(&mut self, id: u64, node: &Node<L>) -> Result<(), AllocError> {
         let index = id.saturating_sub(1) as usize;
-        let _shown = shows_bytes(node);
+        content_is_bytes(node);
         self.keep_changes(index, node)?;
         rewrite(self.alloc, &mut self.nodes, index, node)
     }

@@ -7,13 +7,14 @@ ghost use Rattle.rb_view.specs.PageRoom.{has_room, held, held_with};
 ghost use Rattle.rb_machine.specs.Outcome.{execution, outcome};
 ghost use Rattle.rb_view.specs.Committed.{AreKept, AreSound};
 ghost use Rattle.rb_view.specs.States.{state_rows};
-ghost use Rattle.rb_view.specs.Meant.{IsOfBytes, hint_rows, meant_by};
+ghost use Rattle.rb_script_report.specs.Checked.{meant_by};
+ghost use Rattle.rb_view.specs.Meant.{IsOfBytes, hint_rows};
 ghost use Rattle.rb_view.specs.Steps.{done_texts, left_next, script_rows, step, step_texts};
 ghost use Rattle.rb_view.specs.Values.{BlockShowsBytes, ShowBytes};
 ghost use Rattle.rb_view.specs.Watching.{observed_texts, shows_bytes, written_last};
 
 use crate::rows::keep_texts;
-use crate::steps::meant::{keep_hint, meant_by};
+use crate::steps::meant::keep_hint;
 use crate::steps::node::keep_states;
 use crate::steps::room::{has_room, held};
 use crate::steps::rows::EventRows;
@@ -24,6 +25,7 @@ use rb_machine::{Both, Machine, PrintedLines};
 use rb_raftlog::RaftLog;
 use rb_report::check::Table;
 use rb_script::{Block, Lines};
+use rb_script_report::hint_of;
 use std::alloc::{AllocError, Global};
 
 /// A directive of a script, and the line of its head.
@@ -162,7 +164,7 @@ fn keep_ran(
         output,
     )?;
     keep_texts(texts, rows)?;
-    keep_hint(texts, meant_by(place.block, output))?;
+    keep_hint(texts, hint_of(place.block, output))?;
     Ok(has_room(texts))
 }
 

@@ -12,14 +12,11 @@ use crate::rows::{keep_item, past, reason_line};
 use rb_message::Message;
 use rb_script::Lines;
 use rb_text::{Json, Piece, add_pieces};
-use rb_texts::{Item, Reason, Verb, reason_of};
+use rb_texts::{Item, Reason, Verb, reason_front, reason_of};
 use std::alloc::{AllocError, Global};
 
 // Most objects are shorter, and one that is longer takes more room.
 const ROOM: usize = 200;
-
-// The text before a reason in its line: `  ignored: ` or `  refused: `.
-const REASON_FRONT: usize = 11;
 
 // The text before a row in a page: a comma and a line end.
 const ROW_FRONT: usize = 2;
@@ -164,8 +161,8 @@ fn add_reason(alloc: Global, text: &mut Vec<u8>, reason: Option<Reason>) -> Resu
 {
     match reason {
         Some(reason) => {
-            let lines = reason_line(alloc, reason)?;
-            add_text(text, b"reason", past(lines.line(0), REASON_FRONT))
+            let lines = reason_line(alloc, &reason)?;
+            add_text(text, b"reason", past(lines.line(0), reason_front(&reason)))
         }
         None => Ok(()),
     }
@@ -235,7 +232,7 @@ fn add_said(alloc: Global, text: &mut Vec<u8>, item: &Item<'_>) -> Result<(), Al
     ensures { OnOk result (text.new.items ≡ text.old.items ++ said (plain_item item.now)) }
 {
     add_line(alloc, text, item)?;
-    add_reason(alloc, text, reason_of(item))?;
+    add_reason(alloc, text, reason_of(item)?)?;
     add_row(alloc, text, item)
 }
 

@@ -14,7 +14,7 @@ returns-clause-texts c =
     (c.in_ok-keep_texts.ensures
     ∙ ap (λ (ts : List Line). ts ++ c.args.rows.now)
     (c.in_ok-keep_script.ensures.texts ∙ ap (λ (es : List Line). c.args.texts.now ++ texts_of (script_rows left c.args.place.line es c.args.output.now)) c.expected.ensures))
-    c.meant_by.ensures
+    c.hint_of.ensures
 
 pub returns-clause-left : goal.returns-clause-left
 returns-clause-left c =
