@@ -13,7 +13,7 @@ from .likes import Switched
 from .process import Failed, Process
 from .promises import name_of
 from .script import directive_of
-from .stage import Called, Stage, allowed
+from .stage import AFTER, Called, Stage, allowed
 from .steps import steps_above
 from .watched import WatchedHosts, WatchedReference, breaks
 from .without import reduced
@@ -162,7 +162,7 @@ class Beside:
         if found is None:
             return None
         field, node, wanted, came = found
-        return Difference(place, name, field, node, wanted, came, place_of(self.ours, self.theirs, field, name))
+        return Difference(place, name, field, node, wanted, came, place_of(self.ours, self.theirs, name, self.without))
 
     def differences(self, lines: Sequence[str], other_lines: Sequence[str]) -> Iterator[Found]:
         ids = sorted((self.ours.touched | self.theirs.touched) & self.ours.nodes.keys() & self.theirs.nodes.keys())
@@ -221,12 +221,13 @@ def text_differences(field: str, pairs: Sequence[tuple[AnyNode, AnyNode]], lines
             yield field, ours.id, wanted, came
 
 
-def place_of(ours: Stage, theirs: Stage, field: str, directive: str) -> str:
+def place_of(ours: Stage, theirs: Stage, directive: str, without: frozenset[str]) -> str:
     """After which call, at which role, the sides begin to differ; the directive, where their calls already differ before."""
+    compared = [at for at, name in enumerate(AFTER) if name not in without]
     for one, other in zip(ours.calls, theirs.calls):
         if (one.node, one.what) != (other.node, other.what):
             break
-        if one.after != other.after:
+        if any(one.after[at] != other.after[at] for at in compared):
             return after_of(one, ours)
     last = ours.calls[-1] if ours.calls and len(ours.calls) == 1 else None
     return after_of(last, ours) if last else f"after {directive}"

@@ -37,6 +37,8 @@ CALIBRATING = 24
 READ_EVERYWHERE = 4
 # So many scripts are asked at once in any case; after that only if one of so many agreed.
 MOST_TRIED, LEAST_AGREED = 40, 6
+# What a mistake in the reference, or in a switch, raises.
+FAULTS = (AssertionError, IndexError, KeyError)
 # An aspect in which more scripts differ first isn't compared by default.
 MOST_LOUD = 4
 
@@ -122,7 +124,11 @@ class Explorer:
             return self.found_again(spec, name, known)
         self.recall.listen()
         steps = spec.steps(self.chosen.dice)
-        return self.explore_alone(spec, name, steps) if spec.is_alone else self.explore_beside(spec, name, steps)
+        try:
+            return self.explore_alone(spec, name, steps) if spec.is_alone else self.explore_beside(spec, name, steps)
+        except FAULTS:
+            self.process.transcript = None
+            return Found(spec, name, 0, 0, 0, (), frozenset(), (), True, False)
 
     def explore_beside(self, spec: Spec, name: bytes, steps: list[Step]) -> Found:
         """Compares the nodes with the reference."""
@@ -221,9 +227,12 @@ class Explorer:
         return list(self.outcome(steps).kinds())
 
     def has(self, steps: Sequence[Step], kind: str, is_alone: bool) -> bool:
-        if is_alone:
-            return kind in dict(run_alone(blocks_of(steps), self.process, self.chosen.comparison).kinds())
-        return kind in dict(self.outcome(steps, goes_on=kind.startswith("promise")).kinds())
+        try:
+            if is_alone:
+                return kind in dict(run_alone(blocks_of(steps), self.process, self.chosen.comparison).kinds())
+            return kind in dict(self.outcome(steps, goes_on=kind.startswith("promise")).kinds())
+        except FAULTS:
+            return False
 
     def shrunk(self, steps: Sequence[Step], kind: str, is_alone: bool, most: int = MOST_RUNS) -> list[Step]:
         """The shortest steps found that show a kind."""

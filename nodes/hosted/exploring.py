@@ -268,7 +268,7 @@ def main(program: str, description: str) -> int:
         return 130
     print(result.text(), end="")
     for seed in result.wrong:
-        print(f"seed {seed}: the reference is wrong here: the proved program prints something else", file=sys.stderr)
+        print(f"seed {seed}: the reference is wrong here: it fails, or the proved program prints something else", file=sys.stderr)
     try:
         result.write(words.json, words.junit, words.out)
         if words.out and result.kinds:

@@ -61,6 +61,7 @@ class CallRules(Ruled):
     told = 0  # the commit that members were told
     heard_commit = 0  # the commit, or 0 until one is heard of or made after the start
     answering = 0  # the call that a message is
+    has_refused = False  # the last append
     postponed: Message | None = None  # a transfer that was asked of a candidate, until it leads
 
     def __init__(self, *given: Any) -> None:
@@ -78,6 +79,7 @@ class CallRules(Ruled):
         return self.calls
 
     def send(self, kind: str, to: int, **parts: Any) -> None:
+        self.has_refused = bool(parts.get("refused")) if kind == "MsgAppResp" else self.has_refused
         if self.are_calls() and kind.endswith("Resp"):
             parts.setdefault("context", self.answering)
         elif self.are_calls() and kind == "MsgVote":
@@ -97,7 +99,8 @@ class CallRules(Ruled):
 
     def take_append(self, m: Message) -> None:
         super().take_append(m)
-        self.heard_commit = max(self.heard_commit, min(m.commit, self.commit))
+        if not self.has_refused:
+            self.heard_commit = max(self.heard_commit, min(m.commit, self.commit))
 
     def commits(self) -> bool:
         before = self.commit
@@ -202,7 +205,7 @@ class CallRules(Ruled):
         if not self.are_calls():
             return super().step(m)
         self.answering = m.context
-        self.left = [member for member in self.left if m.kind != "MsgAppResp" or m.context != member.call]
+        self.end_left(m)
         if m.kind == "MsgAppResp":
             self.told = min(self.told, self.commits_sent.get(m.context, self.told))
         if m.kind == "MsgTransferLeader" and self.role == "candidate":
@@ -218,7 +221,16 @@ class CallRules(Ruled):
             self.end_transfer()
         else:
             super().step(m)
+        self.end_left(m)
         return self.tell_commit()
+
+    def end_left(self, m: Message) -> None:
+        """An answer ends the call of an earlier leadership, also of one that it has just ended."""
+        self.left = [member for member in self.left if m.kind != "MsgAppResp" or m.context != member.call]
+
+    def campaign(self, kind: str = "usual") -> None:
+        super().campaign(kind)
+        self.tell_commit()
 
     def is_undisturbed(self, m: Message) -> bool:
         is_it = super().is_undisturbed(m)

@@ -10,6 +10,10 @@ from .rules_own import Ruled
 LEAVING = Change("auto", ())
 
 
+class FirstForm(Change):
+    """A change that was asked for in etcd's first form."""
+
+
 class ChangeRules(Ruled):
     """Changes of the configuration."""
 
@@ -56,6 +60,13 @@ class ChangeRules(Ruled):
     def lead_on(self) -> None:
         self.first_led = self.last() + 1
         super().lead_on()
+
+    def propose_change(self, change: Change, is_v1: bool = False) -> None:
+        super().propose_change(FirstForm(*change) if is_v1 else change, is_v1)
+
+    def has_first_form_pending(self) -> bool:
+        """Whether a change of the first form is committed and isn't applied."""
+        return any(isinstance(entry.body, FirstForm) for _, entry in self.entries_from(self.applied + 1, self.commit))
 
     def append_change(self, change: Change) -> None:
         if self.on("changes-wait") and (self.is_unstable() or self.commit < self.first_led):

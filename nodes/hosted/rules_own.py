@@ -5,7 +5,7 @@ from typing import Any
 
 from plain.config import Change, vote_result
 from plain.node import Disk, Node
-from plain.records import Body, Message
+from plain.records import Body, Message, Numbered, Ready
 
 
 class Ruled(Node):
@@ -27,12 +27,20 @@ class Ruled(Node):
         """Whether the last change isn't known to be committed."""
         return False
 
+    def has_first_form_pending(self) -> bool:
+        """Whether a change of the first form is committed and isn't applied."""
+        return False
+
     def has_lost_quorum(self) -> bool:
         """Whether too many answers are missing, if that is asked at each tick."""
         return False
 
     def lose(self, m: Message) -> None:
         """The bench drops a message of this node."""
+
+    def entries_from(self, index: int, to: int | None = None) -> list[Numbered]:
+        """Rules may commit what a log lacks, or apply again what was compacted: there are no such entries."""
+        return super().entries_from(max(index, self.base + 1), self.last() if to is None else min(to, self.last()))
 
 
 class OwnRules(Ruled):
@@ -106,9 +114,17 @@ class OwnRules(Ruled):
         self.is_quiet = before
         return moved and not self.on("commit-told-later")
 
+    def ready(self) -> Ready:
+        if self.on("late-write-not-acknowledged"):
+            is_now = self.role == "follower"
+            self.waiting = [m for m in self.waiting if m.to == self.id or m.kind != "MsgAppResp" or is_now and m.term == self.term]
+        return super().ready()
+
     def restart(self, saved: str = "nothing") -> None:
         if self.on("saved-at-once"):
             self.disk = Disk(self.hard_state(), self.base, self.base_term, self.base_content, self.base_config, self.entries, len(self.entries))
+            saved = "nothing"
+        if self.on("torn-snapshot-is-lost") and saved == "entries" and self.under_way and self.under_way.restored:
             saved = "nothing"
         super().restart(saved)
 

@@ -25,7 +25,7 @@ class TermRules(Ruled):
 
     def why_not(self) -> str | None:
         why = super().why_not()
-        is_free = self.on("pending-change-campaigns") or self.on("change-counts-when-appended")
+        is_free = self.on("pending-change-campaigns") and not self.has_first_form_pending() or self.on("change-counts-when-appended")
         if why == "change pending" and is_free or why == "snapshot pending" and self.on("snapshot-always-installed"):
             return None
         return None if why == "not a voter" and self.on("unstable-member-campaigns") and self.is_unstable() else why
@@ -36,6 +36,8 @@ class TermRules(Ruled):
     def answer_older(self, m: Message) -> None:
         if self.on("earlier-vote-refused") and m.kind == "MsgVote":
             return self.send("MsgVoteResp", m.sender, refused=True)
+        if self.on("earlier-append-refused") and m.kind == "MsgApp":
+            return self.send("MsgAppResp", m.sender, refused=True, index=m.index, hint=self.last())
         return super().answer_older(m)
 
     def count_vote(self, m: Message) -> None:
@@ -90,6 +92,8 @@ class TermRules(Ruled):
         super().campaign(kind)
         if (self.on("unstable-member-campaigns") or self.on("messages-are-calls")) and self.role == "candidate" and self.id not in self.config.voters():
             self.vote = 0
+        if self.on("pre-vote-restarts-clock") and self.role == "precandidate" and kind == "usual" and self.why_not_now(kind) is None:
+            self.elapsed = 0
         if self.on("pre-vote-keeps-timeout") and self.role == "precandidate" and kind == "usual":
             self.timeout = timeout
 
@@ -138,8 +142,14 @@ class TermRules(Ruled):
             self.end_transfer()
         return self.on("quorum-by-last-answers") or super().keeps_lead()
 
+    def is_of_next_term(self, m: Message) -> bool:
+        """Whether a precandidate is refused in the term that it asks for."""
+        return self.role == "precandidate" and m.kind == "MsgPreVoteResp" and m.refused and m.term == self.term + 1
+
     def step(self, m: Message) -> None:
         self.hear(m)
+        if self.on("pre-vote-refusal-keeps-term") and self.is_of_next_term(m):
+            return self.ignore(m)
         if self.on("stranger-ignored") and m.kind in ANSWERS and m.sender not in self.config.members():
             return self.ignore(m)
         if m.kind == "MsgTransferLeader" and m.term:
@@ -170,7 +180,7 @@ class TermRules(Ruled):
 
     def campaign_by_transfer(self, m: Message) -> None:
         """Told of the last entry of the leader's log, a node may compare it with its own."""
-        is_whole = m.sender == self.lead and (m.index, m.log_term) == (self.last(), self.last_term()) and self.durable == self.last()
+        is_whole = m.sender == self.lead and (m.index, m.log_term) == (self.last(), self.last_term())
         if self.on("transfer-needs-whole-log") and not is_whole:
             return self.ignore(m)
         return super().campaign_by_transfer(m)

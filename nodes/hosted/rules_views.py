@@ -116,6 +116,8 @@ class ViewRules(Ruled):
     def take_append(self, m: Message) -> None:
         if self.on("compacted-is-refused"):
             return self.take_compared(m)
+        if self.on("append-below-commit-counts") and m.index < self.commit and not self.is_against_commit(m):
+            return self.take_below_commit(m)
         is_refused = m.index >= self.commit and self.term_at(m.index) != m.log_term
         if self.on("refusal-has-term") and is_refused:
             # Below its base it takes each term for 0, which always agrees.
@@ -126,6 +128,18 @@ class ViewRules(Ruled):
         if self.on("old-append-answered") and m.index < self.commit:
             return self.answer_append(m, index=self.commit)
         return super().take_append(m)
+
+    def is_against_commit(self, m: Message) -> bool:
+        """Whether an append has another entry than a committed one."""
+        pairs = enumerate(m.entries, m.index + 1)
+        return any(self.base < at <= self.commit and self.term_at(at) not in (None, entry.term) for at, entry in pairs)
+
+    def take_below_commit(self, m: Message) -> None:
+        if self.term_at(m.index) != m.log_term:
+            return self.answer_append(m, refused=True, index=m.index, hint=self.last())
+        self.put_after(list(enumerate(m.entries, m.index + 1)))
+        self.commit = max(self.commit, min(m.commit, m.index + len(m.entries)))
+        return self.answer_append(m, index=m.index + len(m.entries))
 
     def answer_append(self, m: Message, **parts: Any) -> None:
         self.lead, self.elapsed = m.sender, 0

@@ -21,8 +21,12 @@ from .steps import UNORDERED, RunnerStep
 AnyKindOfNode = Node | HostedNode
 
 
+# The parts of a state that are noted after a call.
+AFTER = ("role", "term", "vote", "lead", "commit", "applied")
+
+
 class Called(NamedTuple):
-    """A call of a node: its name or the type of the message, the role before it, and the state after it."""
+    """A call of a node: its name or the type of the message, the role before it, and the parts of `AFTER` after it."""
 
     node: int
     what: str

@@ -7,8 +7,9 @@
 #include <stdio.h>
 #include <stdlib.h>
 #include <string.h>
+#include <unistd.h>
 
-enum { MOST_NODES = 64 };
+enum { MOST_NODES = 64, CHUNK = 1 << 16 };
 
 static struct node *nodes[MOST_NODES];
 /* For nodes/promises: commits and what is applied are shown too, and terms begin as on libraft's own disk. */
@@ -206,7 +207,7 @@ static json_t *shown_letter(struct letter *letter)
     json_object_set_new(shown, "from", json_integer((json_int_t)letter->from));
     json_object_set_new(shown, "to", json_integer((json_int_t)letter->to));
     json_object_set_new(shown, "own", json_integer((json_int_t)letters.count));
-    letters.all = realloc(letters.all, (letters.count + 1) * sizeof *letters.all);
+    letters.all = raft_realloc(letters.all, (letters.count + 1) * sizeof *letters.all);
     letters.all[letters.count++] = letter;
     return shown;
 }
@@ -261,11 +262,31 @@ static json_t *greeting(void)
         /* In term 0, that of a new node, libraft takes no entry for stored. */
         json_array_append_new(without, json_string("durable"));
     }
-    return json_pack("{ss si so s[s] s[s] sb}", "name", "libraft " VERSION, "protocol", 1, "without", without, "calls", "restart",
-                     "always", "checkquorum", "open", 1);
+    return json_pack("{ss si so s[s] s[s] sb sb}", "name", "libraft " VERSION, "protocol", 1, "without", without, "calls", "restart",
+                     "always", "checkquorum", "open", 1, "batch", 1);
 }
 
 static json_t *refusal(const char *why) { return json_pack("{ss}", "error", why); }
+
+/* Several messages, by their numbers. */
+static json_t *stepped(struct node *n, const json_t *numbers)
+{
+    size_t at;
+    json_t *value, *states = json_array();
+    json_array_foreach(numbers, at, value)
+    {
+        json_int_t own = json_integer_value(value);
+        if (own < 0 || (size_t)own >= letters.count) {
+            json_decref(states);
+            return refusal("there is no such message");
+        }
+        node_receive(n, letters.all[own], UINT_MAX);
+        json_t *shown = shown_state(n);
+        json_array_append(states, json_object_get(shown, "state"));
+        json_decref(shown);
+    }
+    return json_pack("{so s[]}", "states", states, "events");
+}
 
 /* A call that changes the node. */
 static json_t *changed(struct node *n, const char *name, const json_t *call)
@@ -307,10 +328,10 @@ static json_t *answered(const json_t *call)
     if (strcmp(name, "hello") == 0) {
         return greeting();
     }
-    /* The nodes and messages of a script are few, and are left where they are. */
     if (strcmp(name, "reset") == 0) {
         memset(nodes, 0, sizeof nodes);
-        letters.count = 0;
+        letters = (struct letters){NULL, 0};
+        memory_reset();
         return json_object();
     }
     if (strcmp(name, "start") == 0) {
@@ -331,7 +352,34 @@ static json_t *answered(const json_t *call)
     if (strcmp(name, "status") == 0) {
         return shown_views(n);
     }
-    return changed(n, name, call);
+    const json_t *numbers = json_object_get(call, "numbers");
+    return numbers != NULL ? stepped(n, numbers) : changed(n, name, call);
+}
+
+/* The next line of standard input; NULL at its end. What was answered goes out before more is waited for. */
+static char *next_line(void)
+{
+    static char *held;
+    static size_t room, begun, end;
+    for (;;) {
+        char *stop = begun < end ? memchr(held + begun, '\n', end - begun) : NULL;
+        if (stop != NULL) {
+            char *line = held + begun;
+            *stop = '\0';
+            begun = (size_t)(stop - held) + 1;
+            return line;
+        }
+        fflush(stdout);
+        held = room - end < CHUNK ? realloc(held, room += CHUNK + room) : held;
+        memmove(held, held + begun, end - begun);
+        end -= begun;
+        begun = 0;
+        ssize_t count = read(STDIN_FILENO, held + end, room - end);
+        if (count <= 0) {
+            return NULL;
+        }
+        end += (size_t)count;
+    }
 }
 
 int main(int count, char **words)
@@ -341,18 +389,15 @@ int main(int count, char **words)
         node_is_cured = node_is_cured || cures;
         shows_all = shows_all || !cures;
     }
-    char *line = NULL;
-    size_t room = 0;
-    while (getline(&line, &room, stdin) > 0) {
+    memory_start();
+    for (char *line; (line = next_line()) != NULL;) {
         json_error_t fault;
         json_t *call = json_loads(line, 0, &fault);
         json_t *answer = call == NULL ? refusal(fault.text) : answered(call);
         json_dumpf(answer, stdout, JSON_COMPACT);
         putchar('\n');
-        fflush(stdout);
         json_decref(answer);
         json_decref(call);
     }
-    free(line);
     return 0;
 }

@@ -31,6 +31,7 @@ struct write {
     struct raft_io_append *request;
     raft_io_append_cb done;
     raft_index last;
+    raft_term term;
 };
 
 struct sending {
@@ -78,9 +79,11 @@ struct node {
     struct raft_transfer transfer;
     /* Where the append that is being received ends, or 0. */
     raft_index compared;
+    /* Whether a write is being finished that an earlier leader asked for. */
+    bool is_late;
 };
 
-/* Whether acknowledgements end where the append did: docs/FOUND.md, libraft, 1. */
+/* Whether acknowledgements end where the append did, and go to who sent it: docs/FOUND.md, libraft, 1 and 3. */
 extern bool node_is_cured;
 
 /* A node that begins with a snapshot, in a term of its own; `members` and `content` are copied. */
@@ -106,6 +109,10 @@ raft_term node_term_at(const struct node *n, raft_index index);
 const struct raft_entry *node_entry(const struct node *n, raft_index index);
 raft_index node_log_base(const struct node *n);
 raft_index node_log_last(const struct node *n);
+
+/* From now on all memory that libraft and the nodes take is noted, and `memory_reset` gives back what is left of it. */
+void memory_start(void);
+void memory_reset(void);
 
 /* Memory of libraft's kind; ends the program where there is none. */
 void *allocated(size_t size);

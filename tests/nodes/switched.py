@@ -1,14 +1,21 @@
-"""The rules of hashicorp/raft and libraft, as switches of the reference. Expected values are from the places of their sources that nodes/like names."""
+"""The rules of hashicorp/raft, libraft and etcd, as switches of the reference. Expected values are from the places of their sources that nodes/like names."""
 from __future__ import annotations
 
 from collections.abc import Iterator
 
+from nodes.hosted.accepted import Accepted
+from nodes.hosted.compare import Comparison
+from nodes.hosted.explorer import Chosen, Explorer, Spec
+from nodes.hosted.judge import Judge
 from nodes.hosted.likes import LIKE, kind_with
+from nodes.hosted.process import Process
 from nodes.hosted.script import Step, blocks_of
 from nodes.hosted.stage import Reference
 from nodes.hosted.steps import step_of, steps_above
 from nodes.hosted.switches import switches_of
+from plain.node import Node
 from plain.records import Entry, Message, Snapshot
+from tests.harness import TOP
 
 Checks = Iterator[tuple[str, "str | None"]]
 THREE = ("add-nodes 3 voters=(1,2,3) index=10", "campaign 1", "stabilize")
@@ -54,6 +61,13 @@ def part_calls() -> Checks:
     hashicorp = tuple(switches_of((LIKE / "hashicorp.txt").read_text()))
     gone = ran(hashicorp, *two, "campaign 2", "propose-conf-change 1 | r2", "process-ready 1", "deliver-msgs 2", "process-ready 2", "deliver-msgs 1")
     yield "a later term in the answer of a member that was removed ends the lead", is_equal((gone.nodes[1].role, gone.nodes[1].term), ("follower", 1))
+    ended = ("add-nodes 2 voters=(1,2) index=10", "campaign 2", "stabilize rounds=1", "campaign 1", "stabilize", "tick-election 2", "process-ready 2")
+    yield "an answer that ends the lead ends its call", is_equal([kind for kind, *_ in pending(ran(hashicorp, *ended), 1)], ["MsgVote"])
+    lone = ("add-nodes 2 voters=1 learners=2 index=10", "campaign 1", "process-ready 1", "deliver-msgs 2", "process-ready 2", "deliver-msgs 1", "process-ready 1")
+    yield "a lone voter's first append has its commit", is_equal(pending(ran(hashicorp, *lone), 2), [])
+    refused = ("stabilize rounds=2", "propose 2 a", "process-ready 2", "deliver-msgs drop=(1,3)", "campaign 1", "stabilize", "campaign 2", "tick-heartbeat 2", "process-ready 2")
+    told = pending(ran(hashicorp, "add-nodes 3 voters=(1,2,3) index=10", "campaign 2", *refused), 1)
+    yield "a refused append tells no commit", is_equal([commit for kind, _, commit in told if kind == "MsgApp"], [0])
     handed = (*THREE, "transfer-leadership from=1 to=2", "process-ready 1")
     counts = [len(ran(CALLS, *handed, *more, "propose 1 a").nodes[1].entries_from(11)) for more in ((), ("deliver-msgs drop=(2)",))]
     yield "a transfer is over once its request is lost", is_equal(counts, [1, 2])
@@ -84,6 +98,18 @@ def part_logs_of_libraries() -> Checks:
         node = ran(switch, *has_more).nodes[2]
         node.step(append)
         yield f"an append after what is compacted, with {switch}", is_equal([m.refused for m in node.ready().messages], [wanted])
+    longer = Message("MsgApp", 1, 2, 1, 11, 1, 12, (Entry(1, b"a"), Entry(1, b"b")))
+    for switch, last in ((), 12), (("append-below-commit-counts",), 13):
+        node = ran(switch, *has_more).nodes[2]
+        node.step(longer)
+        yield f"an append from below commit, with {switch}", is_equal((node.entries_from(11)[-1][0], [m.index for m in node.ready().messages]), (last, [last]))
+    stale = Message("MsgApp", 1, 2, 0, 11, 1, 11)
+    refused = []
+    for switches in ((), ("earlier-append-refused",)):
+        node = ran(switches, "add-nodes 3 voters=(1,2,3) index=10 prevote=true", "campaign 1", "stabilize").nodes[2]
+        node.step(stale)
+        refused += [(m.refused, m.term) for m in node.ready().messages]
+    yield "earlier-append-refused", is_equal(refused, [(False, 1), (True, 1)])
     snapshot = Message("MsgSnap", 1, 2, 1, snapshot=Snapshot(11, 1, b"", ran((), *THREE).nodes[2].config))
     for switch, applied in ((), 12), (("snapshot-always-installed",), 11):
         node = ran(switch, *has_more).nodes[2]
@@ -112,6 +138,12 @@ def part_leaders_of_libraries() -> Checks:
     asks = ("deliver-msgs drop=(1)", "campaign 1", "process-ready 1", "deliver-msgs 2", "process-ready 2")
     refused = [[m.refused for m in ran(switches, *asked, *asks).network.pending if m.kind == "MsgPreVoteResp"] for switches in ((), ("pre-vote-ignores-vote",))]
     yield "pre-vote-ignores-vote", is_equal(refused, [[True], [False]])
+    due = ("add-nodes 2 voters=(1,2) index=10 prevote=true", *["tick-heartbeat 1"] * 2, "campaign 1", "process-ready 1", "deliver-msgs drop=(2)")
+    sent_when_due = [len(pending(ran(switches, *due, "tick-heartbeat 1", "process-ready 1"), 2)) for switches in ((), ("pre-vote-restarts-clock",))]
+    yield "pre-vote-restarts-clock", is_equal(sent_when_due, [1, 0])
+    behind = ("add-nodes 3 voters=(1,2,3) index=10 prevote=true", "campaign 2", "stabilize 2 3", "deliver-msgs drop=1", "campaign 1", "stabilize 1 2")
+    roles = [(node.role, node.term) for node in (ran(switches, *behind).nodes[1] for switches in ((), ("pre-vote-refusal-keeps-term",)))]
+    yield "pre-vote-refusal-keeps-term", is_equal(roles, [("follower", 1), ("precandidate", 0)])
     handed = ("add-nodes 2 voters=(1,2) index=10", "campaign 1", "stabilize", "propose 1 a", "process-ready 1", "deliver-msgs drop=(2)", "transfer-leadership from=1 to=2", "process-ready 1")
     sent = [[kind for kind, *_ in pending(ran(switches, *handed), 2)] for switches in ((), ("transfer-goes-by-sent",))]
     yield "transfer-goes-by-sent", is_equal(sent, [["MsgApp"], ["MsgTimeoutNow"]])
@@ -121,9 +153,50 @@ def part_leaders_of_libraries() -> Checks:
     begun = ("propose 1 a", "process-ready 1", "deliver-msgs 2", "campaign 2", "process-ready 2")
     unsaved = ran(("saved-answers-in-order",), *THREE, *begun)
     yield "unless it waits for entries", is_equal([m.kind for m in unsaved.network.pending if m.sender == 2], ["MsgVote", "MsgVote", "MsgAppResp"])
+    proposed = ("add-nodes 2 voters=(1,2) index=10", "campaign 1", "stabilize", "propose 1 a", "process-ready 1")
+    whole = (*proposed, "transfer-leadership from=1 to=2", "process-ready 1", "deliver-msgs 2")
+    after = [ran(("transfer-goes-by-sent", "transfer-needs-whole-log"), *lines).nodes[2].role for lines in (whole, (*proposed, "deliver-msgs drop=(2)", *whole[len(proposed):]))]
+    yield "transfer-needs-whole-log", is_equal(after, ["candidate", "follower"])
     twice = (*THREE, "transfer-leadership from=1 to=2", "transfer-leadership from=1 to=3", "process-ready 1")
     told = [[m.to for m in ran(switches, *twice).network.pending if m.kind == "MsgTimeoutNow"] for switches in ((), ("one-transfer-at-a-time",))]
     yield "one-transfer-at-a-time", is_equal(told, [[2, 3], [2]])
 
 
-PARTS = [part_calls, part_changes_of_libraries, part_logs_of_libraries, part_leaders_of_libraries]
+def part_of_etcd() -> Checks:
+    """In 3.4 only a change of the first form keeps a node from campaigning. etcd's server ignores a snapshot that no saved hard state commits."""
+    switch, waits = ("pending-change-campaigns",), ("stabilize rounds=2", "process-ready 1", "deliver-msgs 2", "campaign 2")
+    roles = [ran(switch, *THREE, f"propose-conf-change 1{form} | l3", *waits).nodes[2].role for form in ("", " v1=true")]
+    yield "pending-change-campaigns", is_equal(roles, ["candidate", "follower"])
+    torn = (*THREE, "propose 1 a", "stabilize 1 3", "deliver-msgs drop=2", "send-snapshot 1 2", "deliver-msgs 2", "# node: crash 2 in save / raft-state")
+    bases = [ran(switches, *torn).nodes[2].base for switches in ((), ("torn-snapshot-is-lost",))]
+    yield "torn-snapshot-is-lost", is_equal(bases, [12, 10])
+
+
+def part_limits_of_logs() -> Checks:
+    """A rule may commit or apply what a log lacks: nothing is read there, and a reference that fails ends no exploring."""
+    node = ran(("snapshot-always-installed",), *THREE).nodes[1]
+    node.commit, node.applied = 20, 5
+    yield "what a log lacks", is_equal([index for index, _ in node.ready().committed], [11])
+
+    class Failing(Node):
+        def campaign(self, kind: str = "usual") -> None:
+            raise IndexError
+
+    process = Process(str(TOP / "nodes/plain"))
+    explorer = Explorer(process, Judge(is_asked=False), Chosen(Comparison(Failing), "mixed", 0, Accepted()))
+    try:
+        found = [explorer.explore(Spec(seed, seed, False)) for seed in range(3)]
+    finally:
+        process.close()
+    yield "a reference that fails", is_equal(found[0].is_reference_wrong, True)
+
+
+def part_late_writes() -> Checks:
+    """libraft acknowledges what is saved only as a follower, and with `--cured` only in the same term."""
+    begun = (*THREE, "propose 1 a", "process-ready 1", "deliver-msgs 2")
+    for after, wanted in (("raft-state", [1, 1]), ("campaign 2", [1, 0])):
+        clusters = (ran(switches, *begun, after, "process-ready 2") for switches in ((), ("late-write-not-acknowledged",)))
+        yield f"late-write-not-acknowledged after {after}", is_equal([[m.kind for m in each.network.pending].count("MsgAppResp") for each in clusters], wanted)
+
+
+PARTS = [part_limits_of_logs, part_late_writes, part_of_etcd, part_calls, part_changes_of_libraries, part_logs_of_libraries, part_leaders_of_libraries]
