@@ -4,8 +4,9 @@ beginning, in its middle and at its end.
 
 Each change is sent to `raftbench lsp` over a pipe as editors send it, a range and its new text, and the diagnostics that are
 published for it are read before the next is sent. A letter changes a comment, what is expected of a directive, or a directive, so
-that it is another; none changes a state. At last a digit of the first directive changes, and with it every state. Prints the median
-and the worst time in microseconds; and what it takes to open the document.
+that it is another; none changes a state. At last a digit of the first directive changes, and with it every state. Then a letter in a
+document of 1,000 mismatches, each of 600 lines on both sides. Prints the median and the worst time in microseconds; and what it takes to
+open the document.
 
     bench/keystrokes.py [ROUNDS]     RAFTBENCH names a program that is built elsewhere
 """
@@ -32,6 +33,8 @@ LEVEL = "log-level info\n----\n\n"
 URI = "file:///script.txt"
 # The lines of a block above its head, of its head, and of the first line that is expected.
 COMMENT, HEAD, EXPECTED = 0, 1, 3
+# How many long mismatches, and how many lines each has on either side.
+MISMATCHES, LONG = 1_000, 600
 # The letter stands in `index=1`, so that it stays a number that is allowed.
 DIGIT = len("add-nodes 3 voters=(1,2,3) index=1")
 
@@ -100,12 +103,26 @@ def measure(directives: int, rounds: int) -> None:
         measure_key(document, "every state", (0, DIGIT), "0", "1", max(1, rounds // 20))
 
 
+def measure_mismatches(rounds: int) -> None:
+    """A letter in the last of many long mismatches, whose lines are compared again."""
+    quiet = ["add-nodes 1 voters=(1) index=10", "campaign 1", "stabilize", *["propose 1 a"] * LONG, "stabilize"]
+    expected = "".join(f"{line}\n" for line in range(LONG))
+    text = "".join(f"{head} log-level=none\n----\nok\n\n" if head[0] != "p" else f"{head}\n----\nok\n\n" for head in quiet)
+    text += f"raft-log 1\n----\n{expected}\n" * MISMATCHES
+    with client.Client(PROGRAM) as server:
+        server.begin()
+        document = Document(server, text)
+        print(f"{MISMATCHES} mismatches of {LONG} lines, {len(text)} bytes; opened in {document.took / 1000:.1f} us")
+        measure_key(document, "an expectation, last", (text.count("\n") - 2, 0), "", "x", max(1, rounds // 20))
+
+
 def main() -> None:
     rounds = int(sys.argv[1]) if len(sys.argv) > 1 else 100
     if "RAFTBENCH" not in os.environ:
         measured.build()
     for directives in DIRECTIVES:
         measure(directives, rounds)
+    measure_mismatches(rounds)
 
 
 if __name__ == "__main__":

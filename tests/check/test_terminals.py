@@ -315,6 +315,49 @@ def test_progress(room: pathlib.Path) -> Iterator[str]:
         yield "short work shows how far it is"
 
 
+def piped(room: pathlib.Path, call: str) -> tuple[int, bytes, bytes]:
+    done = subprocess.run([PROGRAM, call, "slow.txt"], cwd=room, stdin=subprocess.DEVNULL, capture_output=True, timeout=MOST_SECONDS)
+    return done.returncode, TIME.sub(b"TIME\n", done.stdout), done.stderr
+
+
+def slow_directive(room: pathlib.Path) -> bytes:
+    """The last directive of a script of 4,107, which takes some two seconds: two followers hand 4,096 proposals to and fro."""
+    heads = ["add-nodes 2 voters=(1,2) index=10", "send-snapshot 1 2", "send-snapshot 2 1", "deliver-msgs 1 2", "log-level none", "process-ready 1 2", "deliver-msgs 1 2"]
+    heads += ["propose 1 x"] * 4096
+    rounds, last = 1, 1
+    while True:
+        slow = [f"stabilize rounds={rounds}"] * 3 + [f"stabilize rounds={last}"]
+        (room / "slow.txt").write_text("".join(f"{head}\n----\nok\n\n" for head in [*heads, *slow]))
+        start = time.monotonic()
+        assert piped(room, "run")[2] == b""
+        if time.monotonic() - start > 2 or last == 1000:
+            return slow[-1].encode()
+        last = min(2 * last, 1000)
+
+
+def test_directive_that_takes_long(room: pathlib.Path) -> Iterator[str]:
+    """Where errors go to a terminal, a line names a directive that takes long, once the script has run for a second. It is gone before the report is written.
+    Nothing of it goes into a pipe."""
+    head = slow_directive(room)
+    line = rb"\r\x1b\[K(\d+) of 4107: ([ -~]*?)(?=\r)"
+    for call in ("run", "rewrite", "check"):
+        status, out, errors = piped(room, call)
+        if errors:
+            yield f"{call} in pipes: {errors!r}"
+        came, got, first = on_terminal(room, "slow.txt", streams=("stderr",), call=(call,))
+        if came != status or re.sub(line, b"", got) != b"\r\x1b[K" or (b"4107", head) not in re.findall(line, got):
+            yield f"{call}: {came} {got[-300:]!r}"
+        elif first is None or first < 1:
+            yield f"{call}: it shows after {first} seconds what runs"
+        came, got, _ = on_terminal(room, "slow.txt", call=(call,), env={"NO_COLOR": "1"})
+        if came != status or re.sub(line, b"", got) != b"\r\x1b[K" + out:
+            yield f"{call} on one terminal: {came} {got[:300]!r}"
+    (room / "slow.txt").write_bytes(GOOD)
+    for call in ("run", "rewrite", "check"):
+        if on_terminal(room, "slow.txt", streams=("stderr",), call=(call,))[1:] != (b"", None):
+            yield f"{call}: a short run shows what runs"
+
+
 def line_shown(got: bytes) -> bytes:
     """What is shown of how far the work is: lines over one another, and the last of them taken away."""
     shown = re.search(rb"(?:\r\x1b\[K\d+ of \d+ scripts)+\r\x1b\[K", got)

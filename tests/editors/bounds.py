@@ -1,5 +1,5 @@
-"""What a server does where an editor would wait: a run stops after so much work, cancelled requests aren't done, and a change whose version goes back is
-refused. What is due comes from docs/USING.md and the protocol (LSP 3.17, "Cancellation Support", "VersionedTextDocumentIdentifier").
+"""What a server does where an editor would wait: a run stops after so much work, as few lines are compared as by `check`, cancelled requests aren't done, and a
+change whose version goes back is refused. What is due comes from docs/USING.md and the protocol (LSP 3.17, "Cancellation Support", "VersionedTextDocumentIdentifier").
 """
 import pathlib
 import subprocess
@@ -48,7 +48,8 @@ def stops_at(found: list[dict[str, Any]]) -> list[int]:
 
 def bounded_runs(_edits: int) -> Iterator[str]:
     """A script that would run for hours stops: what is above is told as of a text that ends there, and one diagnostic at the directive says where the
-    run stopped. Other documents are answered in their turn. A letter runs nothing anew. Where the work becomes less, all is run."""
+    run stopped. Other documents are answered in their turn. A letter runs nothing anew. Where the work becomes less, all is run; where it
+    becomes more, less."""
     text = script_of([*heads_to_and_fro(), *["stabilize rounds=1000"] * 3000])
     with Client(PROGRAM) as client:
         client.begin()
@@ -87,6 +88,38 @@ def bounded_runs(_edits: int) -> Iterator[str]:
         client.send(changed(URI, 20_000, {"text": script_of([*heads_to_and_fro(), "stabilize rounds=2"])}))
         if stops_at(told(client)[0]):
             yield "a run that fits stops"
+        # Above the stop there is more work, and its directive stays.
+        client.send(changed(URI, 20_001, {"text": script_of([*heads_to_and_fro(), "stabilize rounds=1", *["stabilize rounds=1000"] * 2])}))
+        [late] = stops_at(told(client)[0])
+        at = {"line": 4 * len(heads_to_and_fro()), "character": len("stabilize rounds=1")}
+        client.send(changed(URI, 20_002, {"range": {"start": at, "end": at}, "text": "000"}))
+        if stops_at(told(client)[0]) != [at["line"]] or late != at["line"] + 4:
+            yield "it doesn't stop earlier"
+        if (status := client.end()) != 0:
+            yield f"status {status}"
+
+
+def bounded_comparisons(_edits: int) -> Iterator[str]:
+    """Outputs of 1,990 lines with one in common with what is expected in the middle: 4 million pairs of lines each. Five are compared, as by `check`, and then
+    those whose lines still fit; the next letter begins anew."""
+    quiet = ["add-nodes 1 voters=(1) index=10", "campaign 1", "stabilize", *["propose 1 a"] * 1990, "stabilize"]
+    same = '1/1000 "a"'
+    wrong = "".join((same if line == 500 else f"{line}") + "\n" for line in range(1990))
+    text = script_of([f"{head} log-level=none" if head[:1] != "p" else head for head in quiet]) + f"raft-log 1\n----\n{wrong}\n" * 8
+    last = "status 1\n----\nx\n"
+    with Client(PROGRAM) as client:
+        client.begin()
+        client.send(opened(URI, text + last))
+        found, _ = told(client)
+        signs = [next(line[:2] for line in it["message"].split("\n\n", 1)[-1].split("\n") if line[2:] == same and line[:2] != "+ ") for it in found[:8]]
+        if signs != ["  "] * 5 + ["- "] * 3 or len(found) != 9 or not found[8]["message"].startswith("- x\n"):
+            yield f"{len(found)} diagnostics, and the line in common has {signs}"
+        for version, letter in enumerate("yz", 2):
+            at = {"line": (text + last).count("\n") - 1, "character": 0}
+            client.send(changed(URI, version, {"range": {"start": at, "end": at}, "text": letter}))
+            again, _ = told(client)
+            if again[:8] != found[:8] or not again[8]["message"].startswith(f"- {'yz'[version - 2::-1]}x\n"):
+                yield f"after {letter!r} others: {[it['message'][:20] for it in again]}"
         if (status := client.end()) != 0:
             yield f"status {status}"
 

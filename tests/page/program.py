@@ -93,9 +93,8 @@ def reasons_are_those_of_traces() -> None:
         for path in TOUR:
             trace = answer(["trace", path])[0].decode().splitlines()
             reasons = [item["reason"] for item in map(json.loads, trace) if "reason" in item]
-            told = [str(text).partition(": ") for name, text in (row[:2] for row in remarks(path.read_bytes(), room)) if name == "reason"]
-            same(f"the reasons of {path.name}", [text for _, _, text in told], reasons)
-            same(f"what {path.name} is told with reasons", {word for word, _, _ in told} - {"ignored", "refused"}, set())
+            told = [str(text) for name, text in (row[:2] for row in remarks(path.read_bytes(), room)) if name == "reason"]
+            same(f"the reasons of {path.name}", [re.sub("^(?:ignored|refused): ", "", text) for text in told], reasons)
 
 
 def hints_and_warnings_are_those_of_check() -> None:

@@ -49,6 +49,12 @@ FULL = b"".join([
     133 * b"tick-heartbeat 1\n----\n\nprocess-ready 1\n----\n\n",
     b"send-snapshot 1 2\n----\n\ndeliver-msgs 2 drop=(3)\n----\n\nsend-snapshot 1 2\n----\n\nprocess-ready 2\n----\n\n",
 ])
+# Five entries give way to one, and then nothing to the same append.
+SEVERAL = b"".join([
+    b"add-nodes 3 voters=(1,2,3) index=10\n----\n\ncampaign 1\n----\n\nstabilize\n----\n\n", 5 * b"propose 1 lost\n----\n\n",
+    b"process-ready 1\n----\n\ndeliver-msgs drop=(2,3)\n----\n\ncampaign 2\n----\n\nprocess-ready 2\n----\n\ndeliver-msgs 3\n----\n\n",
+    b"process-ready 3\n----\n\ndeliver-msgs 2\n----\n\nprocess-ready 2\n----\n\ndeliver-msgs 1\n----\n\nstabilize\n----\n\n",
+])
 # Its last directive prints 5,001 lines.
 OUTPUT = b"".join([
     b"add-nodes 1 voters=(1) index=10\n----\n\ncampaign 1\n----\n\nprocess-ready 1\n----\n\n", 4999 * b"propose 1 x\n----\n\n",

@@ -12,11 +12,15 @@ from collections.abc import Iterator
 from typing import Any
 
 from plain.cluster import Cluster
+from plain.config import Config
+from plain.node import Node
+from plain.records import AnyNode, Entry, Options
 from plain.script import read_script, read_with_lines
+from plain.texts import entry_text
 from tests.harness import TOP
 from tests.page.plain_steps import DIRECTIVES, Row, rows_of
 from tests.page.program import REFUSED, answer, put
-from tests.page.scripts import FULL, HOSTILE, LOST, MANY, NOBODY, RARE, SELF, TOUR, same
+from tests.page.scripts import FULL, HOSTILE, LOST, MANY, NOBODY, RARE, SELF, SEVERAL, TOUR, same
 
 Event = dict[str, Any]
 # The rows of a page that say something else than what happens.
@@ -25,6 +29,8 @@ OTHERS = {"output", "mismatch", "same", "expected", "actual", "node", "config", 
 MEMBERS = ["directive", "line", "node?", "message?", "type?", "from?", "to?", "term?", "text", "reason?", "row?"]
 # More messages than are kept on their way.
 MOST = 4096
+# What has no line of its own, but a reason.
+UNPRINTED = re.compile(r"DEBUG \d+ (?:refused Msg|removed entries)")
 
 
 def decoded(value: Any) -> Any:
@@ -100,7 +106,7 @@ def directives_are_where_they_stand() -> None:
 
 
 def texts_are_the_lines_that_are_printed() -> None:
-    """At level debug all of them, but for refused votes, of which no line tells."""
+    """At level debug all of them, but for refused votes and removed entries, of which no line tells."""
     for name, data in scripts():
         cluster, blocks = Cluster(), read_script(data).blocks
         came = by_directive(traced(data, status_of(data)), len(blocks))
@@ -108,7 +114,7 @@ def texts_are_the_lines_that_are_printed() -> None:
             is_quiet = cluster.level != "debug"
             printed = cluster.run(block.directive())
             told = [decoded(line) for line in printed if line != "ok"]
-            texts = [event["text"] for event in events if not re.match(r"DEBUG \d+ refused Msg", event["text"])]
+            texts = [event["text"] for event in events if not UNPRINTED.match(event["text"])]
             if is_quiet or b"log-level" in b" ".join(block.head):
                 rest = iter(texts)
                 same(f"what isn't told in {name}", [line for line in told if line not in rest], [])
@@ -129,7 +135,7 @@ def node_of(event: Event, ready: int) -> int | None:
         return None
     if name:
         return int(cells[0])
-    found = re.match(r"(?:DEBUG )?(\d+) (?:refused Msg|follower|precandidate|candidate|leader)", event["text"])
+    found = re.match(r"(?:DEBUG )?(\d+) (?:refused Msg|removed entries|follower|precandidate|candidate|leader)", event["text"])
     return int(found[1]) if found else None
 
 
@@ -167,17 +173,56 @@ def messages_keep_their_numbers() -> None:
 
 
 def reasons_are_told() -> None:
-    """Each ignored message and each refused vote has a reason, which `check --why` shows; nothing else has one."""
+    """Each ignored message, refused vote and removal has a reason, which `check --why` shows; nothing else has one."""
     for name, data in scripts():
         events = traced(data, status_of(data))
-        ignored = [event for event in events if event.get("row", [""])[0] == "ignored" or re.match(r"DEBUG \d+ refused Msg", event["text"])]
+        ignored = [event for event in events if event.get("row", [""])[0] == "ignored" or UNPRINTED.match(event["text"])]
         same(f"what has a reason in {name}", [event for event in events if "reason" in event], ignored)
     with tempfile.TemporaryDirectory() as room:
         for path in TOUR:
             why = answer(["check", "--why", "-v", "--color", "never", put(room, path.name, path.read_bytes())])[0].decode()
-            told = re.findall(r"^\^?\s+(?:ignored|refused): (.*)$", why, re.M)
+            told = re.findall(r"^\^   (?:ignored: |refused: )?(.*)$", why, re.M)
             reasons = [event["reason"] for event in traced(path.read_bytes()) if "reason" in event]
             same(f"the reasons of {path.name}", [reason for reason in told if reason not in reasons], [])
+
+
+class LosingNode(Node):
+    """A plain node that says which entries an append removes."""
+
+    lost: list[str]
+
+    def put_after(self, numbered: list[tuple[int, Entry]]) -> None:
+        before, first = self.entries, self.base + 1
+        super().put_after(numbered)
+        kept = next((k for k, (old, new) in enumerate(zip(before, self.entries)) if old is not new), min(len(before), len(self.entries)))
+        if gone := [entry_text(at, entry) for at, entry in enumerate(before[kept:], first + kept)]:
+            more = f" and {len(gone) - 3} more" if len(gone) > 3 else ""
+            self.lost.append(", ".join(gone[:3]) + more + (" gives way" if len(gone) == 1 else " give way"))
+
+
+class LosingCluster(Cluster):
+    """A plain cluster, and the entries that its nodes lose."""
+
+    def __init__(self) -> None:
+        super().__init__()
+        self.lost: list[str] = []
+
+    def new_node(self, id: int, config: Config, index: int, content: bytes, options: Options) -> AnyNode:
+        node = LosingNode(id, config, index, content, options)
+        node.lost = self.lost
+        return node
+
+
+def what_gives_way_is_what_plain_nodes_remove() -> None:
+    seen = 0
+    for name, data in [*scripts(), ("several", SEVERAL)]:
+        cluster = LosingCluster()
+        for block in read_script(data).blocks:
+            cluster.run(block.directive())
+        told = [event["reason"] for event in traced(data, status_of(data)) if re.match(r"DEBUG \d+ removed entries", event["text"])]
+        same(f"what gives way in {name}", told, cluster.lost)
+        seen += len(told)
+    same("whether enough gives way", seen > 3, True)
 
 
 def refusals_are_those_of_run() -> None:
@@ -234,5 +279,5 @@ def shiviz_reads_it() -> None:
 
 TRACES = [
     rows_are_those_of_the_page, members_are_in_order, directives_are_where_they_stand, texts_are_the_lines_that_are_printed, nodes_are_those_of_the_rows,
-    messages_keep_their_numbers, reasons_are_told, refusals_are_those_of_run, names_are_told_as_they_are, object_of_the_format_is_there, shiviz_reads_it,
+    messages_keep_their_numbers, reasons_are_told, what_gives_way_is_what_plain_nodes_remove, refusals_are_those_of_run, names_are_told_as_they_are, object_of_the_format_is_there, shiviz_reads_it,
 ]

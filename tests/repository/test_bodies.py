@@ -12,7 +12,7 @@ from tests.repository.test_sources import sources
 HEAD = re.compile(r"^(?P<indent> *)(?:pub(?:\(crate\))? )?(?:const )?fn (?P<name>\w+)", re.MULTILINE)
 FEWEST_LINES = 2
 
-STANDING: frozenset[frozenset[str]] = frozenset({frozenset({"rb_script_report::hint_of", "rb_view::meant_by"})})
+STANDING: frozenset[frozenset[str]] = frozenset()
 
 
 def functions(text: str) -> Iterator[tuple[str, str]]:

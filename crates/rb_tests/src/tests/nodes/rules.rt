@@ -99,13 +99,16 @@ pub const COMMITTED: &[Move] = &[
 /// Its log ends with 2/12, and nothing of it is committed.
 pub const HOLDS_TWO: &[Move] = &[Move::Get(2, 2, Says::Append(1, 10, 10, 2)), Move::Advance];
 
-pub const FOLLOWING: [Case; 9] = cases! {
+pub const FOLLOWING: [Case; 11] = cases! {
     // an entry of another term at or below commit is told, and not answered; one of the same term is answered with the commit
     START, Committed, Nothing, Move::Get(2, 3, Says::Append(1, 10, 11, 1)) => FOLLOWER 3, Conflict 1, Nothing 0 0, 0 0;
     START, Committed, Nothing, Move::Get(2, 3, Says::Append(1, 10, 11, 0)) => FOLLOWER 3, Nothing 0, Accepted 3 11, 0 1;
     // what isn't held is refused, with the last index of an entry that may agree
     START, Follows, Nothing, Move::Get(2, 2, Says::Append(2, 15, 10, 1)) => FOLLOWER 2, Nothing 0, Refused 2 10, 0 1;
     START, HoldsTwo, Nothing, Move::Get(2, 2, Says::Append(1, 12, 10, 0)) => FOLLOWER 2, Nothing 0, Refused 2 10, 0 1;
+    // what gives way is told, after the new term; what is sent again takes nothing away
+    START, HoldsTwo, Nothing, Move::Get(3, 3, Says::Append(2, 11, 10, 1)) => FOLLOWER 3, Became 2, Accepted 3 12, 0 1;
+    START, HoldsTwo, Nothing, Move::Get(2, 2, Says::Append(1, 10, 10, 1)) => FOLLOWER 2, Nothing 0, Accepted 2 11, 0 1;
     // a snapshot that is behind the commit, and one that is held
     START, Follows, Nothing, Move::Get(2, 2, Says::Snapshot(1, 9)) => FOLLOWER 2, Nothing 0, Accepted 2 10, 0 1;
     START, HoldsTwo, Nothing, Move::Get(2, 2, Says::Snapshot(2, 11)) => FOLLOWER 2, Nothing 0, Accepted 2 11, 0 1;
