@@ -14,7 +14,7 @@ use rb_replay::Outputs;
 use rb_script::{Block, DirectiveRef, Lines, Script};
 use std::alloc::{AllocError, Global};
 
-/// Runs a directive, and returns what it prints. The progress is told of it meanwhile.
+/// Runs a directive, and returns what it prints. Reports it to `progress` while it runs.
 ///
 /// # Errors
 ///
@@ -62,8 +62,8 @@ fn run_each<P: RunProgress>(
     Ok(printed)
 }
 
-/// Runs the directives of a script from the empty cluster, and returns their outputs. The progress is told where the run is; when this returns,
-/// it was told that the run has ended.
+/// Runs the directives of a script on the empty cluster, and returns their outputs. Reports to `progress` which directive runs, and the end of the
+/// run before it returns.
 pub(crate) fn run_directives<P: RunProgress>(
     alloc: Global,
     script: &Script,

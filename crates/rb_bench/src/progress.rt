@@ -1,6 +1,6 @@
 //! How far a run is, for whoever waits for it.
 //!
-//! What is done with that changes nothing of the run: a [`RunProgress`] gets the directive that runs, and gives nothing back.
+//! It can't change the run: a [`RunProgress`] gets the directive that runs, and returns nothing.
 
 use rb_machine::{Observer, PrintedLines};
 use rb_node::Node;
@@ -9,7 +9,7 @@ use rb_script::DirectiveRef;
 use rb_texts::{Item, Level};
 use std::alloc::{AllocError, Global};
 
-/// Is told how far a run is.
+/// Receives the progress of a run.
 pub trait RunProgress {
     /// A script of this many directives begins to run.
     fn begin(&self, directives: usize);
@@ -20,11 +20,11 @@ pub trait RunProgress {
     /// The directive does something: a message is delivered, an event is shown. It is called that often, so it has to be quick.
     fn tell(&self, directive: &DirectiveRef<'_>);
 
-    /// The script has run. Nothing was written meanwhile.
+    /// The script has run, or memory was refused. Nothing of the report is written yet.
     fn end(&self);
 }
 
-/// Tells nobody.
+/// Ignores the progress.
 #[derive(Clone, Copy)]
 pub struct NoProgress;
 
@@ -38,7 +38,7 @@ impl RunProgress for NoProgress {
     fn end(&self) {}
 }
 
-/// The printed lines of a directive, which is told to a progress while it runs.
+/// Collects the printed lines of a directive, and reports the directive to a [`RunProgress`] while it runs.
 #[derive(Drop)]
 pub struct ToldLines<'a, 'd, P> {
     pub printed: PrintedLines,
@@ -49,7 +49,7 @@ pub struct ToldLines<'a, 'd, P> {
 impl<'a, 'd, P: RunProgress> ToldLines<'a, 'd, P> {
     ghost use Rattle.std.specs.Prelude.{◌≡◌, []};
 
-    /// No lines of a directive that begins.
+    /// Has no lines. Reports that the directive begins.
     pub fn new(
         alloc: Global,
         progress: &'a P,

@@ -63,7 +63,7 @@ pub fn run_over<S: Source, W: Outlet>(
     run_over_with_progress(alloc, source, writer, mode, every, &NoProgress)
 }
 
-/// Does what [`run_over`] does, and tells the progress where the run is. The run has ended for it before anything is written.
+/// Does what [`run_over`] does, and reports to `progress` which directive runs, and the end of the run before anything is written.
 ///
 /// # Errors
 ///

@@ -56,7 +56,7 @@ fn run_script<P: RunProgress>(
     Ok(Session::from_outputs(alloc, script, outputs)?)
 }
 
-/// Starts a session of the script without checkpoints, for a script that isn't edited. The progress is told where the run is.
+/// Starts a session of the script without checkpoints, for a script that isn't edited. Reports to `progress` which directive runs.
 pub(crate) fn run_once<P: RunProgress>(
     alloc: Global,
     bytes: &[u8],

@@ -25,7 +25,7 @@ pub trait Runner {
     /// A script of this many directives begins to run.
     fn begin(&mut self, directives: usize);
 
-    /// The script has run, or memory was refused. Nothing was written meanwhile.
+    /// The script has run, or memory was refused. Nothing of its report is written yet.
     fn end(&mut self);
 
     /// Runs a directive; returns the machine after it and its output.

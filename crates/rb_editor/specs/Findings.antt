@@ -31,7 +31,7 @@ use Rattle.rb_editor.specs.Heads.{heads_of}
 use Rattle.rb_editor.specs.Came.{actual_output_of, without_end}
 use Rattle.rb_editor.specs.Diagnostics.{PlainDiagnostic}
 
--- the diff that `check` shows, with so many cells left for the script
+-- the diff that `check` shows if `left` cells are left for the script
 abbrev pub diff_message : ℕ → List Line → List Line → List ℕ
 diff_message left expected output = without_end (folded_text Off (parts_within left expected output))
 
@@ -69,7 +69,7 @@ marked_at ls p expected output = p.end - (length expected - common_front expecte
 abbrev pub mismatch_kind : ℕ → ℕ → DiagnosticKind
 mismatch_kind first line = if nat_lt first line then LaterMismatch else Mismatch
 
--- the diagnostic of a mismatch, with so many cells left, in a block with these lines whose head is on this line
+-- the diagnostic of a mismatch in a block with these lines, whose head is on this line, if `left` cells are left
 abbrev pub mismatch : ℕ → List Line → BlockLines → ℕ → ℕ → PlainBlock → List Line → PlainDiagnostic
 mismatch left ls p first line b output =
     record { line = marked_at ls p b.expected output; kind = mismatch_kind first line; message = mismatch_message left b output; came = Some (actual_output_of p output) }
@@ -77,7 +77,7 @@ mismatch left ls p first line b output =
 abbrev pub error_output : ℕ → PlainBlock → List Line → PlainDiagnostic
 error_output line b output = record { line = line; kind = ErrorOutput; message = first_line output ++ hint_end (suggested (directive_of b)); came = None }
 
--- The diagnostic of a directive whose head is on a line, with so many cells left: a mismatch, or an error that no comment expects. The line of the
+-- The diagnostic of a directive whose head is on a line, if `left` cells are left: a mismatch, or an error that no comment expects. The line of the
 -- first mismatch's head is given.
 unfoldable pub finding : ℕ → ℕ → List Line → ℕ → PlainBlock → List Line → Option PlainDiagnostic
 finding left first ls line b output =

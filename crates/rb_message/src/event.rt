@@ -160,7 +160,7 @@ pub enum Event {
     DroppedProposal {
         id: u64,
     },
-    /// Entries of its log, the last of them at an index, give way to a leader's. No line shows this by itself.
+    /// It removed entries that conflict with its leader's. `last` is the index of the last of them. No line shows this event.
     RemovedEntries {
         id: u64,
         last: u64,

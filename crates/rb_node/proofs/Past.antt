@@ -1,4 +1,4 @@
--- an append after an index that the log doesn't reach changes nothing, and is refused; nothing gives way to one after its last index
+-- an append after an index past the log's end changes nothing, and is refused; an append after the last index removes nothing
 use Rattle.std.proofs.Common.{◌≡◌, ℕ, ◌-◌, ◌<◌, ◌≤◌, min, false, List, [], ◌∷◌, slice_get, None, Err, refl, arith}
 use Rattle.std.proofs.lemmas.Grind.{common_steps}
 use Rattle.std.proofs.lemmas.Option.{slice_get_past}

@@ -51,7 +51,7 @@ abbrev pub removal : ℕ → LogValue → List Entry → List Event
 removal id v [] = []
 removal id v (e ∷ es) = RemovedEntries id (last v) (e ∷ es) ∷ []
 
--- entries that give way to an append are reported
+-- an append that removes entries reports them
 abbrev pub removal_reported : NodeStep → PlainAppend → NodeStep
 removal_reported t append =
     let gone = given_way t.node.log append.prev append.prev_term append.entries t.node.commit in

@@ -9,7 +9,7 @@ use rb_script::{DirectiveRef, Lines};
 use rb_script_report::LineReasons;
 use std::alloc::{AllocError, Global};
 
-/// Clusters of nodes with split logs. The progress is told where their scripts are.
+/// Clusters of nodes with split logs. Reports to `progress` which directive runs.
 #[derive(Drop)]
 pub(crate) struct Clusters<'p, P> {
     pub(crate) alloc: Global,

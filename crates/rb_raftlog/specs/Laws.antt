@@ -37,7 +37,7 @@ pub record IsFirstConflict (v : LogValue) (prev : ℕ) (es : List Entry) (commit
   pub here : IsConflicting v prev es commit place
   pub first : (k : ℕ) → k < place → IsConflicting v prev es commit k → ⊥
 
--- a log had these entries at its end, in order, and another, which came of it, has all those before them and not the first of them
+-- the first log ends with these entries, in order; the second has all entries before them, and not the first of them
 pub record HasLost (v w : LogValue) (gone : List Entry) : Type 0 where
   pub were_last : (k : ℕ) (e : Entry) → slice_get gone k ≡ Some e → entry_at v (last v - length gone + 1 + k) ≡ Ok e
   pub others_stay : (i : ℕ) → i + length gone ≤ last v → entry_at w i ≡ entry_at v i

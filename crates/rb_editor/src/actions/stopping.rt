@@ -185,7 +185,7 @@ fn runs_nothing<M: Bounded>(
     }
 }
 
-// Makes the diagnostics of a text whose run stops where the run of the last text stopped. Otherwise there are none, and nothing was compared.
+// Makes the diagnostics of a text if its run stops where the run of the last text stopped. Otherwise returns none, and has compared nothing.
 fn of_same_stop<M: Bounded>(
     alloc: Global,
     document: AskedDocument<'_, '_>,
@@ -206,7 +206,7 @@ fn of_same_stop<M: Bounded>(
     Ok(Some(found))
 }
 
-// Makes the diagnostics of a text whose run ends. If the run stops earlier, there are none, and no run is kept.
+// Makes the diagnostics of a text if its run ends. If the run stops, returns none and keeps no run.
 fn of_whole<M: Bounded>(
     alloc: Global,
     document: AskedDocument<'_, '_>,

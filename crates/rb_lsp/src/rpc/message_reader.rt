@@ -143,7 +143,7 @@ impl MessageReader {
         ensures counted { OnOk result (self.new.calls < self.old.calls) }
         ensures left { OnOk result (Keeps (left_of self.old (S.left source.old)) (left_of self.new (S.left source.new))) }
         ensures io { S.gives_all source.old → S.gives_all source.new × (result ≡ Err ServeFault.Io → self.new.calls ≡ 0) }
-        // A failed call is told as such.
+        // A failed call is reported as `Io`, never as `OutOfMemory`.
         ensures memory { result ≡ Err ServeFault.OutOfMemory → Fails (S.asked source.old) (S.asked source.new) 0 }
     {
         if self.calls == 0 {
