@@ -3,7 +3,7 @@
 ghost use Rattle.std.specs.Prelude.{◌≡◌, OnOk};
 ghost use Rattle.rb_node.specs.Node.{node_step};
 ghost use Rattle.rb_machine.specs.Acts.{ticked_times, step_by, act, propose, set_timeout, transfer, report_unreachable};
-ghost use Rattle.rb_machine.specs.Effects.{acted, node_moved};
+ghost use Rattle.rb_machine.specs.Effects.{acted};
 ghost use Rattle.rb_machine.specs.Observers.{watched, after};
 ghost use Rattle.rb_cluster.specs.Calls.{step_of};
 
@@ -84,24 +84,6 @@ fn make_call<L: RaftLog>(
 }
 
 impl<L: RaftLog> Cluster<L> {
-    // Calls a node, and shows its events.
-    fn call<O: Observer<L>>(
-        &mut self,
-        id: u64,
-        call: NodeCall<'_>,
-        observer: &mut O,
-    ) -> Result<(), AllocError>
-        ensures { OnOk result (watched self.new (O.meaning observer.new) ≡ after O.taking O.settling (O.meaning observer.old) (node_moved self.old id (step_of call.entry))) }
-    {
-        let mut events = Vec::new(self.alloc);
-        let Some(shared) = self.nodes.get_mut(place_of(id)) else {
-            return Ok(());
-        };
-        let node = shared.make_mut()?;
-        make_call(node, call, &mut events)?;
-        show_events(observer, &events)
-    }
-
     /// Calls a node. Shows its events, and then the node, which has settled.
     pub(crate) fn call_and_settle<O: Observer<L>>(
         &mut self,
@@ -111,8 +93,14 @@ impl<L: RaftLog> Cluster<L> {
     ) -> Result<(), AllocError>
         ensures { OnOk result (watched self.new (O.meaning observer.new) ≡ after O.taking O.settling (O.meaning observer.old) (acted self.old id (step_of call.entry))) }
     {
-        self.call(id, call, observer)?;
-        self.show_settled(id, observer)
+        let mut events = Vec::new(self.alloc);
+        let Some(shared) = self.nodes.get_mut(place_of(id)) else {
+            return Ok(());
+        };
+        let node = shared.make_mut()?;
+        make_call(node, call, &mut events)?;
+        show_events(observer, &events)?;
+        observer.settle(id, node)
     }
 
     /// Calls a node, as the directive says.

@@ -73,7 +73,6 @@ fn show_applied<O: Observer<L>, L: RaftLog>(
     ensures { OnOk result (O.meaning observer.new ≡ fold O.taking (O.meaning observer.old) (entry_items items.apply (node.now.applied + 1) (applying node.now))) }
 {
     let state = node.status();
-    let _commit = state.commit;
     let applied = state.applied;
     let view = node.ready();
     for k in 0..view.apply_len() {

@@ -18,9 +18,9 @@ use Rattle.rb_directive.specs.declared.argument.Number.{Number}
 use Rattle.rb_directive.specs.declared.argument.Number.TheVariants as numbers
 use Rattle.rb_directive.specs.declared.argument.Argument.TheVariants as arguments
 use Rattle.rb_directive.specs.declared.argument.LevelFor.TheVariants as levels
-use Rattle.rb_directive.specs.declared.argument.Flag.TheVariants as flags
 use Rattle.rb_directive.specs.declared.argument.Ids.{Ids}
 use Rattle.rb_directive.specs.declared.argument.Ids.TheVariants as lists
+use Rattle.rb_directive.specs.FlagValues.{no_flags}
 use Rattle.rb_directive.specs.Forms.{Word}
 use Rattle.rb_directive.specs.Names.{name_text, argument_text}
 use Rattle.rb_directive.specs.Table.{directives, options, row_in, option_in, option_of, after, word_at, word_of}
@@ -159,7 +159,7 @@ rest_still P which n g p = p
 
 -- what is given, apart from levels, flags, the transition and the types
 abbrev pub limited_of : Arguments → Arguments
-limited_of g = record g { level = None; log_level = None; prevote = None; check_quorum = None; step_down = None; first_version = None; transition = None; types = None }
+limited_of g = record g { level = None; log_level = None; flags = no_flags; transition = None; types = None }
 
 -- P is kept where a number, bytes or a list is set to what the words say
 abbrev pub SetKeeps : (Arguments → Type 0) → Argument → Type 0
@@ -184,7 +184,6 @@ set_kept P (arguments.Number which low high) keeps words g next h p = let m = ma
 set_kept P (arguments.Bytes which low high) keeps words g next h p = let m = map_some _ _ next h in subst (λ g. P (limited_of g)) m.2 (keeps words m.0 g m.1 p)
 set_kept P (arguments.Level levels.Cluster) keeps words g next h p = subst (λ g. P (limited_of g)) (map_some _ _ next h).2 p
 set_kept P (arguments.Level levels.Directive) keeps words g next h p = subst (λ g. P (limited_of g)) (map_some _ _ next h).2 p
-set_kept P (arguments.Flag flags.Prevote) keeps words g next h p = subst (λ g. P (limited_of g)) (map_some _ _ next h).2 p
 set_kept P (arguments.Flag which) keeps words g next h p = subst (λ g. P (limited_of g)) (map_some _ _ next h).2 p
 set_kept P arguments.Transition keeps words g next h p = subst (λ g. P (limited_of g)) (map_some _ _ next h).2 p
 set_kept P arguments.Types keeps words g next h p = subst (λ g. P (limited_of g)) (map_some _ _ next h).2 p

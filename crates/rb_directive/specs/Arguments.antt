@@ -13,9 +13,9 @@ use Rattle.rb_directive.specs.declared.argument.Bytes.TheVariants as bytes
 use Rattle.rb_directive.specs.declared.argument.LevelFor.{LevelFor}
 use Rattle.rb_directive.specs.declared.argument.LevelFor.TheVariants as levels
 use Rattle.rb_directive.specs.declared.argument.Flag.{Flag}
-use Rattle.rb_directive.specs.declared.argument.Flag.TheVariants as flags
 use Rattle.rb_directive.specs.declared.argument.Ids.{Ids}
 use Rattle.rb_directive.specs.declared.argument.Ids.TheVariants as lists
+use Rattle.rb_directive.specs.FlagValues.{no_flags, with_value, value_in}
 use Rattle.rb_directive.specs.Forms.{Word}
 use Rattle.rb_directive.specs.IdLists.{share}
 
@@ -35,10 +35,7 @@ nothing = record {
   content = None;
   level = None;
   log_level = None;
-  prevote = None;
-  check_quorum = None;
-  step_down = None;
-  first_version = None;
+  flags = no_flags;
   transition = None;
   types = None;
   nodes = None;
@@ -61,10 +58,7 @@ number_given numbers.Rounds g = g.rounds
 number_given numbers.Timeout g = g.timeout
 
 abbrev pub flag_given : Flag → Arguments → Option Bool
-flag_given flags.Prevote g = g.prevote
-flag_given flags.CheckQuorum g = g.check_quorum
-flag_given flags.StepDown g = g.step_down
-flag_given flags.FirstVersion g = g.first_version
+flag_given which g = value_in g.flags which
 
 abbrev pub bytes_given : Bytes → Arguments → Option Word
 bytes_given bytes.Payload g = g.payload
@@ -116,10 +110,7 @@ number_set numbers.Rounds n g = record g { rounds = Some n }
 number_set numbers.Timeout n g = record g { timeout = Some n }
 
 abbrev pub flag_set : Flag → Bool → Arguments → Arguments
-flag_set flags.Prevote b g = record g { prevote = Some b }
-flag_set flags.CheckQuorum b g = record g { check_quorum = Some b }
-flag_set flags.StepDown b g = record g { step_down = Some b }
-flag_set flags.FirstVersion b g = record g { first_version = Some b }
+flag_set which b g = record g { flags = with_value which b g.flags }
 
 abbrev pub bytes_set : Bytes → Word → Arguments → Arguments
 bytes_set bytes.Payload w g = record g { payload = Some w }

@@ -1,6 +1,7 @@
 pub mod ShortForms
 pub mod Arguments
 pub mod Changes
+pub mod FlagValues
 pub mod Forms
 pub mod IdLists
 pub mod Ids

@@ -11,6 +11,7 @@ use Rattle.rb_directive.specs.declared.node_command_with_arg.NodeCommandWithArg.
 use Rattle.rb_directive.specs.declared.node_command_with_arg.NodeCommandWithArg.TheVariants as withs
 use Rattle.rb_directive.specs.declared.argument.Number.{Number}
 use Rattle.rb_directive.specs.declared.argument.Number.TheVariants as numbers
+use Rattle.rb_directive.specs.declared.argument.Flag.TheVariants as flags
 use Rattle.rb_directive.specs.declared.name.Name.{Name}
 use Rattle.rb_directive.specs.declared.name.Name.TheVariants as names
 use Rattle.rb_vocab.specs.declared.change.Transition.TheVariants as transitions
@@ -25,7 +26,7 @@ use Rattle.rb_directive.specs.declared.build.Asked.{Asked}
 use Rattle.rb_directive.specs.declared.limits.TheConstants.{MAX_ID, MAX_NODES, MAX_FIRST_INDEX, MAX_COMPACTED, MAX_BYTES, MAX_WINDOW, MAX_ROUNDS, MAX_TIMEOUT, MAX_IDS, WINDOW, ROUNDS}
 use Rattle.rb_directive.specs.Forms.{Word}
 use Rattle.rb_directive.specs.Table.{directives, row_in}
-use Rattle.rb_directive.specs.Arguments.{nothing, number_given}
+use Rattle.rb_directive.specs.Arguments.{nothing, flag_given, number_given}
 use Rattle.rb_directive.specs.Names.{number_text}
 use Rattle.rb_directive.specs.Reading.{with_arguments}
 use Rattle.rb_directive.specs.Changes.{change_fault}
@@ -50,9 +51,9 @@ add_nodes g = and_then (require (codes "n") g.count) (λ count. Ok (requests.Add
   index = g.index;
   content = g.content;
   inflight = unwrap_or g.inflight WINDOW;
-  prevote = unwrap_or g.prevote false;
-  check_quorum = unwrap_or g.check_quorum false;
-  step_down = unwrap_or g.step_down false;
+  prevote = unwrap_or (flag_given flags.Prevote g) false;
+  check_quorum = unwrap_or (flag_given flags.CheckQuorum g) false;
+  step_down = unwrap_or (flag_given flags.StepDown g) false;
 })))
 
 -- a directive that takes a node alone
@@ -69,7 +70,7 @@ propose_conf_change g inputs =
       id = id;
       transition = transition;
       inputs = inputs;
-      fault = change_fault (unwrap_or g.first_version false) transition inputs;
+      fault = change_fault (unwrap_or (flag_given flags.FirstVersion g) false) transition inputs;
     })))
 
 abbrev pub process_ready : Arguments → Result Request DirectiveError

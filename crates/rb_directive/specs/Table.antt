@@ -41,6 +41,15 @@ option_in (row ∷ rows) name key = if bytes_eq (argument_text row.option) key &
 unfoldable pub option_of : List ℕ → List ℕ → Option Argument
 option_of name key = if bytes_eq key (codes "log-level") then Some (arguments.Level levels.Directive) else option_in options name key
 
+-- the first option with this key among these
+abbrev pub with_key : List OptionRow → List ℕ → Option Argument
+with_key [] key = None
+with_key (row ∷ rows) key = if bytes_eq (argument_text row.option) key then Some row.option else with_key rows key
+
+-- the option with this key, of whichever directive
+unfoldable pub argument_of : List ℕ → Option Argument
+argument_of key = if bytes_eq key (codes "log-level") then Some (arguments.Level levels.Directive) else with_key options key
+
 abbrev pub after : WordPlace → WordPlace
 after places.First = places.Second
 after places.Second = places.Later

@@ -49,6 +49,9 @@ pub enum Flag {
     FirstVersion,
 }
 
+/// The number of flags.
+pub(crate) const FLAGS: usize = 4;
+
 /// The lists of ids that arguments give.
 #[derive(Clone, Copy)]
 pub enum Ids {

@@ -5,6 +5,7 @@ ghost use Rattle.rb_directive.specs.Table.{after};
 ghost use Rattle.rb_directive.specs.Arguments.{nothing, number_given, flag_given, bytes_given, level_given, ids_given, is_given, listed, excludes, number_set, flag_set, bytes_set, level_set, ids_set};
 
 use crate::argument::{Argument, Bytes, Flag, Ids, LevelFor, Number};
+use crate::flag_values::FlagValues;
 use crate::id_list::IdList;
 use crate::type_set::TypeSet;
 use rb_vocab::{Level, ScriptWord, Transition};
@@ -47,10 +48,7 @@ pub(crate) struct Arguments<'d> {
     pub(crate) content: Option<ScriptWord<'d>>,
     pub(crate) level: Option<Level>,
     pub(crate) log_level: Option<Level>,
-    pub(crate) prevote: Option<bool>,
-    pub(crate) check_quorum: Option<bool>,
-    pub(crate) step_down: Option<bool>,
-    pub(crate) first_version: Option<bool>,
+    pub(crate) flags: FlagValues,
     pub(crate) transition: Option<Transition>,
     pub(crate) types: Option<TypeSet>,
     pub(crate) nodes: Option<IdList>,
@@ -79,10 +77,7 @@ impl<'d> Arguments<'d> {
             content: None,
             level: None,
             log_level: None,
-            prevote: None,
-            check_quorum: None,
-            step_down: None,
-            first_version: None,
+            flags: FlagValues::nothing(),
             transition: None,
             types: None,
             nodes: None,
@@ -109,15 +104,11 @@ impl<'d> Arguments<'d> {
         }
     }
 
-    fn flag(&self, which: Flag) -> Option<bool>
+    /// The flag with this name.
+    pub(crate) fn flag(&self, which: Flag) -> Option<bool>
         ensures { result ≡ flag_given which self.now }
     {
-        match which {
-            Flag::Prevote => self.prevote,
-            Flag::CheckQuorum => self.check_quorum,
-            Flag::StepDown => self.step_down,
-            Flag::FirstVersion => self.first_version,
-        }
+        self.flags.get(which)
     }
 
     fn bytes(&self, which: Bytes) -> &Option<ScriptWord<'d>>
@@ -206,12 +197,7 @@ impl<'d> Arguments<'d> {
     pub(crate) fn set_flag(&mut self, which: Flag, flag: bool)
         ensures { self.new ≡ flag_set which flag self.old }
     {
-        match which {
-            Flag::Prevote => self.prevote = Some(flag),
-            Flag::CheckQuorum => self.check_quorum = Some(flag),
-            Flag::StepDown => self.step_down = Some(flag),
-            Flag::FirstVersion => self.first_version = Some(flag),
-        }
+        self.flags = self.flags.with(which, flag);
     }
 
     pub(crate) fn set_bytes(&mut self, which: Bytes, bytes: &'d [u8])

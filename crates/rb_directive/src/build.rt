@@ -7,6 +7,7 @@ ghost use Rattle.std.specs.Option.{unwrap_or};
 ghost use Rattle.rb_script.specs.Tokens.{plain};
 ghost use Rattle.rb_directive.specs.Requests.{require, add_nodes, propose, propose_conf_change, process_ready, deliver_msgs, stabilize, node_command_with_arg, built, asked_of, request, IsWithin};
 
+use crate::argument::Flag;
 use crate::arguments::Arguments;
 use crate::change::{Inputs, change_fault};
 use crate::id_list::IdList;
@@ -58,6 +59,7 @@ fn add_nodes(given: Arguments<'_>) -> Result<Request<'_>, DirectiveError<'_>>
     ensures { result ≡ add_nodes given.entry }
 {
     let count = require(given.count, b"n")?;
+    let flags = given.flags;
     Ok(Request::AddNodes(AddNodes {
         count,
         voters: given.voters,
@@ -65,9 +67,9 @@ fn add_nodes(given: Arguments<'_>) -> Result<Request<'_>, DirectiveError<'_>>
         index: given.index,
         content: given.content,
         inflight: given.inflight.unwrap_or(WINDOW),
-        prevote: given.prevote.unwrap_or(false),
-        check_quorum: given.check_quorum.unwrap_or(false),
-        step_down: given.step_down.unwrap_or(false),
+        prevote: flags.get(Flag::Prevote).unwrap_or(false),
+        check_quorum: flags.get(Flag::CheckQuorum).unwrap_or(false),
+        step_down: flags.get(Flag::StepDown).unwrap_or(false),
     }))
 }
 
@@ -87,7 +89,11 @@ fn propose_conf_change<'d>(
 {
     let id = require_id(&given)?;
     let transition = given.transition.unwrap_or(Transition::Auto);
-    let fault = change_fault(given.first_version.unwrap_or(false), transition, &inputs);
+    let fault = change_fault(
+        given.flag(Flag::FirstVersion).unwrap_or(false),
+        transition,
+        &inputs,
+    );
     Ok(Request::ProposeConfChange(ProposeConfChange {
         id,
         transition,

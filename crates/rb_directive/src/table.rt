@@ -3,7 +3,7 @@
 //! Code and definitions share its rows. Every directive also has the option `log-level`.
 
 ghost use Rattle.std.specs.Prelude.{◌≡◌, MatchOption, Some, None};
-ghost use Rattle.rb_directive.specs.Table.{directives, options, row_in, is_name, option_in, option_of, word_of};
+ghost use Rattle.rb_directive.specs.Table.{directives, options, row_in, is_name, option_in, option_of, with_key, argument_of, word_of};
 
 use crate::argument::{Argument, Bytes, Flag, Ids, LevelFor, Number};
 use crate::arguments::WordPlace;
@@ -60,14 +60,6 @@ const CONTENT: Argument = Argument::Bytes(Bytes::Content, 0, MAX_BYTES);
 
 const LEVEL: Argument = Argument::Level(LevelFor::Cluster);
 
-const PREVOTE: Argument = Argument::Flag(Flag::Prevote);
-
-const CHECK_QUORUM: Argument = Argument::Flag(Flag::CheckQuorum);
-
-const STEP_DOWN: Argument = Argument::Flag(Flag::StepDown);
-
-const FIRST_VERSION: Argument = Argument::Flag(Flag::FirstVersion);
-
 const TRANSITION: Argument = Argument::Transition;
 
 const TYPES: Argument = Argument::Types;
@@ -110,10 +102,10 @@ pub(crate) static OPTIONS: [OptionRow; 16] = [
     OptionRow { name: Name::AddNodes, option: BASE },
     OptionRow { name: Name::AddNodes, option: CONTENT },
     OptionRow { name: Name::AddNodes, option: INFLIGHT },
-    OptionRow { name: Name::AddNodes, option: PREVOTE },
-    OptionRow { name: Name::AddNodes, option: CHECK_QUORUM },
-    OptionRow { name: Name::AddNodes, option: STEP_DOWN },
-    OptionRow { name: Name::ProposeConfChange, option: FIRST_VERSION },
+    OptionRow { name: Name::AddNodes, option: Argument::Flag(Flag::Prevote) },
+    OptionRow { name: Name::AddNodes, option: Argument::Flag(Flag::CheckQuorum) },
+    OptionRow { name: Name::AddNodes, option: Argument::Flag(Flag::StepDown) },
+    OptionRow { name: Name::ProposeConfChange, option: Argument::Flag(Flag::FirstVersion) },
     OptionRow { name: Name::ProposeConfChange, option: TRANSITION },
     OptionRow { name: Name::DeliverMsgs, option: TYPES },
     OptionRow { name: Name::DeliverMsgs, option: DROP },
@@ -172,6 +164,29 @@ pub(crate) fn option_of(name: &[u8], key: &[u8]) -> Option<Argument>
         return Some(Argument::Level(LevelFor::Directive));
     }
     option_in(&OPTIONS, name, key)
+}
+
+// Finds the first option with this key in the list.
+fn with_key(options: &[OptionRow], key: &[u8]) -> Option<Argument>
+    ensures { result ≡ with_key options.now key.now }
+{
+    for row in options {
+        if row.option.text() == key {
+            return Some(row.option);
+        }
+    }
+    None
+}
+
+/// Finds the option with this key, of whichever directive comes first. A key takes the same values wherever it is one.
+#[tactic(auto, unfolding(crate::specs::Table::argument_of, crate::specs::Table::options))]
+pub fn argument_of(key: &[u8]) -> Option<Argument>
+    ensures { result ≡ argument_of key.now }
+{
+    if key == b"log-level".as_slice() {
+        return Some(Argument::Level(LevelFor::Directive));
+    }
+    with_key(&OPTIONS, key)
 }
 
 impl Row {

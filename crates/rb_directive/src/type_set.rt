@@ -1,25 +1,14 @@
 //! Sets of message types.
 
-ghost use Rattle.std.specs.Prelude.{◌≡◌, ◌<◌};
-ghost use Rattle.rb_directive.specs.TypeSets.{type_place, no_types, with_type, has_type};
+ghost use Rattle.std.specs.Prelude.{◌≡◌};
+ghost use Rattle.rb_directive.specs.TypeSets.{no_types, with_type, has_type};
 
-use rb_vocab::MessageType;
-
-/// The number of types.
-const TYPES: usize = 13;
-
-// The position of a type in a set.
-fn place(message_type: MessageType) -> usize
-    ensures place { result ≡ type_place message_type }
-    ensures within { result < 13 }
-{
-    message_type as usize
-}
+use rb_vocab::{MessageType, TYPES};
 
 /// A set of message types.
 #[derive(Clone, Copy)]
 pub struct TypeSet {
-    // for each type, by its position, whether the set contains it
+    // for each type, by its number, whether the set contains it
     has: [bool; TYPES],
 }
 
@@ -39,7 +28,7 @@ impl TypeSet {
         ensures { result ≡ with_type added self }
     {
         let mut has = self.has;
-        has[place(added)] = true;
+        has[added.number()] = true;
         TypeSet { has }
     }
 
@@ -47,6 +36,6 @@ impl TypeSet {
     pub fn has(&self, wanted: MessageType) -> bool
         ensures { result ≡ has_type self.now wanted }
     {
-        self.has[place(wanted)]
+        self.has[wanted.number()]
     }
 }

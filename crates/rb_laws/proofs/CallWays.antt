@@ -22,7 +22,8 @@ use Rattle.rb_tracker.specs.Trackers.{ids_of, view_at, place}
 use Rattle.rb_tracker.specs.declared.changes.ChangeFault.{ChangeFault}
 use Rattle.rb_tracker.specs.declared.config.Config.{Config}
 use Rattle.rb_message.specs.declared.event.Event.{Event}
-use Rattle.rb_message.specs.declared.event.Event.TheVariants.{Switched, LostQuorum}
+use Rattle.rb_message.specs.declared.event.EventKind.TheVariants as event
+use Rattle.rb_message.specs.Events.{event_at}
 use Rattle.rb_message.specs.declared.kind.MessageKind.TheVariants as kind
 use Rattle.rb_message.specs.declared.message.Message.{Message}
 use Rattle.rb_message.specs.declared.role.Role.{Role}
@@ -36,7 +37,7 @@ use Rattle.rb_node.specs.Node.{NodeStep, with_node, is_leader, PlainNode, with_e
 use Rattle.rb_node.specs.Readying.{own_answers_stepped, applying, saved, advanced}
 use Rattle.rb_node.specs.Step.{stepped}
 use Rattle.rb_node.specs.Terms.{became_follower}
-use Rattle.rb_node.specs.Ticking.{heartbeat_sent_to, heartbeat_sent_to_each, due_heartbeats_sent, activity_reset, active_quorum_checked, has_lost_quorum, leader_ticked, counters_advanced, non_leader_ticked, next_count as counted_tick, is_due, ticked_by}
+use Rattle.rb_node.specs.Ticking.{heartbeat_sent_to, heartbeat_sent_to_each, due_heartbeats_sent, activity_reset, active_quorum_checked, has_lost_quorum, quorum_lost, leader_ticked, counters_advanced, non_leader_ticked, next_count as counted_tick, is_due, ticked_by}
 use Rattle.rb_node.specs.Transferring.{transfer_ended}
 use Rattle.rb_node.specs.declared.limits.TheConstants.{HEARTBEAT_TICKS, ELECTION_TICKS}
 use Rattle.rb_laws.specs.Calling.{Call, Step, Advance, compacted_unless, after, Campaign, Propose, Transfer, Tick, ForgetLeader, ReportUnreachable, SetTimeout, Compact}
@@ -82,7 +83,7 @@ pub record Changes (t u : NodeStep) : Type 0 where
 switched_way : (r : Result Config ChangeFault) (t : NodeStep) → Changes t (switched r t)
 switched_way (Ok c) t =
     let n = t.node in
-    let shown : Event = Switched n.id c in
+    let shown : Event = event_at n.id (event.Switched c) in
     let x : PlainNode = in_config n c in
     let u : NodeStep = with_event (with_node t x) shown in
     let down : PlainNode = following x n.term 0 in
@@ -251,7 +252,7 @@ quorum_way : {sound : Type 0} {w : Ways} (t : NodeStep) → Path (CallMove sound
 unfolding active_quorum_checked
 quorum_way {sound} {w} t =
     let n = t.node in
-    let lost : NodeStep = with_event t (LostQuorum n.id) in
+    let lost : NodeStep = quorum_lost t in
     let u : NodeStep = with_node t (activity_reset n) in
     if_both (Path (CallMove sound w) t) (has_lost_quorum n) _ _
     (λ _. Onward (Shows t _) (Onward (Goes_on lost (One (Gives_up n))) (Shows (with_node lost (following n n.term 0)) _)))

@@ -15,7 +15,8 @@ use Rattle.rb_tracker.specs.Trackers.{has_view, configured}
 use Rattle.rb_tracker.specs.declared.changes.ChangeFault.{ChangeFault}
 use Rattle.rb_tracker.specs.declared.config.Config.{Config}
 use Rattle.rb_message.specs.Messages.{has_term}
-use Rattle.rb_message.specs.declared.event.Event.TheVariants.{ReplacedChange, Switched}
+use Rattle.rb_message.specs.declared.event.EventKind.TheVariants as event
+use Rattle.rb_message.specs.Events.{event_at}
 use Rattle.rb_message.specs.declared.event.WhyNoCampaign.{WhyNoCampaign}
 use Rattle.rb_message.specs.declared.event.WhyReplaced.{WhyReplaced}
 use Rattle.rb_message.specs.declared.kind.MessageKind.{MessageKind}
@@ -98,7 +99,7 @@ change_put_puts : (o : Option WhyReplaced) (t : NodeStep) (words : ℕ) (body : 
 change_put_puts None t words body is =
     if_both (λ (u : NodeStep). PutsChange t.node u.node body) (is_log_full t.node) _ _
     (λ _. inl refl) (λ _. inr (inr (applied_all_changes t.node words is, refl)))
-change_put_puts (Some reason) t words body is = replaced_puts t (with_event t (ReplacedChange t.node.id (last t.node.log + 1) reason)) body refl
+change_put_puts (Some reason) t words body is = replaced_puts t (with_event t (event_at t.node.id (event.ReplacedChange (last t.node.log + 1) reason))) body refl
 
 put_in_puts : (t : NodeStep) (transition : Transition) (words : List Word) → PutsChange t.node (proposal_appended (Change transition words) t).node (Change transition words)
 put_in_puts t transition words =
@@ -243,7 +244,7 @@ led_on_down t leads asked stranger =
 
 switched_down : (r : Result Config ChangeFault) (c : Config) (t : NodeStep) → r ≡ Ok c → t.node.role ≡ role.Leader → t.node.options.step_down_on_removal ≡ true → is_voter c t.node.id ≡ false → StepsDown t.node (switched r t).node
 switched_down r c t is leads asked stranger =
-    let u : NodeStep = with_event (with_node t (record t.node { tracker = configured t.node.tracker c })) (Switched t.node.id c) in
+    let u : NodeStep = with_event (with_node t (record t.node { tracker = configured t.node.tracker c })) (event_at t.node.id (event.Switched c)) in
     subst (λ (x : Result Config ChangeFault). StepsDown t.node (switched x t).node) (sym is) (led_on_down u leads asked stranger)
 
 pub removed_leaders_step_down : (t : NodeStep) (transition : Transition) (words : List Word) (c : Config) → changed t.node.tracker.config transition words ≡ Ok c → t.node.role ≡ role.Leader → t.node.options.step_down_on_removal ≡ true → is_voter c t.node.id ≡ false → StepsDown t.node (change_applied t transition words).node

@@ -16,7 +16,8 @@ use Rattle.rb_tracker.specs.Configs.{is_joint}
 use Rattle.rb_tracker.specs.Trackers.{configured}
 use Rattle.rb_tracker.specs.declared.changes.ChangeFault.{ChangeFault}
 use Rattle.rb_tracker.specs.declared.config.Config.{Config}
-use Rattle.rb_message.specs.declared.event.Event.TheVariants.{Switched}
+use Rattle.rb_message.specs.declared.event.EventKind.TheVariants as event
+use Rattle.rb_message.specs.Events.{event_at}
 use Rattle.rb_message.specs.declared.role.Role.TheVariants as role
 use Rattle.rb_node.specs.Changing.{views_updated, continued_after_switch, steps_down, switched, change_applied, body_applied, applied_one, applied_all, leaves_joint, joint_left}
 use Rattle.rb_node.specs.Leading.{appended_change, is_log_full, all_sent_append}
@@ -48,7 +49,7 @@ led_on_config t =
     if_both P (is_leader t.node.role) _ t (λ _. if_both P (steps_down t.node) _ _ (λ _. refl) (λ _. revised_config t)) (λ _. refl)
 
 switched_config : (r : Result Config ChangeFault) (t : NodeStep) → (switched r t).node.tracker.config ≡ result_unwrap_or r t.node.tracker.config
-switched_config (Ok c) t = led_on_config (with_event (with_node t (record t.node { tracker = configured t.node.tracker c })) (Switched t.node.id c))
+switched_config (Ok c) t = led_on_config (with_event (with_node t (record t.node { tracker = configured t.node.tracker c })) (event_at t.node.id (event.Switched c)))
 switched_config (Err fault) t = refl
 
 change_config : (t : NodeStep) (transition : Transition) (words : List Word) → (change_applied t transition words).node.tracker.config ≡ result_unwrap_or (changed t.node.tracker.config transition words) t.node.tracker.config

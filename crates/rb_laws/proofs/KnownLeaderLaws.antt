@@ -10,7 +10,8 @@ use Rattle.rb_tracker.proofs.SetLaws.{if_both}
 use Rattle.rb_tracker.specs.Configs.{members, voters}
 use Rattle.rb_tracker.specs.declared.votes.VoteResult.{VoteResult}
 use Rattle.rb_tracker.specs.declared.votes.VoteResult.TheVariants as vote
-use Rattle.rb_message.specs.declared.event.Event.TheVariants.{Became, ReplacedChange}
+use Rattle.rb_message.specs.declared.event.EventKind.TheVariants as event
+use Rattle.rb_message.specs.Events.{event_at}
 use Rattle.rb_message.specs.declared.event.WhyNoCampaign.{WhyNoCampaign}
 use Rattle.rb_message.specs.declared.event.WhyReplaced.{WhyReplaced}
 use Rattle.rb_message.specs.declared.kind.MessageKind.{MessageKind}
@@ -44,7 +45,7 @@ appended_lead t body = if_both (λ (u : NodeStep). SameLead t.node u.node) (is_l
 
 put_lead : (o : Option WhyReplaced) (t : NodeStep) (body : Body) → SameLead t.node (change_or_empty_appended o t body).node
 put_lead None t body = if_both (λ (u : NodeStep). SameLead t.node u.node) (is_log_full t.node) _ _ (λ _. refl) (λ _. refl)
-put_lead (Some reason) t body = appended_lead (with_event t (ReplacedChange t.node.id (last t.node.log + 1) reason)) (Payload [])
+put_lead (Some reason) t body = appended_lead (with_event t (event_at t.node.id (event.ReplacedChange (last t.node.log + 1) reason))) (Payload [])
 
 put_in_lead : (body : Body) (t : NodeStep) → SameLead t.node (proposal_appended body t).node
 put_in_lead (Payload bytes) t = appended_lead t (Payload bytes)
@@ -116,7 +117,7 @@ leading_heads n = ap heads (with_views_only (in_lead n) (members n.tracker.confi
 led_heads : (t : NodeStep) → heads (became_leader t).node ≡ heads (in_lead t.node)
 unfolding became_leader
 led_heads t =
-    let u : NodeStep = with_event (with_node t (leading t.node)) (Became t.node.id role.Leader t.node.term) in
+    let u : NodeStep = with_event (with_node t (leading t.node)) (event_at t.node.id (event.Became role.Leader t.node.term)) in
     ap heads (append_broadcast_only (appended u (Payload [])).node)
     ∙ if_both (λ (x : NodeStep). heads x.node ≡ heads u.node) (is_log_full u.node) _ _ (λ _. refl) (λ _. refl)
     ∙ leading_heads t.node

@@ -12,7 +12,8 @@ use Rattle.rb_tracker.specs.Commits.{match_of}
 use Rattle.rb_tracker.specs.Progresses.{PlainProgress, with_active, is_news, is_probing, acked, paused, freed_through, refused, is_current_reject, resumed}
 use Rattle.rb_tracker.specs.Trackers.{view_at, place}
 use Rattle.rb_tracker.specs.declared.votes.VoteResult.TheVariants as vote
-use Rattle.rb_message.specs.declared.event.Event.TheVariants.{Became, ReplacedChange, TransferStarts, TransferEnds}
+use Rattle.rb_message.specs.declared.event.EventKind.TheVariants as event
+use Rattle.rb_message.specs.Events.{event_at}
 use Rattle.rb_message.specs.declared.event.WhyReplaced.{WhyReplaced}
 use Rattle.rb_message.specs.declared.kind.MessageKind.TheVariants as kind
 use Rattle.rb_message.specs.declared.message.Message.{Message}
@@ -74,7 +75,7 @@ pub led_way : {w : Ways} (t : NodeStep) → t.node.role ≡ role.Candidate → w
 unfolding became_leader
 led_way t stands elected won =
     let v : NodeStep = with_node t (leading t.node) in
-    let u : NodeStep = with_event v (Became t.node.id role.Leader t.node.term) in
+    let u : NodeStep = with_event v (event_at t.node.id (event.Became role.Leader t.node.term)) in
     Onward (Goes_on t (One (Leads t.node stands elected won))) (Onward (Shows v _)
     (Onward (appended_way u (Payload []) (leading_leads t.node) (inl refl)) (all_told_way (appended u (Payload [])))))
 
@@ -192,7 +193,7 @@ heartbeat_response_handled_way t m = beat_at_way (place t.node.tracker.views m.f
 change_put_way : {w : Ways} (o : Option WhyReplaced) (t : NodeStep) (body : Body) → t.node.role ≡ role.Leader → Puts w t.node body → Path (StepMove w) t (change_or_empty_appended o t body)
 change_put_way None t body leads puts = appended_change_way t body leads puts
 change_put_way (Some reason) t body leads puts =
-    Onward (Shows t _) (appended_way (with_event t (ReplacedChange t.node.id (last t.node.log + 1) reason)) (Payload []) leads (inl refl))
+    Onward (Shows t _) (appended_way (with_event t (event_at t.node.id (event.ReplacedChange (last t.node.log + 1) reason))) (Payload []) leads (inl refl))
 
 put_in_way : {w : Ways} (body : Body) (t : NodeStep) → t.node.role ≡ role.Leader → Puts w t.node body → Path (StepMove w) t (proposal_appended body t)
 put_in_way (Payload bytes) t leads puts = appended_way t (Payload bytes) leads puts
@@ -220,7 +221,7 @@ urged_way n target leads is =
 started_way : (t : NodeStep) (target : ℕ) → t.node.role ≡ role.Leader → Path TellMove t (transfer_started t target)
 started_way t target leads =
     let n : PlainNode = record (with_elapsed t.node 0) { transferee = target } in
-    let u : NodeStep = with_event t (TransferStarts t.node.id target) in
+    let u : NodeStep = with_event t (event_at t.node.id (event.TransferStarts target)) in
     Onward (Shows t _) (Goes_on u (Then (One (Idle t.node n refl)) (urged_way n target leads refl)))
 
 pub transferred_way : (t : NodeStep) (m : Message) (target : ℕ) → t.node.role ≡ role.Leader → Path TellMove t (transfer_leader_handled t m target)
@@ -232,6 +233,6 @@ transferred_way t m target leads =
 pub transfer_ended_way : (t : NodeStep) → Path TellMove t (transfer_ended t)
 unfolding transfer_ended
 transfer_ended_way t =
-    let u : NodeStep = with_event t (TransferEnds t.node.id t.node.transferee) in
+    let u : NodeStep = with_event t (event_at t.node.id (event.TransferEnds t.node.transferee)) in
     if_both (Path TellMove t) (t.node.transferee == 0) _ _
     (λ _. nothing_done t) (λ _. Onward (Shows t _) (Goes_on u (One (Idle t.node (record t.node { transferee = 0 }) refl))))

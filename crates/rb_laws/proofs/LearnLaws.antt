@@ -14,7 +14,8 @@ use Rattle.rb_tracker.specs.declared.votes.VoteResult.{VoteResult}
 use Rattle.rb_tracker.specs.declared.votes.VoteResult.TheVariants as vote
 use Rattle.rb_message.specs.Appends.{PlainAppend}
 use Rattle.rb_message.specs.Messages.{has_term}
-use Rattle.rb_message.specs.declared.event.Event.TheVariants.{Became}
+use Rattle.rb_message.specs.declared.event.EventKind.TheVariants as event
+use Rattle.rb_message.specs.Events.{event_at}
 use Rattle.rb_message.specs.declared.event.WhyNoCampaign.{WhyNoCampaign}
 use Rattle.rb_message.specs.declared.kind.MessageKind.{MessageKind}
 use Rattle.rb_message.specs.declared.kind.MessageKind.TheVariants as kind
@@ -74,7 +75,7 @@ appended_commit t = if_both (SameCommit t.node) (is_log_full t.node) _ _ (λ _. 
 led_commit : (t : NodeStep) → SameCommit t.node (became_leader t)
 unfolding became_leader
 led_commit t =
-    let u : NodeStep = with_event (with_node t (leading t.node)) (Became t.node.id role.Leader t.node.term) in
+    let u : NodeStep = with_event (with_node t (leading t.node)) (event_at t.node.id (event.Became role.Leader t.node.term)) in
     all_told_commit (appended u (Payload [])) ∙ appended_commit u ∙ ap (λ (c : Core). c.commit) (leading_same t.node)
 
 decided_commit : (v : VoteResult) (t : NodeStep) → SameCommit t.node (decided v t)

@@ -29,7 +29,8 @@ use Rattle.rb_tracker.specs.declared.config.Config.{Config}
 use Rattle.rb_tracker.specs.declared.votes.VoteResult.{VoteResult}
 use Rattle.rb_tracker.specs.declared.votes.VoteResult.TheVariants as vote
 use Rattle.rb_message.specs.Appends.{PlainAppend}
-use Rattle.rb_message.specs.declared.event.Event.TheVariants.{Became, ReplacedChange, Switched}
+use Rattle.rb_message.specs.declared.event.EventKind.TheVariants as event
+use Rattle.rb_message.specs.Events.{event_at}
 use Rattle.rb_message.specs.declared.event.WhyNoCampaign.{WhyNoCampaign}
 use Rattle.rb_message.specs.declared.event.WhyReplaced.{WhyReplaced}
 use Rattle.rb_message.specs.declared.kind.MessageKind.{MessageKind}
@@ -148,7 +149,7 @@ change_knows t body h =
 
 put_knows : (o : Option WhyReplaced) (t : NodeStep) (body : Body) → LeadsKnowing t.node → LeadsKnowing (change_or_empty_appended o t body).node
 put_knows None t body h = change_knows t body h
-put_knows (Some reason) t body h = appended_knows (with_event t (ReplacedChange t.node.id (last t.node.log + 1) reason)) (Payload []) refl h
+put_knows (Some reason) t body h = appended_knows (with_event t (event_at t.node.id (event.ReplacedChange (last t.node.log + 1) reason))) (Payload []) refl h
 
 put_in_knows : (body : Body) (t : NodeStep) → LeadsKnowing t.node → LeadsKnowing (proposal_appended body t).node
 put_in_knows (Payload bytes) t h = appended_knows t (Payload bytes) refl h
@@ -174,7 +175,7 @@ leading_knows n = still (record (in_lead n) { pending_change = last n.log }) (le
 led_knows : (t : NodeStep) → LeadsKnowing (became_leader t).node
 unfolding became_leader
 led_knows t =
-    let u : NodeStep = with_event (with_node t (leading t.node)) (Became t.node.id role.Leader t.node.term) in
+    let u : NodeStep = with_event (with_node t (leading t.node)) (event_at t.node.id (event.Became role.Leader t.node.term)) in
     all_told_knows (appended u (Payload [])) (appended_knows u (Payload []) refl (leading_knows t.node))
 
 -- ---- campaigns
@@ -380,7 +381,7 @@ led_on_knows t h =
     (λ _. if_both P (steps_down t.node) _ _ (λ _ leads. absurd (follower_never leads)) (λ _. still t.node (views_updated t).node (revised_standing t) h)) (λ _. h)
 
 switched_knows : (r : Result Config ChangeFault) (t : NodeStep) → LeadsKnowing t.node → LeadsKnowing (switched r t).node
-switched_knows (Ok c) t h = led_on_knows (with_event (with_node t (record t.node { tracker = configured t.node.tracker c })) (Switched t.node.id c)) h
+switched_knows (Ok c) t h = led_on_knows (with_event (with_node t (record t.node { tracker = configured t.node.tracker c })) (event_at t.node.id (event.Switched c))) h
 switched_knows (Err fault) t h = h
 
 change_applied_knows : (t : NodeStep) (transition : Transition) (words : List Word) → LeadsKnowing t.node → LeadsKnowing (change_applied t transition words).node

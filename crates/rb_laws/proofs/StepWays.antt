@@ -17,7 +17,8 @@ use Rattle.rb_tracker.specs.declared.votes.VoteResult.TheVariants as vote
 use Rattle.rb_message.specs.Appends.{PlainAppend}
 use Rattle.rb_message.specs.Messages.{has_term}
 use Rattle.rb_message.specs.declared.event.Event.{Event}
-use Rattle.rb_message.specs.declared.event.Event.TheVariants.{Became}
+use Rattle.rb_message.specs.declared.event.EventKind.TheVariants as event
+use Rattle.rb_message.specs.Events.{event_at}
 use Rattle.rb_message.specs.declared.event.WhyNoCampaign.{WhyNoCampaign}
 use Rattle.rb_message.specs.declared.kind.MessageKind.{MessageKind}
 use Rattle.rb_message.specs.declared.kind.MessageKind.TheVariants as kind
@@ -46,7 +47,7 @@ use Rattle.rb_laws.proofs.Saying.{different}
 
 followed_way : {w : Ways} (t : NodeStep) (term lead : ℕ) → t.node.term ≤ term → (t.node.role ≡ role.Leader → t.node.term < term) → Path (StepMove w) t (became_follower t term lead)
 followed_way t term lead up past =
-    Onward (Goes_on t (One (Follows t.node term lead up past))) (Shows (with_node t (following t.node term lead)) (Became t.node.id role.Follower term))
+    Onward (Goes_on t (One (Follows t.node term lead up past))) (Shows (with_node t (following t.node term lead)) (event_at t.node.id (event.Became role.Follower term)))
 
 -- who doesn't lead may follow in its term
 joins : {w : Ways} (t : NodeStep) (lead : ℕ) → (t.node.role ≡ role.Leader → ⊥) → Path (StepMove w) t (became_follower t t.node.term lead)
@@ -129,13 +130,13 @@ stood_way : {w : Ways} (t : NodeStep) (transfer : Bool) → why_no_campaign t.no
 stood_way t transfer may =
     let n = candidate t.node in
     let asks = asked_way n (voters n.tracker.config) n.term (kind.Vote (last_term n.log) (last n.log) transfer) (kind.VoteResponse true) (may_ask n transfer refl refl) in
-    Onward (Goes_on t (Then (One (Stands t.node may)) asks)) (Shows (with_node t (asked_for_votes n transfer)) (Became t.node.id role.Candidate (t.node.term + 1)))
+    Onward (Goes_on t (Then (One (Stands t.node may)) asks)) (Shows (with_node t (asked_for_votes n transfer)) (event_at t.node.id (event.Became role.Candidate (t.node.term + 1))))
 
 pre_vote_way : {w : Ways} (t : NodeStep) → why_no_campaign t.node ≡ None → Path (StepMove w) t (became_precandidate t)
 pre_vote_way t may =
     let n = precandidate t.node in
     let asks = asked_way n (voters n.tracker.config) (n.term + 1) (kind.PreVote (last_term n.log) (last n.log)) (kind.PreVoteResponse true) (may_ask_first n) in
-    Onward (Goes_on t (Then (One (Asks t.node may)) asks)) (Shows (with_node t (asked_for_pre_votes n)) (Became t.node.id role.Precandidate t.node.term))
+    Onward (Goes_on t (Then (One (Asks t.node may)) asks)) (Shows (with_node t (asked_for_pre_votes n)) (event_at t.node.id (event.Became role.Precandidate t.node.term)))
 
 campaigned_way_unless : {w : Ways} (o : Option WhyNoCampaign) (t : NodeStep) (transfer : Bool) → why_no_campaign t.node ≡ o
     → Path (StepMove w) t (campaigned_unless o t transfer)

@@ -115,28 +115,32 @@ pub enum WhyRefused {
 
 /// An event of a node.
 #[derive(Drop)]
-pub enum Event {
+pub struct Event {
+    /// The node.
+    pub id: u64,
+    pub kind: EventKind,
+}
+
+/// What happened.
+#[derive(Drop)]
+pub enum EventKind {
     /// It started at an entry, with a configuration.
     Started {
-        id: u64,
         term: u64,
         index: u64,
         config: Config,
     },
     /// It took a role.
     Became {
-        id: u64,
         role: Role,
         term: u64,
     },
     /// It can't campaign.
     CannotCampaign {
-        id: u64,
         why: WhyNoCampaign,
     },
     /// It counted a vote response, and this is the result so far.
     VoteCounted {
-        id: u64,
         message_type: MessageType,
         granted: bool,
         from: u64,
@@ -144,104 +148,57 @@ pub enum Event {
     },
     /// It ignored a message.
     Ignored {
-        id: u64,
         message_type: MessageType,
         from: u64,
         why: WhyIgnored,
     },
     /// It refused a vote or a pre-vote. No line shows this by itself.
     RefusedVote {
-        id: u64,
         message_type: MessageType,
         from: u64,
         why: WhyRefused,
     },
     /// It dropped a proposal.
-    DroppedProposal {
-        id: u64,
-    },
+    DroppedProposal,
     /// It removed entries that conflict with its leader's. `last` is the index of the last of them. No line shows this event.
     RemovedEntries {
-        id: u64,
         last: u64,
         entries: Entries,
     },
     /// A leader's append conflicts with a committed entry.
     Conflict {
-        id: u64,
         index: u64,
         commit: u64,
     },
     /// Its log is full.
-    AppendsNothing {
-        id: u64,
-    },
+    AppendsNothing,
     /// An empty entry replaced a change at an index.
     ReplacedChange {
-        id: u64,
         index: u64,
         why: WhyReplaced,
     },
     /// It switched to another configuration.
     Switched {
-        id: u64,
         config: Config,
     },
     /// It refused a committed change.
     RefusedChange {
-        id: u64,
         index: u64,
         fault: ChangeFault,
     },
     /// It restored a leader's snapshot.
     Restored {
-        id: u64,
         term: u64,
         index: u64,
     },
     /// It began a leadership transfer.
     TransferStarts {
-        id: u64,
         to: u64,
     },
     /// It ended a leadership transfer.
     TransferEnds {
-        id: u64,
         to: u64,
     },
     /// It is a leader that hasn't heard from a quorum for an election timeout.
-    LostQuorum {
-        id: u64,
-    },
-}
-
-impl Event {
-    ghost use Rattle.std.specs.Prelude.{◌≡◌};
-    ghost use Rattle.rb_message.specs.Events.{event_node};
-
-    /// The node that the event is of.
-    #[tactic(auto, unfolding(crate::specs::Events::event_node))]
-    pub fn node(&self) -> u64
-        ensures { result ≡ event_node self.now }
-    {
-        match self {
-            Event::Started { id, .. } => *id,
-            Event::Became { id, .. } => *id,
-            Event::CannotCampaign { id, .. } => *id,
-            Event::VoteCounted { id, .. } => *id,
-            Event::Ignored { id, .. } => *id,
-            Event::RefusedVote { id, .. } => *id,
-            Event::DroppedProposal { id } => *id,
-            Event::RemovedEntries { id, .. } => *id,
-            Event::Conflict { id, .. } => *id,
-            Event::AppendsNothing { id } => *id,
-            Event::ReplacedChange { id, .. } => *id,
-            Event::Switched { id, .. } => *id,
-            Event::RefusedChange { id, .. } => *id,
-            Event::Restored { id, .. } => *id,
-            Event::TransferStarts { id, .. } => *id,
-            Event::TransferEnds { id, .. } => *id,
-            Event::LostQuorum { id } => *id,
-        }
-    }
+    LostQuorum,
 }

@@ -15,7 +15,7 @@ mod outbox;
 mod role;
 
 pub use append::Append;
-pub use event::{Event, WhyIgnored, WhyNoCampaign, WhyRefused, WhyReplaced};
+pub use event::{Event, EventKind, WhyIgnored, WhyNoCampaign, WhyRefused, WhyReplaced};
 pub use hard_state::HardState;
 pub use install::Install;
 pub use kind::MessageKind;

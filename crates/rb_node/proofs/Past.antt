@@ -7,7 +7,8 @@ use Rattle.rb_raftlog.specs.declared.raft_log.Appended.TheVariants.{Refused}
 use Rattle.rb_raftlog.specs.declared.raft_log.LogFault.TheVariants.{Unavailable}
 use Rattle.rb_raftlog.specs.Log.{LogValue, last, term_at, is_term, appended, answer, given_way, hint}
 use Rattle.rb_raftlog.proofs.GoneLaws.{none_past}
-use Rattle.rb_message.specs.declared.event.Event.TheVariants.{RemovedEntries}
+use Rattle.rb_message.specs.declared.event.EventKind.TheVariants as event
+use Rattle.rb_message.specs.Events.{event_at}
 use Rattle.rb_node.specs.Following.{removal}
 
 pub term_at_past : (v : LogValue) (i : ℕ) → last v < i → term_at v i ≡ Err Unavailable
@@ -32,6 +33,6 @@ pub given_way_past : (v : LogValue) (prev term : ℕ) (es : List Entry) (commit 
 given_way_past v prev term es commit low = none_past v prev term commit es low
 
 -- some entries that are removed are one event
-pub removal_some : (id : ℕ) (v : LogValue) (es : List Entry) → (es ≡ [] → ⊥) → removal id v es ≡ RemovedEntries id (last v) es ∷ []
+pub removal_some : (id : ℕ) (v : LogValue) (es : List Entry) → (es ≡ [] → ⊥) → removal id v es ≡ event_at id (event.RemovedEntries (last v) es) ∷ []
 removal_some id v [] some = absurd (some refl)
 removal_some id v (e ∷ es) some = refl

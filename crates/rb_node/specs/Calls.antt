@@ -6,7 +6,8 @@ use Rattle.rb_raftlog.specs.Log.{IsCompacted}
 use Rattle.rb_tracker.specs.Progresses.{PlainProgress, probed}
 use Rattle.rb_tracker.specs.Trackers.{place, view_at}
 use Rattle.rb_message.specs.declared.event.Event.{Event}
-use Rattle.rb_message.specs.declared.event.Event.TheVariants.{Started}
+use Rattle.rb_message.specs.declared.event.EventKind.TheVariants as event
+use Rattle.rb_message.specs.Events.{event_at}
 use Rattle.rb_message.specs.declared.kind.MessageKind.{MessageKind}
 use Rattle.rb_message.specs.declared.role.Role.{Role}
 use Rattle.rb_message.specs.declared.role.Role.TheVariants as role
@@ -19,7 +20,7 @@ use Rattle.rb_node.specs.Step.{stepped}
 abbrev pub node_started : ℕ → Snapshot → Options → List Event → NodeStep
 node_started id start options events =
     let node = started id start options in
-    node_step node (events ++ Started id start.term start.index node.tracker.config ∷ [])
+    node_step node (events ++ event_at id (event.Started start.term start.index node.tracker.config) ∷ [])
 
 -- a message of the node to itself, without a term: a proposal, or a request to transfer leadership
 abbrev pub called : NodeStep → MessageKind → NodeStep

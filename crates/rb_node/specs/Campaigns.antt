@@ -6,7 +6,8 @@ use Rattle.rb_tracker.specs.Ballots.{no_votes}
 use Rattle.rb_tracker.specs.Configs.{voters, is_voter}
 use Rattle.rb_message.specs.declared.event.WhyNoCampaign.{WhyNoCampaign}
 use Rattle.rb_message.specs.declared.event.WhyNoCampaign.TheVariants as why
-use Rattle.rb_message.specs.declared.event.Event.TheVariants.{Became, CannotCampaign}
+use Rattle.rb_message.specs.declared.event.EventKind.TheVariants as event
+use Rattle.rb_message.specs.Events.{event_at}
 use Rattle.rb_message.specs.declared.kind.MessageKind.{MessageKind}
 use Rattle.rb_message.specs.declared.kind.MessageKind.TheVariants as kind
 use Rattle.rb_message.specs.declared.role.Role.TheVariants as role
@@ -48,7 +49,7 @@ candidate n = record (reset n (n.term + 1)) { vote = n.id; role = role.Candidate
 
 abbrev pub became_candidate : NodeStep → Bool → NodeStep
 became_candidate t transfer =
-    with_event (with_node t (asked_for_votes (candidate t.node) transfer)) (Became t.node.id role.Candidate (t.node.term + 1))
+    with_event (with_node t (asked_for_votes (candidate t.node) transfer)) (event_at t.node.id (event.Became role.Candidate (t.node.term + 1)))
 
 -- a precandidate changes neither its term nor its vote
 abbrev pub precandidate : PlainNode → PlainNode
@@ -56,11 +57,11 @@ precandidate n = record (with_timeout n ELECTION_TICKS) { role = role.Precandida
 
 abbrev pub became_precandidate : NodeStep → NodeStep
 became_precandidate t =
-    with_event (with_node t (asked_for_pre_votes (precandidate t.node))) (Became t.node.id role.Precandidate t.node.term)
+    with_event (with_node t (asked_for_pre_votes (precandidate t.node))) (event_at t.node.id (event.Became role.Precandidate t.node.term))
 
 -- a campaign; one for a leadership transfer skips the pre-vote
 abbrev pub campaigned_unless : Option WhyNoCampaign → NodeStep → Bool → NodeStep
-campaigned_unless (Some reason) t transfer = with_event t (CannotCampaign t.node.id reason)
+campaigned_unless (Some reason) t transfer = with_event t (event_at t.node.id (event.CannotCampaign reason))
 campaigned_unless None t transfer = if t.node.options.pre_vote && not transfer then became_precandidate t else became_candidate t transfer
 
 unfoldable pub campaigned : NodeStep → Bool → NodeStep
@@ -68,7 +69,7 @@ campaigned t transfer = campaigned_unless (why_no_campaign t.node) t transfer
 
 -- the campaign after a won pre-vote
 abbrev pub became_candidate_unless : Option WhyNoCampaign → NodeStep → NodeStep
-became_candidate_unless (Some reason) t = with_event t (CannotCampaign t.node.id reason)
+became_candidate_unless (Some reason) t = with_event t (event_at t.node.id (event.CannotCampaign reason))
 became_candidate_unless None t = became_candidate t false
 
 unfoldable pub campaigned_after_pre_vote : NodeStep → NodeStep

@@ -12,7 +12,8 @@ use Rattle.rb_tracker.specs.Progresses.{PlainProgress}
 use Rattle.rb_tracker.specs.Trackers.{has_view, ids_of, removed, configured}
 use Rattle.rb_tracker.specs.declared.config.Config.{Config}
 use Rattle.rb_tracker.specs.declared.changes.ChangeFault.{ChangeFault}
-use Rattle.rb_message.specs.declared.event.Event.TheVariants.{Switched, RefusedChange}
+use Rattle.rb_message.specs.declared.event.EventKind.TheVariants as event
+use Rattle.rb_message.specs.Events.{event_at}
 use Rattle.rb_node.specs.Node.{PlainNode, NodeStep, with_event, with_node, is_leader}
 use Rattle.rb_node.specs.Terms.{became_follower}
 use Rattle.rb_node.specs.Leading.{with_views, checked_commit, appended_change, all_sent_append}
@@ -65,8 +66,8 @@ continued_after_switch t =
 -- a change that can't be made is shown and left out (this project's)
 abbrev pub switched : Result Config ChangeFault → NodeStep → NodeStep
 switched (Ok c) t =
-    continued_after_switch (with_event (with_node t (record t.node { tracker = configured t.node.tracker c })) (Switched t.node.id c))
-switched (Err fault) t = with_event t (RefusedChange t.node.id t.node.applied fault)
+    continued_after_switch (with_event (with_node t (record t.node { tracker = configured t.node.tracker c })) (event_at t.node.id (event.Switched c)))
+switched (Err fault) t = with_event t (event_at t.node.id (event.RefusedChange t.node.applied fault))
 
 unfoldable pub change_applied : NodeStep → Transition → List Word → NodeStep
 change_applied t transition words = switched (changed t.node.tracker.config transition words) t

@@ -10,7 +10,8 @@ use Rattle.rb_tracker.specs.Configs.{config_of}
 use Rattle.rb_tracker.specs.Trackers.{configured}
 use Rattle.rb_message.specs.Appends.{PlainAppend}
 use Rattle.rb_message.specs.declared.event.Event.{Event}
-use Rattle.rb_message.specs.declared.event.Event.TheVariants.{DroppedProposal, RemovedEntries, Conflict, Restored}
+use Rattle.rb_message.specs.declared.event.EventKind.TheVariants as event
+use Rattle.rb_message.specs.Events.{event_at}
 use Rattle.rb_message.specs.declared.event.WhyIgnored.TheVariants as why
 use Rattle.rb_message.specs.declared.kind.MessageKind.{MessageKind}
 use Rattle.rb_message.specs.declared.kind.MessageKind.TheVariants as kind
@@ -40,7 +41,7 @@ abbrev pub after_log : Appended → NodeStep → ℕ → PlainAppend → NodeSte
 after_log (Matched i) t from append =
     with_node t (answered_with (commits_to t.node (min append.commit i)) from t.node.term (kind.AppendResponse i))
 after_log (Refused hint) t from append = with_node t (answered_with t.node from t.node.term (kind.AppendRefusal append.prev hint))
-after_log (BelowCommit i) t from append = with_event t (Conflict t.node.id i t.node.commit)
+after_log (BelowCommit i) t from append = with_event t (event_at t.node.id (event.Conflict i t.node.commit))
 
 abbrev pub with_appended : PlainNode → ℕ → PlainAppend → PlainNode
 with_appended n from append =
@@ -49,7 +50,7 @@ with_appended n from append =
 -- the event that these entries of a log are removed, if there are any
 abbrev pub removal : ℕ → LogValue → List Entry → List Event
 removal id v [] = []
-removal id v (e ∷ es) = RemovedEntries id (last v) (e ∷ es) ∷ []
+removal id v (e ∷ es) = event_at id (event.RemovedEntries (last v) (e ∷ es)) ∷ []
 
 -- an append that removes entries reports them
 abbrev pub removal_reported : NodeStep → PlainAppend → NodeStep
@@ -80,7 +81,7 @@ with_match n from = answered_with n from n.term (kind.AppendResponse n.commit)
 
 abbrev pub new_snapshot_handled : NodeStep → ℕ → Snapshot → NodeStep
 new_snapshot_handled t from snapshot =
-    with_event (with_node t (with_match (restored_to t.node snapshot) from)) (Restored t.node.id snapshot.term snapshot.index)
+    with_event (with_node t (with_match (restored_to t.node snapshot) from)) (event_at t.node.id (event.Restored snapshot.term snapshot.index))
 
 -- a snapshot up to the commit is answered with the commit; one whose entry is in the log only raises the commit
 unfoldable pub snapshot_handled : NodeStep → ℕ → Snapshot → NodeStep
@@ -95,7 +96,7 @@ abbrev pub forwarded_to_leader : PlainNode → MessageKind → PlainNode
 forwarded_to_leader n what = posted_at n n.lead 0 what
 
 abbrev pub proposal_forwarded : NodeStep → MessageKind → NodeStep
-proposal_forwarded t what = if t.node.lead == 0 then with_event t (DroppedProposal t.node.id) else with_node t (forwarded_to_leader t.node what)
+proposal_forwarded t what = if t.node.lead == 0 then with_event t (event_at t.node.id event.DroppedProposal) else with_node t (forwarded_to_leader t.node what)
 
 abbrev pub transfer_forwarded : NodeStep → MessageKind → Message → NodeStep
 transfer_forwarded t what m = if t.node.lead == 0 then ignored t m why.NoLeader else with_node t (forwarded_to_leader t.node what)

@@ -8,7 +8,8 @@ use Rattle.rb_tracker.specs.Commits.{commit_of}
 use Rattle.rb_tracker.specs.Progresses.{PlainProgress, probing, own_view}
 use Rattle.rb_tracker.specs.Configs.{members}
 use Rattle.rb_tracker.specs.Trackers.{has_view, with_new}
-use Rattle.rb_message.specs.declared.event.Event.TheVariants.{Became, AppendsNothing}
+use Rattle.rb_message.specs.declared.event.EventKind.TheVariants as event
+use Rattle.rb_message.specs.Events.{event_at}
 use Rattle.rb_message.specs.declared.kind.MessageKind.TheVariants as kind
 use Rattle.rb_message.specs.declared.role.Role.TheVariants as role
 use Rattle.rb_node.specs.Node.{PlainNode, NodeStep, with_event, with_node, answered_with}
@@ -25,12 +26,12 @@ is_log_full n = nat_le MAX_INDEX (last n.log)
 
 -- at the limit of indexes nothing is appended (this project's)
 abbrev pub appended : NodeStep → Body → NodeStep
-appended t body = if is_log_full t.node then with_event t (AppendsNothing t.node.id) else with_node t (with_own t.node body)
+appended t body = if is_log_full t.node then with_event t (event_at t.node.id event.AppendsNothing) else with_node t (with_own t.node body)
 
 -- a change, which is then the pending one
 abbrev pub appended_change : NodeStep → Body → NodeStep
 appended_change t body =
-    if is_log_full t.node then with_event t (AppendsNothing t.node.id)
+    if is_log_full t.node then with_event t (event_at t.node.id event.AppendsNothing)
     else with_node t (record (with_own t.node body) { pending_change = last t.node.log + 1 })
 
 -- the first view of a member, and of the leader itself
@@ -61,7 +62,7 @@ all_sent_append t = with_node t (append_broadcast t.node)
 
 -- a new leader appends an empty entry of its term, since it commits entries of earlier terms by one of its own alone
 unfoldable pub became_leader : NodeStep → NodeStep
-became_leader t = all_sent_append (appended (with_event (with_node t (leading t.node)) (Became t.node.id role.Leader t.node.term)) (Payload []))
+became_leader t = all_sent_append (appended (with_event (with_node t (leading t.node)) (event_at t.node.id (event.Became role.Leader t.node.term))) (Payload []))
 
 -- an index that the quorum holds is committed if the entry there is of the leader's own term (section 3.6.2)
 abbrev pub can_commit : PlainNode → ℕ → Bool

@@ -9,7 +9,8 @@ use Rattle.rb_tracker.specs.Trackers.{PlainTracker, no_views}
 use Rattle.rb_tracker.specs.declared.votes.Votes.{Votes}
 use Rattle.rb_message.specs.Messages.{type_of}
 use Rattle.rb_message.specs.declared.event.Event.{Event}
-use Rattle.rb_message.specs.declared.event.Event.TheVariants.{Ignored}
+use Rattle.rb_message.specs.declared.event.EventKind.TheVariants as event
+use Rattle.rb_message.specs.Events.{event_at}
 use Rattle.rb_message.specs.declared.event.WhyIgnored.{WhyIgnored}
 use Rattle.rb_message.specs.declared.hard_state.HardState.{HardState}
 use Rattle.rb_message.specs.declared.kind.MessageKind.{MessageKind}
@@ -107,11 +108,11 @@ with_node t node = record t { node = node }
 
 -- one more event
 abbrev pub with_event : NodeStep → Event → NodeStep
-with_event t event = record t { events = t.events ++ event ∷ [] }
+with_event t e = record t { events = t.events ++ e ∷ [] }
 
 -- a message is ignored
 abbrev pub ignored : NodeStep → Message → WhyIgnored → NodeStep
-ignored t m why = with_event t (Ignored t.node.id (type_of m.kind) m.from why)
+ignored t m why = with_event t (event_at t.node.id (event.Ignored (type_of m.kind) m.from why))
 
 abbrev pub message : ℕ → ℕ → ℕ → MessageKind → Message
 message from to term what = record { from = from; to = to; term = term; kind = what }

@@ -1,7 +1,8 @@
 -- Stepping a message: three cases of its term, and then the table of roles (etcd raft documentation, "MessageType")
 use Rattle.std.specs.Prelude.{true, ◌||◌, not, if◌then◌else◌, nat_lt, ◌==◌}
 use Rattle.rb_message.specs.Messages.{has_term}
-use Rattle.rb_message.specs.declared.event.Event.TheVariants.{DroppedProposal}
+use Rattle.rb_message.specs.declared.event.EventKind.TheVariants as event
+use Rattle.rb_message.specs.Events.{event_at}
 use Rattle.rb_message.specs.declared.event.WhyIgnored.TheVariants as why
 use Rattle.rb_message.specs.declared.kind.MessageKind.{MessageKind}
 use Rattle.rb_message.specs.declared.kind.MessageKind.TheVariants as kind
@@ -37,7 +38,7 @@ as_precandidate (kind.PreVoteResponse granted) t m = pre_vote_response_handled t
 as_precandidate (kind.Append append) t m = leader_followed t m
 as_precandidate (kind.Heartbeat commit) t m = leader_followed t m
 as_precandidate (kind.Snapshot snapshot) t m = leader_followed t m
-as_precandidate (kind.Proposal body) t m = with_event t (DroppedProposal t.node.id)
+as_precandidate (kind.Proposal body) t m = with_event t (event_at t.node.id event.DroppedProposal)
 as_precandidate _ t m = ignored t m (why.NoUse role.Precandidate)
 
 abbrev pub as_candidate : MessageKind → NodeStep → Message → NodeStep
@@ -45,7 +46,7 @@ as_candidate (kind.VoteResponse granted) t m = vote_response_handled t m granted
 as_candidate (kind.Append append) t m = leader_followed t m
 as_candidate (kind.Heartbeat commit) t m = leader_followed t m
 as_candidate (kind.Snapshot snapshot) t m = leader_followed t m
-as_candidate (kind.Proposal body) t m = with_event t (DroppedProposal t.node.id)
+as_candidate (kind.Proposal body) t m = with_event t (event_at t.node.id event.DroppedProposal)
 as_candidate _ t m = ignored t m (why.NoUse role.Candidate)
 
 abbrev pub as_leader : MessageKind → NodeStep → Message → NodeStep

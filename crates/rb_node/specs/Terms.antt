@@ -2,7 +2,8 @@
 use Rattle.std.specs.Prelude.{ℕ, Bool, false, ◌&&◌, ◌||◌, not, if◌then◌else◌, nat_lt, ◌==◌}
 use Rattle.rb_tracker.specs.Trackers.{cleared}
 use Rattle.rb_tracker.specs.Ballots.{no_votes}
-use Rattle.rb_message.specs.declared.event.Event.TheVariants.{Became, RefusedVote}
+use Rattle.rb_message.specs.declared.event.EventKind.TheVariants as event
+use Rattle.rb_message.specs.Events.{event_at}
 use Rattle.rb_message.specs.declared.event.WhyIgnored.TheVariants as why
 use Rattle.rb_message.specs.declared.event.WhyRefused.{WhyRefused}
 use Rattle.rb_message.specs.declared.event.WhyRefused.TheVariants as why_not
@@ -31,7 +32,7 @@ reset n term = record n {
 -- a follower in a term, with or without a known leader
 abbrev pub became_follower : NodeStep → ℕ → ℕ → NodeStep
 became_follower t term lead =
-    with_event (with_node t (record (reset t.node term) { lead = lead; role = role.Follower })) (Became t.node.id role.Follower term)
+    with_event (with_node t (record (reset t.node term) { lead = lead; role = role.Follower })) (event_at t.node.id (event.Became role.Follower term))
 
 -- A later term. A question before a vote, and the answer yes to it, name a term that nobody may reach; all else is of a term that
 -- somebody has, and what a leader alone sends names the leader.
@@ -57,7 +58,7 @@ earlier_term_ignored t m = ignored t m (why.EarlierTerm m.term t.node.term)
 
 -- a vote or a pre-vote is refused
 abbrev pub refused_vote : NodeStep → Message → WhyRefused → NodeStep
-refused_vote t m why = with_event t (RefusedVote t.node.id (type_of m.kind) m.from why)
+refused_vote t m why = with_event t (event_at t.node.id (event.RefusedVote (type_of m.kind) m.from why))
 
 abbrev pub term_revealed : NodeStep → Message → NodeStep
 term_revealed t m =

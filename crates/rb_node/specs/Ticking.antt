@@ -5,7 +5,8 @@ use Rattle.rb_tracker.specs.Active.{quorum_active, others_marked_inactive}
 use Rattle.rb_tracker.specs.Commits.{match_of}
 use Rattle.rb_tracker.specs.Configs.{is_voter}
 use Rattle.rb_tracker.specs.Trackers.{ids_of}
-use Rattle.rb_message.specs.declared.event.Event.TheVariants.{LostQuorum}
+use Rattle.rb_message.specs.declared.event.EventKind.TheVariants as event
+use Rattle.rb_message.specs.Events.{event_at}
 use Rattle.rb_message.specs.declared.kind.MessageKind.TheVariants as kind
 use Rattle.rb_message.specs.declared.role.Role.{Role}
 use Rattle.rb_message.specs.declared.role.Role.TheVariants as role
@@ -41,11 +42,14 @@ has_lost_quorum n = n.options.check_quorum && not (quorum_active n.tracker)
 abbrev pub activity_reset : PlainNode → PlainNode
 activity_reset n = if n.options.check_quorum then record n { tracker = others_marked_inactive n.tracker n.id } else n
 
+abbrev pub quorum_lost : NodeStep → NodeStep
+quorum_lost t = with_event t (event_at t.node.id event.LostQuorum)
+
 -- a leader without an active quorum steps down; otherwise it cancels a transfer, which has taken too long
 unfoldable pub active_quorum_checked : NodeStep → NodeStep
 active_quorum_checked t =
     let u = transfer_ended (with_node t (activity_reset t.node)) in
-    if has_lost_quorum t.node then became_follower (with_event t (LostQuorum t.node.id)) t.node.term 0
+    if has_lost_quorum t.node then became_follower (quorum_lost t) t.node.term 0
     else with_node u (due_heartbeats_sent u.node)
 
 -- both counters after one more tick

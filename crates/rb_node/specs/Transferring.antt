@@ -3,7 +3,8 @@ use Rattle.std.specs.Prelude.{ℕ, Bool, ◌||◌, not, if◌then◌else◌, ◌
 use Rattle.rb_raftlog.specs.Log.{last}
 use Rattle.rb_tracker.specs.Commits.{match_of}
 use Rattle.rb_tracker.specs.Configs.{is_voter}
-use Rattle.rb_message.specs.declared.event.Event.TheVariants.{TransferStarts, TransferEnds}
+use Rattle.rb_message.specs.declared.event.EventKind.TheVariants as event
+use Rattle.rb_message.specs.Events.{event_at}
 use Rattle.rb_message.specs.declared.event.WhyIgnored.{WhyIgnored}
 use Rattle.rb_message.specs.declared.event.WhyIgnored.TheVariants as why
 use Rattle.rb_message.specs.declared.kind.MessageKind.TheVariants as kind
@@ -23,7 +24,7 @@ why_no_transfer n target =
     else (if target == n.id then why.LeadsAlready target else why.IsUnderWay target)
 
 abbrev pub previous_transfer_ended : NodeStep → NodeStep
-previous_transfer_ended t = if t.node.transferee == 0 then t else with_event t (TransferEnds t.node.id t.node.transferee)
+previous_transfer_ended t = if t.node.transferee == 0 then t else with_event t (event_at t.node.id (event.TransferEnds t.node.transferee))
 
 -- a target that holds the whole log gets TimeoutNow, one that lags gets entries
 abbrev pub timeout_now_sent : PlainNode → ℕ → PlainNode
@@ -31,7 +32,7 @@ timeout_now_sent n target = if match_of n.tracker.views target == last n.log the
 
 abbrev pub transfer_started : NodeStep → ℕ → NodeStep
 transfer_started t target =
-    with_node (with_event t (TransferStarts t.node.id target)) (timeout_now_sent (record (with_elapsed t.node 0) { transferee = target }) target)
+    with_node (with_event t (event_at t.node.id (event.TransferStarts target))) (timeout_now_sent (record (with_elapsed t.node 0) { transferee = target }) target)
 
 unfoldable pub transfer_leader_handled : NodeStep → Message → ℕ → NodeStep
 transfer_leader_handled t m target = if cannot_take_lead t.node target then ignored t m (why_no_transfer t.node target) else transfer_started (previous_transfer_ended t) target
@@ -40,4 +41,4 @@ transfer_leader_handled t m target = if cannot_take_lead t.node target then igno
 unfoldable pub transfer_ended : NodeStep → NodeStep
 transfer_ended t =
     if t.node.transferee == 0 then t
-    else with_node (with_event t (TransferEnds t.node.id t.node.transferee)) (record t.node { transferee = 0 })
+    else with_node (with_event t (event_at t.node.id (event.TransferEnds t.node.transferee))) (record t.node { transferee = 0 })

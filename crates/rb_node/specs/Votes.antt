@@ -5,7 +5,8 @@ use Rattle.rb_tracker.specs.Ballots.{answered, vote_result}
 use Rattle.rb_tracker.specs.declared.votes.VoteResult.{VoteResult}
 use Rattle.rb_tracker.specs.declared.votes.VoteResult.TheVariants as vote
 use Rattle.rb_message.specs.Messages.{type_of}
-use Rattle.rb_message.specs.declared.event.Event.TheVariants.{VoteCounted}
+use Rattle.rb_message.specs.declared.event.EventKind.TheVariants as event
+use Rattle.rb_message.specs.Events.{event_at}
 use Rattle.rb_message.specs.declared.event.WhyRefused.{WhyRefused}
 use Rattle.rb_message.specs.declared.event.WhyRefused.TheVariants as why_not
 use Rattle.rb_message.specs.declared.kind.MessageKind.TheVariants as kind
@@ -55,7 +56,7 @@ count_of n from granted = vote_result n.tracker.config (answered n.votes from gr
 abbrev pub vote_counted : NodeStep → Message → Bool → NodeStep
 vote_counted t m granted =
     with_event (with_node t (record t.node { votes = answered t.node.votes m.from granted }))
-    (VoteCounted t.node.id (type_of m.kind) granted m.from (count_of t.node m.from granted))
+    (event_at t.node.id (event.VoteCounted (type_of m.kind) granted m.from (count_of t.node m.from granted)))
 
 -- what a candidate does, by the result of the vote
 abbrev pub decided : VoteResult → NodeStep → NodeStep

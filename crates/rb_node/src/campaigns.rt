@@ -11,7 +11,7 @@ ghost use Rattle.rb_node.specs.Campaigns.{why_no_campaign, asked_one, asked, ask
 
 use crate::limits::ELECTION_TICKS;
 use crate::state::State;
-use rb_message::{Event, MessageKind, Role, WhyNoCampaign};
+use rb_message::{Event, EventKind, MessageKind, Role, WhyNoCampaign};
 use rb_raftlog::{MAX_TERM, RaftLog};
 use std::alloc::AllocError;
 
@@ -109,10 +109,12 @@ impl<L: RaftLog> State<L> {
         self.reset(self.term + 1);
         self.vote = self.id;
         self.role = Role::Candidate;
-        events.push(Event::Became {
+        events.push(Event {
             id: self.id,
-            role: Role::Candidate,
-            term: self.term,
+            kind: EventKind::Became {
+                role: Role::Candidate,
+                term: self.term,
+            },
         })?;
         self.ask_for_votes(transfer)
     }
@@ -126,10 +128,12 @@ impl<L: RaftLog> State<L> {
         self.votes.clear();
         self.lead = 0;
         self.clock.timeout = ELECTION_TICKS;
-        events.push(Event::Became {
+        events.push(Event {
             id: self.id,
-            role: Role::Precandidate,
-            term: self.term,
+            kind: EventKind::Became {
+                role: Role::Precandidate,
+                term: self.term,
+            },
         })?;
         self.ask_for_pre_votes()
     }
@@ -144,7 +148,10 @@ impl<L: RaftLog> State<L> {
         ensures { OnOk result (node_step self.new events.new.items ≡ campaigned (node_step self.old events.old.items) transfer) }
     {
         if let Some(why) = self.why_no_campaign() {
-            events.push(Event::CannotCampaign { id: self.id, why })?;
+            events.push(Event {
+                id: self.id,
+                kind: EventKind::CannotCampaign { why },
+            })?;
             return Ok(());
         }
         if self.options.pre_vote && !transfer {
@@ -163,7 +170,10 @@ impl<L: RaftLog> State<L> {
         ensures { OnOk result (node_step self.new events.new.items ≡ campaigned_after_pre_vote (node_step self.old events.old.items)) }
     {
         if let Some(why) = self.why_no_campaign() {
-            events.push(Event::CannotCampaign { id: self.id, why })?;
+            events.push(Event {
+                id: self.id,
+                kind: EventKind::CannotCampaign { why },
+            })?;
             return Ok(());
         }
         self.become_candidate(false, events)

@@ -7,12 +7,13 @@ ghost use Rattle.std.specs.Prelude.{◌≡◌, ◌+◌, ◌≤◌, [], length, I
 ghost use Rattle.rb_raftlog.specs.declared.entry.Body.TheVariants.{Change};
 ghost use Rattle.rb_vocab.specs.declared.change.Transition.TheVariants.{Auto};
 ghost use Rattle.rb_raftlog.specs.declared.limits.TheConstants.{MAX_INDEX};
-ghost use Rattle.rb_message.specs.declared.event.Event.TheVariants.{Switched};
+ghost use Rattle.rb_message.specs.declared.event.EventKind.TheVariants as event;
+ghost use Rattle.rb_message.specs.Events.{event_at};
 ghost use Rattle.rb_node.specs.Node.{node_step, with_event};
 ghost use Rattle.rb_node.specs.Changing.{missing, without_view, without_views, transfer_to_non_member_cancelled, new_members_added, members_added, views_updated, steps_down, continued_after_switch, switched, change_applied, applied_one, applied_all, leaves_joint, joint_left};
 
 use crate::state::State;
-use rb_message::{Event, Role};
+use rb_message::{Event, EventKind, Role};
 use rb_raftlog::{Body, Entry, RaftLog};
 use rb_tracker::{ChangeFault, Config};
 use rb_vocab::{Shared, Transition, Word};
@@ -105,12 +106,12 @@ impl<L: RaftLog> State<L> {
     }
 
     fn report_switch(&self, config: &Config, events: &mut Vec<Event>) -> Result<(), AllocError>
-        ensures { OnOk result (node_step self.now events.new.items ≡ with_event (node_step self.now events.old.items) (Switched self.now.id config.now)) }
+        ensures { OnOk result (node_step self.now events.new.items ≡ with_event (node_step self.now events.old.items) (event_at self.now.id (event.Switched config.now))) }
     {
         let config = config.try_copy()?;
-        events.push(Event::Switched {
+        events.push(Event {
             id: self.id,
-            config,
+            kind: EventKind::Switched { config },
         })?;
         Ok(())
     }
@@ -126,10 +127,12 @@ impl<L: RaftLog> State<L> {
     fn refuse_change(&self, fault: ChangeFault, events: &mut Vec<Event>) -> Result<(), AllocError>
         ensures { OnOk result (node_step self.now events.new.items ≡ switched (Err fault) (node_step self.now events.old.items)) }
     {
-        events.push(Event::RefusedChange {
+        events.push(Event {
             id: self.id,
-            index: self.applied,
-            fault,
+            kind: EventKind::RefusedChange {
+                index: self.applied,
+                fault,
+            },
         })?;
         Ok(())
     }

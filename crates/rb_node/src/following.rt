@@ -13,7 +13,7 @@ ghost use Rattle.rb_node.specs.Node.{node_step};
 ghost use Rattle.rb_node.specs.Following.{HasLimits, leader_contact_recorded, heartbeat_handled, after_log, with_appended, removal_reported, append_entries_handled, restored_to, with_match, new_snapshot_handled, snapshot_handled, forwarded_to_leader, proposal_forwarded, transfer_forwarded};
 
 use crate::state::State;
-use rb_message::{Append, Event, Install, Message, MessageKind, WhyIgnored};
+use rb_message::{Append, Event, EventKind, Install, Message, MessageKind, WhyIgnored};
 use rb_raftlog::{Appended, Entries, MAX_INDEX, RaftLog, Snapshot};
 use rb_tracker::Config;
 use std::alloc::AllocError;
@@ -92,10 +92,12 @@ impl<L: RaftLog> State<L> {
                 )
             }
             Appended::BelowCommit(index) => {
-                events.push(Event::Conflict {
+                events.push(Event {
                     id: self.id,
-                    index,
-                    commit: self.commit,
+                    kind: EventKind::Conflict {
+                        index,
+                        commit: self.commit,
+                    },
                 })?;
                 Ok(())
             }
@@ -124,10 +126,12 @@ impl<L: RaftLog> State<L> {
         if entries.is_empty() {
             return Ok(());
         }
-        events.push(Event::RemovedEntries {
+        events.push(Event {
             id: self.id,
-            last: self.log.last_index(),
-            entries,
+            kind: EventKind::RemovedEntries {
+                last: self.log.last_index(),
+                entries,
+            },
         })?;
         Ok(())
     }
@@ -181,10 +185,12 @@ impl<L: RaftLog> State<L> {
         ensures { OnOk result (node_step self.new events.new.items ≡ new_snapshot_handled (node_step self.old events.old.items) from snapshot.now) }
     {
         self.restore(snapshot)?;
-        events.push(Event::Restored {
+        events.push(Event {
             id: self.id,
-            term: snapshot.term,
-            index: snapshot.index,
+            kind: EventKind::Restored {
+                term: snapshot.term,
+                index: snapshot.index,
+            },
         })?;
         self.answer_match(from)
     }

@@ -6,12 +6,13 @@
 ghost use Rattle.std.specs.Prelude.{◌≡◌, ◌≤◌, [], false, IsTrue, IfOk, OnOk};
 ghost use Rattle.rb_raftlog.specs.declared.entry.Body.TheVariants.{Payload};
 ghost use Rattle.rb_raftlog.specs.declared.limits.TheConstants.{MAX_INDEX};
-ghost use Rattle.rb_message.specs.declared.event.Event.TheVariants.{AppendsNothing};
+ghost use Rattle.rb_message.specs.declared.event.EventKind.TheVariants as event;
+ghost use Rattle.rb_message.specs.Events.{event_at};
 ghost use Rattle.rb_node.specs.Node.{node_step, with_event};
 ghost use Rattle.rb_node.specs.Leading.{with_own, is_log_full, appended, appended_change, new_view, with_view_of, with_views, leading, became_leader, can_commit, checked_commit};
 
 use crate::state::State;
-use rb_message::{Event, MessageKind, Role};
+use rb_message::{Event, EventKind, MessageKind, Role};
 use rb_raftlog::{Body, Entry, MAX_INDEX, RaftLog};
 use rb_tracker::Progress;
 use rb_vocab::Shared;
@@ -44,9 +45,12 @@ impl<L: RaftLog> State<L> {
 
     // Reports that the log is full.
     pub(crate) fn append_nothing(&self, events: &mut Vec<Event>) -> Result<(), AllocError>
-        ensures { OnOk result (node_step self.now events.new.items ≡ with_event (node_step self.now events.old.items) (AppendsNothing self.now.id)) }
+        ensures { OnOk result (node_step self.now events.new.items ≡ with_event (node_step self.now events.old.items) (event_at self.now.id event.AppendsNothing)) }
     {
-        events.push(Event::AppendsNothing { id: self.id })?;
+        events.push(Event {
+            id: self.id,
+            kind: EventKind::AppendsNothing,
+        })?;
         Ok(())
     }
 
@@ -129,10 +133,12 @@ impl<L: RaftLog> State<L> {
         let id = self.id;
         let term = self.term;
         self.start_lead()?;
-        events.push(Event::Became {
+        events.push(Event {
             id,
-            role: Role::Leader,
-            term,
+            kind: EventKind::Became {
+                role: Role::Leader,
+                term,
+            },
         })?;
         let body = self.empty_payload()?;
         self.append(body, events)?;

@@ -2,14 +2,15 @@
 
 ghost use Rattle.std.specs.Prelude.{◌≡◌, ◌≤◌, ◌↔◌, [], ◌∷◌, ◌++◌, IsTrue, IfOk, OnOk};
 ghost use Rattle.rb_raftlog.specs.declared.limits.TheConstants.{MAX_INDEX};
-ghost use Rattle.rb_message.specs.declared.event.Event.TheVariants.{Started};
+ghost use Rattle.rb_message.specs.declared.event.EventKind.TheVariants as event;
+ghost use Rattle.rb_message.specs.Events.{event_at};
 ghost use Rattle.rb_node.specs.Node.{PlainNode, node_step};
 ghost use Rattle.rb_node.specs.Comparing.{HaveSameNumbers};
 ghost use Rattle.rb_node.specs.Calls.{node_started};
 
 use crate::options::Options;
 use crate::state::State;
-use rb_message::Event;
+use rb_message::{Event, EventKind};
 use rb_raftlog::{RaftLog, Snapshot};
 use rb_tracker::Config;
 use std::alloc::{AllocError, Global};
@@ -84,13 +85,15 @@ fn report_start(
     start: &Snapshot,
     events: &mut Vec<Event>,
 ) -> Result<(), AllocError>
-    ensures { IfOk result (λ _. events.new.items ≡ events.old.items ++ Started id start.now.term start.now.index config.now ∷ []) }
+    ensures { IfOk result (λ _. events.new.items ≡ events.old.items ++ event_at id (event.Started start.now.term start.now.index config.now) ∷ []) }
 {
     let config = config.try_copy()?;
-    Ok(events.push(Event::Started {
+    Ok(events.push(Event {
         id,
-        term: start.term,
-        index: start.index,
-        config,
+        kind: EventKind::Started {
+            term: start.term,
+            index: start.index,
+            config,
+        },
     })?)
 }

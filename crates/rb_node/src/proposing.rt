@@ -9,7 +9,7 @@ ghost use Rattle.rb_node.specs.Leading.{is_log_full};
 ghost use Rattle.rb_node.specs.Proposing.{why_replaced, change_or_empty_appended, proposal_appended, drops_proposals, proposal_handled};
 
 use crate::state::State;
-use rb_message::{Event, WhyReplaced};
+use rb_message::{Event, EventKind, WhyReplaced};
 use rb_raftlog::{Body, RaftLog};
 use std::alloc::AllocError;
 
@@ -42,10 +42,12 @@ impl<L: RaftLog> State<L> {
         match why {
             None => self.append_change(body, events),
             Some(why) => {
-                events.push(Event::ReplacedChange {
+                events.push(Event {
                     id: self.id,
-                    index: self.log.last_index() + 1,
-                    why,
+                    kind: EventKind::ReplacedChange {
+                        index: self.log.last_index() + 1,
+                        why,
+                    },
                 })?;
                 let body = self.empty_payload()?;
                 self.append(body, events)

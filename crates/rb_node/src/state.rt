@@ -8,7 +8,7 @@ mod copies;
 
 use crate::clock::Clock;
 use crate::options::Options;
-use rb_message::{Event, HardState, Message, MessageKind, Outbox, Role, WhyIgnored};
+use rb_message::{Event, EventKind, HardState, Message, MessageKind, Outbox, Role, WhyIgnored};
 use rb_raftlog::{Content, RaftLog, Snapshot};
 use rb_tracker::{Config, Tracker, Votes};
 use std::alloc::{AllocError, Global};
@@ -176,11 +176,13 @@ impl<L: RaftLog> State<L> {
     ) -> Result<(), AllocError>
         ensures { OnOk result (node_step self.now events.new.items ≡ ignored (node_step self.now events.old.items) message.now why) }
     {
-        events.push(Event::Ignored {
+        events.push(Event {
             id: self.id,
-            message_type: message.kind.message_type(),
-            from: message.from,
-            why,
+            kind: EventKind::Ignored {
+                message_type: message.kind.message_type(),
+                from: message.from,
+                why,
+            },
         })?;
         Ok(())
     }

@@ -5,13 +5,14 @@
 //! broken cluster are handled too.
 
 ghost use Rattle.std.specs.Prelude.{◌≡◌, OnOk};
-ghost use Rattle.rb_message.specs.declared.event.Event.TheVariants.{DroppedProposal};
+ghost use Rattle.rb_message.specs.declared.event.EventKind.TheVariants as event;
+ghost use Rattle.rb_message.specs.Events.{event_at};
 ghost use Rattle.rb_message.specs.declared.event.WhyIgnored.TheVariants.{NoUse};
 ghost use Rattle.rb_node.specs.Node.{node_step, with_event, ignored};
 ghost use Rattle.rb_node.specs.Step.{as_follower, leader_followed, as_precandidate, as_candidate, as_leader, by_role, at_term, stepped};
 
 use crate::state::State;
-use rb_message::{Event, Message, MessageKind, Role, WhyIgnored};
+use rb_message::{Event, EventKind, Message, MessageKind, Role, WhyIgnored};
 use rb_raftlog::RaftLog;
 use std::alloc::AllocError;
 
@@ -123,9 +124,12 @@ impl<L: RaftLog> State<L> {
     }
 
     pub(crate) fn drop_proposal(&self, events: &mut Vec<Event>) -> Result<(), AllocError>
-        ensures { OnOk result (node_step self.now events.new.items ≡ with_event (node_step self.now events.old.items) (DroppedProposal self.now.id)) }
+        ensures { OnOk result (node_step self.now events.new.items ≡ with_event (node_step self.now events.old.items) (event_at self.now.id event.DroppedProposal)) }
     {
-        events.push(Event::DroppedProposal { id: self.id })?;
+        events.push(Event {
+            id: self.id,
+            kind: EventKind::DroppedProposal,
+        })?;
         Ok(())
     }
 

@@ -10,7 +10,7 @@ ghost use Rattle.rb_node.specs.Terms.{reset, became_follower, stepped_later, ear
 use crate::clock::Clock;
 use crate::limits::ELECTION_TICKS;
 use crate::state::State;
-use rb_message::{Event, Message, MessageKind, Role, WhyIgnored, WhyRefused};
+use rb_message::{Event, EventKind, Message, MessageKind, Role, WhyIgnored, WhyRefused};
 use rb_raftlog::RaftLog;
 use std::alloc::AllocError;
 
@@ -43,10 +43,12 @@ impl<L: RaftLog> State<L> {
         self.reset(term);
         self.lead = lead;
         self.role = Role::Follower;
-        events.push(Event::Became {
+        events.push(Event {
             id: self.id,
-            role: Role::Follower,
-            term,
+            kind: EventKind::Became {
+                role: Role::Follower,
+                term,
+            },
         })?;
         Ok(())
     }
@@ -93,11 +95,13 @@ impl<L: RaftLog> State<L> {
     ) -> Result<(), AllocError>
         ensures { OnOk result (node_step self.now events.new.items ≡ refused_vote (node_step self.now events.old.items) message.now why) }
     {
-        events.push(Event::RefusedVote {
+        events.push(Event {
             id: self.id,
-            message_type: message.kind.message_type(),
-            from: message.from,
-            why,
+            kind: EventKind::RefusedVote {
+                message_type: message.kind.message_type(),
+                from: message.from,
+                why,
+            },
         })?;
         Ok(())
     }

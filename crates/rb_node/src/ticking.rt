@@ -12,7 +12,7 @@ ghost use Rattle.rb_node.specs.Ticking.{next_count, due_heartbeats_sent, active_
 use crate::limits::{ELECTION_TICKS, HEARTBEAT_TICKS, MAX_TICKS};
 use crate::node::Node;
 use crate::state::State;
-use rb_message::{Event, MessageKind, Role};
+use rb_message::{Event, EventKind, MessageKind, Role};
 use rb_raftlog::RaftLog;
 use std::alloc::AllocError;
 
@@ -51,7 +51,10 @@ fn check_active_quorum<L: RaftLog>(
     ensures { OnOk result (node_step state.new events.new.items ≡ active_quorum_checked (node_step state.old events.old.items)) }
 {
     if state.options.check_quorum && !state.tracker.quorum_active() {
-        events.push(Event::LostQuorum { id: state.id })?;
+        events.push(Event {
+            id: state.id,
+            kind: EventKind::LostQuorum,
+        })?;
         let term = state.term;
         return state.become_follower(term, 0, events);
     }

@@ -9,7 +9,7 @@ ghost use Rattle.rb_node.specs.Transferring.{cannot_take_lead, why_no_transfer, 
 
 use crate::sends::SendReason;
 use crate::state::State;
-use rb_message::{Event, Message, MessageKind, WhyIgnored};
+use rb_message::{Event, EventKind, Message, MessageKind, WhyIgnored};
 use rb_raftlog::RaftLog;
 use std::alloc::AllocError;
 
@@ -37,9 +37,11 @@ impl<L: RaftLog> State<L> {
         ensures { OnOk result (node_step self.now events.new.items ≡ previous_transfer_ended (node_step self.now events.old.items)) }
     {
         if self.transferee != 0 {
-            events.push(Event::TransferEnds {
+            events.push(Event {
                 id: self.id,
-                to: self.transferee,
+                kind: EventKind::TransferEnds {
+                    to: self.transferee,
+                },
             })?;
         }
         Ok(())
@@ -58,9 +60,9 @@ impl<L: RaftLog> State<L> {
     fn start_transfer(&mut self, target: u64, events: &mut Vec<Event>) -> Result<(), AllocError>
         ensures { OnOk result (node_step self.new events.new.items ≡ transfer_started (node_step self.old events.old.items) target) }
     {
-        events.push(Event::TransferStarts {
+        events.push(Event {
             id: self.id,
-            to: target,
+            kind: EventKind::TransferStarts { to: target },
         })?;
         self.clock.elapsed = 0;
         self.transferee = target;
@@ -90,9 +92,11 @@ impl<L: RaftLog> State<L> {
         ensures { OnOk result (node_step self.new events.new.items ≡ transfer_ended (node_step self.old events.old.items)) }
     {
         if self.transferee != 0 {
-            events.push(Event::TransferEnds {
+            events.push(Event {
                 id: self.id,
-                to: self.transferee,
+                kind: EventKind::TransferEnds {
+                    to: self.transferee,
+                },
             })?;
             self.transferee = 0;
         }

@@ -8,7 +8,7 @@ ghost use Rattle.rb_node.specs.Node.{node_step};
 ghost use Rattle.rb_node.specs.Votes.{can_vote_for, grants, why_refused, vote_request_handled, pre_vote_request_handled, count_of, vote_counted, vote_response_handled, pre_vote_response_handled};
 
 use crate::state::State;
-use rb_message::{Event, Message, MessageKind, WhyRefused};
+use rb_message::{Event, EventKind, Message, MessageKind, WhyRefused};
 use rb_raftlog::RaftLog;
 use rb_tracker::VoteResult;
 use std::alloc::AllocError;
@@ -124,12 +124,14 @@ impl<L: RaftLog> State<L> {
     {
         self.votes.answer(message.from, granted)?;
         let result = self.votes.result(self.tracker.config());
-        events.push(Event::VoteCounted {
+        events.push(Event {
             id: self.id,
-            message_type: message.kind.message_type(),
-            granted,
-            from: message.from,
-            result,
+            kind: EventKind::VoteCounted {
+                message_type: message.kind.message_type(),
+                granted,
+                from: message.from,
+                result,
+            },
         })?;
         Ok(result)
     }

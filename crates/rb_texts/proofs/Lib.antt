@@ -6,3 +6,4 @@ pub mod OneLineLaws
 pub mod ShownLaws
 pub mod PrintedLaws
 pub mod FewLaws
+pub mod FieldLaws

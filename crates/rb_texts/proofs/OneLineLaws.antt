@@ -1,8 +1,8 @@
 -- Each text is in one line: each of its bytes is from 32 to 126.
 use Rattle.std.proofs.Common.{◌≡◌, ℕ, ◌+◌, ◌%◌, ◌/◌, ◌<◌, ◌≤◌, Bool, true, false, List, [], ◌∷◌, ◌++◌, take, decimal, codes, refl, arith}
 use Rattle.std.specs.Prelude.{not, ◌&&◌, ◌==◌, nat_le, nat_lt, if◌then◌else◌}
-use Rattle.std.specs.List.{flat_map}
-use Rattle.std.proofs.lemmas.Bool.{and_from, le-leb}
+use Rattle.std.specs.List.{flat_map, list_all}
+use Rattle.std.proofs.lemmas.Bool.{and_from, and_parts, le-leb}
 use Rattle.std.proofs.lemmas.List.Folds.{list_all-append}
 use Rattle.rb_vocab.specs.declared.directive_error.DirectiveError.{DirectiveError}
 use Rattle.rb_vocab.specs.declared.directive_error.DirectiveError.TheVariants as errors
@@ -12,7 +12,8 @@ use Rattle.rb_vocab.specs.declared.message_type.MessageType.{MessageType}
 use Rattle.rb_vocab.specs.declared.message_type.MessageType.TheVariants as types
 use Rattle.rb_vocab.specs.MessageTypes.{type_text}
 use Rattle.rb_message.specs.declared.event.Event.{Event}
-use Rattle.rb_message.specs.declared.event.Event.TheVariants as events
+use Rattle.rb_message.specs.declared.event.EventKind.{EventKind}
+use Rattle.rb_message.specs.declared.event.EventKind.TheVariants as events
 use Rattle.rb_message.specs.declared.event.WhyNoCampaign.{WhyNoCampaign}
 use Rattle.rb_message.specs.declared.event.WhyNoCampaign.TheVariants as no_campaign
 use Rattle.rb_message.specs.declared.event.WhyReplaced.{WhyReplaced}
@@ -46,9 +47,10 @@ use Rattle.rb_texts.specs.declared.item.Verb.TheVariants as verbs
 use Rattle.rb_texts.specs.Configs.{ids_text, part_text, config_text}
 use Rattle.rb_texts.specs.Entries.{place_text, transition_text, letter, change_word, body_text, entry_text}
 use Rattle.rb_texts.specs.Errors.{error_text, WORD_SHOWN}
-use Rattle.rb_texts.specs.Events.{event_level, level_text, no_campaign_text, replaced_text, votes_text, fault_text, happening_text, event_text}
+use Rattle.rb_texts.specs.EventForms.{no_campaign_text, replaced_text, votes_text, fault_text, kind_form, event_form}
+use Rattle.rb_texts.specs.Events.{level_text, event_piece_text, event_text}
 use Rattle.rb_texts.specs.Items.{PlainNodeLine}
-use Rattle.rb_texts.specs.Messages.{answer_text, kind_text, term_text, message_text, verb_text}
+use Rattle.rb_texts.specs.Messages.{PlainField, named, place, answer, mark, refused, body, field_text, fields_of, fields_text, answer_text, kind_text, term_text, message_text, verb_text}
 use Rattle.rb_texts.specs.Quoted.{is_printable, is_plain, numbered, escaped, quoted}
 use Rattle.rb_texts.specs.Shapes.{is_one_line}
 use Rattle.rb_texts.specs.States.{role_text, node_text, hard_state_text, log_text, progress_state_text, under_way_text, mark_text, progress_text}
@@ -216,22 +218,38 @@ answer_one_line : (granted : Bool) → is_one_line (answer_text granted) ≡ tru
 answer_one_line true = refl
 answer_one_line false = refl
 
+-- so is a field whose name is
+has_name_in_line : PlainField → Bool
+has_name_in_line (named name n) = is_one_line name
+has_name_in_line (place name term index) = is_one_line name
+has_name_in_line (mark text applies) = is_one_line text
+has_name_in_line f = true
+
+field_one_line : (f : PlainField) → has_name_in_line f ≡ true → is_one_line (field_text f) ≡ true
+unfolding has_name_in_line
+field_one_line (named name n) h = joined name (decimal n) h (decimal_one_line n)
+field_one_line (place name term index) h = joined name (place_text term index) h (place_one_line term index)
+field_one_line (answer granted) h = answer_one_line granted
+field_one_line (mark text applies) h = shown_one_line applies text h
+field_one_line (refused is) h = refl
+field_one_line (body b) h = body_one_line b
+
+fields_one_line : (fs : List PlainField) → list_all has_name_in_line fs ≡ true → is_one_line (fields_text fs) ≡ true
+fields_one_line [] h = refl
+fields_one_line (f ∷ fs) h =
+    let parts = and_parts (has_name_in_line f) (list_all has_name_in_line fs) h in
+    joined (field_text f) (fields_text fs) (field_one_line f parts.0) (fields_one_line fs parts.1)
+
+-- the fields of each kind have such names
+names_in_line : (kind : MessageKind) → list_all has_name_in_line (fields_of kind) ≡ true
+unfolding fields_of has_name_in_line
+names_in_line (kinds.Vote term index transfer) = refl
+names_in_line kind = refl
+
 -- what a message says is in one line
 kind_one_line : (kind : MessageKind) → is_one_line (kind_text kind) ≡ true
 unfolding kind_text
-kind_one_line (kinds.Vote term index transfer) = joined (codes " last=" ++ place_text term index) _ (place_one_line term index) (shown_one_line transfer (codes " transfer") refl)
-kind_one_line (kinds.PreVote term index) = joined (codes " last=" ++ place_text term index) [] (place_one_line term index) refl
-kind_one_line (kinds.VoteResponse granted) = answer_one_line granted
-kind_one_line (kinds.PreVoteResponse granted) = answer_one_line granted
-kind_one_line (kinds.Append append) = simp (list_all-append, decimal_one_line)
-kind_one_line (kinds.AppendResponse matched) = decimal_one_line matched
-kind_one_line (kinds.AppendRefusal refused hint) = simp (list_all-append, decimal_one_line)
-kind_one_line (kinds.Heartbeat commit) = decimal_one_line commit
-kind_one_line kinds.HeartbeatResponse = refl
-kind_one_line (kinds.Snapshot snapshot) = place_one_line snapshot.term snapshot.index
-kind_one_line (kinds.Proposal body) = body_one_line body
-kind_one_line (kinds.TransferLeader target) = decimal_one_line target
-kind_one_line kinds.TimeoutNow = refl
+kind_one_line kind = fields_one_line (fields_of kind) (names_in_line kind)
 
 -- a message's term is in one line
 term_one_line : (m : Message) → is_one_line (term_text m) ≡ true
@@ -276,15 +294,17 @@ fault_one_line x = refl
 ruleset one_lines = (list_all-append, decimal_one_line, config_one_line, role_one_line, no_campaign_one_line, type_one_line, answer_one_line, votes_one_line, replaced_one_line, fault_one_line)
 
 -- what happened is in one line
-happening_one_line : (e : Event) → is_one_line (happening_text e) ≡ true
-unfolding happening_text
-happening_one_line (events.Started id term index config) = simp one_lines
-happening_one_line e = simp one_lines
+happening_one_line : (id : ℕ) (what : EventKind) → is_one_line (flat_map event_piece_text (kind_form id what).pieces) ≡ true
+unfolding kind_form
+happening_one_line id (events.Started term index c) = simp one_lines
+happening_one_line id what = simp one_lines
 
 -- an event is in one line
 pub event_one_line : (e : Event) → is_one_line (event_text e) ≡ true
 unfolding event_text
-event_one_line e = joined (level_text (event_level e)) (happening_text e) (level_one_line (event_level e)) (happening_one_line e)
+event_one_line e =
+    let said = flat_map event_piece_text (event_form e).pieces in
+    joined (level_text (event_form e).level) (decimal e.id ++ said) (level_one_line (event_form e).level) (joined (decimal e.id) said (decimal_one_line e.id) (happening_one_line e.id e.kind))
 
 -- an error is in one line
 pub error_one_line : (e : DirectiveError) → is_one_line (error_text e) ≡ true

@@ -1,7 +1,7 @@
 -- No line of an item is blank or ----, and each is one line.
 use Rattle.std.proofs.Common.{◌≡◌, ℕ, Bool, true, false, List, [], ◌∷◌, ◌++◌, decimal, codes, refl, ap, sym, ◌∙◌, inl, inr}
 use Rattle.std.specs.Prelude.{not, ◌&&◌, ◌||◌, ◌==◌, if◌then◌else◌}
-use Rattle.std.specs.List.{list_all, list_any}
+use Rattle.std.specs.List.{flat_map, list_all, list_any}
 use Rattle.std.proofs.lemmas.Bool.{and_from, cases_Bool, false≢true}
 use Rattle.std.proofs.Math.Bool.{or-true}
 use Rattle.std.proofs.lemmas.List.Folds.{list_any-append}
@@ -19,7 +19,8 @@ use Rattle.rb_texts.specs.declared.item.Verb.TheVariants as verbs
 use Rattle.rb_texts.specs.Configs.{config_text}
 use Rattle.rb_texts.specs.Entries.{entry_text}
 use Rattle.rb_texts.specs.Errors.{error_text}
-use Rattle.rb_texts.specs.Events.{event_level, level_text, happening_text, event_text}
+use Rattle.rb_texts.specs.EventForms.{event_form}
+use Rattle.rb_texts.specs.Events.{level_text, event_piece_text, event_text}
 use Rattle.rb_texts.specs.Items.{PlainNodeLine, PlainItem, nothing_else, ready, hard_state, snapshot, save, apply, send, nothing_ready, moved, no_messages, stopped, raft_state, raft_log, entry, config, progress, event, error}
 use Rattle.rb_texts.specs.Messages.{message_text, verb_text}
 use Rattle.rb_texts.specs.Shapes.{is_one_line, is_solid}
@@ -88,7 +89,7 @@ level_ink level rest = refl
 -- the level of an event is ink
 event_ink : (e : Event) → list_any is_ink (event_text e) ≡ true
 unfolding event_text
-event_ink e = level_ink (event_level e) (happening_text e)
+event_ink e = level_ink (event_form e).level (decimal e.id ++ flat_map event_piece_text (event_form e).pieces)
 
 -- an error's first letter is ink
 error_ink : (e : DirectiveError) → list_any is_ink (error_text e) ≡ true

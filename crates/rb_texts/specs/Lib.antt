@@ -8,6 +8,7 @@ pub mod Configs
 pub mod Entries
 pub mod Messages
 pub mod States
+pub mod EventForms
 pub mod Events
 pub mod Errors
 pub mod Texts

@@ -4,7 +4,8 @@ use Rattle.rb_vocab.specs.declared.level.Level.{Level}
 use Rattle.rb_vocab.specs.declared.level.Level.TheVariants as levels
 use Rattle.rb_vocab.specs.Levels.{rank}
 use Rattle.rb_message.specs.declared.event.Event.{Event}
-use Rattle.rb_message.specs.declared.event.Event.TheVariants as events
+use Rattle.rb_message.specs.declared.event.EventKind.{EventKind}
+use Rattle.rb_message.specs.declared.event.EventKind.TheVariants as events
 use Rattle.rb_message.specs.declared.event.WhyIgnored.{WhyIgnored}
 use Rattle.rb_message.specs.declared.event.WhyIgnored.TheVariants as ignored
 use Rattle.rb_message.specs.declared.event.WhyRefused.{WhyRefused}
@@ -20,11 +21,14 @@ use Rattle.rb_texts.specs.States.{role_text}
 
 -- ---- which item has one
 
+abbrev pub kind_reason : EventKind → Option Reason
+kind_reason (events.Ignored type from why) = Some (Ignored why)
+kind_reason (events.RefusedVote type from why) = Some (Refused why)
+kind_reason (events.RemovedEntries last es) = Some (GivesWay last es)
+kind_reason what = None
+
 abbrev pub event_reason : Event → Option Reason
-event_reason (events.Ignored id type from why) = Some (Ignored why)
-event_reason (events.RefusedVote id type from why) = Some (Refused why)
-event_reason (events.RemovedEntries id last es) = Some (GivesWay last es)
-event_reason e = None
+event_reason e = kind_reason e.kind
 
 abbrev pub reason_of : PlainItem → Option Reason
 reason_of (event e) = event_reason e

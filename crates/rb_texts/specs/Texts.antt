@@ -1,14 +1,14 @@
 -- The line of each item, and at which levels it is shown. (This project's texts.)
-use Rattle.std.specs.Prelude.{ℕ, Bool, true, false, nat_le, if◌then◌else◌, codes, decimal, List, [], ◌∷◌, ◌++◌}
+use Rattle.std.specs.Prelude.{ℕ, Bool, true, not, ◌&&◌, nat_le, if◌then◌else◌, codes, decimal, List, [], ◌∷◌, ◌++◌}
 use Rattle.rb_vocab.specs.declared.level.Level.{Level}
 use Rattle.rb_vocab.specs.declared.level.Level.TheVariants as levels
 use Rattle.rb_vocab.specs.Levels.{rank}
 use Rattle.rb_message.specs.declared.event.Event.{Event}
-use Rattle.rb_message.specs.declared.event.Event.TheVariants as events
 use Rattle.rb_texts.specs.Configs.{config_text}
 use Rattle.rb_texts.specs.Entries.{place_text, entry_text}
 use Rattle.rb_texts.specs.Errors.{error_text}
-use Rattle.rb_texts.specs.Events.{event_level, event_text}
+use Rattle.rb_texts.specs.EventForms.{event_form, is_hidden}
+use Rattle.rb_texts.specs.Events.{event_text}
 use Rattle.rb_texts.specs.Items.{PlainItem, nothing_else, ready, hard_state, snapshot, save, apply, send, nothing_ready, moved, no_messages, stopped, raft_state, raft_log, entry, config, progress, event, error}
 use Rattle.rb_texts.specs.Messages.{message_text, verb_text}
 use Rattle.rb_texts.specs.States.{hard_state_text, log_text, node_text, progress_text}
@@ -37,12 +37,9 @@ item_text (progress id view) = progress_text id view
 item_text (event e) = event_text e
 item_text (error e) = error_text e
 
--- An event is shown if its level is at least the one set. A refused vote has no line of its own, since its answer has one. Removed entries have
--- none: they are the reason below a line.
+-- An event that has a line is shown if its level is at least the one set.
 abbrev pub is_event_shown : Level → Event → Bool
-is_event_shown level (events.RefusedVote id type from why) = false
-is_event_shown level (events.RemovedEntries id last es) = false
-is_event_shown level e = nat_le (rank level) (rank (event_level e))
+is_event_shown level e = not (is_hidden (event_form e).shown) && nat_le (rank level) (rank (event_form e).level)
 
 -- Errors and `ok` are always shown, an event if its level is at least the one set, and everything else unless the level is none.
 abbrev pub is_shown : Level → PlainItem → Bool

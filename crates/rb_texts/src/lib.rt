@@ -4,7 +4,10 @@
 mod configs;
 mod entries;
 mod errors;
+mod event_forms;
 mod events;
+mod fields;
+mod form;
 mod item;
 mod laws;
 mod messages;
@@ -14,7 +17,9 @@ mod states;
 mod texts;
 
 pub use entries::transition_name;
-pub use events::{fault_name, no_campaign_name, replaced_name, votes_name};
+pub use event_forms::event_form;
+pub use fields::{MOST_FIELDS, MessageField, kind_fields};
+pub use form::{EventForm, EventMark, EventPiece, EventPieces, EventShown};
 pub use item::{Item, LogLine, NodeLine, Verb};
 pub use laws::{lines_are_solid, printed_lines_can_be_expected, printed_plain};
 pub use rb_vocab::{DirectiveError, Level, ScriptWord, level_of};

@@ -12,7 +12,7 @@ use crate::entries::add_entry;
 use crate::item::Item;
 use crate::piece::{LinePiece, add_bytes, add_field, add_numbered, add_pieces};
 use crate::states::role_name;
-use rb_message::{Event, Role, WhyIgnored, WhyRefused};
+use rb_message::{Event, EventKind, Role, WhyIgnored, WhyRefused};
 use rb_raftlog::Entries;
 use rb_script::{LineText, Lines, WrittenLine};
 use rb_vocab::Level;
@@ -33,10 +33,10 @@ pub enum Reason {
 fn event_reason(event: &Event) -> Result<Option<Reason>, AllocError>
     ensures { IfOk result (λ reason. reason ≡ event_reason event.now) }
 {
-    match event {
-        Event::Ignored { why, .. } => Ok(Some(Reason::Ignored(*why))),
-        Event::RefusedVote { why, .. } => Ok(Some(Reason::Refused(*why))),
-        Event::RemovedEntries { last, entries, .. } => Ok(Some(Reason::GivesWay {
+    match &event.kind {
+        EventKind::Ignored { why, .. } => Ok(Some(Reason::Ignored(*why))),
+        EventKind::RefusedVote { why, .. } => Ok(Some(Reason::Refused(*why))),
+        EventKind::RemovedEntries { last, entries, .. } => Ok(Some(Reason::GivesWay {
             last: *last,
             entries: entries.try_copy()?,
         })),

@@ -9,7 +9,8 @@ ghost use Rattle.rb_texts.specs.Texts.{line_of, is_event_shown, is_shown, item_t
 use crate::configs::add_config;
 use crate::entries::add_entry;
 use crate::errors::add_error;
-use crate::events::{add_event, event_level};
+use crate::event_forms::event_form;
+use crate::events::add_event;
 use crate::item::{Item, Verb};
 use crate::messages::{add_message, verb_name};
 use crate::piece::{LinePiece, add_bytes, add_numbered, add_pieces, shown_if};
@@ -45,10 +46,8 @@ impl WrittenLine for Item<'_> {
 fn is_event_shown(level: Level, event: &Event) -> bool
     ensures { result ≡ is_event_shown level event.now }
 {
-    match event {
-        Event::RefusedVote { .. } | Event::RemovedEntries { .. } => false,
-        _ => level.rank() <= event_level(event).rank(),
-    }
+    let form = event_form(event);
+    !form.is_hidden() && level.rank() <= form.level.rank()
 }
 
 /// Whether a level shows an item.

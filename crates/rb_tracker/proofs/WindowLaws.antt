@@ -1,11 +1,12 @@
 -- Lemmas on windows, and on the views that have them
-use Rattle.std.proofs.Common.{◌≡◌, ℕ, ◌+◌, ◌<◌, ◌≤◌, ◌^◌, ◌-◌, Bool, true, List, [], ◌∷◌, ◌++◌, length, take, filter, slice_get, Some, refl, ap, sym, ◌∙◌, arith, nat_lt, length-append}
+use Rattle.std.proofs.Common.{◌≡◌, ℕ, ◌+◌, ◌<◌, ◌≤◌, ◌^◌, ◌-◌, Bool, true, false, not, List, [], ◌∷◌, ◌++◌, length, take, filter, slice_get, Some, refl, ap, sym, ◌∙◌, arith, nat_lt, length-append}
 use Rattle.std.proofs.lemmas.Bool.Decides.{nat_tests}
 use Rattle.std.proofs.lemmas.List.{take_more}
+use Rattle.std.proofs.lemmas.List.Filters.{length-filter_both}
 use Rattle.std.proofs.lemmas.Option.{slice_get_within, get_or_from_slice_get}
 use Rattle.circular_buffer.specs.Buffer.{keep_last}
 use Rattle.rb_tracker.specs.Sets.{AreAbove, AreBelow, IsAscending}
-use Rattle.rb_tracker.specs.Windows.{PlainWindow, freed}
+use Rattle.rb_tracker.specs.Windows.{PlainWindow, is_full, freed, pushed}
 use Rattle.rb_tracker.specs.Progresses.{IsProgress}
 use Rattle.rb_tracker.specs.declared.progress.ProgressState.{ProgressState}
 use Rattle.rb_tracker.specs.declared.progress.ProgressState.TheVariants.{Replicate}
@@ -63,24 +64,39 @@ take_more_some xs i x h =
     take_more xs i x (slice_get_within xs i x h) ∙ ap (λ y. take i xs ++ y ∷ []) (get_or_from_slice_get xs i x x h)
 
 -- where a view replicates, what is in flight is below what is sent next
-pub in_flight_below : (state : ProgressState) (matched next last : ℕ) (xs : List ℕ) → IsProgress state matched next xs → state ≡ Replicate → next ≤ last → AreBelow last xs
-in_flight_below Replicate matched next last xs is same h = below_higher next last xs h is.in_use
-in_flight_below _ matched next last xs is same h = cc
+pub in_flight_below : (state : ProgressState) (matched next last : ℕ) (w : PlainWindow) → IsProgress state matched next w → state ≡ Replicate → next ≤ last → AreBelow last w.in_flight
+in_flight_below Replicate matched next last w is same h = below_higher next last w.in_flight h is.in_use
+in_flight_below _ matched next last w is same h = cc
+
+-- a window that is not full has room
+room_left : (w : PlainWindow) → length w.in_flight ≤ w.capacity → is_full w ≡ false → length w.in_flight < w.capacity
+room_left w within room = grind (arith, nat_tests)
 
 -- one more append in flight
-pub sent_stays : (state : ProgressState) (matched next last : ℕ) (xs : List ℕ) → IsProgress state matched next xs → state ≡ Replicate → next ≤ last → last + 1 < 2 ^ 41 → IsProgress state matched (last + 1) (xs ++ last ∷ [])
-sent_stays Replicate matched next last xs is same h fits = record {
+pub sent_stays : (state : ProgressState) (matched next last : ℕ) (w : PlainWindow) → IsProgress state matched next w → is_full w ≡ false → state ≡ Replicate → next ≤ last → last + 1 < 2 ^ 41 → IsProgress state matched (last + 1) (pushed w last)
+sent_stays Replicate matched next last w is room same h fits = record {
   matched_fits = is.matched_fits;
   next_fits = fits;
-  in_use = below_push (last + 1) last xs (omega arith) (below_higher next (last + 1) xs (omega arith) is.in_use);
+  within = omega (arith, length-append w.in_flight (last ∷ []), room_left w is.within room);
+  in_use = below_push (last + 1) last w.in_flight (omega arith) (below_higher next (last + 1) w.in_flight (omega arith) is.in_use);
 }
-sent_stays _ matched next last xs is same h fits = cc
+sent_stays _ matched next last w is room same h fits = cc
+
+-- fewer fit too
+fewer : (index : ℕ) (w : PlainWindow) → length w.in_flight ≤ w.capacity → length (filter (λ i. nat_lt index i) w.in_flight) ≤ w.capacity
+fewer index w within = omega (arith, length-filter_both (λ i. nat_lt index i) (λ i. not (nat_lt index i)) (λ _. refl) w.in_flight)
 
 -- fewer appends in flight, and more to send next
-pub freed_stays : (state : ProgressState) (matched next newer later index : ℕ) (xs : List ℕ) → IsProgress state matched next xs → newer + 1 < 2 ^ 41 → later < 2 ^ 41 → next ≤ later → IsProgress state newer later (filter (λ i. nat_lt index i) xs)
-freed_stays Replicate matched next newer later index xs is fits fits' h = record {
+pub freed_stays : (state : ProgressState) (matched next newer later index : ℕ) (w : PlainWindow) → IsProgress state matched next w → newer + 1 < 2 ^ 41 → later < 2 ^ 41 → next ≤ later → IsProgress state newer later (freed w index)
+freed_stays Replicate matched next newer later index w is fits fits' h = record {
   matched_fits = fits;
   next_fits = fits';
-  in_use = below_filter (λ i. nat_lt index i) later xs (below_higher next later xs h is.in_use);
+  within = fewer index w is.within;
+  in_use = below_filter (λ i. nat_lt index i) later w.in_flight (below_higher next later w.in_flight h is.in_use);
 }
-freed_stays _ matched next newer later index xs is fits fits' h = record { matched_fits = fits; next_fits = fits'; in_use = ap (filter (λ i. nat_lt index i)) is.in_use }
+freed_stays _ matched next newer later index w is fits fits' h = record {
+  matched_fits = fits;
+  next_fits = fits';
+  within = fewer index w is.within;
+  in_use = ap (filter (λ i. nat_lt index i)) is.in_use;
+}

@@ -1,5 +1,5 @@
 -- Progress: what a leader knows of a follower's log (Ongaro's thesis, section 3.5; etcd raft documentation, "Progress")
-use Rattle.std.specs.Prelude.{ℕ, ◌≡◌, ◌<◌, ◌+◌, ◌-◌, ◌^◌, max, min, nat_le, nat_lt, Bool, true, false, not, ◌&&◌, ◌||◌, List, [], ◌==◌, if◌then◌else◌}
+use Rattle.std.specs.Prelude.{ℕ, ◌≡◌, ◌<◌, ◌≤◌, length, ◌+◌, ◌-◌, ◌^◌, max, min, nat_le, nat_lt, Bool, true, false, not, ◌&&◌, ◌||◌, List, [], ◌==◌, if◌then◌else◌}
 use Rattle.rb_tracker.specs.Sets.{AreBelow}
 use Rattle.rb_tracker.specs.Windows.{PlainWindow, empty_window, is_full, emptied, pushed, freed}
 use Rattle.rb_tracker.specs.declared.progress.ProgressState.{ProgressState}
@@ -122,7 +122,8 @@ IsInUse Replicate in_flight next = AreBelow next in_flight
 IsInUse Snapshot in_flight next = in_flight ≡ []
 
 -- the invariant of a view
-pub record IsProgress (state : ProgressState) (matched next : ℕ) (in_flight : List ℕ) : Type 0 where
+pub record IsProgress (state : ProgressState) (matched next : ℕ) (window : PlainWindow) : Type 0 where
   pub matched_fits : matched + 1 < 2 ^ 41
   pub next_fits : next < 2 ^ 41
-  pub in_use : IsInUse state in_flight next
+  pub within : length window.in_flight ≤ window.capacity
+  pub in_use : IsInUse state window.in_flight next

@@ -42,7 +42,7 @@ impl Model for Progress {
 
     ghost view = { λ p. record { state = p.state; matched = p.matched; next = p.next; waiting = p.waiting; pending = p.pending; active = p.active; window = p.window } };
 
-    ghost invariant = { λ p. IsProgress p.state p.matched p.next p.window.in_flight };
+    ghost invariant = { λ p. IsProgress p.state p.matched p.next p.window };
 }
 
 impl Progress {
@@ -137,7 +137,6 @@ impl Progress {
         ensures window { result.now ≡ self.now.window }
         ensures within { length self.now.window.in_flight ≤ self.now.window.capacity }
     {
-        let _len = self.window.len();
         &self.window
     }
 
@@ -146,7 +145,7 @@ impl Progress {
         ensures full { result ≡ is_full self.now.window }
         ensures within { length self.now.window.in_flight ≤ self.now.window.capacity }
     {
-        self.window.len() == self.window.capacity()
+        self.window.is_full()
     }
 
     /// Whether sending is paused.

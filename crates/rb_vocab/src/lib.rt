@@ -14,6 +14,6 @@ pub use change::{Transition, Word, WordKind, transition_of};
 pub use conf_state::ConfState;
 pub use directive_error::DirectiveError;
 pub use level::{Level, level_of};
-pub use message_type::{MessageType, type_of};
+pub use message_type::{MessageClass, MessageType, TYPE_NAMES, TYPES, type_of};
 pub use script_word::ScriptWord;
 pub use shared::Shared;
