@@ -70,7 +70,7 @@ const CHECK: [ArgumentRow; 15] = [
     ArgumentRow { form: ArgumentForm::Flag, name: "first", help: "Shows the first mismatch of each script alone" },
     ArgumentRow { form: ArgumentForm::Flag, name: "brief", help: "Shows one line for each script that differs" },
     ArgumentRow { form: ArgumentForm::Letter('q'), name: "quiet", help: "Shows nothing: the status tells whether all match" },
-    ArgumentRow { form: ArgumentForm::Flag, name: "why", help: "Tells why nothing came of a message, below the output that is shown" },
+    ArgumentRow { form: ArgumentForm::Flag, name: "why", help: "Tells why nothing came of a message, or which entries gave way, below the output that is shown" },
     ArgumentRow { form: ArgumentForm::Flag, name: "strict", help: "Ends with 1 also for warnings, and for errors that no comment expects" },
     EVERY_UNSEEN,
     ArgumentRow { form: ArgumentForm::Value("WHEN"), name: "color", help: "Shows colours: auto (on a terminal), always or never [default: auto]" },

@@ -1,6 +1,6 @@
 //! Runs and sessions over any source and outlet.
 //!
-//! [`run_over`] reads and runs a script, and [`run_bytes`] runs one that is already read; [`run_over_with_progress`] tells where the run is.
+//! [`run_over`] reads and runs a script, and tells a [`RunProgress`] where the run is. [`run_bytes`] runs a script that is already read.
 //! [`serve`] serves a session: it reads one command a line, and answers each before it reads the next.
 //!
 //! [`command_of`] reads the command of a line. A line that isn't a command is [`Command::Bad`], and a blank one is
@@ -28,7 +28,7 @@ mod starting;
 
 pub use choosing::{Choice, chosen};
 pub use command::{Command, Purpose, command_of};
-pub use directives::run_directive;
+pub use directives::{DirectiveRunner, run_directive, run_directives};
 pub use fault::BenchFault;
 pub use laws::{
     conversations_answer_as_one_run, conversations_are_one, names_are_distinct, runs_are_one,
@@ -40,5 +40,5 @@ pub use outlet::Outlet;
 pub use progress::{NoProgress, RunProgress, ToldLines};
 pub use rb_args::ChoiceFault;
 pub use rb_report::check::Status;
-pub use running::{Mode, run_bytes, run_over, run_over_with_progress, write_run};
+pub use running::{Mode, run_bytes, run_over, write_run};
 pub use session::serve;

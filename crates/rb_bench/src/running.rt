@@ -30,7 +30,8 @@ pub enum Mode {
 }
 
 /// Reads a script, runs it and writes the text of `mode`. Returns the program's status: `Matched`, or `Mismatched` if a report has
-/// mismatches. `every` is the checkpoint interval, 1 to 64; it is checked, and has no other effect.
+/// mismatches. `every` is the checkpoint interval, 1 to 64; it is checked, and has no other effect. Reports to `progress` which directive runs, and
+/// the end of the run before anything is written.
 ///
 /// The memory of the run isn't freed, since the program ends after it. To run many scripts, use sessions of rb_replay.
 ///
@@ -38,37 +39,7 @@ pub enum Mode {
 ///
 /// `Spacing` before anything is read. `Io` if a call of the source or the writer fails; the writer is called only for a script.
 /// `OutOfMemory`, and `Script` if the bytes are not a script, as [`run_bytes`] reports.
-pub fn run_over<S: Source, W: Outlet>(
-    alloc: Global,
-    source: &mut S,
-    writer: &mut W,
-    mode: Mode,
-    every: u64,
-) -> Result<Status, BenchFault>
-    // Found before anything is read.
-    ensures checkpoint_interval { IsErrOf result BenchFault.Spacing ↔ (is_checkpoint_interval every ≡ false) }
-    ensures unread { IsErrOf result BenchFault.Spacing → (source.new ≡ source.old) × (writer.new ≡ writer.old) }
-    // At most one byte more than a script may have is read, by at most as many calls.
-    ensures consumed { (taken : List ℕ) × (length taken ≤ most_read) × Consumes (S.left source.old) (S.left source.new) taken }
-    ensures asked { IsErrOf result BenchFault.Spacing ⊎ AsksFor (S.left source.old) (S.asked source.old) (S.asked source.new) most_read }
-    // Where the source's bytes are known.
-    // A call of the source that failed is a failure of the whole.
-    ensures unfailed { OnOk result (Fails (S.asked source.old) (S.asked source.new) 0) }
-    ensures answered { is_checkpoint_interval every ≡ true → IfSome (S.left source.old) (λ all. RunsOver mode all (S.left source.new) result (W.held writer.old) (W.held writer.new)) }
-    // The text is flushed.
-    ensures handed { OnOk result (IsHandedOn (W.handed writer.new) (W.held writer.new)) }
-    // No failure is answered where no call failed.
-    ensures io { S.gives_all source.old → W.takes_all writer.old → result ≢ Err BenchFault.Io }
-{
-    run_over_with_progress(alloc, source, writer, mode, every, &NoProgress)
-}
-
-/// Does what [`run_over`] does, and reports to `progress` which directive runs, and the end of the run before anything is written.
-///
-/// # Errors
-///
-/// Those of [`run_over`].
-pub fn run_over_with_progress<S: Source, W: Outlet, P: RunProgress>(
+pub fn run_over<S: Source, W: Outlet, P: RunProgress>(
     alloc: Global,
     source: &mut S,
     writer: &mut W,

@@ -9,7 +9,7 @@ ghost use Rattle.rb_replay.specs.Start.{TellsStartFault, is_checkpoint_interval}
 ghost use Rattle.rb_bench.specs.Faults.{TellsFault};
 ghost use Rattle.rb_bench.specs.Serves.{IsStarted};
 
-use crate::directives::run_directives;
+use crate::directives::{ClusterRunner, run_directives};
 use crate::fault::BenchFault;
 use crate::progress::RunProgress;
 use rb_cluster::{Cluster, Meter};
@@ -38,39 +38,24 @@ pub(crate) fn started(alloc: Global, bytes: &[u8], every: u64) -> Result<BenchSe
     Ok(Session::start(alloc, bytes, every, &mut meter)?)
 }
 
-// Reads the script of the bytes, and runs each directive once.
-fn run_script<P: RunProgress>(
+/// Starts a session of the script without checkpoints, for a script that isn't edited. Reports to `progress` which directive runs.
+pub(crate) fn run_once<P: RunProgress>(
     alloc: Global,
     bytes: &[u8],
     progress: &P,
 ) -> Result<BenchSession, StartFault>
     ensures script { IfOk result (λ s. Reads bytes.now s.script) }
     ensures run { IfOk result IsOneRun }
+    // A script is refused only if there is no memory.
     ensures only { (s : PlainScript) → Reads bytes.now s → IfErr result (λ fault. fault ≡ StartFault.OutOfMemory) }
     ensures refused { IfErr result (λ fault. TellsStartFault fault (read_of bytes.now)) }
+    // Faults of length are found whether or not there is memory.
     ensures early { IfSome (early_fault bytes.now) (λ fault. result ≡ Err (StartFault.Script fault)) }
+    // There is no checkpoint interval to check.
     ensures spaced { result ≢ Err StartFault.BadSpacing }
 {
     let script = Script::read(alloc, bytes)?;
-    let outputs = run_directives(alloc, &script, progress)?;
+    let mut clusters = ClusterRunner { alloc, progress };
+    let outputs = run_directives(alloc, &mut clusters, &script)?;
     Ok(Session::from_outputs(alloc, script, outputs)?)
-}
-
-/// Starts a session of the script without checkpoints, for a script that isn't edited. Reports to `progress` which directive runs.
-pub(crate) fn run_once<P: RunProgress>(
-    alloc: Global,
-    bytes: &[u8],
-    progress: &P,
-) -> Result<BenchSession, BenchFault>
-    ensures script { IfOk result (λ s. Reads bytes.now s.script) }
-    ensures run { IfOk result IsOneRun }
-    // A script is refused only if there is no memory.
-    ensures only { (s : PlainScript) → Reads bytes.now s → IfErr result (λ fault. fault ≡ BenchFault.OutOfMemory) }
-    ensures refused { IfErr result (λ fault. TellsFault fault (read_of bytes.now)) }
-    // Faults of length are found whether or not there is memory.
-    ensures early { IfSome (early_fault bytes.now) (λ fault. result ≡ Err (BenchFault.Script fault)) }
-    // Nothing else is read or written, and there is no checkpoint interval to check.
-    ensures own { IfErr result (λ fault. (fault ≢ BenchFault.Io) × (fault ≢ BenchFault.Spacing)) }
-{
-    Ok(run_script(alloc, bytes, progress)?)
 }

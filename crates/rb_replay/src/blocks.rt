@@ -6,7 +6,7 @@ ghost use Rattle.rb_script.specs.declared.limits.TheConstants.{MAX_DIRECTIVES};
 use rb_script::{Block, Script};
 
 /// The block at an index, counted from 0.
-pub(crate) fn block_at(script: &Script, index: usize) -> &Block
+pub fn block_at(script: &Script, index: usize) -> &Block
     requires few { length script.now.blocks ≤ MAX_DIRECTIVES }
     requires within { index < length script.now.blocks }
     ensures { slice_get script.now.blocks index ≡ Some result.now }

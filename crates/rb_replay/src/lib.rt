@@ -25,6 +25,7 @@ mod session;
 mod splice;
 mod start;
 
+pub use blocks::block_at;
 pub use checkpoint_interval::{
     MAX_CHECKPOINT_INTERVAL, checkpoint_interval_limit_is, is_checkpoint_interval,
 };

@@ -1,5 +1,6 @@
 //! A session, and reading its state.
 
+use crate::blocks::block_at;
 use rb_machine::Machine;
 use rb_script::{Block, ChunkedList, Lines, Script};
 use std::alloc::Global;
@@ -53,9 +54,9 @@ pub struct Changed {
 }
 
 impl<M: Machine> Session<M> {
-    ghost use Rattle.std.specs.Prelude.{◌≡◌, ◌==◌, length, option_copied};
+    ghost use Rattle.std.specs.Prelude.{◌≡◌, ◌==◌, ◌<◌, Some, length, option_copied, slice_get};
     ghost use Rattle.rb_replay.specs.Holding.{Holding, IsOneRun};
-    ghost use Rattle.rb_replay.specs.Run.{at_place, output_at};
+    ghost use Rattle.rb_replay.specs.Run.{at_place, output_at, outputs};
     ghost use Rattle.rb_replay.specs.Report.{mismatches};
 
     /// The number of directives.
@@ -89,6 +90,22 @@ impl<M: Machine> Session<M> {
             0 => None,
             _ => self.outputs.get(place - 1),
         }
+    }
+
+    /// The block of the directive at an index, counted from 0.
+    pub fn block_at(&self, index: usize) -> &Block
+        requires { index < length self.now.script.blocks }
+        ensures { slice_get self.now.script.blocks index ≡ Some result.now }
+    {
+        block_at(&self.script, index)
+    }
+
+    /// The output of the directive at an index, counted from 0.
+    pub fn output_at(&self, index: usize) -> &Lines
+        requires { index < length self.now.script.blocks }
+        ensures { slice_get (outputs self.now.script) index ≡ Some result.now }
+    {
+        self.outputs.at(index)
     }
 
     /// The places of mismatches, in order.

@@ -1,7 +1,10 @@
 -- The values of which an argument takes one. (This project's; the types are etcd raft's.)
-use Rattle.std.specs.Prelude.{Bool, ◌||◌, if◌then◌else◌, List, [], codes, map}
-use Rattle.std.specs.Str.{bytes_eq}
-use Rattle.rb_report.specs.declared.help.choices.TheConstants.{LEVELS, FLAGS, TRANSITIONS, TYPES}
+use Rattle.std.specs.Prelude.{List, [], Option, Some, map}
+use Rattle.rb_vocab.specs.MessageTypes.{all_types, type_text}
+use Rattle.rb_directive.specs.declared.argument.Argument.{Argument}
+use Rattle.rb_directive.specs.declared.argument.Argument.TheVariants as arguments
+use Rattle.rb_directive.specs.Table.{argument_of}
+use Rattle.rb_report.specs.declared.help.choices.TheConstants.{LEVELS, FLAGS, TRANSITIONS}
 use Rattle.rb_report.specs.Distance.{Word}
 
 abbrev pub levels : List Word
@@ -14,16 +17,16 @@ abbrev pub transitions : List Word
 transitions = map (λ c. c.now) TRANSITIONS
 
 abbrev pub types : List Word
-types = map (λ c. c.now) TYPES
+types = map type_text all_types
 
-abbrev pub is_flag : Word → Bool
-is_flag key = bytes_eq key (codes "prevote") || bytes_eq key (codes "checkquorum") || bytes_eq key (codes "step-down-on-removal") || bytes_eq key (codes "v1")
+-- those that an argument allows; none, if it allows others too
+abbrev pub choices_for : Option Argument → List Word
+choices_for (Some (arguments.Level which)) = levels
+choices_for (Some (arguments.Flag which)) = flags
+choices_for (Some arguments.Transition) = transitions
+choices_for (Some arguments.Types) = types
+choices_for argument = []
 
--- those of the option with this key; none, if it takes others too
+-- those of the option with this key
 abbrev pub choices_of : Word → List Word
-choices_of key =
-    if bytes_eq key (codes "log-level") then levels
-    else (if is_flag key then flags
-    else (if bytes_eq key (codes "transition") then transitions
-    else (if bytes_eq key (codes "type") then types
-    else [])))
+choices_of key = choices_for (argument_of key)

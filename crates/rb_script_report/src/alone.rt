@@ -35,7 +35,6 @@ pub(crate) fn put_mismatch_at<M: Machine, S: Sink>(
     ensures all { S.takes_all sink.old → IsOk result × S.takes_all sink.new }
     ensures left { OnOk result (table.new.left ≡ left_behind table.old.left run.now.session.now.script (index + 1)) }
 {
-    let _count = run.session.len();
     let block = block_at(run.session, index);
     let output = output_at(run.session, index);
     let place = FileLine {
@@ -69,7 +68,6 @@ pub(crate) fn put_directive_at<M: Machine, S: Sink>(
     ensures all { S.takes_all sink.old → IsOk result × S.takes_all sink.new }
     ensures left { OnOk result (table.new.left ≡ left_on table.old.left run.now.session.now.script (index + 1)) }
 {
-    let _count = run.session.len();
     let block = block_at(run.session, index);
     let output = output_at(run.session, index);
     if !is_same(block.expected(), output) {

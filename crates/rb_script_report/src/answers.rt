@@ -1,7 +1,6 @@
 //! A session's blocks and outputs by their index.
 
-ghost use Rattle.std.specs.Prelude.{◌≡◌, ◌<◌, ◌≤◌, Some, length, slice_get};
-ghost use Rattle.rb_script.specs.declared.limits.TheConstants.{MAX_DIRECTIVES};
+ghost use Rattle.std.specs.Prelude.{◌≡◌, ◌<◌, Some, length, slice_get};
 ghost use Rattle.rb_replay.specs.Run.{outputs};
 
 use rb_machine::Machine;
@@ -10,26 +9,18 @@ use rb_script::{Block, Lines};
 
 /// The block of the directive at an index, which counts from 0.
 pub fn block_at<M: Machine>(session: &Session<M>, index: usize) -> &Block
-    requires few { length session.now.script.blocks ≤ MAX_DIRECTIVES }
-    requires within { index < length session.now.script.blocks }
+    requires { index < length session.now.script.blocks }
     ensures { slice_get session.now.script.blocks index ≡ Some result.now }
 {
-    session.block(index + 1).unwrap()
+    session.block_at(index)
 }
-
-// There is an output for each directive.
-fn outputs_are_whole<M: Machine>(_session: &Session<M>)
-    ensures { length (outputs _session.now.script) ≡ length _session.now.script.blocks }
-{}
 
 /// The output of the directive at an index, which counts from 0.
 pub fn output_at<M: Machine>(session: &Session<M>, index: usize) -> &Lines
-    requires few { length session.now.script.blocks ≤ MAX_DIRECTIVES }
-    requires within { index < length session.now.script.blocks }
+    requires { index < length session.now.script.blocks }
     ensures { slice_get (outputs session.now.script) index ≡ Some result.now }
 {
-    outputs_are_whole(session);
-    session.output(index + 1).unwrap()
+    session.output_at(index)
 }
 
 /// The number at an index, which counts from 0.

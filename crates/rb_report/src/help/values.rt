@@ -5,10 +5,11 @@ ghost use Rattle.rb_report.specs.HelpLines.{line_among, option_line, option_line
 
 use crate::help::nearest::Known;
 use crate::help::options::OPTION_LINES;
+use rb_vocab::type_of;
 
-/// What each value means of an option that takes some values alone.
+/// What each value means of an option that takes some values alone, except of types of messages.
 #[rattlefmt::skip]
-const VALUE_LINES: [(&[u8], &[u8]); 24] = [
+const VALUE_LINES: [(&[u8], &[u8]); 11] = [
     (b"debug", b"shows every line"),
     (b"info", b"hides events below INFO"),
     (b"warn", b"hides events below WARN"),
@@ -20,19 +21,6 @@ const VALUE_LINES: [(&[u8], &[u8]); 24] = [
     (b"auto", b"one word is a single step; several go through a joint configuration that the leader leaves automatically"),
     (b"explicit", b"goes through a joint configuration that a further change has to leave"),
     (b"implicit", b"goes through a joint configuration that the leader leaves automatically"),
-    (b"MsgVote", b"a vote request"),
-    (b"MsgPreVote", b"a pre-vote request"),
-    (b"MsgVoteResp", b"the response to a vote request"),
-    (b"MsgPreVoteResp", b"the response to a pre-vote request"),
-    (b"MsgApp", b"append entries"),
-    (b"MsgAppResp", b"the response to append entries"),
-    (b"MsgHeartbeat", b"a heartbeat"),
-    (b"MsgSnap", b"a snapshot"),
-    (b"MsgProp", b"a proposal that is forwarded to the leader"),
-    (b"MsgTransferLeader", b"a request to transfer leadership that is forwarded to the leader"),
-    (b"MsgHeartbeatResp", b"the response to a heartbeat"),
-    (b"MsgTimeoutNow", b"a request to campaign at once"),
-    (b"MsgUnreachable", b"never sent"),
 ];
 
 fn line_among(word: &[u8], rows: &[(Known, Known)]) -> Known
@@ -59,5 +47,8 @@ pub fn option_line(key: &[u8]) -> Known
 pub fn value_line(value: &[u8]) -> Known
     ensures { result.now ≡ value_line value.now }
 {
-    line_among(value, &VALUE_LINES)
+    match type_of(value) {
+        Some(message_type) => message_type.meaning(),
+        None => line_among(value, &VALUE_LINES),
+    }
 }

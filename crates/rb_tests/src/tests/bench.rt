@@ -2,6 +2,7 @@
 
 pub mod fakes;
 mod known;
+mod limits;
 mod line;
 mod refusals;
 mod streams;

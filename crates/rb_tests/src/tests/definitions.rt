@@ -2,7 +2,7 @@
 
 use super::{is, is_text};
 use rb_bench::{Command, command_of};
-use rb_message::{Event, WhyNoCampaign};
+use rb_message::{Event, EventKind, WhyNoCampaign};
 use rb_script::{Lines, Through};
 use rb_text::put_number;
 use rb_texts::{DirectiveError, Item, Level, ScriptWord, level_of, put};
@@ -68,13 +68,18 @@ fn is_warning(rt: &impl Abort, alloc: Global, event: &Event, want: &[u8]) {
 
 #[test]
 fn events_past_the_limits_of_scripts(rt: HostRuntime) {
-    let nothing = Event::AppendsNothing { id: 1 };
+    let nothing = Event {
+        id: 1,
+        kind: EventKind::AppendsNothing,
+    };
     let want = b"WARN 1 appends nothing: index limit\n";
     is_warning(&rt, rt.alloc(), &nothing, want);
     drop(nothing);
-    let last = Event::CannotCampaign {
+    let last = Event {
         id: 1,
-        why: WhyNoCampaign::TermLimit,
+        kind: EventKind::CannotCampaign {
+            why: WhyNoCampaign::TermLimit,
+        },
     };
     let want = b"WARN 1 can't campaign: term limit\n";
     is_warning(&rt, rt.alloc(), &last, want);

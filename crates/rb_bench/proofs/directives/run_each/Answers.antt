@@ -9,8 +9,8 @@ use Rattle.rb_bench.proofs.directives.run_each.Goals as goal
 pub loop-i-preserved : goal.loop-i-preserved
 loop-i-preserved g c =
     let s = c.args.script.now in
-    let before = c.loop-i.cluster in
-    let next = c.in_ok-output.ensures.cluster ∙ ap (λ (d : PlainDirective). (outcome before d).cluster) c.directive-directive.ensures.whole in
+    let before = g.T.Machine.Machine.meaning c.loop-i.machine in
+    let next = c.in_ok-output.ensures.machine ∙ ap (λ (d : PlainDirective). (outcome before d).cluster) c.directive-directive.ensures.whole in
     let printed = c.in_ok-output.ensures.output ∙ ap (λ (d : PlainDirective). (outcome before d).output) c.directive-directive.ensures.whole in
     let on = run_next s c.loop-i.i c.block_at.result.now before _ c.in_ok-output.output c.loop-i.printed c.push.new.self c.block_at.ensures
     c.loop-i.invariant.here next printed c.loop-i.invariant.printed c.in_ok-push.ensures in

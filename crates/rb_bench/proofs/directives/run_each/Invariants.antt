@@ -5,6 +5,6 @@ use Rattle.rb_bench.proofs.directives.run_each.Given as goal
 
 abbrev pub invariant-loop-i : goal.invariant-loop-i
 invariant-loop-i g l = record {
-  here : l.cluster ≡ state l.script l.i;
+  here : g.T.Machine.Machine.meaning l.machine ≡ state l.script l.i;
   printed : l.printed ≡ take l.i (outputs l.script);
 }

@@ -6,7 +6,7 @@ ghost use Rattle.std.specs.Prelude.{◌≡◌, ◌≢◌, ◌+◌, ◌<◌, ◌�
 ghost use Rattle.rb_bench.specs.declared.limits.TheConstants.{MAX_READS};
 
 use crate::tests::{is, is_text};
-use rb_bench::{BenchFault, MAX_READS, Mode, Outlet, run_over, serve};
+use rb_bench::{BenchFault, MAX_READS, Mode, NoProgress, Outlet, run_over, serve};
 use rb_report::check::Status;
 use rb_script::{Sink, WriteFault};
 use rb_text::{InputFault, Source};
@@ -106,7 +106,7 @@ fn ran<R: Abort>(rt: &R, alloc: Global, script: &[u8], fails_at: Option<u64>) ->
         text: Vec::new(alloc),
         rt,
     };
-    let answer = run_over(alloc, &mut source, &mut out, Mode::Run, 16);
+    let answer = run_over(alloc, &mut source, &mut out, Mode::Run, 16, &NoProgress);
     Came {
         answer,
         text: out.text,

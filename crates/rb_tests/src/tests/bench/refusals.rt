@@ -2,7 +2,7 @@
 
 use super::fakes::{REFUSED_EDITS, Room};
 use crate::tests::is;
-use rb_bench::{BenchFault, Mode, run_over, serve};
+use rb_bench::{BenchFault, Mode, NoProgress, run_over, serve};
 use rb_report::check::Status;
 use rb_script::Through;
 use std::alloc::Global;
@@ -14,7 +14,7 @@ const CARRIAGE_RETURNS: &[u8] = b"# first\r\nlog-level \\\r\n  info\r\n----\r\no
 fn runs(rt: &impl Abort, alloc: Global, mode: Mode, text: &[u8]) {
     let mut reader = CARRIAGE_RETURNS;
     let mut out = Through(Room::new());
-    let answer = run_over(alloc, &mut reader, &mut out, mode, 16);
+    let answer = run_over(alloc, &mut reader, &mut out, mode, 16, &NoProgress);
     let so = match answer {
         Ok(status) => status == Status::Matched && out.0.taken() == text,
         Err(fault) => fault == BenchFault::OutOfMemory && out.0.taken().is_empty(),

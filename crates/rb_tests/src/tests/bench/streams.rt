@@ -1,25 +1,24 @@
-//! Runs and sessions over a `Read` and a `Write` that give and take few bytes a call, or fail at a call; inputs that are cut at each
-//! length; and texts at a limit and past it.
+//! Runs and sessions over a `Read` and a `Write` that give and take few bytes a call, or fail at a call; and inputs that are cut at each
+//! length.
 
-use super::fakes::{FailingReader, FailingWriter, REFUSED_EDITS, repeated};
+use super::fakes::{FailingReader, FailingWriter, REFUSED_EDITS};
 use crate::tests::is_in_row;
-use rb_bench::{BenchFault, Mode, run_over, serve};
+use rb_bench::{BenchFault, Mode, NoProgress, run_over, serve};
 use rb_report::check::Status;
 use rb_script::{ScriptFault, Through};
 use std::alloc::Global;
-use std::process::Abort;
 
 /// How many bytes a call gives or takes at most, which call of the reader and which of the writer fails, counted from 0, and whether that
 /// one of the writer takes no byte instead.
 #[derive(Clone, Copy)]
-struct Streams {
+pub struct Streams {
     most: usize,
     failing_read: usize,
     failing_write: usize,
     takes_none: bool,
 }
 
-const WHOLE: Streams = Streams {
+pub const WHOLE: Streams = Streams {
     most: usize::MAX,
     failing_read: usize::MAX,
     failing_write: usize::MAX,
@@ -28,7 +27,7 @@ const WHOLE: Streams = Streams {
 
 const BYTEWISE: Streams = Streams { most: 1, ..WHOLE };
 
-type Answer = Result<Status, BenchFault>;
+pub type Answer = Result<Status, BenchFault>;
 
 /// What came of a run or a session: the answer, and the text that the writer took.
 #[derive(Drop)]
@@ -45,7 +44,7 @@ fn ran(alloc: Global, script: &[u8], mode: Mode, streams: Streams) -> Outcome {
         streams.failing_write,
         streams.takes_none,
     ));
-    let answer = run_over(alloc, &mut reader, &mut writer, mode, 16);
+    let answer = run_over(alloc, &mut reader, &mut writer, mode, 16, &NoProgress);
     Outcome {
         answer,
         text: writer.0.taken,
@@ -75,7 +74,7 @@ fn is_outcome(outcome: &Outcome, answer: Answer, text: &[u8]) -> bool {
     outcome.answer == answer && outcome.text.as_slice() == text
 }
 
-fn runs(
+pub fn runs(
     alloc: Global,
     script: &[u8],
     mode: Mode,
@@ -89,7 +88,7 @@ fn runs(
     so
 }
 
-fn talks(alloc: Global, input: &[u8], streams: Streams, answer: Answer, text: &[u8]) -> bool {
+pub fn talks(alloc: Global, input: &[u8], streams: Streams, answer: Answer, text: &[u8]) -> bool {
     let outcome = talked(alloc, input, streams);
     let so = is_outcome(&outcome, answer, text);
     drop(outcome);
@@ -224,175 +223,6 @@ fn commands_cut_at_each_byte(rt: HostRuntime) {
     for len in 0..146usize {
         let so = talks_cut(rt.alloc(), len, WHOLE) && talks_cut(rt.alloc(), len, BYTEWISE);
         is_in_row(&rt, so, "cut commands", len);
-    }
-}
-
-/// What stands at the beginning, what follows so many times, and the end.
-type Long = (&'static [u8], &'static [u8], usize, &'static [u8]);
-
-fn long_text(rt: &impl Abort, alloc: Global, parts: Long) -> Vec<u8> {
-    let mut text = repeated(rt, alloc, parts.0, 1);
-    for _ in 0..parts.2 {
-        text.extend_from_slice(parts.1).expect(rt, "memory");
-    }
-    text.extend_from_slice(parts.3).expect(rt, "memory");
-    text
-}
-
-/// Texts at a limit, and past it.
-static LONG_SCRIPTS: [(Long, Answer, &[u8]); 14] = [
-    (
-        (b"#", b"x", 65_535, b"\n"),
-        Ok(Status::Matched),
-        b"0 directives, 0 mismatches\n",
-    ),
-    (
-        (b"#", b"x", 65_536, b"\n"),
-        Err(BenchFault::Script(ScriptFault::LineTooLong(1))),
-        b"",
-    ),
-    (
-        (
-            b"stabilize",
-            b" a",
-            64,
-            b"\n----\nerror: bad argument \"a\"\n",
-        ),
-        Ok(Status::Matched),
-        b"1 directives, 0 mismatches\n",
-    ),
-    (
-        (
-            b"stabilize",
-            b" a",
-            65,
-            b"\n----\nerror: bad argument \"a\"\n",
-        ),
-        Err(BenchFault::Script(ScriptFault::TooManyArguments(1))),
-        b"",
-    ),
-    (
-        (
-            b"add-nodes 1 index=10 voters=(",
-            b"1 ",
-            64,
-            b")\n----\nINFO 1 started at 1/10 with voters=(1)\n",
-        ),
-        Ok(Status::Matched),
-        b"1 directives, 0 mismatches\n",
-    ),
-    (
-        (
-            b"add-nodes 1 index=10 voters=(",
-            b"1 ",
-            65,
-            b")\n----\nINFO 1 started at 1/10 with voters=(1)\n",
-        ),
-        Err(BenchFault::Script(ScriptFault::TooManyArguments(1))),
-        b"",
-    ),
-    (
-        (
-            b"add-nodes 1 index=10 voters=(1",
-            b")",
-            1,
-            b"\n----\nINFO 1 started at 1/10 with voters=(1)\n",
-        ),
-        Ok(Status::Matched),
-        b"1 directives, 0 mismatches\n",
-    ),
-    (
-        (b"add-nodes 1 voters=(1", b")", 0, b"\n----\n"),
-        Err(BenchFault::Script(ScriptFault::BadLine(1))),
-        b"",
-    ),
-    (
-        (b"raft-state", b"\r", 4_194_294, b""),
-        Err(BenchFault::Script(ScriptFault::NoSeparator(1))),
-        b"",
-    ),
-    (
-        (b"raft-state", b"\r", 4_194_295, b""),
-        Err(BenchFault::Script(ScriptFault::TooLong)),
-        b"",
-    ),
-    (
-        (b"", b"\n", 4_194_304, b""),
-        Ok(Status::Matched),
-        b"0 directives, 0 mismatches\n",
-    ),
-    (
-        (b"", b"\n", 4_194_305, b""),
-        Err(BenchFault::Script(ScriptFault::TooLong)),
-        b"",
-    ),
-    (
-        (b"", b"raft-state\n----\nok\n\n", 20_000, b""),
-        Ok(Status::Matched),
-        b"20000 directives, 0 mismatches\n",
-    ),
-    (
-        (b"", b"raft-state\n----\nok\n\n", 20_001, b""),
-        Err(BenchFault::Script(ScriptFault::TooManyDirectives)),
-        b"",
-    ),
-];
-
-fn runs_long(rt: &impl Abort, alloc: Global, row: &(Long, Answer, &[u8])) -> bool {
-    let script = long_text(rt, alloc, row.0);
-    let so = runs(alloc, script.as_slice(), Mode::Run, WHOLE, row.1, row.2);
-    drop(script);
-    so
-}
-
-#[test]
-fn scripts_at_a_limit_and_past_it(rt: HostRuntime) {
-    for (k, row) in LONG_SCRIPTS.iter().enumerate() {
-        let so = runs_long(&rt, rt.alloc(), row);
-        is_in_row(&rt, so, "a long script", k);
-    }
-}
-
-static LONG_COMMANDS: [(Long, Answer, &[u8]); 5] = [
-    (
-        (b"", b"x", 65_536, b"\n"),
-        Ok(Status::Matched),
-        b"refused BadCommand\n",
-    ),
-    (
-        (b"", b"x", 65_537, b"\nreport\n"),
-        Ok(Status::Failed),
-        b"refused LineTooLong\n",
-    ),
-    (
-        (b"expect 1 65536\n", b"\n", 65_536, b""),
-        Ok(Status::Mismatched),
-        b"done executed=0 mismatches=1\n",
-    ),
-    (
-        (b"expect 1 65536\n", b"\n", 65_535, b""),
-        Ok(Status::Failed),
-        b"refused CutOff\n",
-    ),
-    (
-        (b"expect 1 65537\n", b"", 0, b"report\n"),
-        Ok(Status::Matched),
-        b"refused BadCommand\n1 directives, 0 mismatches\n",
-    ),
-];
-
-fn talks_long(rt: &impl Abort, alloc: Global, row: &(Long, Answer, &[u8])) -> bool {
-    let input = long_text(rt, alloc, row.0);
-    let so = talks(alloc, input.as_slice(), WHOLE, row.1, row.2);
-    drop(input);
-    so
-}
-
-#[test]
-fn commands_at_a_limit_and_past_it(rt: HostRuntime) {
-    for (k, row) in LONG_COMMANDS.iter().enumerate() {
-        let so = talks_long(&rt, rt.alloc(), row);
-        is_in_row(&rt, so, "long commands", k);
     }
 }
 

@@ -4,7 +4,9 @@ use super::before::{Before, moves_of};
 use super::making::{Player, act_all, played};
 use super::moves::{Move, Start};
 use crate::tests::is_in_row;
-use rb_message::{Event, Message, MessageKind, Outbox, Role, WhyNoCampaign, WhyReplaced};
+use rb_message::{
+    Event, EventKind, Message, MessageKind, Outbox, Role, WhyNoCampaign, WhyReplaced,
+};
 use rb_node::Node;
 use rb_raftlog::RaftLog;
 use rb_tracker::VoteResult;
@@ -149,27 +151,27 @@ fn counted(outcome: VoteResult) -> Told {
 }
 
 fn event_told(event: &Event) -> Told {
-    match event {
-        Event::Started { .. } => Told::Started,
-        Event::Became { .. } => Told::Became,
-        Event::CannotCampaign { why, .. } => reason(*why),
-        Event::VoteCounted {
+    match &event.kind {
+        EventKind::Started { .. } => Told::Started,
+        EventKind::Became { .. } => Told::Became,
+        EventKind::CannotCampaign { why, .. } => reason(*why),
+        EventKind::VoteCounted {
             result: outcome,
             ..
         } => counted(*outcome),
-        Event::Ignored { .. } => Told::Ignored,
-        Event::RefusedVote { .. } => Told::RefusedVote,
-        Event::DroppedProposal { .. } => Told::DroppedProposal,
-        Event::RemovedEntries { .. } => Told::RemovedEntries,
-        Event::Conflict { .. } => Told::Conflict,
-        Event::AppendsNothing { .. } => Told::AppendsNothing,
-        Event::ReplacedChange { why, .. } => replaced(*why),
-        Event::Switched { .. } => Told::Switched,
-        Event::RefusedChange { .. } => Told::RefusedChange,
-        Event::Restored { .. } => Told::Restored,
-        Event::TransferStarts { .. } => Told::TransferStarts,
-        Event::TransferEnds { .. } => Told::TransferEnds,
-        Event::LostQuorum { .. } => Told::LostQuorum,
+        EventKind::Ignored { .. } => Told::Ignored,
+        EventKind::RefusedVote { .. } => Told::RefusedVote,
+        EventKind::DroppedProposal => Told::DroppedProposal,
+        EventKind::RemovedEntries { .. } => Told::RemovedEntries,
+        EventKind::Conflict { .. } => Told::Conflict,
+        EventKind::AppendsNothing => Told::AppendsNothing,
+        EventKind::ReplacedChange { why, .. } => replaced(*why),
+        EventKind::Switched { .. } => Told::Switched,
+        EventKind::RefusedChange { .. } => Told::RefusedChange,
+        EventKind::Restored { .. } => Told::Restored,
+        EventKind::TransferStarts { .. } => Told::TransferStarts,
+        EventKind::TransferEnds { .. } => Told::TransferEnds,
+        EventKind::LostQuorum => Told::LostQuorum,
     }
 }
 
