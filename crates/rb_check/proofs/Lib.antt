@@ -6,6 +6,7 @@ pub mod LineLaws
 pub mod PlaceLaws
 pub mod ReasonLaws
 pub mod ReviewLaws
+pub mod ShownLaws
 pub mod SuiteLaws
 pub mod VisibleLaws
 pub mod XmlLaws

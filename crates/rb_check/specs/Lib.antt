@@ -12,4 +12,5 @@ pub mod Place
 pub mod Reasons
 pub mod Reported
 pub mod Reviews
+pub mod Shown
 pub mod Visible

@@ -1,5 +1,5 @@
 -- A review: what is asked about, what answers mean, and what is accepted by the lines that are read. (This project's.)
-use Rattle.std.specs.Prelude.{ℕ, zero, suc, ◌==◌, ◌||◌, ◌-◌, Bool, false, not, if◌then◌else◌, List, [], ◌∷◌, ◌++◌, Option, Some, None, codes, decimal, drop, length, min, slice_index_or, take}
+use Rattle.std.specs.Prelude.{ℕ, zero, suc, ◌==◌, ◌||◌, ◌&&◌, ◌-◌, Bool, false, not, if◌then◌else◌, List, [], ◌∷◌, ◌++◌, Option, Some, None, codes, decimal, drop, length, min, nat_lt, slice_index_or, take}
 use Rattle.std.specs.List.{flat_map, fold}
 use Rattle.std.specs.Str.{trim}
 use Rattle.rb_script.specs.Lines.{Line}
@@ -76,6 +76,19 @@ heard_as (Some answer) = heard.Answer answer
 -- what a line says, white space around it aside
 abbrev pub heard_in : List ℕ → HeardAnswer
 heard_in line = heard_as (answer_to (trim line))
+
+-- what the bytes of one read say, if the terminal gives each key at once: of several none is an answer, nor is one soon after what is none; nothing,
+-- and Ctrl-D alone, are the end
+abbrev pub heard_by_key : Bool → List ℕ → HeardAnswer
+heard_by_key is_soon [] = heard.End
+heard_by_key is_soon (b ∷ []) = if is_soon then heard.Else else (if b == 4 then heard.End else heard_as (answer_of b))
+heard_by_key is_soon (b ∷ c ∷ keys) = heard.Else
+
+-- what is shown of them, since such a terminal shows nothing: a key alone, if it is visible
+abbrev pub visible_key : List ℕ → List ℕ
+visible_key [] = []
+visible_key (b ∷ []) = if nat_lt 32 b && nat_lt b 127 then b ∷ [] else []
+visible_key (b ∷ c ∷ keys) = []
 
 -- what is still to be asked after it
 abbrev pub next_review : Answer → Review

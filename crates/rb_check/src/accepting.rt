@@ -11,6 +11,7 @@ ghost use Rattle.rb_check.specs.Endings.{IsLeft};
 use crate::checked_script::CheckedScript;
 use crate::ran::{Ran, ScriptEnd};
 use crate::report::Report;
+use crate::report_sink::ReportSink;
 use crate::system::System;
 use rb_files::PathError;
 use rb_machine::Machine;
@@ -20,10 +21,9 @@ use rb_script_report::{
 };
 use std::alloc::Global;
 use std::io;
-use std::io::Write;
 
 /// Writes the outputs into the script's file: those that are accepted. The others are named.
-pub(crate) fn accept<M: Machine, S: System, W: Write + Drop, E: Write + Drop>(
+pub(crate) fn accept<M: Machine, S: System, W: ReportSink, E: ReportSink>(
     system: &S,
     wanted: AcceptOptions<'_>,
     subject: &CheckedScript<'_, M>,
@@ -54,7 +54,7 @@ pub(crate) fn accept<M: Machine, S: System, W: Write + Drop, E: Write + Drop>(
 }
 
 // Reports which outputs are not accepted.
-fn tell_left<M: Machine, W: Write + Drop, E: Write + Drop>(
+fn tell_left<M: Machine, W: ReportSink, E: ReportSink>(
     subject: &CheckedScript<'_, M>,
     wanted: AcceptOptions<'_>,
     report: &mut Report<W, E>,
@@ -72,7 +72,7 @@ fn tell_left<M: Machine, W: Write + Drop, E: Write + Drop>(
 }
 
 // Says that nothing below the first new error is accepted, if an output differs there.
-fn tell_echoes<W: Write + Drop, E: Write + Drop>(
+fn tell_echoes<W: ReportSink, E: ReportSink>(
     path: &str,
     picked: AcceptFilter<'_>,
     left: &[usize],
@@ -91,7 +91,7 @@ fn tell_echoes<W: Write + Drop, E: Write + Drop>(
 }
 
 // Puts the new text in the file's place, unless nothing is accepted.
-fn keep<M: Machine, S: System, W: Write + Drop, E: Write + Drop>(
+fn keep<M: Machine, S: System, W: ReportSink, E: ReportSink>(
     system: &S,
     wanted: AcceptOptions<'_>,
     made: &Accepted,
@@ -124,7 +124,7 @@ fn keep<M: Machine, S: System, W: Write + Drop, E: Write + Drop>(
 }
 
 // Reports why nothing of the script is accepted.
-fn fail<W: Write + Drop, E: Write + Drop>(
+fn fail<W: ReportSink, E: ReportSink>(
     alloc: Global,
     ran: Ran<'_>,
     fault: AcceptFault,

@@ -7,19 +7,19 @@ use crate::check_request::CheckRequest;
 use crate::checked_script::CheckedScript;
 use crate::place::place_at;
 use crate::report::Report;
+use crate::report_sink::ReportSink;
 use rb_files::PathError;
 use rb_machine::Machine;
 use rb_report::check::Failure;
 use rb_script_report::{Detail, ShownScript, View, put_alone};
 use std::alloc::Global;
-use std::io::Write;
 
 /// Shows the last directive whose head is at each of the lines or above it: what differs, or else its output.
 ///
 /// # Errors
 ///
 /// If there is no directive at a line or above it, or memory was refused.
-pub(crate) fn show_alone<M: Machine, W: Write + Drop, E: Write + Drop>(
+pub(crate) fn show_alone<M: Machine, W: ReportSink, E: ReportSink>(
     alloc: Global,
     asked: &CheckRequest<'_>,
     subject: &CheckedScript<'_, M>,
@@ -39,7 +39,7 @@ pub(crate) fn show_alone<M: Machine, W: Write + Drop, E: Write + Drop>(
 }
 
 // Shows the directive at an index.
-fn show_directive<M: Machine, W: Write + Drop, E: Write + Drop>(
+fn show_directive<M: Machine, W: ReportSink, E: ReportSink>(
     alloc: Global,
     asked: &CheckRequest<'_>,
     subject: &CheckedScript<'_, M>,

@@ -1,7 +1,10 @@
 //! Answers to the questions of a review.
 
 ghost use Rattle.std.specs.Prelude.{◌≡◌};
-ghost use Rattle.rb_check.specs.Reviews.{answer_of, answer_to, heard_in};
+ghost use Rattle.rb_check.specs.Reviews.{answer_of, answer_to, heard_as, heard_by_key, heard_in, visible_key};
+
+// What Ctrl-D is, where the terminal gives each key at once.
+const CTRL_D: u8 = 4;
 
 /// What was answered.
 #[derive(Clone, Copy)]
@@ -18,7 +21,7 @@ pub(crate) enum Answer {
     Quit,
 }
 
-/// A line from the terminal.
+/// A line from the terminal, or a key.
 #[derive(Clone, Copy)]
 pub(crate) enum HeardAnswer {
     Answer(Answer),
@@ -32,7 +35,37 @@ pub(crate) enum HeardAnswer {
 pub(crate) fn heard_in(line: &str) -> HeardAnswer
     ensures { result ≡ heard_in line.now }
 {
-    match answer_to(line.trim().as_bytes()) {
+    heard_as(answer_to(line.trim().as_bytes()))
+}
+
+/// What the bytes of one read mean, if the terminal gives each key at once. Several that come together, as of an arrow key or a text that is
+/// pasted, are no answer, nor is what comes soon after them.
+pub(crate) fn heard_by_key(keys: &[u8], is_soon: bool) -> HeardAnswer
+    ensures { result ≡ heard_by_key is_soon keys.now }
+{
+    match keys {
+        [] => HeardAnswer::End,
+        _ if is_soon => HeardAnswer::Else,
+        [key] if *key == CTRL_D => HeardAnswer::End,
+        [key] => heard_as(answer_of(*key)),
+        _ => HeardAnswer::Else,
+    }
+}
+
+/// What is shown of them: a key alone that is visible.
+pub(crate) fn visible_key(keys: &[u8]) -> &[u8]
+    ensures { result.now ≡ visible_key keys.now }
+{
+    match keys {
+        [key] if 32 < *key && *key < 127 => keys,
+        _ => b"",
+    }
+}
+
+fn heard_as(answer: Option<Answer>) -> HeardAnswer
+    ensures { result ≡ heard_as answer }
+{
+    match answer {
         Some(answer) => HeardAnswer::Answer(answer),
         None => HeardAnswer::Else,
     }

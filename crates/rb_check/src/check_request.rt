@@ -17,6 +17,8 @@ pub struct CheckRequest<'a> {
     pub is_forced: bool,
     /// Whether each output that differs is asked about.
     pub reviews: bool,
+    /// Whether the terminal gives each key at once, so that a key is an answer.
+    pub gives_keys: bool,
     pub is_quiet: bool,
     /// Whether reasons are shown below the lines of outputs.
     pub explains: bool,

@@ -20,6 +20,7 @@ use crate::picking::{lines_alone, named_heads, picked_of};
 use crate::ran::{Ran, ScriptEnd};
 use crate::reasons::run_script;
 use crate::report::Report;
+use crate::report_sink::ReportSink;
 use crate::review::{Reviewer, reviewed};
 use crate::runner::Runner;
 use crate::system::{System, Text};
@@ -32,14 +33,13 @@ use rb_script_report::{
     warnings,
 };
 use std::alloc::{AllocError, Global};
-use std::io::Write;
 
 /// Checks the script at the path: shows its mismatches, and accepts them if that was asked for.
 ///
 /// # Errors
 ///
 /// What failed, where the script could not be read or run, or memory was refused for what there is to show.
-pub(crate) fn check_script<T: Runner, S: System, P: Person, W: Write + Drop, E: Write + Drop>(
+pub(crate) fn check_script<T: Runner, S: System, P: Person, W: ReportSink, E: ReportSink>(
     system: &S,
     runner: &mut T,
     asked: &CheckRequest<'_>,
@@ -102,7 +102,7 @@ fn ran_of<'a, M: Machine>(
 }
 
 // Shows what there is to show, and does with the outputs what is to be done.
-fn answer<M: Machine, S: System, P: Person, W: Write + Drop, E: Write + Drop>(
+fn answer<M: Machine, S: System, P: Person, W: ReportSink, E: ReportSink>(
     system: &S,
     asked: &CheckRequest<'_>,
     subject: &CheckedScript<'_, M>,
@@ -150,7 +150,7 @@ fn ending_at<M: Machine>(
 }
 
 // Shows what there is to show: the directives that are named alone, or the lines that look like a slip and what differs.
-fn tell<M: Machine, S: System, W: Write + Drop, E: Write + Drop>(
+fn tell<M: Machine, S: System, W: ReportSink, E: ReportSink>(
     system: &S,
     asked: &CheckRequest<'_>,
     subject: &CheckedScript<'_, M>,
@@ -176,7 +176,7 @@ fn warns<M: Machine>(asked: &CheckRequest<'_>, session: &Session<M>) -> bool {
 }
 
 // Accepts the outputs that are said yes to.
-fn accept_reviewed<M: Machine, S: System, P: Person, W: Write + Drop, E: Write + Drop>(
+fn accept_reviewed<M: Machine, S: System, P: Person, W: ReportSink, E: ReportSink>(
     system: &S,
     asked: &CheckRequest<'_>,
     picked: AcceptFilter<'_>,
@@ -212,7 +212,7 @@ fn shows_warnings(shown: Detail) -> bool {
 }
 
 // Shows the script's report to people or programs. If it is empty, nothing is computed.
-fn show<M: Machine, W: Write + Drop, E: Write + Drop>(
+fn show<M: Machine, W: ReportSink, E: ReportSink>(
     alloc: Global,
     asked: &CheckRequest<'_>,
     subject: &CheckedScript<'_, M>,
@@ -231,7 +231,7 @@ fn show<M: Machine, W: Write + Drop, E: Write + Drop>(
 }
 
 // Shows the script's report to people.
-fn show_people<M: Machine, W: Write + Drop, E: Write + Drop>(
+fn show_people<M: Machine, W: ReportSink, E: ReportSink>(
     alloc: Global,
     asked: &CheckRequest<'_>,
     subject: &CheckedScript<'_, M>,
@@ -261,7 +261,7 @@ fn show_people<M: Machine, W: Write + Drop, E: Write + Drop>(
 }
 
 // Shows the script's report to programs.
-fn show_programs<M: Machine, W: Write + Drop, E: Write + Drop>(
+fn show_programs<M: Machine, W: ReportSink, E: ReportSink>(
     alloc: Global,
     format: Format,
     is_strict: bool,

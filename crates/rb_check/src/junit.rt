@@ -20,13 +20,6 @@ use rb_text::add_pieces;
 use std::alloc::{AllocError, Global};
 use std::mem;
 
-/// What is before all suites.
-pub(crate) const BEGINNING: &[u8] =
-    b"<?xml version=\"1.0\" encoding=\"UTF-8\"?>\n<testsuites name=\"raftbench\">\n";
-
-/// What is after them.
-pub(crate) const END: &[u8] = b"</testsuites>\n";
-
 /// The verdict of a case.
 #[derive(Clone, Copy, Debug, PartialEq, Eq)]
 pub(crate) enum CaseVerdict {

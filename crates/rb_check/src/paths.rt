@@ -9,6 +9,7 @@ use crate::checking::check_script;
 use crate::person::{Person, TerminalPerson};
 use crate::progress::ProgressClock;
 use crate::report::Report;
+use crate::report_sink::{ReportSink, stream_over};
 use crate::review::{Review, Reviewer};
 use crate::runner::Runner;
 use crate::system::{RuntimeSystem, System};
@@ -39,7 +40,9 @@ pub fn check<T: Runner, R: Files + Input + Print + Clock + AllocGlobal, E: Write
     ensures counted { IfOk result (λ status. IsCheckStatus asked.entry status) }
 {
     let mut progress = ProgressClock::from_now(rt, asked.wants_progress);
-    let mut report = Report::new(rt.alloc(), FailFast(io::writer(rt)), errors, &asked)?;
+    let output = stream_over(rt.alloc(), FailFast(io::writer(rt)))?;
+    let errors = stream_over(rt.alloc(), errors)?;
+    let mut report = Report::new(rt.alloc(), output, errors, &asked);
     let found = find(rt, asked.targets, asked.filters);
     report.begin();
     tell_lost(&found, &mut report);
@@ -55,7 +58,7 @@ pub fn check<T: Runner, R: Files + Input + Print + Clock + AllocGlobal, E: Write
 }
 
 // Checks the scripts one after another, until a review ends. Returns how many were checked.
-fn check_each<T: Runner, R: Files + Input + Clock + AllocGlobal, W: Write + Drop, E: Write + Drop>(
+fn check_each<T: Runner, R: Files + Input + Clock + AllocGlobal, W: ReportSink, E: ReportSink>(
     rt: &R,
     runner: &mut T,
     asked: &CheckRequest<'_>,
@@ -67,7 +70,8 @@ fn check_each<T: Runner, R: Files + Input + Clock + AllocGlobal, W: Write + Drop
     ensures within { result ≤ length scripts.now }
 {
     let system = RuntimeSystem(rt);
-    let mut reviewer = Reviewer::new(rt.alloc(), TerminalPerson(rt));
+    let person = TerminalPerson::new(rt, asked.gives_keys);
+    let mut reviewer = Reviewer::new(rt.alloc(), person);
     let mut done = 0;
     while done < scripts.len() && reviewer.review != Review::Over {
         tell_progress(rt, progress, done, scripts.len(), report);
@@ -80,7 +84,7 @@ fn check_each<T: Runner, R: Files + Input + Clock + AllocGlobal, W: Write + Drop
 }
 
 // Shows how far the work is, if it is time to.
-fn tell_progress<C: Clock, W: Write + Drop, E: Write + Drop>(
+fn tell_progress<C: Clock, W: ReportSink, E: ReportSink>(
     clock: &C,
     progress: &mut ProgressClock,
     done: usize,
@@ -95,11 +99,7 @@ fn tell_progress<C: Clock, W: Write + Drop, E: Write + Drop>(
 }
 
 // If the review ended, says how many scripts are left.
-fn end_review<W: Write + Drop, E: Write + Drop>(
-    review: Review,
-    left: usize,
-    report: &mut Report<W, E>,
-)
+fn end_review<W: ReportSink, E: ReportSink>(review: Review, left: usize, report: &mut Report<W, E>)
     ensures { report.new.counts ≡ report.old.counts }
 {
     if review == Review::Over {
@@ -108,7 +108,7 @@ fn end_review<W: Write + Drop, E: Write + Drop>(
 }
 
 // Checks a script, and reports why if that fails.
-fn check_one<T: Runner, S: System, P: Person, W: Write + Drop, E: Write + Drop>(
+fn check_one<T: Runner, S: System, P: Person, W: ReportSink, E: ReportSink>(
     system: &S,
     runner: &mut T,
     asked: &CheckRequest<'_>,
@@ -124,7 +124,7 @@ fn check_one<T: Runner, S: System, P: Person, W: Write + Drop, E: Write + Drop>(
 }
 
 // Ends the report of n scripts, if there is something to end.
-fn end<W: Write + Drop, E: Write + Drop>(
+fn end<W: ReportSink, E: ReportSink>(
     asked: &CheckRequest<'_>,
     n: usize,
     milliseconds: u64,
@@ -138,7 +138,7 @@ fn end<W: Write + Drop, E: Write + Drop>(
 }
 
 // Reports the paths that could not be read.
-fn tell_lost<W: Write + Drop, E: Write + Drop>(found: &Found, report: &mut Report<W, E>) {
+fn tell_lost<W: ReportSink, E: ReportSink>(found: &Found, report: &mut Report<W, E>) {
     for lost in &found.lost {
         report.heed(&lost.path, None);
         report.fail(&lost.path, lost.error);

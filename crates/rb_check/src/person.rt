@@ -3,9 +3,16 @@
 ghost use Rattle.std.specs.Prelude.{◌≡◌, ◌<◌, ◌≤◌, ◌^◌, [], List, length};
 ghost use Rattle.rb_check.specs.Reviews.{after_answer, answered, first_heard, rest_heard};
 
-use crate::answer::{Answer, HeardAnswer, heard_in};
+use crate::answer::{Answer, HeardAnswer, heard_by_key, heard_in, visible_key};
 use crate::report::Report;
-use std::io::Write;
+use crate::report_sink::ReportSink;
+use std::io::Read;
+use std::time::{Clock, Duration, Instant};
+
+// A terminal has no more bytes at once.
+const MOST_KEYS: usize = 4_096;
+
+const MILLISECONDS_APART: u64 = 200;
 
 const HELP: &[u8] =
     b"y  accepts this output\nn  leaves what is expected\na  accepts this one and all that follow in this script, but new errors; with --accept-errors these too\ns  leaves this one and all that follow in this script\nq  leaves this one and all that follow, and ends\n?  shows this\n";
@@ -19,8 +26,8 @@ pub(crate) trait Person: Drop {
 
     ghost is_known: { Self → Type 0 };
 
-    /// Shows the question, and reads a line. If the question can't be shown, no more lines are read.
-    fn ask<W: Write + Drop, E: Write + Drop>(
+    /// Shows the question, and reads a line or a key. If the question can't be shown, nothing more is read.
+    fn ask<W: ReportSink, E: ReportSink>(
         &mut self,
         question: &[u8],
         report: &mut Report<W, E>,
@@ -33,15 +40,70 @@ pub(crate) trait Person: Drop {
 
 /// Who has the terminal.
 #[derive(Drop)]
-pub(crate) struct TerminalPerson<'a, R>(pub(crate) &'a R);
+pub(crate) struct TerminalPerson<'a, R> {
+    rt: &'a R,
+    // whether the terminal gives each key at once
+    gives_keys: bool,
+    // when the last key came that was no answer
+    missed: Option<Instant>,
+}
 
-// The lines of a terminal are not known.
-impl<'a, R: Input + AllocGlobal> Person for TerminalPerson<'a, R> {
+impl<'a, R: Input + Clock + AllocGlobal> TerminalPerson<'a, R> {
+    pub(crate) fn new(rt: &'a R, gives_keys: bool) -> TerminalPerson<'a, R> {
+        TerminalPerson {
+            rt,
+            gives_keys,
+            missed: None,
+        }
+    }
+
+    fn hear_line(&self) -> HeardAnswer {
+        let mut line = String::new(self.rt.alloc());
+        match self.rt.read_line(&mut line) {
+            Ok(count) if count > 0 => heard_in(line.as_str()),
+            _ => HeardAnswer::End,
+        }
+    }
+
+    // Reads what is there, at least a byte. Such a terminal shows neither a key nor an end of the line, so they are written.
+    fn hear_key<W: ReportSink, E: ReportSink>(&mut self, report: &mut Report<W, E>) -> HeardAnswer
+        ensures { report.new.counts ≡ report.old.counts }
+    {
+        let mut keys = [0u8; MOST_KEYS];
+        let Ok(count) = self.rt.reader().read(&mut keys) else {
+            return HeardAnswer::End;
+        };
+        let keys = &keys[..count];
+        if count > 0 {
+            report.put(visible_key(keys));
+            report.put(b"\n");
+        }
+        let heard = heard_by_key(keys, self.is_soon());
+        if matches!(heard, HeardAnswer::Else) {
+            self.missed = Instant::now(self.rt).ok();
+        }
+        heard
+    }
+
+    // Whether a key that was no answer came so shortly before that what comes now may belong to it: a text that is pasted comes in parts.
+    fn is_soon(&self) -> bool {
+        let Some(missed) = self.missed else {
+            return false;
+        };
+        match missed.elapsed(self.rt) {
+            Ok(elapsed) => elapsed < Duration::from_millis(MILLISECONDS_APART),
+            Err(_) => false,
+        }
+    }
+}
+
+// What comes from a terminal is not known.
+impl<'a, R: Input + Clock + AllocGlobal> Person for TerminalPerson<'a, R> {
     ghost left = { λ _. [] };
 
     ghost is_known = { λ _. ⊥ };
 
-    fn ask<W: Write + Drop, E: Write + Drop>(
+    fn ask<W: ReportSink, E: ReportSink>(
         &mut self,
         question: &[u8],
         report: &mut Report<W, E>,
@@ -49,16 +111,16 @@ impl<'a, R: Input + AllocGlobal> Person for TerminalPerson<'a, R> {
         if !report.say(question) {
             return HeardAnswer::End;
         }
-        let mut line = String::new(self.0.alloc());
-        match self.0.read_line(&mut line) {
-            Ok(count) if count > 0 => heard_in(line.as_str()),
-            _ => HeardAnswer::End,
+        if self.gives_keys {
+            self.hear_key(report)
+        } else {
+            self.hear_line()
         }
     }
 }
 
-/// Asks until a line is one of the answers. The end of the lines ends the review.
-pub(crate) fn ask<P: Person, W: Write + Drop, E: Write + Drop>(
+/// Asks until a line or a key is one of the answers. The end of the input ends the review.
+pub(crate) fn ask<P: Person, W: ReportSink, E: ReportSink>(
     person: &mut P,
     question: &[u8],
     report: &mut Report<W, E>,

@@ -8,6 +8,7 @@ use crate::check_request::CheckRequest;
 use crate::checked_script::CheckedScript;
 use crate::place::place_at;
 use crate::report::Report;
+use crate::report_sink::ReportSink;
 use crate::system::System;
 use crate::target::Target;
 use rb_files::PathError;
@@ -15,11 +16,10 @@ use rb_machine::Machine;
 use rb_script_report::{AcceptFilter, picked_unnamed};
 use std::alloc::{AllocError, Global};
 use std::io;
-use std::io::Write;
 
 /// The lines of the heads of the script's directives that are named to be accepted, in their order; none if the whole script is,
 /// or nothing is accepted. A named directive without a mismatch is reported.
-pub(crate) fn named_heads<M: Machine, S: System, W: Write + Drop, E: Write + Drop>(
+pub(crate) fn named_heads<M: Machine, S: System, W: ReportSink, E: ReportSink>(
     system: &S,
     asked: &CheckRequest<'_>,
     subject: &CheckedScript<'_, M>,
@@ -111,7 +111,7 @@ fn names<S: System>(system: &S, target: &Target, path: &str) -> bool {
 }
 
 // The last of the heads at each of the lines or above it.
-fn heads_at<M: Machine, W: Write + Drop, E: Write + Drop>(
+fn heads_at<M: Machine, W: ReportSink, E: ReportSink>(
     alloc: Global,
     lines: &[usize],
     heads: &[usize],

@@ -1,6 +1,6 @@
 //! The run of a script, and the reasons of its outputs.
 
-ghost use Rattle.std.specs.Prelude.{◌≡◌, ◌≢◌, ◌≤◌, ◌<◌, Err, IfErr, IfOk, Some, length, slice_get};
+ghost use Rattle.std.specs.Prelude.{◌≡◌, ◌≢◌, ◌≤◌, Err, IfErr, IfOk, length};
 ghost use Rattle.rb_script.specs.declared.limits.TheConstants.{MAX_DIRECTIVES};
 ghost use Rattle.rb_script.specs.Script.{PlainScript};
 ghost use Rattle.rb_script.specs.Reads.{Reads};
@@ -12,9 +12,10 @@ ghost use Rattle.rb_script_report.specs.Whys.{whys_of};
 ghost use Rattle.rb_check.specs.Reasons.{asked_reasons};
 
 use crate::runner::Runner;
+use rb_bench::{RunProgress, run_directives};
 use rb_machine::Machine;
-use rb_replay::{Outputs, Session, StartFault};
-use rb_script::{Block, Lines, Script, ScriptWithLines};
+use rb_replay::{Outputs, Session, StartFault, block_at};
+use rb_script::{Lines, Script, ScriptWithLines};
 use rb_script_report::Layout;
 use std::alloc::{AllocError, Global};
 
@@ -70,42 +71,32 @@ fn run_read<T: Runner>(
     ensures script { IfOk result (λ ran. ran.0.script ≡ script) }
     ensures whys { IfOk result (λ ran. ran.1.items ≡ asked_reasons explains script) }
 {
-    runner.begin(script.len());
-    let ran = run_each(alloc, runner, explains, &script);
-    runner.end();
-    let (printed, whys) = ran?;
+    let (printed, whys) = if explains {
+        run_explained(alloc, runner, &script)?
+    } else {
+        (run_directives(alloc, runner, &script)?, Vec::new(alloc))
+    };
     Ok((Session::from_outputs(alloc, script, printed)?, whys))
 }
 
-// Runs the directives; returns their outputs, and the reasons of these if they were asked for.
-fn run_each<T: Runner>(
+// Runs the directives; returns their outputs and the reasons of each.
+fn run_explained<T: Runner>(
     alloc: Global,
     runner: &mut T,
-    explains: bool,
     script: &Script,
 ) -> Result<(Outputs, Vec<Lines>), AllocError>
     requires { length script.now.blocks ≤ MAX_DIRECTIVES }
     ensures outputs { IfOk result (λ ran. ran.0 ≡ outputs script.now) }
-    ensures whys { IfOk result (λ ran. ran.1.items ≡ asked_reasons explains script.now) }
+    ensures whys { IfOk result (λ ran. ran.1.items ≡ whys_of script.now) }
 {
-    if explains {
-        run_directives(alloc, runner, script)
-    } else {
-        Ok((run_plainly(alloc, runner, script)?, Vec::new(alloc)))
-    }
+    runner.progress().begin(script.len());
+    let ran = explain_each(alloc, runner, script);
+    runner.progress().end();
+    ran
 }
 
-// The block of the directive at an index, which counts from 0.
-fn block_of(script: &Script, index: usize) -> &Block
-    requires few { length script.now.blocks ≤ MAX_DIRECTIVES }
-    requires within { index < length script.now.blocks }
-    ensures { slice_get script.now.blocks index ≡ Some result.now }
-{
-    script.block(index + 1).unwrap()
-}
-
-// Runs the directives; returns their outputs and the reasons of each.
-fn run_directives<T: Runner>(
+// Runs each directive; returns the outputs and the reasons of each.
+fn explain_each<T: Runner>(
     alloc: Global,
     runner: &mut T,
     script: &Script,
@@ -118,31 +109,10 @@ fn run_directives<T: Runner>(
     let mut whys = Vec::new(alloc);
     let mut machine: T::Machine = Machine::empty(alloc)?;
     for i in 0..script.len() {
-        let block = block_of(script, i);
-        let ran = runner.run_explained(alloc, machine, block.directive())?;
+        let directive = block_at(script, i).directive();
+        let ran = runner.run_explained(alloc, &mut machine, &directive)?;
         printed.push(ran.output)?;
         whys.push(ran.reasons)?;
-        machine = ran.machine;
     }
     Ok((printed, whys))
-}
-
-// Runs the directives; returns their outputs.
-fn run_plainly<T: Runner>(
-    alloc: Global,
-    runner: &mut T,
-    script: &Script,
-) -> Result<Outputs, AllocError>
-    requires { length script.now.blocks ≤ MAX_DIRECTIVES }
-    ensures { IfOk result (λ printed. printed ≡ outputs script.now) }
-{
-    let mut printed = Outputs::new(alloc);
-    let mut machine: T::Machine = Machine::empty(alloc)?;
-    for i in 0..script.len() {
-        let block = block_of(script, i);
-        let (after, output) = runner.run(machine, block.directive())?;
-        printed.push(output)?;
-        machine = after;
-    }
-    Ok(printed)
 }

@@ -17,11 +17,11 @@ use crate::person::{Person, ask};
 use crate::question::{ReviewQuestion, question_of, question_text};
 use crate::ran_directive::directive_at;
 use crate::report::Report;
+use crate::report_sink::ReportSink;
 use rb_files::PathError;
 use rb_machine::Machine;
 use rb_script_report::{AcceptFilter, Detail, ShowFault, ShownScript, View, put_alone};
 use std::alloc::{AllocError, Global};
-use std::io::Write;
 use std::mem;
 
 /// What is still to be asked.
@@ -89,7 +89,7 @@ impl<P: Person> Reviewer<P> {
     }
 
     // Asks, and does what is answered.
-    fn ask<W: Write + Drop, E: Write + Drop>(
+    fn ask<W: ReportSink, E: ReportSink>(
         &mut self,
         question: ReviewQuestion,
         report: &mut Report<W, E>,
@@ -130,7 +130,7 @@ fn review_behind(review: Review) -> Review
 }
 
 /// The lines of the heads of the directives whose outputs are to be accepted, by what is answered.
-pub(crate) fn reviewed<M: Machine, P: Person, W: Write + Drop, E: Write + Drop>(
+pub(crate) fn reviewed<M: Machine, P: Person, W: ReportSink, E: ReportSink>(
     asked: &CheckRequest<'_>,
     subject: &CheckedScript<'_, M>,
     picked: AcceptFilter<'_>,
@@ -204,7 +204,7 @@ fn question_at<M: Machine>(
 }
 
 // Asks about each directive whose output differs and that is picked, as far as it is still to be asked.
-fn go_over<M: Machine, P: Person, W: Write + Drop, E: Write + Drop>(
+fn go_over<M: Machine, P: Person, W: ReportSink, E: ReportSink>(
     asked: &CheckRequest<'_>,
     subject: &CheckedScript<'_, M>,
     picked: AcceptFilter<'_>,
@@ -227,7 +227,7 @@ fn go_over<M: Machine, P: Person, W: Write + Drop, E: Write + Drop>(
 }
 
 // Asks about the directive at an index, where there is something to ask and it is still to be asked.
-fn review_one<M: Machine, P: Person, W: Write + Drop, E: Write + Drop>(
+fn review_one<M: Machine, P: Person, W: ReportSink, E: ReportSink>(
     asked: &CheckRequest<'_>,
     subject: &CheckedScript<'_, M>,
     index: usize,
@@ -285,7 +285,7 @@ fn take(said: &mut Vec<usize>, head: usize, answer: Answer) -> Result<Review, Al
 }
 
 // Shows what is asked about, and the comment above it.
-fn show<M: Machine, W: Write + Drop, E: Write + Drop>(
+fn show<M: Machine, W: ReportSink, E: ReportSink>(
     alloc: Global,
     asked: &CheckRequest<'_>,
     subject: &CheckedScript<'_, M>,

@@ -6,6 +6,7 @@ ghost use Rattle.rb_script_report.specs.Accepting.{accepted};
 
 use crate::checked_script::CheckedScript;
 use crate::report::Report;
+use crate::report_sink::ReportSink;
 use rb_files::{AtomicReplace, PathError, file_at, opened, replace};
 use rb_machine::Machine;
 use rb_report::check::Failure;
@@ -14,7 +15,6 @@ use rb_script_report::AcceptOptions;
 use rb_text::{ReadFault, ReadSource, read_up_to};
 use std::alloc::Global;
 use std::fs::Metadata;
-use std::io::Write;
 use std::rt::Files;
 
 /// The first bytes of a file, and its metadata when it was opened.
@@ -34,7 +34,7 @@ pub(crate) trait System {
     fn read(&self, path: &str) -> Result<Text, PathError>;
 
     /// Puts the text in the place of the script's file: it is the script with the outputs that are wanted.
-    fn write<M: Machine, W: Write + Drop, E: Write + Drop>(
+    fn write<M: Machine, W: ReportSink, E: ReportSink>(
         &self,
         subject: &CheckedScript<'_, M>,
         wanted: AcceptOptions<'_>,
@@ -66,7 +66,7 @@ impl<'a, R: Files + AllocGlobal> System for RuntimeSystem<'a, R> {
         }
     }
 
-    fn write<M: Machine, W: Write + Drop, E: Write + Drop>(
+    fn write<M: Machine, W: ReportSink, E: ReportSink>(
         &self,
         subject: &CheckedScript<'_, M>,
         _wanted: AcceptOptions<'_>,
@@ -87,7 +87,7 @@ impl<'a, R: Files + AllocGlobal> System for RuntimeSystem<'a, R> {
 }
 
 // A new file that could be neither used nor removed is reported.
-fn put<R: Files + AllocGlobal, W: Write + Drop, E: Write + Drop>(
+fn put<R: Files + AllocGlobal, W: ReportSink, E: ReportSink>(
     place: &mut AtomicReplace<'_, R>,
     text: &[u8],
     report: &mut Report<W, E>,

@@ -1,5 +1,5 @@
 -- A name that doesn't end in a slash is as it is without one; and the paths that one more line names.
-use Rattle.std.proofs.Common.{◌≡◌, ◌∙◌, ℕ, ◌-◌, ◌+◌, ◌<◌, Bool, true, false, cond, List, [], ◌∷◌, ◌++◌, Option, Some, None, String, Bor, length, map, take, slice_index, string_bytes, refl, sym, ap, arith}
+use Rattle.std.proofs.Common.{◌≡◌, ◌∙◌, ℕ, ◌-◌, ◌+◌, ◌<◌, Bool, true, false, cond, List, [], ◌∷◌, ◌++◌, Option, Some, None, String, Bor, IfErr, IfSome, MatchOption, Result, Ok, Err, subst, length, map, take, slice_index, string_bytes, refl, sym, ap, arith}
 use Rattle.std.specs.Prelude.{◌&&◌}
 use Rattle.std.specs.Io.BufRead.{ends_with_byte, strip_last}
 use Rattle.std.specs.List.{cons_option, filter_map}
@@ -8,7 +8,13 @@ use Rattle.std.specs.declared.alloc.Global.{Global}
 use Rattle.std.proofs.lemmas.Bool.{eqb-true, ltb-true}
 use Rattle.std.proofs.lemmas.List.{append-nil, map-append, take_all, take_more}
 use Rattle.std.proofs.lemmas.List.Elements.{filter_map-append}
+use Rattle.std.specs.IoError.{error_kind}
+use Rattle.std.specs.declared.io.Error.{Error}
+use Rattle.rb_report.specs.declared.check.failure.Failure.{Failure}
+use Rattle.rb_report.specs.declared.check.failure.Failure.TheVariants as failures
 use Rattle.rb_files.specs.Ignored.{named_by}
+use Rattle.rb_files.specs.PathErrors.{IsOfOpening, IsOfReading, reading_failure}
+use Rattle.rb_files.specs.declared.path_error.PathError.{PathError}
 
 both : (s t : Bool) → (s && t) ≡ true → (s ≡ true) × (t ≡ true)
 both true t h = (refl, h)
@@ -54,3 +60,12 @@ names_none folder lines line paths before is =
     ∙ sym (append-nil (named folder lines))
     ∙ ap (λ (o : Option (List ℕ)). named folder lines ++ map (path_join folder) (cons_option o [])) (sym is)
     ∙ sym (one_more folder lines line)
+
+of_reading : (cause : Option Error) (f : Failure) → MatchOption cause (f ≡ failures.NoFile) (λ error. f ≡ reading_failure (error_kind error)) → IfSome cause (λ error. f ≡ reading_failure (error_kind error))
+of_reading None f h = tt
+of_reading (Some error) f h = h
+
+-- why an ignore file isn't read
+pub still_of_reading : (r : Result (Option (String Global)) PathError) (error : PathError) → IsOfOpening error → IfErr r (λ told. told ≡ error) → IfErr r IsOfReading
+still_of_reading (Ok text) error h e = tt
+still_of_reading (Err told) error h e = subst IsOfReading (sym e) (of_reading error.cause error.failure h)

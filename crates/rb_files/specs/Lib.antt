@@ -3,3 +3,4 @@ pub mod Ignored
 pub mod Places
 pub mod PathErrors
 pub mod Names
+pub mod Entries

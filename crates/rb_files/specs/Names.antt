@@ -1,5 +1,6 @@
 -- Names of files and folders, and looks at them. (This project's; the parts of a path are the standard library's.)
-use Rattle.std.specs.Prelude.{◌≡◌, ℕ, ◌-◌, ◌==◌, ◌||◌, Bool, true, false, if◌then◌else◌, List, [], ◌∷◌, ◌++◌, Option, Some, None, String, codes, drop, length, string_bytes, unwrap_or}
+use Rattle.std.specs.Prelude.{◌≡◌, ℕ, ◌-◌, ◌==◌, ◌||◌, Bool, true, false, if◌then◌else◌, List, [], ◌∷◌, ◌++◌, Option, Some, None, String, codes, decimal, drop, length, string_bytes, unwrap_or}
+use Rattle.std.specs.Io.KnownBytes.{Consumes}
 use Rattle.std.specs.List.{Any}
 use Rattle.std.specs.List.Sorted.{IsStrictlySortedBy}
 use Rattle.std.specs.String.{string_cmp}
@@ -42,3 +43,11 @@ HasName names name = Any (λ n. string_bytes n ≡ name) names
 -- a folder is known by its device and its number there
 abbrev pub folder_id : FileLook → FolderId
 folder_id look = record { device = look.device; number = look.number }
+
+-- the name of a new file, next to the one that it is to replace
+abbrev pub new_name : ℕ → List ℕ
+new_name number = codes ".raftbench-" ++ (decimal number ++ codes ".new")
+
+-- what a reader gave is after the bytes
+abbrev pub IsAdded : Option (List ℕ) → Option (List ℕ) → List ℕ → List ℕ → Type 0
+IsAdded left_old left_new bytes_old bytes_new = (given : List ℕ) × (bytes_new ≡ bytes_old ++ given) × Consumes left_old left_new given

@@ -68,6 +68,11 @@ abbrev pub Looks : {X : Type 0} → Result X PathError → Option Standing → O
 Looks (Ok x) old new = IfSome old (λ s. (s.is_same ≡ true) × (new ≡ Some s))
 Looks (Err e) old new = IfSome old (λ s. new ≡ Some (failed e s))
 
+-- a text is put into the new file and settled, and the file is the one that was read
+abbrev pub Prepares : {X : Type 0} → List ℕ → Result X PathError → Option Standing → Option Standing → Type 0
+Prepares text (Ok x) old new = IfSome old (λ s. (s.is_same ≡ true) × (new ≡ Some (settled (put text s))))
+Prepares text (Err e) old new = IfSome old (λ s. FailsAtText e s new)
+
 -- the new file is in the old one's place
 abbrev pub renamed : Standing → Standing
 renamed s = record s { file = unwrap_or s.new s.file; new = None; is_same = false }

@@ -1,12 +1,16 @@
 //! The place of a real file.
 
-ghost use Rattle.std.specs.Prelude.{◌≡◌, ◌↔◌, None, Some, IsOk, MatchResult, option_map, string_bytes};
-ghost use Rattle.rb_files.specs.PathErrors.{IsOfReading};
+ghost use Rattle.std.specs.Prelude.{◌≡◌, ◌↔◌, Err, None, Some, IfOk, IsOk, MatchResult, option_and_then, option_map, string_bytes, true};
+ghost use Rattle.std.specs.Fs.{new_options, with_create_new, with_write};
+ghost use Rattle.std.specs.Path.{path_join};
+ghost use Rattle.rb_files.specs.Names.{folder_of, new_name};
+ghost use Rattle.rb_files.specs.PathErrors.{IsOfReading, of_writing};
 
 use crate::entry::{folder_of, followed};
 use crate::file_look::FileLook;
 use crate::file_place::FilePlace;
 use crate::path_error::PathError;
+use std::alloc::{AllocError, Global};
 use std::fs::{Metadata, OpenFile, OpenOptions};
 use std::io::{ErrorKind, Write};
 use std::os::unix::fs::{MetadataExt, OpenOptionsExt, chown};
@@ -41,8 +45,8 @@ struct NewFile<F: Drop> {
 impl<'a, R: Files + AllocGlobal> AtomicReplace<'a, R> {
     /// The place of the file at the path, its links followed, which was `seen` when it was read.
     pub fn new(rt: &'a R, path: &str, seen: Metadata) -> Result<AtomicReplace<'a, R>, PathError>
-        // There is no new file yet.
-        ensures { MatchResult result (λ place. place.new ≡ None) IsOfReading }
+        // There is no new file yet, and no look.
+        ensures { MatchResult result (λ place. (place.new ≡ None) × (place.last ≡ None)) IsOfReading }
     {
         let target = followed(rt, path)?;
         Ok(AtomicReplace {
@@ -69,11 +73,7 @@ impl<'a, R: Files + AllocGlobal> AtomicReplace<'a, R> {
     fn new_file(&self) -> io::Result<NewFile<R::File>> {
         for number in 0..MOST_NAMES {
             let path = self.new_path(number)?;
-            let opened = OpenOptions::new()
-                .write(true)
-                .create_new(true)
-                .mode(0o600)
-                .open(self.rt, path.as_str());
+            let opened = new_file_options().mode(0o600).open(self.rt, path.as_str());
             match opened {
                 Ok(file) => return Ok(NewFile { path, file }),
                 Err(error) if error.kind() == ErrorKind::AlreadyExists => {}
@@ -85,23 +85,47 @@ impl<'a, R: Files + AllocGlobal> AtomicReplace<'a, R> {
         ))
     }
 
-    fn new_path(&self, number: usize) -> io::Result<String> {
-        let alloc = self.rt.alloc();
-        let name = format!(in alloc; ".raftbench-{number}.new")?;
-        Ok(
-            Path::new(folder_of(self.target.as_str()))
-                .join(alloc, name)?
-                .into_string(),
-        )
+    fn new_path(&self, number: usize) -> io::Result<String>
+        ensures { IfOk result (λ path. string_bytes path ≡ path_join (folder_of (string_bytes self.now.target)) (new_name number)) }
+    {
+        Ok(new_path_beside(self.rt.alloc(), self.target.as_str(), number)?)
     }
 
     // A file that may not be written isn't replaced, even if its folder would allow it.
     fn check_rights(&self) -> io::Result<()> {
-        OpenOptions::new()
-            .write(true)
-            .open(self.rt, self.target.as_str())?;
+        write_options().open(self.rt, self.target.as_str())?;
         Ok(())
     }
+}
+
+// The path of the new file with a number, in the folder of a file.
+fn new_path_beside(alloc: Global, target: &str, number: usize) -> Result<String, AllocError>
+    ensures { IfOk result (λ path. string_bytes path ≡ path_join (folder_of target.now) (new_name number)) }
+{
+    let name = format!(in alloc; ".raftbench-{number}.new")?;
+    Ok(
+        Path::new(folder_of(target))
+            .join(alloc, name)?
+            .into_string(),
+    )
+}
+
+// To write into a file that is there.
+fn write_options() -> OpenOptions
+    ensures { result ≡ with_write new_options true }
+{
+    let mut options = OpenOptions::new();
+    options.write(true);
+    options
+}
+
+// To write into a file that nobody else has: it is an error if there is one.
+fn new_file_options() -> OpenOptions
+    ensures { result ≡ with_create_new (with_write new_options true) true }
+{
+    let mut options = write_options();
+    options.create_new(true);
+    options
 }
 
 // Fails if a file has changed.
@@ -132,16 +156,20 @@ fn missing() -> io::Error {
     io::Error::from(ErrorKind::NotFound)
 }
 
-fn answered(outcome: io::Result<()>) -> Result<(), PathError> {
+fn answered(outcome: io::Result<()>) -> Result<(), PathError>
+    ensures { MatchResult outcome (λ _. IsOk result) (λ error. result ≡ Err (of_writing error)) }
+{
     match outcome {
         Ok(()) => Ok(()),
         Err(error) => Err(PathError::of_writing(error)),
     }
 }
 
-// The contents of the system's folders are not known, so these calls say nothing but what the last look showed.
+// The contents of the system's folders are not known, so these calls say nothing but what the last look showed, and what was written.
 impl<'a, R: Files + AllocGlobal> FilePlace for AtomicReplace<'a, R> {
     ghost stands = { λ _. None };
+
+    ghost contents = { λ place. option_and_then (λ new. R.File.contents new.file) place.new };
 
     ghost is_unchanged = { λ place. place.last ≡ Some place.read };
 

@@ -4,12 +4,15 @@
 //! once, whatever paths and links lead to it. Two names of one file by hard links are two scripts, since each may be given a text of its own.
 
 ghost use Rattle.std.specs.Prelude.{◌≡◌, IfErr, IfOk, string_bytes};
+ghost use Rattle.std.specs.Path.{path_join};
+ghost use Rattle.rb_files.specs.Entries.{file_of};
 ghost use Rattle.rb_files.specs.Names.{folder_id, folder_of, name_of};
 ghost use Rattle.rb_files.specs.PathErrors.{IsOfReading};
 
 use crate::file_look::FileLook;
 use crate::path_error::PathError;
 use rb_report::check::Failure;
+use std::alloc::{AllocError, Global};
 use std::fs;
 use std::fs::Metadata;
 use std::os::unix::fs::FileTypeExt;
@@ -123,18 +126,24 @@ pub(crate) fn followed<R: Files + AllocGlobal>(rt: &R, path: &str) -> Result<Str
     Err(PathError::alone(Failure::LinkLoop))
 }
 
-// The link's target: a path that doesn't begin at the root begins at the link's folder.
 fn next_link<R: Files + AllocGlobal>(rt: &R, link: &str) -> Result<String, PathError>
     ensures { IfErr result IsOfReading }
 {
     match fs::read_link(rt, link) {
-        Ok(target) => Ok(
-            Path::new(folder_of(link))
-                .join(rt.alloc(), target)?
-                .into_string(),
-        ),
+        Ok(target) => Ok(linked(rt.alloc(), link, target.as_str())?),
         Err(error) => Err(PathError::of_reading(error)),
     }
+}
+
+// The path that a link leads to: one that doesn't begin at the root begins at the link's folder.
+fn linked(alloc: Global, link: &str, target: &str) -> Result<String, AllocError>
+    ensures { IfOk result (λ path. string_bytes path ≡ path_join (folder_of link.now) target.now) }
+{
+    Ok(
+        Path::new(folder_of(link))
+            .join(alloc, target)?
+            .into_string(),
+    )
 }
 
 /// The folder that the path's last name is in.
@@ -155,9 +164,15 @@ pub(crate) fn folder_of(path: &str) -> &str
 pub fn file_at<R: Files + AllocGlobal>(rt: &R, path: &str) -> Result<Option<FileId>, PathError>
     ensures { IfErr result IsOfReading }
 {
-    match entry_at(rt, path)? {
-        PathEntry::File(file) => Ok(Some(file)),
-        PathEntry::Folder(_) | PathEntry::Other(_) => Ok(None),
+    Ok(file_of(entry_at(rt, path)?))
+}
+
+fn file_of(entry: PathEntry) -> Option<FileId>
+    ensures { result ≡ file_of entry }
+{
+    match entry {
+        PathEntry::File(file) => Some(file),
+        PathEntry::Folder(_) | PathEntry::Other(_) => None,
     }
 }
 

@@ -6,8 +6,9 @@
 //! directly after a look that showed the file as it was when it was read. What real files hold is not known: that their place,
 //! [`crate::AtomicReplace`], does what the trait says is tested, with calls of the system that fail in turn.
 
-ghost use Rattle.std.specs.Prelude.{Option, IfOk};
-ghost use Rattle.rb_files.specs.Places.{Standing, Turns, Puts, Looks, Fills, Removes, Replaces, IsFresh, created, settled, renamed};
+ghost use Rattle.std.specs.Prelude.{◌≡◌, None, Option, IfOk, List, OnOk, ℕ};
+ghost use Rattle.std.specs.Io.KnownBytes.{Appends};
+ghost use Rattle.rb_files.specs.Places.{Standing, Turns, Prepares, Puts, Looks, Fills, Removes, Replaces, IsFresh, created, settled, renamed};
 
 use crate::path_error::PathError;
 
@@ -15,6 +16,9 @@ use crate::path_error::PathError;
 pub trait FilePlace {
     // the contents, and the first call's failure; `None` if they aren't known
     ghost stands: { Self → Option Standing };
+
+    // the new file's text, if its writer says it
+    ghost contents: { Self → Option (List ℕ) } = { λ _. None };
 
     // the last look showed the file that was read, as it was then
     ghost is_unchanged: { Self → Type 0 };
@@ -25,16 +29,19 @@ pub trait FilePlace {
 
     /// Appends to the new file's text.
     fn put(&mut self, bytes: &[u8]) -> Result<(), PathError>
-        ensures { Puts bytes.now result (stands self.old) (stands self.new) };
+        ensures told { Puts bytes.now result (stands self.old) (stands self.new) }
+        ensures bytes { OnOk result (Appends (contents self.old) (contents self.new) bytes.now) };
 
     /// Gives the new file the old one's rights, and waits until it is stored.
     fn settle(&mut self) -> Result<(), PathError>
-        ensures { Turns settled result (stands self.old) (stands self.new) };
+        ensures told { Turns settled result (stands self.old) (stands self.new) }
+        ensures bytes { contents self.new ≡ contents self.old };
 
     /// Looks at the file. Fails unless it is the one that was read, as it was then.
     fn look(&mut self) -> Result<(), PathError>
         ensures told { Looks result (stands self.old) (stands self.new) }
-        ensures same { IfOk result (λ _. is_unchanged self.new) };
+        ensures same { IfOk result (λ _. is_unchanged self.new) }
+        ensures bytes { contents self.new ≡ contents self.old };
 
     /// Renames the new file to the old one.
     fn rename(&mut self) -> Result<(), PathError>
@@ -83,8 +90,17 @@ pub fn replace<P: FilePlace>(place: &mut P, text: &[u8]) -> Result<(), Unreplace
 fn fill<P: FilePlace>(place: &mut P, text: &[u8]) -> Result<(), PathError>
     ensures { Fills text.now result (P.stands place.old) (P.stands place.new) }
 {
+    prepare(place, text)?;
+    place.rename()
+}
+
+// Writes the text into the new file, which is stored, and looks whether the file has changed.
+fn prepare<P: FilePlace>(place: &mut P, text: &[u8]) -> Result<(), PathError>
+    ensures told { Prepares text.now result (P.stands place.old) (P.stands place.new) }
+    ensures bytes { OnOk result (Appends (P.contents place.old) (P.contents place.new) text.now) }
+    ensures same { OnOk result (P.is_unchanged place.new) }
+{
     place.put(text)?;
     place.settle()?;
-    place.look()?;
-    place.rename()
+    place.look()
 }

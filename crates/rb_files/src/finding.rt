@@ -4,11 +4,16 @@
 //! folder's scripts are in its name's place. Each script and each folder is looked at once, so that loops of links end.
 //! What a folder's file `.raftbenchignore` names, a path a line, isn't looked at, unless it is itself one of the paths.
 
-ghost use Rattle.std.specs.Prelude.{◌≡◌, ◌<◌, ◌||◌, ◌++◌, ◌∷◌, if◌then◌else◌, [], true, IfOk, Some, length, map, slice_get, string_bytes};
-ghost use Rattle.rb_files.specs.Finds.{AreTold, IsFound, is_ignored, losses, paths_of, waiting_of};
-ghost use Rattle.rb_files.specs.Ignored.{ignored_by};
+ghost use Rattle.std.specs.Prelude.{◌≡◌, ◌<◌, ◌||◌, ◌++◌, ◌∷◌, [], false, true, IfErr, IfOk, Some, length, map, slice_get, string_bytes};
+ghost use Rattle.std.specs.BTreeSet.{contains, insert_key};
+ghost use Rattle.rb_report.specs.declared.check.failure.Failure.{Failure};
+ghost use Rattle.rb_report.specs.declared.check.failure.Failure.TheVariants as failures;
+ghost use Rattle.rb_files.specs.declared.entry.FileId.{FileId};
+ghost use Rattle.rb_files.specs.declared.entry.FolderId.{FolderId};
+ghost use Rattle.rb_files.specs.Finds.{AreTold, Heeds, IsFound, IsKept, Loses, StaysAsItIs, ignore_file, is_ignored, is_passed_over, is_vanished, losses, names_of, undecodable, unless_ignored, waiting_of};
+ghost use Rattle.rb_files.specs.Ignored.{ignored_by, slash};
 ghost use Rattle.rb_files.specs.Names.{is_script_name};
-ghost use Rattle.rb_files.specs.PathErrors.{IsOfReading};
+ghost use Rattle.rb_files.specs.PathErrors.{IsOfReading, without_cause};
 
 use crate::entry::{FileId, FolderId, PathEntry, entry_at};
 use crate::filter::is_kept;
@@ -109,12 +114,7 @@ impl Search {
         requires { IsFound words.now self.old.found }
         ensures { IsFound words.now self.new.found }
     {
-        let path = String::from_str(rt.alloc(), path)?;
-        self.waiting.push(Waiting {
-            path,
-            is_script: true,
-            is_folder: false,
-        })?;
+        self.let_path_wait(rt.alloc(), path)?;
         for _ in 0..u64::MAX {
             let Some(next) = self.waiting.pop() else {
                 break;
@@ -122,6 +122,21 @@ impl Search {
             self.look_at(rt, next, words)?;
         }
         Ok(())
+    }
+
+    // Lets a path of the command line wait. A file there is a script, whatever its name is.
+    fn let_path_wait(&mut self, alloc: Global, path: &str) -> Result<(), AllocError>
+        ensures found { self.new.found ≡ self.old.found }
+        ensures waits { IfOk result (λ _. names_of self.new.waiting.items ≡ names_of self.old.waiting.items ++ (path.now, true) ∷ []) }
+    {
+        let path = String::from_str(alloc, path)?;
+        Ok(
+            self.waiting.push(Waiting {
+                path,
+                is_script: true,
+                is_folder: false,
+            })?,
+        )
     }
 
     #[tactic(auto, using(crate::proofs::FindLaws::still_found))]
@@ -150,7 +165,16 @@ impl Search {
         words: &[String],
     ) -> Result<(), AllocError>
         requires { IsFound words.now self.old.found }
-        ensures { IsFound words.now self.new.found }
+        ensures found { IsFound words.now self.new.found }
+        ensures passed { is_passed_over next entry ≡ true → self.new ≡ self.old }
+        // A device, a pipe or a socket is lost where a script is asked for.
+        ensures lost { (failure : Failure) → entry ≡ PathEntry.Other failure → next.is_script ≡ true
+            → IfOk result (λ _. Loses (string_bytes next.path) (without_cause failure) self.old self.new) }
+        // A file and a folder are visited once.
+        ensures file { (id : FileId) → entry ≡ PathEntry.File id → contains ⟦<FileId as Ord>⟧.cmp self.old.files id ≡ true → StaysAsItIs self.old self.new }
+        ensures folder { (id : FolderId) → entry ≡ PathEntry.Folder id → contains ⟦<FolderId as Ord>⟧.cmp self.old.folders id ≡ true → StaysAsItIs self.old self.new }
+        ensures script { (id : FileId) → entry ≡ PathEntry.File id → next.is_script ≡ true → IsKept words.now (string_bytes next.path) → contains ⟦<FileId as Ord>⟧.cmp self.old.files id ≡ false
+            → IfOk result (λ _. self.new.found.scripts.items ≡ self.old.found.scripts.items ++ next.path ∷ []) }
     {
         match entry {
             PathEntry::Folder(id) => self.enter(rt, next.path, id),
@@ -167,8 +191,8 @@ impl Search {
     fn miss(&mut self, next: Waiting, error: PathError) -> Result<(), AllocError>
         ensures scripts { self.new.found.scripts ≡ self.old.found.scripts }
         ensures told { AreTold self.old.found.lost.items → IsOfReading error → AreTold self.new.found.lost.items }
-        ensures lost { (next.is_script || next.is_folder) ≡ true
-            → IfOk result (λ _. losses self.new.found.lost.items ≡ losses self.old.found.lost.items ++ (string_bytes next.path, error) ∷ []) }
+        ensures lost { is_vanished next error ≡ false → IfOk result (λ _. Loses (string_bytes next.path) error self.old self.new) }
+        ensures vanished { is_vanished next error ≡ true → self.new ≡ self.old }
     {
         if !next.is_script && !next.is_folder && error.failure == Failure::NotFound {
             return Ok(());
@@ -179,21 +203,31 @@ impl Search {
     #[tactic(auto, using(crate::proofs::FindLaws::one_more_told))]
     fn lose(&mut self, path: String, error: PathError) -> Result<(), AllocError>
         ensures scripts { self.new.found.scripts ≡ self.old.found.scripts }
+        ensures folders { self.new.folders ≡ self.old.folders }
         ensures told { AreTold self.old.found.lost.items → IsOfReading error → AreTold self.new.found.lost.items }
-        ensures lost { IfOk result (λ _. losses self.new.found.lost.items ≡ losses self.old.found.lost.items ++ (string_bytes path, error) ∷ []) }
+        ensures lost { IfOk result (λ _. Loses (string_bytes path) error self.old self.new) }
     {
         let path = path.into_bytes();
         Ok(self.found.lost.push(FailedPath { path, error })?)
     }
 
+    // Finds a script, if each of the words lets its path be kept and no path led to its file before.
     fn take(&mut self, path: String, id: FileId, words: &[String]) -> Result<(), AllocError>
         requires { IsFound words.now self.old.found }
-        ensures { IsFound words.now self.new.found }
+        ensures found { IsFound words.now self.new.found }
+        ensures filtered { (IsKept words.now (string_bytes path) → ⊥) → self.new ≡ self.old }
+        ensures known { contains ⟦<FileId as Ord>⟧.cmp self.old.files id ≡ true → StaysAsItIs self.old self.new }
+        ensures added { IsKept words.now (string_bytes path) → contains ⟦<FileId as Ord>⟧.cmp self.old.files id ≡ false
+            → IfOk result (λ _. self.new.found.scripts.items ≡ self.old.found.scripts.items ++ path ∷ []) }
+        ensures files { IsKept words.now (string_bytes path) → IfOk result (λ _. self.new.files.keys ≡ insert_key ⟦<FileId as Ord>⟧.cmp self.old.files.keys id) }
     {
-        if is_kept(path.as_str(), words) && self.files.insert(id)? {
-            self.found.scripts.push(path)?;
+        if !is_kept(path.as_str(), words) {
+            return Ok(());
         }
-        Ok(())
+        if !self.files.insert(id)? {
+            return Ok(());
+        }
+        Ok(self.found.scripts.push(path)?)
     }
 
     // Lets a folder's names wait, the first of them to be the next.
@@ -205,14 +239,15 @@ impl Search {
     ) -> Result<(), AllocError>
         ensures scripts { self.new.found.scripts ≡ self.old.found.scripts }
         ensures told { AreTold self.old.found.lost.items → AreTold self.new.found.lost.items }
+        ensures once { contains ⟦<FolderId as Ord>⟧.cmp self.old.folders id ≡ true → StaysAsItIs self.old self.new }
+        ensures entered { IfOk result (λ _. self.new.folders.keys ≡ insert_key ⟦<FolderId as Ord>⟧.cmp self.old.folders.keys id) }
     {
         if !self.folders.insert(id)? {
             return Ok(());
         }
-        match ignored_in(rt, folder.as_str()) {
-            Ok(Some(text)) => self.ignore(rt.alloc(), folder.as_str(), text.as_str())?,
-            Ok(None) => {}
-            Err(error) => return self.lose(ignored_path(rt.alloc(), folder.as_str())?, error),
+        let ignored = ignored_in(rt, folder.as_str());
+        if !self.heed_ignored(rt.alloc(), folder.as_str(), ignored)? {
+            return Ok(());
         }
         match listed(rt, folder.as_str()) {
             Ok(listing) => self.wait_for(rt, folder.as_str(), listing),
@@ -220,9 +255,36 @@ impl Search {
         }
     }
 
+    // Records the paths that a folder's ignore file names, if there is one. Returns whether the folder is visited: not if that file can't be read.
+    fn heed_ignored(
+        &mut self,
+        alloc: Global,
+        folder: &str,
+        ignored: Result<Option<String>, PathError>,
+    ) -> Result<bool, AllocError>
+        ensures scripts { self.new.found.scripts ≡ self.old.found.scripts }
+        ensures folders { self.new.folders ≡ self.old.folders }
+        ensures told { AreTold self.old.found.lost.items → IfErr ignored IsOfReading → AreTold self.new.found.lost.items }
+        ensures heeded { IfOk result (λ visits. Heeds folder.now ignored visits self.old self.new) }
+    {
+        match ignored {
+            Ok(Some(text)) => {
+                self.ignore(alloc, folder, text.as_str())?;
+                Ok(true)
+            }
+            Ok(None) => Ok(true),
+            Err(error) => {
+                self.lose(ignored_path(alloc, folder)?, error)?;
+                Ok(false)
+            }
+        }
+    }
+
     // Records the paths that a folder's ignore file names.
     fn ignore(&mut self, alloc: Global, folder: &str, text: &str) -> Result<(), AllocError>
         ensures found { self.new.found ≡ self.old.found }
+        ensures waiting { self.new.waiting ≡ self.old.waiting }
+        ensures folders { self.new.folders ≡ self.old.folders }
         ensures ignored { IfOk result (λ _. map string_bytes self.new.ignored.items
             ≡ map string_bytes self.old.ignored.items ++ ignored_by folder.now text.now) }
     {
@@ -250,11 +312,14 @@ impl Search {
     ) -> Result<(), AllocError>
         ensures scripts { self.new.found.scripts ≡ self.old.found.scripts }
         ensures told { AreTold self.old.found.lost.items → AreTold self.new.found.lost.items }
-        ensures waits { IfOk result (λ _. paths_of self.new.waiting.items
-            ≡ paths_of self.old.waiting.items ++ waiting_of self.old.ignored.items folder.now listing.names.items) }
+        ensures folders { self.new.folders ≡ self.old.folders }
+        // A name that is no text is lost.
+        ensures lost { IfOk result (λ _. losses self.new.found.lost.items ≡ losses self.old.found.lost.items ++ undecodable folder.now listing.strange.items) }
+        ensures waits { IfOk result (λ _. names_of self.new.waiting.items
+            ≡ names_of self.old.waiting.items ++ waiting_of self.old.ignored.items folder.now listing.names.items) }
     {
         for name in &listing.strange {
-            self.report_undecodable_name(rt.alloc(), folder, name)?;
+            self.report_undecodable_name(rt.alloc(), folder, name.as_slice())?;
         }
         self.let_names_wait(rt, folder, listing.names.as_slice())
     }
@@ -267,8 +332,9 @@ impl Search {
         names: &[String],
     ) -> Result<(), AllocError>
         ensures found { self.new.found ≡ self.old.found }
-        ensures waits { IfOk result (λ _. paths_of self.new.waiting.items
-            ≡ paths_of self.old.waiting.items ++ waiting_of self.old.ignored.items folder.now names.now) }
+        ensures folders { self.new.folders ≡ self.old.folders }
+        ensures waits { IfOk result (λ _. names_of self.new.waiting.items
+            ≡ names_of self.old.waiting.items ++ waiting_of self.old.ignored.items folder.now names.now) }
     {
         let mut left = names.len();
         while left > 0 {
@@ -286,9 +352,10 @@ impl Search {
         name: &String,
     ) -> Result<(), AllocError>
         ensures found { self.new.found ≡ self.old.found }
+        ensures folders { self.new.folders ≡ self.old.folders }
         ensures ignored { self.new.ignored ≡ self.old.ignored }
-        ensures waits { IfOk result (λ _. paths_of self.new.waiting.items
-            ≡ paths_of self.old.waiting.items ++ waiting_of self.old.ignored.items folder.now (name.now ∷ [])) }
+        ensures waits { IfOk result (λ _. names_of self.new.waiting.items
+            ≡ names_of self.old.waiting.items ++ waiting_of self.old.ignored.items folder.now (name.now ∷ [])) }
     {
         let path = Path::new(folder)
             .join(rt.alloc(), name.as_str())?
@@ -304,9 +371,10 @@ impl Search {
         is_script: bool,
     ) -> Result<(), AllocError>
         ensures found { self.new.found ≡ self.old.found }
+        ensures folders { self.new.folders ≡ self.old.folders }
         ensures ignored { self.new.ignored ≡ self.old.ignored }
-        ensures waits { IfOk result (λ _. paths_of self.new.waiting.items
-            ≡ paths_of self.old.waiting.items ++ (if is_ignored self.old.ignored.items (string_bytes path) then [] else string_bytes path ∷ [])) }
+        ensures waits { IfOk result (λ _. names_of self.new.waiting.items
+            ≡ names_of self.old.waiting.items ++ unless_ignored self.old.ignored.items (string_bytes path) is_script) }
     {
         if self.is_ignored(path.as_str()) {
             return Ok(());
@@ -331,8 +399,10 @@ impl Search {
     ) -> Result<(), AllocError>
         ensures scripts { self.new.found.scripts ≡ self.old.found.scripts }
         ensures waiting { self.new.waiting ≡ self.old.waiting }
+        ensures folders { self.new.folders ≡ self.old.folders }
         ensures ignored { self.new.ignored ≡ self.old.ignored }
         ensures told { AreTold self.old.found.lost.items → AreTold self.new.found.lost.items }
+        ensures lost { IfOk result (λ _. losses self.new.found.lost.items ≡ losses self.old.found.lost.items ++ (folder.now ++ slash ∷ name.now, without_cause failures.NotRead) ∷ []) }
     {
         let mut path = Vec::from_slice(alloc, folder.as_bytes())?;
         path.push(b'/')?;
@@ -343,7 +413,9 @@ impl Search {
 }
 
 // The path of a folder's ignore file.
-fn ignored_path(alloc: Global, folder: &str) -> Result<String, AllocError> {
+fn ignored_path(alloc: Global, folder: &str) -> Result<String, AllocError>
+    ensures { IfOk result (λ path. string_bytes path ≡ ignore_file folder.now) }
+{
     Ok(Path::new(folder).join(alloc, IGNORED)?.into_string())
 }
 

@@ -1,10 +1,10 @@
 //! The file in a folder that names paths to ignore.
 
-ghost use Rattle.std.specs.Prelude.{◌≡◌, ◌↔◌, ◌≤◌, IfErr, IfOk, IsOk, map, option_map, string_bytes};
+ghost use Rattle.std.specs.Prelude.{◌≡◌, ◌↔◌, ◌≤◌, false, true, Err, IfErr, IfOk, IsOk, None, Ok, map, option_map, string_bytes};
 ghost use Rattle.std.specs.Io.BufRead.{strip_last};
 ghost use Rattle.std.specs.Str.Lines.{lines};
 ghost use Rattle.rb_files.specs.Ignored.{ignored_by, named_by, slash};
-ghost use Rattle.rb_files.specs.PathErrors.{IsOfReading};
+ghost use Rattle.rb_files.specs.PathErrors.{IsOfReading, is_missing};
 
 use crate::opening::opened;
 use crate::path_error::PathError;
@@ -45,14 +45,25 @@ fn text_of<R: Files + AllocGlobal>(rt: &R, path: &str) -> Result<Option<String>,
 {
     let (file, metadata) = match opened(rt, path) {
         Ok(opened) => opened,
-        Err(error) if error.failure == Failure::NotFound => return Ok(None),
-        Err(error) => return Err(error),
+        Err(error) => return unless_missing(error),
     };
     within_limit(metadata.len())?;
     match io::read_to_string(rt.alloc(), file) {
         Ok(text) => Ok(Some(text)),
         Err(error) => Err(PathError::of_reading(error)),
     }
+}
+
+// Takes a missing file as none: a folder may have no list of ignored paths.
+fn unless_missing(error: PathError) -> Result<Option<String>, PathError>
+    ensures missing { is_missing error ≡ true → result ≡ Ok None }
+    ensures failed { is_missing error ≡ false → result ≡ Err error }
+    ensures why { IfErr result (λ told. told ≡ error) }
+{
+    if error.failure == Failure::NotFound {
+        return Ok(None);
+    }
+    Err(error)
 }
 
 // Whether that many bytes are read of it. It is opened with this length, and no more is read.

@@ -1,10 +1,12 @@
 //! The names in a folder.
 
-ghost use Rattle.std.specs.Prelude.{◌≡◌, ◌↔◌, ◌++◌, ◌∷◌, [], ℕ, List, true, false, IfErr, IfOk, IsUtf8, map, string_bytes};
-ghost use Rattle.rb_files.specs.Names.{AreInOrder, HasName, is_hidden};
+ghost use Rattle.std.specs.Prelude.{◌≡◌, ◌↔◌, ◌++◌, ◌∷◌, [], ℕ, List, true, false, IfErr, IfOk, IfSome, IsUtf8, Ok, map, string_bytes};
+ghost use Rattle.std.specs.Io.KnownBytes.{IsAtEnd};
+ghost use Rattle.rb_files.specs.Names.{AreInOrder, HasName, IsAdded, is_hidden};
 ghost use Rattle.rb_files.specs.PathErrors.{IsOfReading};
 
 use crate::path_error::PathError;
+use rb_report::check::Failure;
 use std::alloc::{AllocError, Global};
 use std::io::Read;
 use std::rt::Files;
@@ -86,18 +88,28 @@ fn all_names<R: Files + AllocGlobal>(rt: &R, folder: &str) -> Result<Vec<u8>, Pa
         Ok(folder) => folder,
         Err(error) => return Err(PathError::of_reading(error)),
     };
-    let mut bytes = Vec::new(rt.alloc());
+    read_all(rt.alloc(), &mut folder)
+}
+
+// Reads all names of a folder.
+fn read_all<D: Read>(alloc: Global, folder: &mut D) -> Result<Vec<u8>, PathError>
+    ensures all { IfOk result (λ bytes. IfSome (D.remaining folder.old) (λ all. bytes.items ≡ all)) }
+    ensures why { IfErr result IsOfReading }
+{
+    let mut bytes = Vec::new(alloc);
     for _ in 0..u64::MAX {
-        if !read_names(&mut folder, &mut bytes)? {
-            break;
+        if !read_names(folder, &mut bytes)? {
+            return Ok(bytes);
         }
     }
-    Ok(bytes)
+    Err(PathError::alone(Failure::NotRead))
 }
 
 // Adds the names of one call; returns whether there were some.
 fn read_names<D: Read>(folder: &mut D, bytes: &mut Vec<u8>) -> Result<bool, PathError>
-    ensures { IfErr result IsOfReading }
+    ensures given { IfOk result (λ _. IsAdded (D.remaining folder.old) (D.remaining folder.new) bytes.old.items bytes.new.items) }
+    ensures end { result ≡ Ok false → IsAtEnd (D.remaining folder.new) }
+    ensures why { IfErr result IsOfReading }
 {
     let mut chunk = [0u8; CHUNK];
     match folder.read(&mut chunk) {

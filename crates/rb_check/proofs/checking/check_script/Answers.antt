@@ -15,7 +15,7 @@ returns-in-Err-Script-clause-reported g c =
     let bytes = c.deref.result.now in
     let fault = c.in-Err-Script.fault in
     refused bytes fault (subst (λ (f : StartFault). TellsStartFault f (read_of bytes)) c.in-Err-Script.field-0-is c.in-Err-Script.ensures.refused)
-    (c.refused.ensures ∙ ap (λ (t : Totals). together t (of_outcome (outcomes.Refused fault))) c.heed.ensures)
+    (c.refused.ensures.counts ∙ ap (λ (t : Totals). together t (of_outcome (outcomes.Refused fault))) c.heed.ensures.counts)
 
 pub returns-clause-reported : goal.returns-clause-reported
 returns-clause-reported g c =
@@ -23,4 +23,4 @@ returns-clause-reported g c =
     let end = c.in_ok-answer.field-0 in
     ran c.deref.result.now run.session.script run.layout end c.in-Ok.ensures.script c.in_ok-answer.ensures.ended
     (c.in_ok-answer.ensures.counts ∙ ap (λ (o : Outcome). counts_after c.heed-2.new.self.counts o end.failure) (c.ran_of.ensures.counts end.left)
-    ∙ ap (λ (t : Totals). counts_after t (ran_as run.layout.text run.layout.heads.items run.session.script end.left) end.failure) (c.heed-2.ensures ∙ c.heed.ensures))
+    ∙ ap (λ (t : Totals). counts_after t (ran_as run.layout.text run.layout.heads.items run.session.script end.left) end.failure) (c.heed-2.ensures.counts ∙ c.heed.ensures.counts))

@@ -8,7 +8,7 @@ returns-clause-counted g c = record {
   checked = c.check_each.result;
   lost = c.tell_lost.new.report.counts;
   counts = c.check_each.new.report.counts;
-  own = c.end.new.report.own;
+  own = c.end.new.report.state.own;
   counted = c.check_each.ensures.counted;
-  is = c.status.ensures.counts ∙ ap (λ (t : Totals). status_of c.args.asked.is_strict (together t c.end.new.report.own)) c.end.ensures;
+  is = c.status.ensures.counts ∙ ap (λ (t : Totals). status_of c.args.asked.is_strict (together t c.end.new.report.state.own)) c.end.ensures;
 }

@@ -7,7 +7,7 @@ use Rattle.rb_check.proofs.paths.check_one.Goals as goal
 
 pub returns-in-Err : goal.returns-in-Err
 returns-in-Err g c =
-    failed c.in-Err.error.failure (c.fail.ensures ∙ ap (λ (t : Totals). together t (of_outcome (outcomes.Failed c.in-Err.error.failure))) c.in-Err.ensures.failed)
+    failed c.in-Err.error.failure (c.fail.ensures.counts ∙ ap (λ (t : Totals). together t (of_outcome (outcomes.Failed c.in-Err.error.failure))) c.in-Err.ensures.failed)
 
 pub returns-in_default : goal.returns-in_default
 returns-in_default g c = reported c.in_default.ensures.reported

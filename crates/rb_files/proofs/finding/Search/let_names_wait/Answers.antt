@@ -1,6 +1,6 @@
-use Rattle.std.proofs.Common.{◌≡◌, ◌∙◌, ℕ, ◌+◌, ◌-◌, ◌++◌, [], ◌∷◌, List, String, Vec, drop, ap, arith}
+use Rattle.std.proofs.Common.{◌≡◌, ◌∙◌, ℕ, Bool, ◌+◌, ◌-◌, ◌++◌, [], ◌∷◌, List, String, Vec, drop, ap, arith}
 use Rattle.std.specs.declared.alloc.Global.{Global}
-use Rattle.rb_files.specs.Finds.{paths_of, waiting_of}
+use Rattle.rb_files.specs.Finds.{names_of, waiting_of}
 use Rattle.rb_files.proofs.FindLaws.{names_step}
 use Rattle.rb_files.proofs.finding.Search.let_names_wait.Goals as goal
 
@@ -12,10 +12,11 @@ loop-left-preserved g c =
     let k : ℕ = c.loop-left.left - 1 in
     let on : c.loop-left.left ≡ k + 1 = omega (arith, c.loop-left-test.true) in
     let name : String Global = c.name_at.result.now in
-    let old : List (List ℕ) = paths_of c.args.self.now.waiting.items in
-    let had : List (List ℕ) = paths_of c.loop-left.self.waiting.items in
+    let old : List (List ℕ × Bool) = names_of c.args.self.now.waiting.items in
+    let had : List (List ℕ × Bool) = names_of c.loop-left.self.waiting.items in
     record {
       found = c.in_ok-let_name_wait.ensures.found ∙ c.loop-left.invariant.found;
+      folders = c.in_ok-let_name_wait.ensures.folders ∙ c.loop-left.invariant.folders;
       ignored = c.in_ok-let_name_wait.ensures.ignored ∙ c.loop-left.invariant.ignored;
       waits = names_step ignored folder names k name old had _ c.name_at.ensures
           (c.loop-left.invariant.waits ∙ ap (λ (n : ℕ). old ++ waiting_of ignored folder (drop n names)) on)
@@ -26,4 +27,4 @@ loop-left-preserved g c =
 pub returns-clause-waits : goal.returns-clause-waits
 returns-clause-waits g c =
     let none : c.loop-left.left ≡ 0 = omega (arith, c.loop-left-test.false) in
-    c.loop-left.invariant.waits ∙ ap (λ (n : ℕ). paths_of c.args.self.now.waiting.items ++ waiting_of c.args.self.now.ignored.items c.args.folder.now (drop n c.args.names.now)) none
+    c.loop-left.invariant.waits ∙ ap (λ (n : ℕ). names_of c.args.self.now.waiting.items ++ waiting_of c.args.self.now.ignored.items c.args.folder.now (drop n c.args.names.now)) none

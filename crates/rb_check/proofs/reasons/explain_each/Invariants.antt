@@ -3,7 +3,7 @@ use Rattle.std.specs.Prelude.{◌≡◌, ◌++◌, take}
 use Rattle.rb_replay.specs.Run.{outputs, state}
 use Rattle.rb_script_report.specs.Whys.{whys_of}
 use Rattle.rb_check.proofs.ReasonLaws.{left}
-use Rattle.rb_check.proofs.reasons.run_directives.Given as goal
+use Rattle.rb_check.proofs.reasons.explain_each.Given as goal
 
 abbrev pub invariant-loop-i : goal.invariant-loop-i
 invariant-loop-i g l = record {

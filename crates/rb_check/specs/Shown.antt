@@ -1,0 +1,236 @@
+-- What a report writes on its streams. (This project's.)
+use Rattle.std.specs.Prelude.{◌≡◌, ℕ, Bool, true, false, if◌then◌else◌, ◌==◌, List, [], ◌∷◌, ◌++◌, Option, None, Some, codes, decimal, string_bytes, length}
+use Rattle.std.specs.List.{flat_map}
+use Rattle.std.specs.Io.KnownBytes.{Appends}
+use Rattle.rb_script.specs.Writes.{AppendsFront}
+use Rattle.rb_report.specs.declared.check.colors.Colors.{Colors}
+use Rattle.rb_report.specs.declared.check.colors.Colors.TheVariants.{Off}
+use Rattle.rb_report.specs.declared.check.failure.Failure.TheVariants.{NotShown, OutOfMemory}
+use Rattle.rb_report.specs.declared.check.outcome.Outcome.TheVariants as outcomes
+use Rattle.rb_report.specs.declared.check.totals.Totals.{Totals}
+use Rattle.rb_report.specs.Briefs.{brief_text}
+use Rattle.rb_report.specs.Counts.{accepted_text, nothing, of_outcome, together, totals_text}
+use Rattle.rb_report.specs.Failures.{failure_sentence, failure_text}
+use Rattle.rb_report.specs.Notices.{unaccepted_text, warning_sentence, warning_text}
+use Rattle.rb_report.specs.Pieces.{noun}
+use Rattle.rb_report.specs.Refusals.{fault_line, refusal_text, sentence}
+use Rattle.rb_report.specs.Shown.{escape}
+use Rattle.rb_script_report.specs.declared.accept_options.AcceptFilter.{AcceptFilter}
+use Rattle.rb_script_report.specs.declared.warning.Warning.{Warning}
+use Rattle.rb_script_report.specs.Accepting.{is_picked}
+use Rattle.rb_check.specs.declared.check_request.CheckRequest.{CheckRequest}
+use Rattle.rb_check.specs.declared.differing.Differing.{Differing}
+use Rattle.rb_check.specs.declared.format.Format.{Format}
+use Rattle.rb_check.specs.declared.format.Format.TheVariants.{Json, Github, Junit}
+use Rattle.rb_check.specs.declared.kind.NoticeKind.{NoticeKind}
+use Rattle.rb_check.specs.declared.kind.NoticeKind.TheVariants as kinds
+use Rattle.rb_check.specs.declared.notes.Note.{Note}
+use Rattle.rb_check.specs.declared.notes.Note.TheVariants as notes
+use Rattle.rb_check.specs.declared.remark.Remark.{Remark}
+use Rattle.rb_check.specs.declared.remark.Remark.TheVariants as remarks
+use Rattle.rb_check.specs.declared.report_state.ReportForm.{ReportForm}
+use Rattle.rb_check.specs.declared.report_state.ReportState.{ReportState}
+use Rattle.rb_check.specs.declared.visible.Showing.{Showing}
+use Rattle.rb_check.specs.declared.visible.Showing.TheVariants as showings
+use Rattle.rb_check.specs.Formats.{notice_text}
+use Rattle.rb_check.specs.Objects.{totals_object}
+use Rattle.rb_check.specs.Reviews.{quit_text}
+
+-- ---- the state of a report
+
+-- before it has written anything: if nothing is wanted, nothing goes to standard output
+abbrev pub started : CheckRequest → ReportState
+started asked = record {
+  form = record { format = asked.format; is_strict = asked.is_strict };
+  is_closed = asked.is_quiet;
+  lacks_memory = false;
+  own = nothing;
+}
+
+-- standard output failed
+abbrev pub closed : ReportState → ReportState
+closed s = record s { is_closed = true; own = together s.own (of_outcome (outcomes.Failed NotShown)) }
+
+-- memory was refused for one of its texts
+abbrev pub lacking : ReportState → ReportState
+lacking s = record s { lacks_memory = true; own = together s.own (of_outcome (outcomes.Failed OutOfMemory)) }
+
+-- ---- what goes out
+
+-- What is held grows by the text. If the output fails at it, it grows by a beginning; once it has failed, by nothing.
+abbrev pub HeldAfter : Bool → Bool → Option (List ℕ) → Option (List ℕ) → List ℕ → Type 0
+HeldAfter false false before after text = Appends before after text
+HeldAfter false true before after text = AppendsFront before after text
+HeldAfter true false before after text = ⊥
+HeldAfter true true before after text = Appends before after []
+
+-- the report's own failures, with that of its output
+abbrev pub own_after : Bool → Bool → Totals → Totals
+own_after false false own = own
+own_after false true own = together own (of_outcome (outcomes.Failed NotShown))
+own_after true is own = own
+
+-- the text went out on standard output, unless that failed
+pub record WentOut (old new : ReportState) (before after : Option (List ℕ)) (text : List ℕ) : Type 0 where
+  pub form : new.form ≡ old.form
+  pub memory : old.lacks_memory ≡ false
+  pub held : HeldAfter old.is_closed new.is_closed before after text
+  pub own : new.own ≡ own_after old.is_closed new.is_closed old.own
+
+-- the same, unless memory was refused for a text of the report
+abbrev pub GoesOut : ReportState → ReportState → Option (List ℕ) → Option (List ℕ) → List ℕ → Type 0
+GoesOut old new before after text = new.lacks_memory ≡ false → WentOut old new before after text
+
+-- the text was written, if the stream takes all
+abbrev pub Told : Type 0 → Type 0 → Option (List ℕ) → Option (List ℕ) → List ℕ → Type 0
+Told takes_before takes_after before after text = takes_before → takes_after × Appends before after text
+
+-- how bytes go out in a format
+abbrev pub shown_in : Option Format → Showing → Showing
+shown_in None showing = showing
+shown_in (Some Json) showing = showings.Json
+shown_in (Some Github) showing = showing
+shown_in (Some Junit) showing = showings.AsIs
+
+-- the chosen colours, if bytes go out as they are
+abbrev pub colors_in : Showing → Colors → Colors
+colors_in showings.AsIs wanted = wanted
+colors_in showings.Visible wanted = Off
+colors_in showings.Json wanted = Off
+
+-- ---- what is said of a script
+
+-- a note about one of its lines
+abbrev pub note_text : List ℕ → ℕ → List ℕ → List ℕ
+note_text path line note = path ++ (codes ":" ++ (decimal line ++ (codes ": " ++ (note ++ codes "\n"))))
+
+abbrev pub accepted_sentence : ℕ → List ℕ
+accepted_sentence n = codes "accepted " ++ (decimal n ++ noun n (codes " output") (codes " outputs"))
+
+abbrev pub remark_sentence : Remark → List ℕ
+remark_sentence (remarks.Refused fault) = sentence fault
+remark_sentence (remarks.Failed failure) = failure_sentence failure
+remark_sentence (remarks.Warning w) = warning_sentence w.doubt
+remark_sentence (remarks.Accepted n) = accepted_sentence n
+remark_sentence remarks.Unaccepted = codes "nothing was accepted, since it has warnings; --force accepts all the same"
+remark_sentence (remarks.Left line) = codes "this new error was not accepted; --accept-errors accepts it too"
+remark_sentence (remarks.Echoes line) = codes "nothing below this error was accepted, since it may follow from it; --accept-errors accepts it too"
+remark_sentence (remarks.Matches line) = codes "there is nothing to accept: the output is the expected one"
+
+-- to people: a failure goes to the stream of errors, and a new error that is left is shown with its directive
+abbrev pub people_text : List ℕ → Remark → List ℕ
+people_text path (remarks.Refused fault) = refusal_text path fault
+people_text path (remarks.Failed failure) = []
+people_text path (remarks.Warning w) = warning_text path w.line w.doubt
+people_text path (remarks.Accepted n) = accepted_text path n
+people_text path remarks.Unaccepted = unaccepted_text path
+people_text path (remarks.Left line) = []
+people_text path (remarks.Echoes line) = note_text path line (remark_sentence (remarks.Echoes line))
+people_text path (remarks.Matches line) = note_text path line (remark_sentence (remarks.Matches line))
+
+abbrev pub remark_line : Remark → Option ℕ
+remark_line (remarks.Refused fault) = fault_line fault
+remark_line (remarks.Failed failure) = None
+remark_line (remarks.Warning w) = Some w.line
+remark_line (remarks.Accepted n) = None
+remark_line remarks.Unaccepted = None
+remark_line (remarks.Left line) = Some line
+remark_line (remarks.Echoes line) = Some line
+remark_line (remarks.Matches line) = Some line
+
+abbrev pub remark_kind : Remark → NoticeKind
+remark_kind (remarks.Refused fault) = kinds.Refused
+remark_kind (remarks.Failed failure) = kinds.Failed
+remark_kind (remarks.Warning w) = kinds.Warning
+remark_kind (remarks.Accepted n) = kinds.Accepted
+remark_kind remarks.Unaccepted = kinds.Left
+remark_kind (remarks.Left line) = kinds.Left
+remark_kind (remarks.Echoes line) = kinds.Left
+remark_kind (remarks.Matches line) = kinds.Left
+
+-- to programs
+abbrev pub programs_text : Format → Bool → List ℕ → Remark → List ℕ
+programs_text format strict path remark = notice_text format strict path (remark_line remark) (remark_kind remark) (remark_sentence remark)
+
+-- the text, to people or in the format for programs
+abbrev pub in_form : Option Format → List ℕ → (Format → List ℕ) → List ℕ
+in_form None people programs = people
+in_form (Some format) people programs = programs format
+
+abbrev pub remark_text : ReportForm → List ℕ → Remark → List ℕ
+remark_text form path remark = in_form form.format (people_text path remark) (λ format. programs_text format form.is_strict path remark)
+
+-- to programs alone
+abbrev pub noticed_text : ReportForm → List ℕ → Remark → List ℕ
+noticed_text form path remark = in_form form.format [] (λ format. programs_text format form.is_strict path remark)
+
+-- its lines that look like a slip
+abbrev pub warnings_text : ReportForm → List ℕ → List Warning → List ℕ
+warnings_text form path ws = flat_map (λ w. remark_text form path (remarks.Warning w)) ws
+
+-- a new error that is left, if its head is picked
+abbrev pub left_one : ReportForm → List ℕ → AcceptFilter → ℕ → List ℕ
+left_one form path picked line = if is_picked picked line then noticed_text form path (remarks.Left line) else []
+
+abbrev pub left_text : ReportForm → List ℕ → AcceptFilter → List ℕ → List ℕ
+left_text form path picked left = flat_map (λ line. left_one form path picked line) left
+
+-- ---- the beginning and the end
+
+abbrev pub beginning : Format → List ℕ
+beginning Json = []
+beginning Github = []
+beginning Junit = codes "<?xml version=\"1.0\" encoding=\"UTF-8\"?>\n<testsuites name=\"raftbench\">\n"
+
+abbrev pub begun_text : ReportForm → List ℕ
+begun_text form = in_form form.format [] beginning
+
+abbrev pub differing_text : List Differing → List ℕ
+differing_text ds = flat_map (λ d. brief_text (string_bytes d.path) d.mismatches d.directives d.line) ds
+
+-- the scripts that differ, if there are any, and an empty line
+abbrev pub list_text : List Differing → List ℕ
+list_text ds = if length ds == 0 then [] else differing_text ds ++ codes "\n"
+
+-- to people, if they are to be listed
+abbrev pub listed_text : Bool → ReportForm → List Differing → List ℕ
+listed_text lists form ds = if lists then in_form form.format (list_text ds) (λ _. []) else []
+
+abbrev pub ending : Totals → Format → List ℕ
+ending t Json = totals_object t
+ending t Github = []
+ending t Junit = codes "</testsuites>\n"
+
+-- the last line
+abbrev pub closing_text : ReportForm → Totals → ℕ → List ℕ
+closing_text form t ms = in_form form.format (totals_text t ms) (ending t)
+
+abbrev pub end_text : Bool → ReportForm → List Differing → Totals → ℕ → List ℕ
+end_text lists form ds t ms = listed_text lists form ds ++ closing_text form t ms
+
+-- ---- the stream of errors
+
+-- the cursor goes back to the line's first column, and the line is cleared (ECMA-48)
+abbrev pub clearing : List ℕ
+clearing = 13 ∷ escape ∷ codes "[K"
+
+abbrev pub cleared : Bool → List ℕ
+cleared shows_progress = if shows_progress then clearing else []
+
+abbrev pub progress_text : ℕ → ℕ → List ℕ
+progress_text done all = clearing ++ (decimal done ++ (codes " of " ++ (decimal all ++ codes " scripts")))
+
+-- a new file that could be neither used nor removed
+abbrev pub left_file_text : List ℕ → List ℕ
+left_file_text path = path ++ codes ": this new file could not be removed\n"
+
+-- a note about an output that no script can expect
+abbrev pub long_line_text : List ℕ → ℕ → List ℕ
+long_line_text path line = note_text path line (codes "this output has a line of more than 65,536 bytes, which no script can expect")
+
+abbrev pub note_line : Note → List ℕ
+note_line (notes.Failure path failure) = failure_text path.now failure
+note_line (notes.LeftFile path) = left_file_text path.now
+note_line (notes.LongLine path line) = long_line_text path.now line
+note_line (notes.Quit accepted left) = quit_text accepted left
+note_line (notes.Totals totals milliseconds) = totals_text totals milliseconds
