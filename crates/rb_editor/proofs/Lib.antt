@@ -1,4 +1,5 @@
 pub mod FindingLaws
+pub mod ComparisonLaws
 pub mod EachFindingLaws
 pub mod QuietLaws
 pub mod MismatchLaws

@@ -1,6 +1,7 @@
 pub mod Diagnostics
 pub mod Came
 pub mod Findings
+pub mod Comparisons
 pub mod Published
 pub mod Work
 pub mod Layouts

@@ -10,6 +10,7 @@ mod action;
 mod actual_output;
 mod bench;
 mod bounded;
+mod comparisons;
 mod completing;
 mod correction;
 mod diagnostic;

@@ -6,9 +6,11 @@ ghost use Rattle.rb_report.specs.Hints.{plain_hint};
 ghost use Rattle.rb_replay.specs.Report.{same_lines};
 ghost use Rattle.rb_script_report.specs.Checked.{left_next};
 ghost use Rattle.rb_editor.specs.BlockLines.{StandsIn, block_lines};
+ghost use Rattle.rb_editor.specs.Comparisons.{IsDiffOf};
 ghost use Rattle.rb_editor.specs.Findings.{diff_message, error_output, finding, hint_end, mismatch, mismatch_kind, mismatch_message};
 
 use crate::actions::actual_output::actual_output_of;
+use crate::actions::comparisons::{Comparisons, Diff};
 use crate::actions::diagnostic::{Diagnostic, DiagnosticKind};
 use crate::actions::front::{add_opening, common_front, marked_at};
 use crate::offers::BlockLines;
@@ -38,6 +40,65 @@ fn diff_message(
     Ok(message)
 }
 
+// Makes the same diff, with the numbers of cells that were left and that it took.
+fn compared(
+    alloc: Global,
+    table: &mut Table,
+    expected: &Lines,
+    output: &Lines,
+) -> Result<Diff, AllocError>
+    ensures made { IfOk result (λ diff. IsDiffOf table.old.left expected.now output.now diff) }
+    ensures before { IfOk result (λ diff. diff.left ≡ table.old.left) }
+    ensures left { OnOk result (table.new.left ≡ left_after table.old.left expected.now output.now) }
+{
+    let left = table.left;
+    let text = diff_message(alloc, table, expected, output)?;
+    Ok(Diff {
+        text,
+        left,
+        cells: left.saturating_sub(table.left),
+    })
+}
+
+// Takes the same diff from the kept ones, or makes it. Either way its cells are taken off those that are left.
+fn known_or_compared(
+    alloc: Global,
+    table: &mut Table,
+    comparisons: &mut Comparisons,
+    expected: &Lines,
+    output: &Lines,
+) -> Result<Diff, AllocError>
+    ensures known { IfOk result (λ diff. IsDiffOf table.old.left expected.now output.now diff) }
+    ensures made { IfOk result (λ diff. IsDiffOf diff.left expected.now output.now diff) }
+    ensures left { OnOk result (table.new.left ≡ left_after table.old.left expected.now output.now) }
+{
+    match comparisons.take(table.left, expected, output) {
+        Some(diff) => {
+            table.left = table.left.saturating_sub(diff.cells);
+            Ok(diff)
+        }
+        None => compared(alloc, table, expected, output),
+    }
+}
+
+// Adds the same diff to a message, and keeps it.
+fn add_diff(
+    alloc: Global,
+    message: &mut Vec<u8>,
+    table: &mut Table,
+    comparisons: &mut Comparisons,
+    expected: &Lines,
+    output: &Lines,
+) -> Result<(), AllocError>
+    ensures message { OnOk result (message.new.items ≡ message.old.items ++ diff_message table.old.left expected.now output.now) }
+    ensures left { OnOk result (table.new.left ≡ left_after table.old.left expected.now output.now) }
+{
+    let diff = known_or_compared(alloc, table, comparisons, expected, output)?;
+    message.extend_from_slice(diff.text.as_slice())?;
+    comparisons.keep(diff, expected, output);
+    Ok(())
+}
+
 // Adds a hint, on a line of its own.
 fn add_hint(message: &mut Vec<u8>, hint: Hint<'_>) -> Result<(), AllocError>
     ensures { OnOk result (message.new.items ≡ message.old.items ++ hint_end (plain_hint hint.entry)) }
@@ -62,6 +123,7 @@ fn add_hint(message: &mut Vec<u8>, hint: Hint<'_>) -> Result<(), AllocError>
 fn mismatch_message(
     alloc: Global,
     table: &mut Table,
+    comparisons: &mut Comparisons,
     block: &Block,
     output: &Lines,
 ) -> Result<Vec<u8>, AllocError>
@@ -76,8 +138,7 @@ fn mismatch_message(
         expected,
         output,
     )?;
-    let diff = diff_message(alloc, table, expected, output)?;
-    message.extend_from_slice(diff.as_slice())?;
+    add_diff(alloc, &mut message, table, comparisons, expected, output)?;
     add_hint(&mut message, suggested(&block.directive()))?;
     Ok(message)
 }
@@ -106,6 +167,7 @@ pub(crate) struct CheckedDirective<'b, 'o> {
 fn mismatch(
     alloc: Global,
     table: &mut Table,
+    comparisons: &mut Comparisons,
     text: &Lines,
     first: usize,
     ran: CheckedDirective<'_, '_>,
@@ -118,7 +180,7 @@ fn mismatch(
     Ok(Diagnostic {
         line: marked_at(text, lines, ran.block.expected(), ran.output),
         kind: mismatch_kind(first, ran.line),
-        message: mismatch_message(alloc, table, ran.block, ran.output)?,
+        message: mismatch_message(alloc, table, comparisons, ran.block, ran.output)?,
         came: Some(actual_output_of(alloc, lines, ran.output)?),
     })
 }
@@ -147,6 +209,7 @@ fn error_output(
 pub(crate) fn finding(
     alloc: Global,
     table: &mut Table,
+    comparisons: &mut Comparisons,
     text: &Lines,
     first: usize,
     ran: CheckedDirective<'_, '_>,
@@ -157,7 +220,7 @@ pub(crate) fn finding(
     ensures left { OnOk result (table.new.left ≡ left_next table.old.left ran.entry.block.now ran.entry.output.now) }
 {
     if ran.differs {
-        return Ok(Some(mismatch(alloc, table, text, first, ran)?));
+        return Ok(Some(mismatch(alloc, table, comparisons, text, first, ran)?));
     }
     if is_unexpected(text, ran.line, ran.output) {
         return Ok(Some(error_output(alloc, ran.line, ran.block, ran.output)?));

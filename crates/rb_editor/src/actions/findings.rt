@@ -9,6 +9,7 @@ ghost use Rattle.rb_script.specs.Reads.{Reads};
 ghost use Rattle.rb_lsp.specs.declared.document.limits.TheConstants.{MAX_TEXT};
 ghost use Rattle.rb_editor.specs.Findings.{before, diagnostics_of, findings, first_head, or_first, refused, slip, stands_first};
 
+use crate::actions::comparisons::Comparisons;
 use crate::actions::diagnostic::{Diagnostic, DiagnosticKind};
 use crate::actions::document::AskedDocument;
 use crate::actions::finding::{CheckedDirective, finding};
@@ -76,6 +77,7 @@ fn number_or_none(numbers: &[usize], index: usize) -> usize
 fn each_finding<M: Machine>(
     alloc: Global,
     table: &mut Table,
+    comparisons: &mut Comparisons,
     session: &Session<M>,
     text: &Lines,
     heads: &[usize],
@@ -98,7 +100,7 @@ fn each_finding<M: Machine>(
             block,
             output,
         };
-        let found = finding(alloc, table, text, first, ran)?;
+        let found = finding(alloc, table, comparisons, text, first, ran)?;
         keep(&mut list, found)?;
         next = behind(next, differs);
     }
@@ -115,6 +117,7 @@ fn each_finding<M: Machine>(
 pub(crate) fn of_session<M: Machine>(
     alloc: Global,
     table: &mut Table,
+    comparisons: &mut Comparisons,
     session: &Session<M>,
     text: &Lines,
     heads: &[usize],
@@ -125,7 +128,7 @@ pub(crate) fn of_session<M: Machine>(
     if is_quiet(session) {
         return Ok(Vec::new(alloc));
     }
-    each_finding(alloc, table, session, text, heads)
+    each_finding(alloc, table, comparisons, session, text, heads)
 }
 
 // Makes the diagnostic of a line that looks like a mistake.
@@ -169,13 +172,16 @@ fn of_read<M: Machine>(
     ensures { IfOk result (λ list. list.items ≡ diagnostics_of document.entry.text.now) }
 {
     let last = kept.take();
-    let run = DocumentRun::of_read(alloc, document.encoding, last, document.text, read, meter)?;
+    let mut run = DocumentRun::of_read(alloc, document.encoding, last, document.text, read, meter)?;
+    let mut comparisons = run.take_comparisons(alloc);
     let layout = run.layout();
     let heads = layout.script.heads.as_slice();
     // Each list of diagnostics has all cells of a script.
     table.left = MAX_SCRIPT_CELLS;
-    let mut list = of_session(alloc, table, run.session(), &layout.script.text, heads)?;
+    let text = &layout.script.text;
+    let mut list = of_session(alloc, table, &mut comparisons, run.session(), text, heads)?;
     add_slips(alloc, &mut list, layout.slips.as_slice())?;
+    run.keep_comparisons(comparisons);
     *kept = Some(run);
     Ok(list)
 }

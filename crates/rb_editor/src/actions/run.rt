@@ -12,6 +12,7 @@ ghost use Rattle.rb_script.specs.HeadLines.{AreHeadLines};
 ghost use Rattle.rb_lsp.specs.declared.document.limits.TheConstants.{MAX_TEXT};
 ghost use Rattle.rb_editor.specs.Layouts.{IsLayout, IsNoScript};
 
+use crate::actions::comparisons::Comparisons;
 use crate::actions::layout::ScriptLayout;
 use rb_lsp::document::{Encoding, LineTable};
 use rb_machine::{Count, Machine};
@@ -20,17 +21,19 @@ use rb_script::{ScriptFault, ScriptWithLines};
 use rb_script_report::{Layout, warnings};
 use std::alloc::{AllocError, Global};
 use std::marker::Model;
+use std::mem;
 
 // The number of directives between checkpoints.
 const SPACING: u64 = 16;
 
-/// A text that is a script: the session on the script, and where the script is in the text.
+/// A text that is a script: the session on the script, where the script is in the text, and what comparing its mismatches gave.
 #[derive(Drop)]
 pub(crate) struct DocumentRun<M: Machine> {
     encoding: Encoding,
     text: Vec<u8>,
     layout: ScriptLayout,
     session: Session<M>,
+    comparisons: Comparisons,
 }
 
 impl<M: Machine> Model for DocumentRun<M> {
@@ -131,6 +134,23 @@ impl<M: Machine> DocumentRun<M> {
         &self.layout
     }
 
+    /// Takes what comparing the mismatches of the text before gave, for those of this one.
+    pub(crate) fn take_comparisons(&mut self, alloc: Global) -> Comparisons
+        ensures { self.new ≡ self.old }
+    {
+        let mut comparisons = mem::replace(&mut self.comparisons, Comparisons::none(alloc));
+        comparisons.begin(self.session.mismatches().len());
+        comparisons
+    }
+
+    /// Keeps what comparing its mismatches gave, for the next text.
+    pub(crate) fn keep_comparisons(&mut self, mut comparisons: Comparisons)
+        ensures { self.new ≡ self.old }
+    {
+        comparisons.end();
+        self.comparisons = comparisons;
+    }
+
     /// Runs a text that was read so. The session continues from the script that it has.
     pub(crate) fn of_read(
         alloc: Global,
@@ -150,9 +170,9 @@ impl<M: Machine> DocumentRun<M> {
         // If nothing is kept, the empty script runs first.
         ensures counted { OnOk result (M.Meter.count_of meter.new ≤ M.Meter.count_of meter.old + MAX_DIRECTIVES + MAX_DIRECTIVES) }
     {
-        let mut session = match kept {
-            Some(run) => run.session,
-            None => begun(alloc, meter)?,
+        let (mut session, comparisons) = match kept {
+            Some(run) => (run.session, run.comparisons),
+            None => (begun(alloc, meter)?, Comparisons::none(alloc)),
         };
         session.replace_script(read.script, meter)?;
         let script = Layout {
@@ -172,6 +192,7 @@ impl<M: Machine> DocumentRun<M> {
             text,
             layout,
             session,
+            comparisons,
         })
     }
 

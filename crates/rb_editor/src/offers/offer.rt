@@ -219,6 +219,7 @@ fn takes_level(head: &[u8]) -> bool
 }
 
 // The words that an argument can be.
+#[tactic(auto, unfolding(rb_directive::specs::Table::argument_of))]
 fn arguments(
     alloc: Global,
     head: &[u8],

@@ -1,6 +1,6 @@
 //! The messages of a source.
 
-ghost use Rattle.std.specs.Prelude.{Err, ◌≡◌, ◌<◌, ◌≤◌, ◌↔◌, ℕ, List, Option, IsTrue, false, IfOk, OnOk, length, drop, slice_range};
+ghost use Rattle.std.specs.Prelude.{Err, ◌≡◌, ◌≢◌, ◌<◌, ◌≤◌, ◌↔◌, ℕ, List, Option, IsTrue, false, IfOk, OnOk, length, drop, slice_range};
 ghost use Rattle.std.specs.Io.KnownBytes.{Keeps};
 ghost use Rattle.rb_text.specs.Asked.{Fails};
 ghost use Rattle.rb_lsp.specs.Cancels.{CancelWaits};
@@ -61,6 +61,8 @@ impl MessageReader {
         ensures given { IfOk result (λ next. GivesNext next (left_of self.old (S.left source.old)) (left_of self.new (S.left source.new)) (body_of self.new)) }
         // Over a source that never fails, reading fails only once all calls are made.
         ensures io { S.gives_all source.old → S.gives_all source.new × (result ≡ Err ServeFault.Io → self.new.calls ≡ 0) }
+        // A failed call is reported as `Io`.
+        ensures unfailed { result ≢ Err ServeFault.Io → Fails (S.asked source.old) (S.asked source.new) 0 }
     {
         'reading: loop {
             match message_at(self.held.as_slice()) {
@@ -143,8 +145,8 @@ impl MessageReader {
         ensures counted { OnOk result (self.new.calls < self.old.calls) }
         ensures left { OnOk result (Keeps (left_of self.old (S.left source.old)) (left_of self.new (S.left source.new))) }
         ensures io { S.gives_all source.old → S.gives_all source.new × (result ≡ Err ServeFault.Io → self.new.calls ≡ 0) }
-        // A failed call is reported as `Io`, never as `OutOfMemory`.
-        ensures memory { result ≡ Err ServeFault.OutOfMemory → Fails (S.asked source.old) (S.asked source.new) 0 }
+        // A failed call is reported as `Io`.
+        ensures unfailed { result ≢ Err ServeFault.Io → Fails (S.asked source.old) (S.asked source.new) 0 }
     {
         if self.calls == 0 {
             return Err(ServeFault::Io);

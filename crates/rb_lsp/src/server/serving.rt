@@ -4,6 +4,7 @@ ghost use Rattle.std.specs.Prelude.{◌≡◌, ◌≢◌, ◌↔◌, Err, None, 
 ghost use Rattle.std.specs.Io.KnownBytes.{Appends};
 ghost use Rattle.serde_json.specs.View.{view};
 ghost use Rattle.rb_script.specs.Writes.{AppendsFront};
+ghost use Rattle.rb_text.specs.Asked.{Fails};
 ghost use Rattle.rb_lsp.specs.Cancels.{IsCancelled};
 ghost use Rattle.rb_lsp.specs.Reading.{calls_of, left_of, waiting};
 ghost use Rattle.rb_lsp.specs.Said.{said};
@@ -39,6 +40,8 @@ pub fn serve<V: Service, S: Source, W: Sink>(
     ensures ok { IfOk result (λ status. Served V.meaning (S.left source.old) status (W.held sink.old) (W.held sink.new)) }
     // If a call fails, a beginning of it was written.
     ensures failed { OnErr result (BreaksOff V.meaning (S.left source.old) (W.held sink.old) (W.held sink.new)) }
+    // A failed call of the source is reported as `Io`.
+    ensures unfailed { result ≢ Err ServeFault.Io → Fails (S.asked source.old) (S.asked source.new) 0 }
 {
     let mut reader = MessageReader::new(alloc, MAX_CALLS);
     let mut server = Server::new(alloc);
@@ -65,6 +68,8 @@ fn turn<V: Service, S: Source, W: Sink>(
     ensures failed { OnErr result (TurnBreaks V.meaning server.old (left_of reader.old (S.left source.old)) (W.held sink.old) (W.held sink.new)) }
     // Without a failed call the conversation breaks off only once all calls are made.
     ensures io { S.gives_all source.old → W.takes_all sink.old → S.gives_all source.new × W.takes_all sink.new × (result ≡ Err ServeFault.Io → calls_of reader.new ≡ 0) }
+    // A failed call of the source is reported as `Io`.
+    ensures unfailed { result ≢ Err ServeFault.Io → Fails (S.asked source.old) (S.asked source.new) 0 }
 {
     match reader.next(source)? {
         NextMessage::Message => respond(alloc, service, server, reader, reader.body(), sink),

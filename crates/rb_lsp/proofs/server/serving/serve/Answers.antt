@@ -1,4 +1,5 @@
 use Rattle.std.proofs.Common.{sym, subst}
+use Rattle.rb_text.proofs.AskedLaws.{fails_none, fails_then}
 use Rattle.rb_lsp.specs.Reading.{left_of}
 use Rattle.rb_lsp.specs.Replies.{PlainServer}
 use Rattle.rb_lsp.proofs.TalkLaws.{Far, far_broken, far_more, far_none, far_over, far_stopped}
@@ -8,8 +9,12 @@ pub loop-init : goal.loop-init
 loop-init g c =
     let first = g.S.Source.left c.args.source.now in
     let held = g.W.Sink.held c.args.sink.now in
-    subst (λ (s : PlainServer). Far g.V.Service.meaning first s (left_of c.new-reader.result first) held held) (sym c.new-server.ensures)
-    (far_none g.V.Service.meaning first (left_of c.new-reader.result first) held (c.new-reader.ensures first))
+    record {
+      far =
+          subst (λ (s : PlainServer). Far g.V.Service.meaning first s (left_of c.new-reader.result first) held held) (sym c.new-server.ensures)
+          (far_none g.V.Service.meaning first (left_of c.new-reader.result first) held (c.new-reader.ensures first));
+      unfailed = fails_none (g.S.Source.asked c.args.source.now);
+    }
 
 pub loop-preserved : goal.loop-preserved
 loop-preserved g c =
@@ -19,7 +24,10 @@ loop-preserved g c =
     let old = g.W.Sink.held c.args.sink.now in
     let mid = g.W.Sink.held c.loop.sink in
     let new = g.W.Sink.held c.turn.new.sink in
-    far_more g.V.Service.meaning first left after old mid new c.loop.server c.turn.new.server c.loop.invariant (rw c.in-Ok-None.field-0-is at c.in-Ok-None.ensures.ok)
+    record {
+      far = far_more g.V.Service.meaning first left after old mid new c.loop.server c.turn.new.server c.loop.invariant.far (rw c.in-Ok-None.field-0-is at c.in-Ok-None.ensures.ok);
+      unfailed = fails_then _ _ _ 0 0 c.loop.invariant.unfailed (c.in-Ok-None.ensures.unfailed (λ e. cc));
+    }
 
 pub returns-in-Ok-Some-clause-ok : goal.returns-in-Ok-Some-clause-ok
 returns-in-Ok-Some-clause-ok g c =
@@ -29,7 +37,7 @@ returns-in-Ok-Some-clause-ok g c =
     let old = g.W.Sink.held c.args.sink.now in
     let mid = g.W.Sink.held c.loop.sink in
     let new = g.W.Sink.held c.turn.new.sink in
-    far_over g.V.Service.meaning first left after old mid new c.loop.server c.in-Ok-Some.status c.loop.invariant (rw c.in-Ok-Some.field-0-is at c.in-Ok-Some.ensures.ok)
+    far_over g.V.Service.meaning first left after old mid new c.loop.server c.in-Ok-Some.status c.loop.invariant.far (rw c.in-Ok-Some.field-0-is at c.in-Ok-Some.ensures.ok)
 
 pub returns-in-Err-clause-failed : goal.returns-in-Err-clause-failed
 returns-in-Err-clause-failed g c =
@@ -38,9 +46,9 @@ returns-in-Err-clause-failed g c =
     let old = g.W.Sink.held c.args.sink.now in
     let mid = g.W.Sink.held c.loop.sink in
     let new = g.W.Sink.held c.turn.new.sink in
-    far_broken g.V.Service.meaning first left old mid new c.loop.server c.loop.invariant c.in-Err.ensures.failed
+    far_broken g.V.Service.meaning first left old mid new c.loop.server c.loop.invariant.far c.in-Err.ensures.failed
 
 pub returns-clause-failed : goal.returns-clause-failed
 returns-clause-failed g c =
     let left = left_of c.loop.reader (g.S.Source.left c.loop.source) in
-    far_stopped g.V.Service.meaning (g.S.Source.left c.args.source.now) left (g.W.Sink.held c.args.sink.now) (g.W.Sink.held c.loop.sink) c.loop.server c.loop.invariant
+    far_stopped g.V.Service.meaning (g.S.Source.left c.args.source.now) left (g.W.Sink.held c.args.sink.now) (g.W.Sink.held c.loop.sink) c.loop.server c.loop.invariant.far
