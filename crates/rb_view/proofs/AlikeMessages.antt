@@ -16,18 +16,7 @@ use Rattle.rb_view.specs.InFlight.{is_alike}
 type_back : (t : MessageType) → type_named (type_text t) ≡ Some t
 unfolding type_named
 type_back types.Vote = refl
-type_back types.PreVote = refl
-type_back types.VoteResponse = refl
-type_back types.PreVoteResponse = refl
-type_back types.Append = refl
-type_back types.AppendResponse = refl
-type_back types.Heartbeat = refl
-type_back types.HeartbeatResponse = refl
-type_back types.Snapshot = refl
-type_back types.Proposal = refl
-type_back types.TransferLeader = refl
-type_back types.TimeoutNow = refl
-type_back types.Unreachable = refl
+type_back t = refl
 
 same_type : (s t : MessageType) → bytes_eq (type_text s) (type_text t) ≡ true → s ≡ t
 same_type s t is =

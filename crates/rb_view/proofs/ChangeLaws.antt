@@ -1,6 +1,6 @@
 -- How many rows there are of what is not as it was.
 use Rattle.std.proofs.Common.{◌≡◌, ◌∙◌, ℕ, ◌+◌, ◌-◌, ◌≤◌, Bool, true, false, List, [], ◌∷◌, ◌++◌, length, get_or, refl, ap, ap₂, sym, subst, arith, inl, inr, length-append, length-drop}
-use Rattle.std.specs.Prelude.{◌&&◌, ◌==◌, if◌then◌else◌, codes, nat_eq, slice_index, Contains}
+use Rattle.std.specs.Prelude.{◌&&◌, ◌==◌, if◌then◌else◌, codes, nat_eq, slice_get, slice_index, Some, Contains}
 use Rattle.std.specs.List.{flat_map, list_any, slice_index_or, sum_by}
 use Rattle.std.specs.Map.{keys_of}
 use Rattle.std.specs.Str.{bytes_eq}
@@ -12,6 +12,7 @@ use Rattle.std.proofs.lemmas.List.Elements.{All-contains_itself, All-weaker}
 use Rattle.std.proofs.lemmas.List.Folds.{flat_map-map, list_any_at}
 use Rattle.std.proofs.lemmas.List.Sums.{sum_by-cons, sum_by-le, sum_by-le-sum_by}
 use Rattle.std.proofs.lemmas.Map.Made.{is_some-lookup}
+use Rattle.std.proofs.lemmas.Option.{get_or_from_slice_get, slice_get_within}
 use Rattle.std.proofs.lemmas.Slice.Eq.{bytes_eq-Decides}
 use Rattle.rb_raftlog.specs.Log.{LogValue, entries_after}
 use Rattle.rb_script.specs.Lines.{Line}
@@ -212,6 +213,10 @@ viewed vs v (k, low, is) =
     let here : get_or (keys_of vs) k v.0 ≡ v.0 = get_or-map (λ (e : ℕ × PlainProgress). e.0) vs k v v.0 low ∙ ap (λ (e : ℕ × PlainProgress). e.0) is in
     is_some-lookup (nat_eq v.0) vs
     ∙ list_any_at (nat_eq v.0) (keys_of vs) k v.0 (omega (arith, low, length-map vs (λ (e : ℕ × PlainProgress). e.0))) ((Decides-eqb v.0 (get_or (keys_of vs) k v.0)).1 (sym here))
+
+pub viewed_at : (vs : List (ℕ × PlainProgress)) (k member : ℕ) (v : ℕ × PlainProgress) → slice_get vs k ≡ Some v → v.0 ≡ member → has_view vs member ≡ true
+viewed_at vs k member v got is =
+    subst (λ (id : ℕ). has_view vs id ≡ true) is (viewed vs v (k, slice_get_within vs k v got, get_or_from_slice_get vs k v v got))
 
 parts_still : (n : PlainNode) → parts_changed n n ≡ 0
 parts_still n =

@@ -13,14 +13,15 @@ pub mod PicturesEnd
 pub mod ViewLaws
 pub mod PathLaws
 pub mod LookLaws
-pub mod EventLaws
 pub mod InertLaws
 pub mod PlainLaws
 pub mod JsonLaws
 pub mod SizeLaws
+pub mod DigitLaws
 pub mod KeptLaws
 pub mod KeepLaws
 pub mod NewRowLaws
+pub mod SameRowLaws
 pub mod StretchRowLaws
 pub mod LogLaws
 pub mod ReadBackLaws

@@ -11,9 +11,6 @@ use Rattle.rb_tracker.specs.Progresses.{PlainProgress}
 use Rattle.rb_tracker.specs.Trackers.{PlainTracker}
 use Rattle.rb_tracker.specs.declared.config.Config.{Config}
 use Rattle.rb_view.specs.Kept.{texts_of}
-use Rattle.rb_raftlog.specs.Content.{content_end}
-use Rattle.rb_message.specs.declared.role.Role.{Role}
-use Rattle.rb_texts.specs.States.{role_text}
 use Rattle.rb_view.specs.Rows.{Row, next_text, number, row, text}
 use Rattle.rb_view.specs.NewRows.{has_text, new_row, new_rows_among, new_texts}
 use Rattle.rb_view.specs.States.{config_row, node_row, standing, view_row, view_rows}
@@ -91,11 +88,10 @@ pub config_new : (olds news : List Line) (old new : PlainNode) → olds ≡ text
 config_new olds news old new before after =
     ap (new_texts olds) after ∙ one_new olds (texts_of (standing old)) (config_row old) (config_row new) before (config_among new old)
 
-pub views_new : (olds news : List Line) (old new : PlainNode) → olds ≡ texts_of (view_rows old.id old.tracker.views) → news ≡ texts_of (view_rows new.id new.tracker.views)
-    → new_texts olds news ≡ texts_of (new_rows_among (texts_of (standing old)) (view_rows new.id new.tracker.views))
-views_new olds news old new before after =
-    ap₂ new_texts before after ∙ new_rows_are (view_rows old.id old.tracker.views) (view_rows new.id new.tracker.views)
-    ∙ ap texts_of (sym (views_among new.id new.tracker.views old))
+pub views_new : (old new : PlainNode)
+    → texts_of (new_rows_among (texts_of (view_rows old.id old.tracker.views)) (view_rows new.id new.tracker.views))
+    ≡ texts_of (new_rows_among (texts_of (standing old)) (view_rows new.id new.tracker.views))
+views_new old new = ap texts_of (sym (views_among new.id new.tracker.views old))
 
 -- ---- what is as it was
 
@@ -120,10 +116,16 @@ none_new front (r ∷ rows) =
 none_added : (texts : List Line) (rows : List Row) → rows ≡ [] → texts ≡ texts ++ texts_of rows
 none_added texts rows none = sym (ap (λ (rs : List Row). texts ++ texts_of rs) none ∙ append-nil texts)
 
-pub same_node_kept : (texts : List Line) (old new : PlainNode) → node_row new ≡ node_row old → texts ≡ texts ++ texts_of (new_row (texts_of (standing old)) (node_row new))
+pub same_node_kept : (texts : List Line) (old new : PlainNode) → next_text (node_row new) ≡ next_text (node_row old) → texts ≡ texts ++ texts_of (new_row (texts_of (standing old)) (node_row new))
 same_node_kept texts old new same =
-    let rest = config_row old ∷ view_rows old.id old.tracker.views in
-    none_added texts _ (ap (new_row (texts_of (standing old))) same ∙ not_new [] (node_row old) rest)
+    let rest = texts_of (config_row old ∷ view_rows old.id old.tracker.views) in
+    let here : bytes_eq (next_text (node_row new)) (next_text (node_row old)) ≡ true = (bytes_eq-Decides (next_text (node_row new)) (next_text (node_row old))).1 same in
+    none_added texts _ (cond-true _ _ _ (or_left (bytes_eq (next_text (node_row new)) (next_text (node_row old))) (has_text rest (next_text (node_row new))) here))
+
+-- a node whose row has another text is added
+pub other_node_added : (old new : PlainNode) → bytes_eq (next_text (node_row new)) (next_text (node_row old)) ≡ false → new_row (texts_of (standing old)) (node_row new) ≡ node_row new ∷ []
+other_node_added old new other =
+    ap (λ (t : Bool). if t then [] else node_row new ∷ []) (node_among new old ∙ ap (λ (t : Bool). t || false) other)
 
 pub same_config_kept : (texts : List Line) (old new : PlainNode) → config_row new ≡ config_row old → texts ≡ texts ++ texts_of (new_row (texts_of (standing old)) (config_row new))
 same_config_kept texts old new same =
@@ -135,21 +137,6 @@ same_tracker_kept texts old new id tracker =
     none_added texts _
     (ap₂ (λ (k : ℕ) (t : PlainTracker). new_rows_among (texts_of (standing old)) (config_row (record new { id = k; tracker = t }) ∷ view_rows k t.views)) (sym id) (sym tracker)
     ∙ none_new (node_row old ∷ []) (config_row old ∷ view_rows old.id old.tracker.views))
-
-numbers_row : ℕ → Role → (term vote lead commit applied durable : ℕ) → (content : List ℕ) → Row
-numbers_row id role term vote lead commit applied durable content = row (codes "node")
-    (number id ∷ text (role_text role) ∷ number term ∷ number vote ∷ number lead ∷ number commit ∷ number applied
-    ∷ number durable ∷ number (length content) ∷ text (content_end content) ∷ [])
-
-pub same_node : (old new : PlainNode) → old.id ≡ new.id → old.role ≡ new.role → old.term ≡ new.term → old.vote ≡ new.vote → old.lead ≡ new.lead → old.commit ≡ new.commit
-    → old.applied ≡ new.applied → old.log.durable ≡ new.log.durable → old.content ≡ new.content → node_row new ≡ node_row old
-unfolding numbers_row
-same_node old new id role term vote lead commit applied durable content =
-    sym (ap₂ (λ (a : ℕ) (b : Role). numbers_row a b old.term old.vote old.lead old.commit old.applied old.log.durable old.content) id role
-    ∙ ap₂ (λ (a b : ℕ). numbers_row new.id new.role a b old.lead old.commit old.applied old.log.durable old.content) term vote
-    ∙ ap₂ (λ (a b : ℕ). numbers_row new.id new.role new.term new.vote a b old.applied old.log.durable old.content) lead commit
-    ∙ ap₂ (λ (a b : ℕ). numbers_row new.id new.role new.term new.vote new.lead new.commit a b old.content) applied durable
-    ∙ ap (λ (c : List ℕ). numbers_row new.id new.role new.term new.vote new.lead new.commit new.applied new.log.durable c) content)
 
 pub same_config : (old new : PlainNode) → old.id ≡ new.id → old.tracker.config ≡ new.tracker.config → config_row new ≡ config_row old
 same_config old new id config =

@@ -81,7 +81,7 @@ more_one_line n =
 give_way_one_line : (n : ℕ) → is_one_line (give_way_text n) ≡ true
 give_way_one_line n = elim (n == 1) as (λ b. is_one_line (if b then codes " gives way" else codes " give way") ≡ true) [ true ↦ refl | false ↦ refl ]
 
--- the first few entries, how many more there are, and that they give way (three are shown)
+-- the line lists the first entries, counts the others, and says that all give way
 parts_one_line : (n last : ℕ) (es : List Entry) → is_one_line ((few_entries_text n (codes "  ") last es ++ more_text (length es - n)) ++ give_way_text (length es)) ≡ true
 parts_one_line n last es =
     let few = few_entries_text n (codes "  ") last es in
@@ -90,7 +90,7 @@ parts_one_line n last es =
     (give_way_one_line (length es))
 
 gives_way_one_line : (last : ℕ) (es : List Entry) → is_one_line (gives_way_text last es) ≡ true
-gives_way_one_line last es = parts_one_line 3 last es
+gives_way_one_line last es = search parts_one_line
 
 pub reason_one_line : (reason : Reason) → is_one_line (reason_text reason) ≡ true
 unfolding reason_text

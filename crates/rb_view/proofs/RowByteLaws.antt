@@ -7,7 +7,8 @@ use Rattle.std.proofs.lemmas.List.Folds.{list_all-append, list_all-map}
 use Rattle.rb_vocab.specs.declared.directive_error.DirectiveError.{DirectiveError}
 use Rattle.rb_vocab.specs.MessageTypes.{type_text}
 use Rattle.rb_message.specs.declared.event.Event.{Event}
-use Rattle.rb_message.specs.declared.event.Event.TheVariants as events
+use Rattle.rb_message.specs.declared.event.EventKind.{EventKind}
+use Rattle.rb_message.specs.declared.event.EventKind.TheVariants as events
 use Rattle.rb_message.specs.declared.kind.MessageKind.{MessageKind}
 use Rattle.rb_message.specs.declared.kind.MessageKind.TheVariants as kinds
 use Rattle.rb_message.specs.declared.message.Message.{Message}
@@ -27,17 +28,18 @@ use Rattle.rb_texts.specs.Reasons.{reason_of, reason_text}
 use Rattle.rb_texts.specs.Configs.{config_text}
 use Rattle.rb_texts.specs.Entries.{body_text}
 use Rattle.rb_texts.specs.Errors.{error_text}
-use Rattle.rb_texts.specs.Events.{fault_text, no_campaign_text, replaced_text, votes_text}
+use Rattle.rb_texts.specs.EventForms.{kind_form, fault_text, no_campaign_text, replaced_text, votes_text}
 use Rattle.rb_texts.specs.Items.{PlainItem}
 use Rattle.rb_texts.specs.Items as items
 use Rattle.rb_texts.specs.Quoted.{is_printable}
 use Rattle.rb_texts.specs.Shapes.{is_one_line, is_solid}
 use Rattle.rb_texts.specs.States.{role_text, progress_state_text}
 use Rattle.rb_texts.proofs.KindLaws.{flat_of, joined_of, wider}
+use Rattle.rb_texts.specs.Messages.{fields_of}
 use Rattle.rb_texts.proofs.OneLineLaws.{body_one_line, config_one_line, error_one_line, fault_one_line, no_campaign_one_line, progress_state_one_line, replaced_one_line, role_one_line, type_one_line, votes_one_line}
 use Rattle.rb_machine.specs.Outcome.{is_output}
 use Rattle.rb_replay.specs.Report.{same_lines}
-use Rattle.rb_view.specs.EventRows.{event_rows}
+use Rattle.rb_view.specs.EventRows.{event_rows, form_rows}
 use Rattle.rb_view.specs.ItemRows.{entry_row, error_row, item_rows}
 use Rattle.rb_view.specs.Json.{cell_has_bytes, has_bytes, is_byte}
 use Rattle.rb_view.specs.Kept.{line_row, line_rows, texts_of}
@@ -88,21 +90,25 @@ told t h = alone t (line_bytes t h)
 told_row : (t : List ℕ) → is_one_line t ≡ true → ((of_bytes t && true) && true) ≡ true
 told_row t h = and_from (of_bytes t && true) true (told t h) refl
 
-event_bytes : (e : Event) → list_all has_bytes (event_rows e) ≡ true
-unfolding event_rows
-event_bytes (events.Became id role term) = told_row (role_text role) (role_one_line role)
-event_bytes (events.CannotCampaign id why) = told_row (no_campaign_text why) (no_campaign_one_line why)
-event_bytes (events.VoteCounted id type granted from result) =
+kind_bytes : (id : ℕ) (what : EventKind) → list_all has_bytes (form_rows id (kind_form id what)) ≡ true
+unfolding kind_form
+kind_bytes id (events.Became role term) = told_row (role_text role) (role_one_line role)
+kind_bytes id (events.CannotCampaign why) = told_row (no_campaign_text why) (no_campaign_one_line why)
+kind_bytes id (events.VoteCounted type granted from result) =
     and_from (of_bytes (type_text type) && (of_bytes (votes_text result) && true)) true
     (and_from (of_bytes (type_text type)) (of_bytes (votes_text result) && true) (line_bytes (type_text type) (type_one_line type)) (told (votes_text result) (votes_one_line result))) refl
-event_bytes (events.Ignored id type from why) = told_row (type_text type) (type_one_line type)
-event_bytes (events.ReplacedChange id index why) = told_row (replaced_text why) (replaced_one_line why)
-event_bytes (events.Switched id config) = told_row (config_text config) (config_one_line config)
-event_bytes (events.RefusedChange id index fault) = told_row (fault_text fault) (fault_one_line fault)
-event_bytes _ = refl
+kind_bytes id (events.Ignored type from why) = told_row (type_text type) (type_one_line type)
+kind_bytes id (events.ReplacedChange index why) = told_row (replaced_text why) (replaced_one_line why)
+kind_bytes id (events.Switched config) = told_row (config_text config) (config_one_line config)
+kind_bytes id (events.RefusedChange index fault) = told_row (fault_text fault) (fault_one_line fault)
+kind_bytes id what = refl
+
+event_bytes : (e : Event) → list_all has_bytes (event_rows e) ≡ true
+unfolding event_rows
+event_bytes e = kind_bytes e.id e.kind
 
 said_bytes : (k : MessageKind) → list_all cell_has_bytes (said k) ≡ true
-unfolding said
+unfolding said fields_of
 said_bytes (kinds.Proposal body) = told (body_text body) (body_one_line body)
 said_bytes _ = refl
 

@@ -22,6 +22,7 @@ pub mod EventRows
 pub mod ItemRows
 pub mod Kept
 pub mod NewRows
+pub mod SameRows
 pub mod Logs
 pub mod Meant
 pub mod Committed

@@ -2,7 +2,6 @@
 use Rattle.std.specs.Prelude.{ℕ, zero, suc, codes, decimal, List, [], ◌∷◌, ◌++◌, drop, Option, Some, None}
 use Rattle.std.specs.List.{flat_map}
 use Rattle.rb_vocab.specs.MessageTypes.{type_text}
-use Rattle.rb_message.specs.Events.{event_node}
 use Rattle.rb_message.specs.declared.message.Message.{Message}
 use Rattle.rb_message.specs.Messages.{type_of}
 use Rattle.rb_text.specs.Json.{in_page}
@@ -35,7 +34,7 @@ node_of ready (items.send m) = m.from
 node_of ready (items.nothing_ready id) = id
 node_of ready (items.moved verb m) = moved_node verb m
 node_of ready (items.raft_state n) = n.id
-node_of ready (items.event e) = event_node e
+node_of ready (items.event e) = e.id
 node_of ready item = 0
 
 -- the message that an item is about

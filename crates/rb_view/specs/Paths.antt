@@ -1,32 +1,13 @@
 -- Arrows as elements of SVG, and where they are across the picture. How far down they are isn't stated. (SVG 2, W3C, section 9.3; sizes:
 -- docs/FORMATS.md.)
 use Rattle.std.specs.Prelude.{ℕ, ◌+◌, ◌-◌, ◌*◌, ◌^◌, Bool, not, ◌==◌, nat_lt, min, if◌then◌else◌, codes, decimal, List, [], ◌++◌}
-use Rattle.rb_vocab.specs.declared.message_type.MessageType.{MessageType}
-use Rattle.rb_vocab.specs.declared.message_type.MessageType.TheVariants as types
+use Rattle.rb_vocab.specs.MessageTypes.{class_of}
 use Rattle.rb_view.specs.declared.chart.arrow.Arrow.{Arrow}
 use Rattle.rb_view.specs.declared.chart.arrow.ArrowPlace.{ArrowPlace}
 use Rattle.rb_view.specs.declared.chart.css_class.DeliveryState.{DeliveryState}
 use Rattle.rb_view.specs.declared.chart.css_class.DeliveryState.TheVariants as states
-use Rattle.rb_view.specs.declared.chart.css_class.MessageClass.{MessageClass}
-use Rattle.rb_view.specs.declared.chart.css_class.MessageClass.TheVariants as kinds
 use Rattle.rb_view.specs.declared.chart.path.DrawnArrow.{DrawnArrow}
 use Rattle.rb_view.specs.Shapes.{arrow_text, cross_text, loop_text}
-
--- what kind of message one of this type is
-abbrev pub kind_of : MessageType → MessageClass
-kind_of types.Vote = kinds.Vote
-kind_of types.PreVote = kinds.Vote
-kind_of types.VoteResponse = kinds.Vote
-kind_of types.PreVoteResponse = kinds.Vote
-kind_of types.Append = kinds.Append
-kind_of types.AppendResponse = kinds.Append
-kind_of types.Heartbeat = kinds.Heartbeat
-kind_of types.HeartbeatResponse = kinds.Heartbeat
-kind_of types.Snapshot = kinds.Snapshot
-kind_of types.Proposal = kinds.Proposal
-kind_of types.TransferLeader = kinds.Proposal
-kind_of types.TimeoutNow = kinds.Vote
-kind_of types.Unreachable = kinds.Proposal
 
 -- ---- across the picture, where sums stop at the largest number
 
@@ -72,8 +53,8 @@ loop_of a = right_of (middle a.from) 6
 
 abbrev pub path_text : Arrow → ArrowPlace → List ℕ
 path_text a p =
-    if is_loop a then loop_text (kind_of a.message_type) a.state (loop_of a) p.y (right_of (loop_of a) 40) p.end
-    else arrow_text (kind_of a.message_type) a.state (start_of a) p.y (bend_of a) (end_of a p.is_short) p.end
+    if is_loop a then loop_text (class_of a.message_type) a.state (loop_of a) p.y (right_of (loop_of a) 40) p.end
+    else arrow_text (class_of a.message_type) a.state (start_of a) p.y (bend_of a) (end_of a p.is_short) p.end
 
 abbrev pub cross_of : Arrow → Bool → ℕ
 cross_of a is_short = if is_loop a then loop_of a else end_of a is_short

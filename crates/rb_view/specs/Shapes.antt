@@ -1,12 +1,12 @@
 -- Shapes as elements of SVG. (SVG 2, W3C: paths in section 9.3, rectangles in 10.2, texts in 11; the classes are those of assets/style.svg.)
 use Rattle.std.specs.Prelude.{ℕ, ◌-◌, ◌&&◌, nat_le, if◌then◌else◌, codes, decimal, List, [], ◌++◌, length, take, drop}
 use Rattle.std.specs.List.{flat_map}
+use Rattle.rb_vocab.specs.declared.message_type.MessageClass.{MessageClass}
+use Rattle.rb_vocab.specs.MessageTypes.{class_text}
 use Rattle.rb_message.specs.declared.role.Role.{Role}
 use Rattle.rb_texts.specs.States.{role_text}
 use Rattle.rb_view.specs.declared.chart.css_class.DeliveryState.{DeliveryState}
 use Rattle.rb_view.specs.declared.chart.css_class.DeliveryState.TheVariants as states
-use Rattle.rb_view.specs.declared.chart.css_class.MessageClass.{MessageClass}
-use Rattle.rb_view.specs.declared.chart.css_class.MessageClass.TheVariants as kinds
 use Rattle.rb_view.specs.declared.chart.css_class.CssClass.{CssClass}
 use Rattle.rb_view.specs.declared.chart.css_class.CssClass.TheVariants as looks
 use Rattle.rb_view.specs.declared.chart.shape.Shape.{Shape}
@@ -14,13 +14,6 @@ use Rattle.rb_view.specs.declared.chart.shape.Shape.TheVariants as shapes
 use Rattle.rb_view.specs.XmlEscapes.{escaped}
 
 -- ---- classes
-
-abbrev pub kind_text : MessageClass → List ℕ
-kind_text kinds.Vote = codes "vote"
-kind_text kinds.Append = codes "append"
-kind_text kinds.Heartbeat = codes "heartbeat"
-kind_text kinds.Snapshot = codes "snapshot"
-kind_text kinds.Proposal = codes "proposal"
 
 abbrev pub delivery_state_text : DeliveryState → List ℕ
 delivery_state_text states.Waiting = codes "waiting"
@@ -39,8 +32,8 @@ look_text looks.Turn = codes "turn"
 look_text looks.Moved = codes "moved"
 look_text looks.Change = codes "change"
 look_text looks.Installed = codes "installed"
-look_text (looks.Label kind) = kind_text kind
-look_text (looks.LeftLabel kind) = kind_text kind ++ codes " end"
+look_text (looks.Label class) = class_text class
+look_text (looks.LeftLabel class) = class_text class ++ codes " end"
 
 -- ---- elements
 
@@ -56,14 +49,14 @@ band_text role x y width height =
 
 -- a message's line: along its label to where it bends, and from there to where it ends
 abbrev pub arrow_text : MessageClass → DeliveryState → ℕ → ℕ → ℕ → ℕ → ℕ → List ℕ
-arrow_text kind state x y bend to_x to_y =
-    codes "<path class=\"arrow " ++ (kind_text kind ++ (codes " " ++ (delivery_state_text state ++ (codes "\" d=\"M" ++ (decimal x ++ (codes " " ++ (decimal y
+arrow_text class state x y bend to_x to_y =
+    codes "<path class=\"arrow " ++ (class_text class ++ (codes " " ++ (delivery_state_text state ++ (codes "\" d=\"M" ++ (decimal x ++ (codes " " ++ (decimal y
     ++ (codes "H" ++ (decimal bend ++ (codes "L" ++ (decimal to_x ++ (codes " " ++ (decimal to_y ++ codes "\"/>\n")))))))))))))
 
 -- the line of a message to the node that sends it
 abbrev pub loop_text : MessageClass → DeliveryState → ℕ → ℕ → ℕ → ℕ → List ℕ
-loop_text kind state x y out to_y =
-    codes "<path class=\"arrow " ++ (kind_text kind ++ (codes " " ++ (delivery_state_text state ++ (codes "\" d=\"M" ++ (decimal x ++ (codes " " ++ (decimal y
+loop_text class state x y out to_y =
+    codes "<path class=\"arrow " ++ (class_text class ++ (codes " " ++ (delivery_state_text state ++ (codes "\" d=\"M" ++ (decimal x ++ (codes " " ++ (decimal y
     ++ (codes "C" ++ (decimal out ++ (codes " " ++ (decimal y ++ (codes " " ++ (decimal out ++ (codes " " ++ (decimal to_y
     ++ (codes " " ++ (decimal x ++ (codes " " ++ (decimal to_y ++ codes "\"/>\n")))))))))))))))))))
 

@@ -1,7 +1,7 @@
 -- How much there is to say, counted by what is said. (This project's.)
 use Rattle.std.specs.Prelude.{ℕ, Bool, true, false, ◌+◌, ◌*◌, if◌then◌else◌, length, decimal}
 use Rattle.std.specs.List.{sum_by}
-use Rattle.rb_message.specs.declared.event.Event.TheVariants as events
+use Rattle.rb_texts.specs.EventForms.{event_form, is_hidden}
 use Rattle.rb_texts.specs.Items.{PlainItem}
 use Rattle.rb_texts.specs.Items as items
 use Rattle.rb_view.specs.Rows.{PlainCell, number, text, Row}
@@ -24,10 +24,9 @@ is_view (items.config c) = true
 is_view (items.progress id view) = true
 is_view _ = false
 
--- that a vote is refused has no row of its own either, since the answer shows it; nor that entries are removed, since the reason does
+-- nor has an event that is hidden a row of its own
 abbrev pub has_no_row : PlainItem → Bool
-has_no_row (items.event (events.RefusedVote id type from why)) = true
-has_no_row (items.event (events.RemovedEntries id last es)) = true
+has_no_row (items.event e) = is_hidden (event_form e).shown
 has_no_row item = is_view item
 
 -- how many rows an item has, without its reason

@@ -27,6 +27,11 @@ compared_rows nodes id n = node_since (slice_get nodes (id - 1)) n
 abbrev pub rewritten : List PlainNode → ℕ → PlainNode → List PlainNode
 rewritten nodes id n = slice_set nodes (id - 1) n
 
+-- the node as it settled last, or else as it was before
+abbrev pub last_of : {B : Type 0} → PlainNode → (B → PlainNode) → Option B → PlainNode
+last_of before node None = before
+last_of before node (Some settled) = node settled
+
 -- ---- an item
 
 -- why nothing came of a message, why a vote was refused, or which entries give way: its line, without the blanks before it

@@ -38,7 +38,7 @@ mod writing;
 pub use arrow::{Arrow, ArrowPlace};
 pub use arrows::Arrows;
 pub use chart::Chart;
-pub use css_class::{CssClass, DeliveryState, MessageClass};
+pub use css_class::{CssClass, DeliveryState};
 pub use draw::{ChartFault, DrawnRun, MAX_EVENTS, chart_of};
 pub use in_flight::{InFlight, MessageChange};
 pub use laws::{

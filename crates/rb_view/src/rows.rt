@@ -11,6 +11,7 @@ mod kept;
 mod laws;
 mod message;
 mod names;
+mod number;
 mod plain;
 mod reason;
 mod row;

@@ -18,6 +18,8 @@ mod shown;
 mod step;
 mod steps;
 mod stretch;
+mod views;
+mod written;
 
 pub use laws::{
     changes_grow_with_what_differs, committed_entries_stay, logs_read_back,

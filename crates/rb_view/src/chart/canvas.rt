@@ -23,10 +23,10 @@ use crate::chart::sizes::{
 use crate::chart::source::ScriptSource;
 use crate::chart::telling::Ending;
 use rb_cluster::SharedNode;
-use rb_message::{Event, Message};
+use rb_message::{Event, EventKind, Message};
 use rb_raftlog::RaftLog;
 use rb_text::Piece;
-use rb_texts::{Item, Verb};
+use rb_texts::{Item, Verb, event_form};
 use std::alloc::{AllocError, Global};
 
 // The right edge of a directive's line number in the gutter, and the left edge of its head.
@@ -311,32 +311,30 @@ impl<'a> Canvas<'a> {
     }
 
     fn tell(&mut self, event: &Event) -> Result<(), AllocError> {
-        let id = event.node();
-        if let Event::Started { .. } = event {
+        let id = event.id;
+        if let EventKind::Started { .. } = &event.kind {
             return self.start(id);
         }
-        if matches!(
-            event,
-            Event::RefusedVote { .. } | Event::RemovedEntries { .. }
-        ) {
+        let form = event_form(event);
+        if form.is_hidden() {
             return Ok(());
         }
-        let words = event_words(self.alloc, event)?;
-        let y = self.mark(id, words.as_slice(), event_class(event))?;
-        self.follow(event, id, y)
+        let words = event_words(self.alloc, &form)?;
+        let y = self.mark(id, words.as_slice(), event_class(form.mark))?;
+        self.follow(event, y)
     }
 
     // Updates the state of a node by an event.
-    fn follow(&mut self, event: &Event, id: u64, y: u64) -> Result<(), AllocError> {
-        match event {
-            Event::Became { role, .. } => {
-                if let Some(band) = self.columns.turn(id, *role, y) {
+    fn follow(&mut self, event: &Event, y: u64) -> Result<(), AllocError> {
+        match &event.kind {
+            EventKind::Became { role, .. } => {
+                if let Some(band) = self.columns.turn(event.id, *role, y) {
                     self.chart.under.push(band)?;
                 }
                 Ok(())
             }
-            Event::Restored { index, .. } => {
-                self.columns.restores(id, *index);
+            EventKind::Restored { index, .. } => {
+                self.columns.restores(event.id, *index);
                 Ok(())
             }
             _ => Ok(()),

@@ -1,46 +1,21 @@
 //! The classes of elements, which assets/style.svg describes.
 
 ghost use Rattle.std.specs.Prelude.{◌≡◌, codes, ◌++◌};
-ghost use Rattle.rb_view.specs.Shapes.{delivery_state_text, kind_text, look_text};
+ghost use Rattle.rb_vocab.specs.MessageTypes.{class_text};
+ghost use Rattle.rb_view.specs.Shapes.{delivery_state_text, look_text};
 
-/// The kind of a message.
-#[derive(Clone, Copy)]
-pub enum MessageClass {
-    /// Of elections.
-    Vote,
-    /// Of entries.
-    Append,
-    Heartbeat,
-    Snapshot,
-    /// A message that is forwarded to a leader.
-    Proposal,
-}
+use rb_vocab::MessageClass;
 
-impl MessageClass {
-    /// The class.
-    pub(crate) fn name(self) -> &'static [u8]
-        ensures { result.now ≡ kind_text self }
-    {
-        match self {
-            MessageClass::Vote => b"vote",
-            MessageClass::Append => b"append",
-            MessageClass::Heartbeat => b"heartbeat",
-            MessageClass::Snapshot => b"snapshot",
-            MessageClass::Proposal => b"proposal",
-        }
-    }
-
-    // The class of a label that ends at its position.
-    fn left_name(self) -> &'static [u8]
-        ensures { result.now ≡ kind_text self ++ codes " end" }
-    {
-        match self {
-            MessageClass::Vote => b"vote end",
-            MessageClass::Append => b"append end",
-            MessageClass::Heartbeat => b"heartbeat end",
-            MessageClass::Snapshot => b"snapshot end",
-            MessageClass::Proposal => b"proposal end",
-        }
+// The class of a label that ends at its position.
+fn left_name(class: MessageClass) -> &'static [u8]
+    ensures { result.now ≡ class_text class ++ codes " end" }
+{
+    match class {
+        MessageClass::Vote => b"vote end",
+        MessageClass::Append => b"append end",
+        MessageClass::Heartbeat => b"heartbeat end",
+        MessageClass::Snapshot => b"snapshot end",
+        MessageClass::Proposal => b"proposal end",
     }
 }
 
@@ -109,8 +84,8 @@ impl CssClass {
             CssClass::Moved => b"moved",
             CssClass::Change => b"change",
             CssClass::Installed => b"installed",
-            CssClass::Label(kind) => kind.name(),
-            CssClass::LeftLabel(kind) => kind.left_name(),
+            CssClass::Label(class) => class.name(),
+            CssClass::LeftLabel(class) => left_name(class),
         }
     }
 }

@@ -1,6 +1,6 @@
 //! The picture of a run.
 
-ghost use Rattle.std.specs.Prelude.{◌≡◌, ◌<◌, ◌≤◌, ◌++◌, ◌∷◌, [], Err, IfOk, IfSome, MatchOption, OnOk, Some, false, fold, length, slice_get, true};
+ghost use Rattle.std.specs.Prelude.{◌≡◌, ◌≤◌, ◌++◌, ◌∷◌, [], Err, IfOk, IfSome, MatchOption, OnOk, false, fold, length, true};
 ghost use Rattle.std.specs.List.{list_all};
 ghost use Rattle.rb_script.specs.declared.limits.TheConstants.{MAX_DIRECTIVES};
 ghost use Rattle.rb_script.specs.Reading.{directive_of};
@@ -17,8 +17,9 @@ use crate::chart::title::title_of;
 use rb_cluster::Cluster;
 use rb_machine::{Both, Machine, PrintedLines};
 use rb_raftlog::RaftLog;
-use rb_replay::Outputs;
+use rb_replay::{Outputs, block_at};
 use rb_script::{Block, Lines, Script};
+use rb_script_report::number_at;
 use std::alloc::{AllocError, Global};
 use std::mem;
 
@@ -38,23 +39,6 @@ pub enum ChartFault {
 pub struct DrawnRun {
     pub chart: Chart,
     pub printed: Outputs,
-}
-
-// The block of the directive at an index, counted from 0.
-fn block_at(script: &Script, index: usize) -> &Block
-    requires few { length script.now.blocks ≤ MAX_DIRECTIVES }
-    requires within { index < length script.now.blocks }
-    ensures { slice_get script.now.blocks index ≡ Some result.now }
-{
-    script.block(index + 1).unwrap()
-}
-
-// The number at an index, counted from 0.
-fn number_at(numbers: &[usize], index: usize) -> usize
-    requires { index < length numbers.now }
-    ensures { slice_get numbers.now index ≡ Some result }
-{
-    numbers[index]
 }
 
 // Runs a directive with an observer, and returns what it printed.

@@ -2,7 +2,6 @@
 
 use crate::chart::chart::Chart;
 use crate::chart::css_class::CssClass;
-use crate::chart::path::kind_of;
 use crate::chart::shape::{Shape, words_at};
 use crate::chart::sizes::{ASIDE, beside, middle};
 use rb_message::Message;
@@ -19,11 +18,11 @@ pub(crate) struct Label {
 }
 
 fn label_class(message: &Message, is_left: bool) -> CssClass {
-    let kind = kind_of(message.kind.message_type());
+    let class = message.kind.message_type().class();
     if is_left {
-        CssClass::LeftLabel(kind)
+        CssClass::LeftLabel(class)
     } else {
-        CssClass::Label(kind)
+        CssClass::Label(class)
     }
 }
 

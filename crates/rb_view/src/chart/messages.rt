@@ -5,8 +5,8 @@ use crate::chart::painting::fitted;
 use crate::chart::sentence::{sentence, with_line, with_one, with_two};
 use crate::chart::sizes::MOST_LABEL;
 use rb_message::{Append, Message, MessageKind};
-use rb_text::Piece;
-use rb_texts::Item;
+use rb_text::{Piece, add_pieces};
+use rb_texts::{Item, MessageField, kind_fields};
 use rb_vocab::MessageType;
 use std::alloc::{AllocError, Global};
 
@@ -16,28 +16,60 @@ pub(crate) fn short_name(message_type: MessageType) -> &'static [u8] {
     name.strip_prefix(b"Msg".as_slice()).unwrap_or(name)
 }
 
-fn vote_words(
-    alloc: Global,
-    name: &[u8],
-    last_term: u64,
-    last_index: u64,
-    transfer: bool,
-) -> Result<Vec<u8>, AllocError> {
-    let transfer: &[u8] = if transfer { b" transfer" } else { b"" };
-    let pieces = [
-        Piece::Bytes(name),
-        Piece::Bytes(b" last "),
-        Piece::Number(last_term),
-        Piece::Bytes(b"/"),
-        Piece::Number(last_index),
-        Piece::Bytes(transfer),
-    ];
-    sentence(alloc, &pieces)
+// The name of a field as a word.
+fn word(name: &[u8]) -> &[u8] {
+    name.strip_suffix(b"=".as_slice()).unwrap_or(name)
 }
 
-fn answer_words(alloc: Global, name: &[u8], is_granted: bool) -> Result<Vec<u8>, AllocError> {
-    let answer: &[u8] = if is_granted { b" granted" } else { b" refused" };
-    sentence(alloc, &[Piece::Bytes(name), Piece::Bytes(answer)])
+// Adds a field, with this text before a number that follows another.
+fn add_field<'a>(
+    text: &mut Vec<u8>,
+    comma: &'a [u8],
+    field: MessageField<'a>,
+) -> Result<(), AllocError> {
+    match field {
+        MessageField::Number(name, n) => {
+            let pieces = [
+                Piece::Bytes(comma),
+                Piece::Bytes(word(name)),
+                Piece::Bytes(b" "),
+                Piece::Number(n),
+            ];
+            add_pieces(text, &pieces)
+        }
+        MessageField::Place(name, term, index) => {
+            let pieces = [
+                Piece::Bytes(comma),
+                Piece::Bytes(word(name)),
+                Piece::Bytes(b" "),
+                Piece::Number(term),
+                Piece::Bytes(b"/"),
+                Piece::Number(index),
+            ];
+            add_pieces(text, &pieces)
+        }
+        MessageField::Answer(true) => add_pieces(text, &[Piece::Bytes(b" granted")]),
+        MessageField::Answer(false) => add_pieces(text, &[Piece::Bytes(b" refused")]),
+        MessageField::Flag(shown, true) => add_pieces(text, &[Piece::Bytes(shown)]),
+        _ => Ok(()),
+    }
+}
+
+// A name, and fields after it.
+fn field_words(
+    alloc: Global,
+    name: &[u8],
+    fields: &[MessageField<'_>],
+) -> Result<Vec<u8>, AllocError> {
+    let mut text = sentence(alloc, &[Piece::Bytes(name)])?;
+    let mut comma: &[u8] = b"";
+    for field in fields {
+        add_field(&mut text, comma, *field)?;
+        if let MessageField::Number(..) | MessageField::Place(..) = field {
+            comma = b",";
+        }
+    }
+    Ok(text)
 }
 
 fn append_words(alloc: Global, name: &[u8], append: &Append) -> Result<Vec<u8>, AllocError> {
@@ -57,27 +89,10 @@ fn append_words(alloc: Global, name: &[u8], append: &Append) -> Result<Vec<u8>, 
     sentence(alloc, &pieces)
 }
 
-// The most important fields of a message, after its name.
+// The fields of a message, after its name. Appends and proposals show fewer, and a snapshot and a transfer of leadership other words.
 fn words_behind(alloc: Global, message: &Message, name: &[u8]) -> Result<Vec<u8>, AllocError> {
     match &message.kind {
-        MessageKind::Vote {
-            last_term,
-            last_index,
-            transfer,
-        } => vote_words(alloc, name, *last_term, *last_index, *transfer),
-        MessageKind::PreVote {
-            last_term,
-            last_index,
-        } => vote_words(alloc, name, *last_term, *last_index, false),
-        MessageKind::VoteResponse { granted } | MessageKind::PreVoteResponse { granted } => {
-            answer_words(alloc, name, *granted)
-        }
         MessageKind::Append(append) => append_words(alloc, name, append),
-        MessageKind::AppendResponse { matched } => with_one(alloc, name, b" match ", *matched),
-        MessageKind::AppendRefusal { refused, hint } => {
-            with_two(alloc, name, b" refused ", *refused, b", hint ", *hint)
-        }
-        MessageKind::Heartbeat { commit } => with_one(alloc, name, b" commit ", *commit),
         MessageKind::Snapshot(install) => {
             let snapshot = install.snapshot();
             with_two(alloc, name, b" ", snapshot.term, b"/", snapshot.index)
@@ -89,9 +104,7 @@ fn words_behind(alloc: Global, message: &Message, name: &[u8]) -> Result<Vec<u8>
             b"MsgProp ",
         ),
         MessageKind::TransferLeader { target } => with_one(alloc, name, b" to ", *target),
-        MessageKind::HeartbeatResponse | MessageKind::TimeoutNow => {
-            sentence(alloc, &[Piece::Bytes(name)])
-        }
+        kind => field_words(alloc, name, &kind_fields(kind)),
     }
 }
 

@@ -2,16 +2,16 @@
 
 ghost use Rattle.std.specs.Prelude.{◌≡◌, IsOk};
 ghost use Rattle.rb_script.specs.Writes.{Writes};
-ghost use Rattle.rb_view.specs.Paths.{bend_of, cross_at, cross_of, end_of, is_left, is_loop, kind_of, loop_of, path_text, right_of, start_of};
+ghost use Rattle.rb_view.specs.Paths.{bend_of, cross_at, cross_of, end_of, is_left, is_loop, loop_of, path_text, right_of, start_of};
 ghost use Rattle.rb_view.specs.Shapes.{arrow_text, cross_text, loop_text};
 
 use crate::chart::arrow::{Arrow, ArrowPlace};
-use crate::chart::css_class::{DeliveryState, MessageClass};
+use crate::chart::css_class::DeliveryState;
 use crate::chart::piece::SvgPiece;
 use crate::chart::sizes::{HALF_BAND, LEAD, OUT, beside, middle};
 use rb_script::{Sink, WriteFault};
 use rb_text::{WrittenPiece, put_pieces};
-use rb_vocab::MessageType;
+use rb_vocab::MessageClass;
 
 // How far the end of an arrow is from the middle of a band, or from where it bends.
 const TO_BAND: u64 = HALF_BAND + 1;
@@ -27,25 +27,6 @@ const GIVEN_UP: u64 = 14;
 pub struct DrawnArrow {
     pub arrow: Arrow,
     pub place: ArrowPlace,
-}
-
-/// The kind of a message of this type.
-pub(crate) fn kind_of(message_type: MessageType) -> MessageClass
-    ensures { result ≡ kind_of message_type }
-{
-    match message_type {
-        MessageType::Vote
-        | MessageType::PreVote
-        | MessageType::VoteResponse
-        | MessageType::PreVoteResponse
-        | MessageType::TimeoutNow => MessageClass::Vote,
-        MessageType::Append | MessageType::AppendResponse => MessageClass::Append,
-        MessageType::Heartbeat | MessageType::HeartbeatResponse => MessageClass::Heartbeat,
-        MessageType::Snapshot => MessageClass::Snapshot,
-        MessageType::Proposal | MessageType::TransferLeader | MessageType::Unreachable => {
-            MessageClass::Proposal
-        }
-    }
 }
 
 impl Arrow {
@@ -120,7 +101,7 @@ impl Arrow {
 // The classes of an arrow's element.
 #[derive(Clone, Copy)]
 struct ArrowLook {
-    kind: MessageClass,
+    class: MessageClass,
     state: DeliveryState,
 }
 
@@ -138,14 +119,14 @@ fn put_arrow<S: Sink>(
     bend: u64,
     to: Point,
 ) -> Result<(), WriteFault>
-    ensures wrote { Writes result (S.held sink.old) (S.held sink.new) (arrow_text look.kind look.state from.x from.y bend to.x to.y) }
+    ensures wrote { Writes result (S.held sink.old) (S.held sink.new) (arrow_text look.class look.state from.x from.y bend to.x to.y) }
     ensures all { S.takes_all sink.old → IsOk result × S.takes_all sink.new }
 {
     put_pieces(
         sink,
         &[
             SvgPiece::Bytes(b"<path class=\"arrow "),
-            SvgPiece::Bytes(look.kind.name()),
+            SvgPiece::Bytes(look.class.name()),
             SvgPiece::Bytes(b" "),
             SvgPiece::Bytes(look.state.name()),
             SvgPiece::Bytes(b"\" d=\"M"),
@@ -170,14 +151,14 @@ fn put_loop<S: Sink>(
     out: u64,
     to_y: u64,
 ) -> Result<(), WriteFault>
-    ensures wrote { Writes result (S.held sink.old) (S.held sink.new) (loop_text look.kind look.state from.x from.y out to_y) }
+    ensures wrote { Writes result (S.held sink.old) (S.held sink.new) (loop_text look.class look.state from.x from.y out to_y) }
     ensures all { S.takes_all sink.old → IsOk result × S.takes_all sink.new }
 {
     put_pieces(
         sink,
         &[
             SvgPiece::Bytes(b"<path class=\"arrow "),
-            SvgPiece::Bytes(look.kind.name()),
+            SvgPiece::Bytes(look.class.name()),
             SvgPiece::Bytes(b" "),
             SvgPiece::Bytes(look.state.name()),
             SvgPiece::Bytes(b"\" d=\"M"),
@@ -206,9 +187,9 @@ fn put_path<S: Sink>(sink: &mut S, arrow: Arrow, place: ArrowPlace) -> Result<()
     ensures wrote { Writes result (S.held sink.old) (S.held sink.new) (path_text arrow place) }
     ensures all { S.takes_all sink.old → IsOk result × S.takes_all sink.new }
 {
-    let kind = kind_of(arrow.message_type);
+    let class = arrow.message_type.class();
     let look = ArrowLook {
-        kind,
+        class,
         state: arrow.state,
     };
     if arrow.is_loop() {

@@ -10,10 +10,12 @@ ghost use Rattle.rb_texts.specs.Quoted.{quoted};
 ghost use Rattle.rb_view.specs.Rows.{cell_text, plain_cell, text};
 ghost use Rattle.rb_view.specs.Spans.{spans_text};
 
+use crate::rows::number::put_number;
+use crate::rows::plain::put_in_page;
 use crate::rows::span::{TextSpan, put_parts};
 use rb_raftlog::Body;
 use rb_script::{Sink, WriteFault};
-use rb_text::{Piece, WrittenPiece, put_pieces};
+use rb_text::WrittenPiece;
 use rb_texts::transition_name;
 use rb_tracker::Config;
 use rb_vocab::{Transition, Word};
@@ -44,8 +46,8 @@ impl WrittenPiece for Cell<'_> {
 
     fn put<S: Sink>(&self, sink: &mut S) -> Result<(), WriteFault> {
         match *self {
-            Cell::Number(n) => put_pieces(sink, &[Piece::Bytes(b","), Piece::Number(n)]),
-            Cell::Text(bytes) => put_text(sink, &[TextSpan::Bytes(bytes)]),
+            Cell::Number(n) => put_number(sink, n),
+            Cell::Text(bytes) => put_bytes(sink, bytes),
             Cell::Body(body) => put_body(sink, body),
             Cell::Config(config) => put_config(sink, config),
             Cell::Quoting(front, word) => put_quoting(sink, front, word),
@@ -55,6 +57,16 @@ impl WrittenPiece for Cell<'_> {
             ),
         }
     }
+}
+
+// Writes a cell of these bytes.
+fn put_bytes<S: Sink>(sink: &mut S, bytes: &[u8]) -> Result<(), WriteFault>
+    ensures wrote { Writes result (S.held sink.old) (S.held sink.new) (cell_text (text bytes.now)) }
+    ensures all { S.takes_all sink.old → IsOk result × S.takes_all sink.new }
+{
+    sink.put(b",\"")?;
+    put_in_page(sink, bytes)?;
+    sink.put(b"\"")
 }
 
 // Writes a cell whose text these parts make.

@@ -10,21 +10,44 @@ ghost use Rattle.rb_view.specs.Rows.{next_text, plain_cell, row};
 use crate::rows::cell::Cell;
 use crate::rows::item::put_item;
 use crate::rows::row::put_next;
-use rb_script::{Lines, Sink, Through, WriteFault};
+use rb_script::{Lines, Sink, WriteFault};
 use rb_texts::Item;
 use std::alloc::AllocError;
 
-// Most rows are shorter, and one that is longer takes more room.
-const ROOM: usize = 60;
+// Nearly all rows are shorter, and one that is longer takes more room.
+const ROOM: usize = 100;
+
+// A text in memory.
+#[derive(Drop)]
+struct RowBytes {
+    bytes: Vec<u8>,
+}
+
+impl Sink for RowBytes {
+    ghost use Rattle.std.specs.Prelude.{Some};
+
+    ghost held = { λ t. Some t.bytes.items };
+
+    ghost takes_all = { λ _. ⊥ };
+
+    fn put(&mut self, bytes: &[u8]) -> Result<(), WriteFault> {
+        match self.bytes.extend_from_slice(bytes) {
+            Ok(()) => Ok(()),
+            Err(_) => Err(WriteFault),
+        }
+    }
+}
 
 // The text of an item's rows.
 #[tactic(auto, unfolding(crate::specs::ItemRows::item_text))]
 fn text_of_item(lines: &Lines, item: &Item<'_>) -> Result<Vec<u8>, AllocError>
     ensures { IfOk result (λ text. text.items ≡ item_text (plain_item item.now)) }
 {
-    let mut sink = Through(lines.new_text(ROOM)?);
+    let mut sink = RowBytes {
+        bytes: lines.new_text(ROOM)?,
+    };
     match put_item(&mut sink, item) {
-        Ok(()) => Ok(sink.0),
+        Ok(()) => Ok(sink.bytes),
         Err(_) => Err(AllocError),
     }
 }
@@ -41,9 +64,11 @@ pub fn keep_item(texts: &mut Lines, item: &Item<'_>) -> Result<(), AllocError>
 fn text_of_row(lines: &Lines, name: &[u8], cells: &[Cell<'_>]) -> Result<Vec<u8>, AllocError>
     ensures { IfOk result (λ text. text.items ≡ next_text (row name.now (map plain_cell cells.now))) }
 {
-    let mut sink = Through(lines.new_text(ROOM)?);
+    let mut sink = RowBytes {
+        bytes: lines.new_text(ROOM)?,
+    };
     match put_next(&mut sink, name, cells) {
-        Ok(()) => Ok(sink.0),
+        Ok(()) => Ok(sink.bytes),
         Err(_) => Err(AllocError),
     }
 }

@@ -39,10 +39,17 @@ pub fn put_row<S: Sink>(
     ensures wrote { Writes result (S.held sink.old) (S.held sink.new) (before place ++ row_text (row name.now (map plain_cell cells.now))) }
     ensures all { S.takes_all sink.old → IsOk result × S.takes_all sink.new }
 {
-    put_parted(sink, place, name, cells, &[])
+    put_front(sink, place, name)?;
+    put_cells(sink, cells)?;
+    sink.put(b"]")
 }
 
-fn put_front<S: Sink>(sink: &mut S, place: RowPlace, name: &[u8]) -> Result<(), WriteFault>
+/// Writes a row up to its name.
+pub(crate) fn put_front<S: Sink>(
+    sink: &mut S,
+    place: RowPlace,
+    name: &[u8],
+) -> Result<(), WriteFault>
     ensures wrote { Writes result (S.held sink.old) (S.held sink.new) (before place ++ front_text name.now) }
     ensures all { S.takes_all sink.old → IsOk result × S.takes_all sink.new }
 {
@@ -51,42 +58,12 @@ fn put_front<S: Sink>(sink: &mut S, place: RowPlace, name: &[u8]) -> Result<(), 
     sink.put(b"\"")
 }
 
-fn put_cells<S: Sink>(sink: &mut S, cells: &[Cell<'_>]) -> Result<(), WriteFault>
+/// Writes cells, each after a comma.
+pub(crate) fn put_cells<S: Sink>(sink: &mut S, cells: &[Cell<'_>]) -> Result<(), WriteFault>
     ensures wrote { Writes result (S.held sink.old) (S.held sink.new) (flat_map cell_text (map plain_cell cells.now)) }
     ensures all { S.takes_all sink.old → IsOk result × S.takes_all sink.new }
 {
     put_pieces(sink, cells)
-}
-
-// Writes a row of this name, with the cells of both lists.
-fn put_parted<S: Sink>(
-    sink: &mut S,
-    place: RowPlace,
-    name: &[u8],
-    cells: &[Cell<'_>],
-    more: &[Cell<'_>],
-) -> Result<(), WriteFault>
-    ensures wrote { Writes result (S.held sink.old) (S.held sink.new) (before place ++ row_text (row name.now (map plain_cell cells.now ++ map plain_cell more.now))) }
-    ensures all { S.takes_all sink.old → IsOk result × S.takes_all sink.new }
-{
-    put_front(sink, place, name)?;
-    put_cells(sink, cells)?;
-    put_cells(sink, more)?;
-    sink.put(b"]")
-}
-
-/// Writes a row that follows another, with the cells of both lists.
-#[tactic(auto, unfolding(crate::specs::Rows::next_text))]
-pub(crate) fn put_further<S: Sink>(
-    sink: &mut S,
-    name: &[u8],
-    cells: &[Cell<'_>],
-    more: &[Cell<'_>],
-) -> Result<(), WriteFault>
-    ensures wrote { Writes result (S.held sink.old) (S.held sink.new) (next_text (row name.now (map plain_cell cells.now ++ map plain_cell more.now))) }
-    ensures all { S.takes_all sink.old → IsOk result × S.takes_all sink.new }
-{
-    put_parted(sink, RowPlace::Next, name, cells, more)
 }
 
 /// Writes a row that follows another.

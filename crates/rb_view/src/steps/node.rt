@@ -1,18 +1,22 @@
 //! Rows for the states of nodes, and for what has changed.
 
-ghost use Rattle.std.specs.Prelude.{◌≡◌, ◌<◌, ◌∷◌, [], ◌++◌, IfOk, IsTrue, OnOk, MatchOption, None, Some, length, slice_get, true};
+ghost use Rattle.std.specs.Prelude.{◌≡◌, ◌↔◌, ◌<◌, ◌∷◌, [], ◌++◌, IfOk, IsTrue, OnOk, MatchOption, None, Some, length, slice_get, true};
 ghost use Rattle.std.specs.List.{list_all};
 ghost use Rattle.rb_raftlog.specs.Content.{content_end};
+ghost use Rattle.rb_tracker.specs.Trackers.{has_view};
 ghost use Rattle.rb_view.specs.Committed.{AreKept};
 ghost use Rattle.rb_view.specs.Json.{is_byte};
 ghost use Rattle.rb_view.specs.Kept.{texts_of};
 ghost use Rattle.rb_view.specs.NewRows.{new_row, new_rows, new_rows_among};
+ghost use Rattle.rb_view.specs.SameRows.{ShowSameNumbers};
 ghost use Rattle.rb_view.specs.States.{added_rows, changed_since, config_row, gone_of, gone_rows, no_view_row, node_row, node_since, standing, state_rows, view_row, view_rows};
 ghost use Rattle.rb_view.specs.Values.{ShowBytes};
 
 use crate::rows::{Cell, flag, keep_row, role_name};
 use crate::steps::fresh::keep_new;
 use crate::steps::log::{keep_log, keep_log_from};
+use crate::steps::views::{has_same_digits, keep_new_views};
+use crate::steps::written::WrittenNode;
 use rb_cluster::SharedNode;
 use rb_node::{Node, State};
 use rb_raftlog::RaftLog;
@@ -51,7 +55,13 @@ fn keep_config<L: RaftLog>(texts: &mut Lines, state: &State<L>) -> Result<(), Al
     keep_row(texts, b"config", &cells)
 }
 
-fn keep_view(texts: &mut Lines, id: u64, member: u64, view: &Progress) -> Result<(), AllocError>
+/// Adds the row of a view.
+pub(crate) fn keep_view(
+    texts: &mut Lines,
+    id: u64,
+    member: u64,
+    view: &Progress,
+) -> Result<(), AllocError>
     ensures { OnOk result (texts.new ≡ texts.old ++ texts_of (view_row id (member, view.now) ∷ [])) }
 {
     let cells = [
@@ -102,10 +112,27 @@ fn keep_no_view(texts: &mut Lines, id: u64, member: u64) -> Result<(), AllocErro
     keep_row(texts, b"no-view", &[Cell::Number(id), Cell::Number(member)])
 }
 
-// Adds a row for a member that no longer has a view.
-fn keep_if_gone(texts: &mut Lines, id: u64, member: u64, new: &Tracker) -> Result<(), AllocError>
+// Whether a member's view is at a place.
+#[tactic(auto, using(crate::proofs::ChangeLaws::viewed_at))]
+fn has_view_at(tracker: &Tracker, place: usize, member: u64) -> bool
+    ensures { IsTrue result → has_view tracker.now.views member ≡ true }
+{
+    place < tracker.len() && tracker.view(place).0 == member
+}
+
+// Adds a row for a member that no longer has a view. Most still have it, at the same place.
+fn keep_if_gone(
+    texts: &mut Lines,
+    id: u64,
+    member: u64,
+    place: usize,
+    new: &Tracker,
+) -> Result<(), AllocError>
     ensures { OnOk result (texts.new ≡ texts.old ++ texts_of (gone_of id new.now.views member)) }
 {
+    if has_view_at(new, place, member) {
+        return Ok(());
+    }
     if new.has_view(member) {
         return Ok(());
     }
@@ -118,7 +145,7 @@ fn keep_gone(texts: &mut Lines, id: u64, old: &Tracker, new: &Tracker) -> Result
 {
     for i in 0..old.len() {
         let (member, _) = old.view(i);
-        keep_if_gone(texts, id, member, new)?;
+        keep_if_gone(texts, id, member, i, new)?;
     }
     Ok(())
 }
@@ -131,23 +158,51 @@ fn keep_added<L: RaftLog>(texts: &mut Lines, new: &State<L>) -> Result<(), Alloc
     keep_log_from(texts, new.id, &new.log, new.log.first_index() - 1)
 }
 
-// Whether both have the same role, numbers and content, and so the same row.
-#[tactic(auto, using(crate::proofs::NewRowLaws::same_node))]
-fn has_same_numbers<L: RaftLog>(old: &State<L>, new: &State<L>) -> bool
-    ensures { IsTrue result → node_row new.now ≡ node_row old.now }
+// Whether both have the same role.
+fn has_same_role<L: RaftLog>(old: &State<L>, new: &State<L>) -> bool
+    ensures { IsTrue result → old.now.role ≡ new.now.role }
 {
-    old.id == new.id
-        && old.role == new.role
-        && old.term == new.term
-        && old.vote == new.vote
-        && old.lead == new.lead
-        && old.commit == new.commit
-        && old.applied == new.applied
-        && old.log.durable() == new.log.durable()
-        && old.content.same(&new.content)
+    old.role == new.role
 }
 
-// Adds a node's numbers, if they have changed.
+// Whether rows show the same numbers of both.
+fn has_same_numbers<L: RaftLog>(old: &State<L>, new: &State<L>) -> bool
+    ensures { IsTrue result ↔ ShowSameNumbers old.now new.now }
+{
+    has_same_digits(old.id, new.id)
+        && has_same_digits(old.term, new.term)
+        && has_same_digits(old.vote, new.vote)
+        && has_same_digits(old.lead, new.lead)
+        && has_same_digits(old.commit, new.commit)
+        && has_same_digits(old.applied, new.applied)
+        && has_same_digits(old.log.durable(), new.log.durable())
+        && has_same_digits(old.content.len() as u64, new.content.len() as u64)
+}
+
+// Whether rows show the same last bytes of both contents.
+fn has_same_end<L: RaftLog>(old: &State<L>, new: &State<L>) -> bool
+    ensures { IsTrue result → content_end old.now.content ≡ content_end new.now.content }
+{
+    old.content.end() == new.content.end()
+}
+
+// Adds a node's numbers, if their row is not the one of before.
+fn keep_other_numbers<L: RaftLog>(
+    alloc: Global,
+    texts: &mut Lines,
+    old: &State<L>,
+    new: &State<L>,
+) -> Result<(), AllocError>
+    ensures { OnOk result (texts.new ≡ texts.old ++ texts_of (new_row (texts_of (standing old.now)) (node_row new.now))) }
+{
+    let mut olds = Lines::new(alloc);
+    keep_node(&mut olds, old)?;
+    let mut news = Lines::new(alloc);
+    keep_node(&mut news, new)?;
+    keep_new(texts, &olds, &news)
+}
+
+// Adds a node's numbers, if they have changed. Rows are compared only if the role or the last bytes of the content have changed.
 fn keep_new_numbers<L: RaftLog>(
     alloc: Global,
     texts: &mut Lines,
@@ -156,14 +211,16 @@ fn keep_new_numbers<L: RaftLog>(
 ) -> Result<(), AllocError>
     ensures { OnOk result (texts.new ≡ texts.old ++ texts_of (new_row (texts_of (standing old.now)) (node_row new.now))) }
 {
-    if has_same_numbers(old, new) {
-        return Ok(());
+    if !has_same_role(old, new) {
+        return keep_other_numbers(alloc, texts, old, new);
     }
-    let mut olds = Lines::new(alloc);
-    keep_node(&mut olds, old)?;
-    let mut news = Lines::new(alloc);
-    keep_node(&mut news, new)?;
-    keep_new(texts, &olds, &news)
+    if !has_same_numbers(old, new) {
+        return keep_node(texts, new);
+    }
+    if !has_same_end(old, new) {
+        return keep_other_numbers(alloc, texts, old, new);
+    }
+    Ok(())
 }
 
 // Whether both have the same configuration, and so the same row.
@@ -201,22 +258,6 @@ fn keep_new_config<L: RaftLog>(
     keep_new(texts, &olds, &news)
 }
 
-// Adds the views that have changed. Each is compared with all of before.
-fn keep_new_views<L: RaftLog>(
-    alloc: Global,
-    texts: &mut Lines,
-    old: &State<L>,
-    new: &State<L>,
-) -> Result<(), AllocError>
-    ensures { OnOk result (texts.new ≡ texts.old ++ texts_of (new_rows_among (texts_of (standing old.now)) (view_rows new.now.id new.now.tracker.views))) }
-{
-    let mut olds = Lines::new(alloc);
-    keep_own_views(&mut olds, old)?;
-    let mut news = Lines::new(alloc);
-    keep_own_views(&mut news, new)?;
-    keep_new(texts, &olds, &news)
-}
-
 // Adds a node's configuration and views, where they have changed.
 fn keep_new_tracker<L: RaftLog>(
     alloc: Global,
@@ -230,7 +271,7 @@ fn keep_new_tracker<L: RaftLog>(
         return Ok(());
     }
     keep_new_config(alloc, texts, old, new)?;
-    keep_new_views(alloc, texts, old, new)
+    keep_new_views(texts, old, new)
 }
 
 // Adds the rows of a node's numbers, configuration and views that have changed.
@@ -266,33 +307,33 @@ fn has_short_log<L: RaftLog>(state: &State<L>) -> bool {
 }
 
 // Whether a node is as it was, where that is quick to see.
-fn is_seen_same<L: RaftLog>(old: &Node<L>, new: &Node<L>) -> bool
+fn is_seen_same<L: RaftLog>(old: &State<L>, new: &State<L>) -> bool
     ensures { IsTrue result → new.now ≡ old.now }
 {
-    has_short_log(new.status()) && new.same(old)
+    has_short_log(new) && new.same(old)
 }
 
 // Adds what of a node is not as it was. Usually it is, and then its rows aren't put together to be compared.
 fn keep_if_changed<L: RaftLog>(
     alloc: Global,
     texts: &mut Lines,
-    old: &Node<L>,
-    new: &Node<L>,
+    old: &State<L>,
+    new: &State<L>,
 ) -> Result<(), AllocError>
     ensures { OnOk result (texts.new ≡ texts.old ++ texts_of (changed_since old.now new.now)) }
 {
     if is_seen_same(old, new) {
         return Ok(());
     }
-    keep_changed(alloc, texts, old.status(), new.status())
+    keep_changed(alloc, texts, old, new)
 }
 
 // The node at an index, if there is one.
-fn old_at<L: RaftLog>(olds: &[SharedNode<L>], index: usize) -> Option<&Node<L>>
+fn old_at<L: RaftLog>(olds: &[WrittenNode<L>], index: usize) -> Option<&State<L>>
     ensures { MatchOption result (slice_get olds.now index ≡ None) (λ node. slice_get olds.now index ≡ Some node.now) }
 {
     match olds.get(index) {
-        Some(shared) => Some(shared.node()),
+        Some(written) => Some(written.state()),
         None => None,
     }
 }
@@ -328,14 +369,14 @@ fn node_at<L: RaftLog>(nodes: &[SharedNode<L>], index: usize) -> &Node<L>
 pub(crate) fn keep_node_at<L: RaftLog>(
     alloc: Global,
     texts: &mut Lines,
-    olds: &[SharedNode<L>],
+    olds: &[WrittenNode<L>],
     index: usize,
     new: &Node<L>,
 ) -> Result<(), AllocError>
     ensures { OnOk result (texts.new ≡ texts.old ++ texts_of (node_since (slice_get olds.now index) new.now)) }
 {
     match old_at(olds, index) {
-        Some(old) => keep_if_changed(alloc, texts, old, new),
+        Some(old) => keep_if_changed(alloc, texts, old, new.status()),
         None => keep_added(texts, new.status()),
     }
 }
@@ -345,7 +386,7 @@ pub(crate) fn keep_node_at<L: RaftLog>(
 pub(crate) fn keep_states<L: RaftLog>(
     alloc: Global,
     texts: &mut Lines,
-    olds: &[SharedNode<L>],
+    olds: &[WrittenNode<L>],
     news: &[SharedNode<L>],
 ) -> Result<(), AllocError>
     requires { AreKept olds.now news.now }

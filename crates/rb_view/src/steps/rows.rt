@@ -7,8 +7,9 @@ ghost use Rattle.rb_texts.specs.Items.{plain_item};
 
 use crate::rows::{Cell, keep_item, keep_row, past, reason_line};
 use crate::steps::node::{content_is_bytes, keep_node_at};
-use crate::steps::room::held;
-use rb_cluster::{Cluster, SharedNode};
+use crate::steps::room::has_room;
+use crate::steps::written::{WrittenNode, written_nodes};
+use rb_cluster::Cluster;
 use rb_machine::Observer;
 use rb_node::Node;
 use rb_raftlog::RaftLog;
@@ -27,23 +28,21 @@ pub(crate) struct EventRows<L: RaftLog> {
     /// None is kept where a page has no room for all.
     pub(crate) texts: Option<Lines>,
     /// The nodes as they were written last.
-    pub(crate) nodes: Vec<SharedNode<L>>,
+    pub(crate) nodes: Vec<WrittenNode<L>>,
 }
 
-// Puts a copy of a node at an index, if there is one.
+// Puts a node at an index, if there is one.
 fn rewrite<L: RaftLog>(
-    alloc: Global,
-    nodes: &mut Vec<SharedNode<L>>,
+    nodes: &mut Vec<WrittenNode<L>>,
     index: usize,
     node: &Node<L>,
 ) -> Result<(), AllocError>
     ensures { OnOk result (nodes.new.items ≡ slice_set nodes.old.items index node.now) }
 {
-    let copy = SharedNode::copy_of(alloc, node)?;
-    if index < nodes.len() {
-        nodes[index] = copy;
+    match nodes.get_mut(index) {
+        Some(written) => written.rewrite(node),
+        None => Ok(()),
     }
-    Ok(())
 }
 
 // Adds what happened, and why.
@@ -78,7 +77,7 @@ impl<L: RaftLog> EventRows<L> {
         Ok(EventRows {
             alloc,
             texts: Some(Lines::new(alloc)),
-            nodes: cluster.copy_nodes()?,
+            nodes: written_nodes(alloc, cluster.nodes())?,
         })
     }
 
@@ -87,17 +86,18 @@ impl<L: RaftLog> EventRows<L> {
         ensures texts { OnOk result (self.new.texts ≡ held_with self.old.texts (texts_of (node_since (slice_get self.old.nodes.items index) node.now))) }
         ensures nodes { OnOk result (self.new.nodes ≡ self.old.nodes) }
     {
-        let Some(texts) = self.texts.take() else {
+        let Some(texts) = &mut self.texts else {
             return Ok(());
         };
-        let mut more = texts;
-        keep_node_at(self.alloc, &mut more, &self.nodes, index, node)?;
-        self.texts = held(more);
+        keep_node_at(self.alloc, texts, &self.nodes, index, node)?;
+        if !has_room(texts) {
+            self.texts = None;
+        }
         Ok(())
     }
 
     /// The rows, if there is room for them, and the nodes as they were written last.
-    pub(crate) fn into_parts(self) -> (Option<Lines>, Vec<SharedNode<L>>)
+    pub(crate) fn into_parts(self) -> (Option<Lines>, Vec<WrittenNode<L>>)
         ensures texts { result.0 ≡ self.texts }
         ensures nodes { result.1 ≡ self.nodes }
     {
@@ -127,12 +127,13 @@ impl<L: RaftLog> Observer<L> for EventRows<L> {
     fn start(&mut self, _level: Level) {}
 
     fn observe(&mut self, item: &Item<'_>) -> Result<(), AllocError> {
-        let Some(texts) = self.texts.take() else {
+        let Some(texts) = &mut self.texts else {
             return Ok(());
         };
-        let mut more = texts;
-        keep_shown(self.alloc, &mut more, item)?;
-        self.texts = held(more);
+        keep_shown(self.alloc, texts, item)?;
+        if !has_room(texts) {
+            self.texts = None;
+        }
         Ok(())
     }
 
@@ -140,6 +141,6 @@ impl<L: RaftLog> Observer<L> for EventRows<L> {
         let index = id.saturating_sub(1) as usize;
         content_is_bytes(node);
         self.keep_changes(index, node)?;
-        rewrite(self.alloc, &mut self.nodes, index, node)
+        rewrite(&mut self.nodes, index, node)
     }
 }

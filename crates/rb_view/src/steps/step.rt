@@ -20,7 +20,8 @@ use crate::steps::room::{has_room, held};
 use crate::steps::rows::EventRows;
 use crate::steps::script::keep_script;
 use crate::steps::shown::{DirectiveRun, StepMachine};
-use rb_cluster::{Cluster, SharedNode};
+use crate::steps::written::WrittenNode;
+use rb_cluster::Cluster;
 use rb_machine::{Both, Machine, PrintedLines};
 use rb_raftlog::RaftLog;
 use rb_report::check::Table;
@@ -42,7 +43,7 @@ struct WatchedRun<L: RaftLog> {
     cluster: Cluster<L>,
     output: Lines,
     texts: Option<Lines>,
-    nodes: Vec<SharedNode<L>>,
+    nodes: Vec<WrittenNode<L>>,
 }
 
 // Runs a directive on a copy, with two observers: of its lines, and of its rows.
@@ -82,7 +83,7 @@ fn run<L: RaftLog>(
 fn keep_changes<L: RaftLog>(
     alloc: Global,
     texts: &mut Lines,
-    written: &[SharedNode<L>],
+    written: &[WrittenNode<L>],
     after: &Cluster<L>,
 ) -> Result<(), AllocError>
     requires { AreKept written.now after.now.nodes }
@@ -97,7 +98,7 @@ fn keep_changes<L: RaftLog>(
 fn with_changes<L: RaftLog>(
     alloc: Global,
     texts: Option<Lines>,
-    written: &[SharedNode<L>],
+    written: &[WrittenNode<L>],
     after: &Cluster<L>,
 ) -> Result<Option<Lines>, AllocError>
     requires { AreKept written.now after.now.nodes }

@@ -18,28 +18,11 @@ use crate::steps::room::has_room;
 use crate::steps::shown::StepMachine;
 use crate::steps::step::{StepPlace, keep_step};
 use rb_machine::Machine;
-use rb_replay::{Outputs, Session};
+use rb_replay::{Outputs, Session, block_at};
 use rb_report::check::{Table, warning_sentence};
-use rb_script::{Block, Lines, Script, ScriptWithLines};
-use rb_script_report::{Layout, Warning, warnings};
+use rb_script::{Lines, Script, ScriptWithLines};
+use rb_script_report::{Layout, Warning, number_at, warnings};
 use std::alloc::{AllocError, Global};
-
-// The block of the directive at an index, which counts from 0.
-fn block_at(script: &Script, index: usize) -> &Block
-    requires few { length script.now.blocks ≤ MAX_DIRECTIVES }
-    requires within { index < length script.now.blocks }
-    ensures { slice_get script.now.blocks index ≡ Some result.now }
-{
-    script.block(index + 1).unwrap()
-}
-
-// The number at an index, which counts from 0.
-fn number_at(numbers: &[usize], index: usize) -> usize
-    requires { index < length numbers.now }
-    ensures { slice_get numbers.now index ≡ Some result }
-{
-    numbers[index]
-}
 
 // Runs the directives, each once, and adds their rows. What they printed is given back; nothing once a page has no room for their rows, and then no
 // other is run.

@@ -44,7 +44,7 @@ pub(crate) fn node_of(ready: u64, item: &Item<'_>) -> u64
         Item::Send(message) => message.from,
         Item::Moved(verb, message) => moved_node(*verb, message),
         Item::RaftState(node) => node.id,
-        Item::Event(event) => event.node(),
+        Item::Event(event) => event.id,
         Item::NothingElse
         | Item::NoMessages
         | Item::Stopped(_)

@@ -1,6 +1,6 @@
 //! The trace of a script.
 
-ghost use Rattle.std.specs.Prelude.{◌≡◌, ◌∷◌, ◌<◌, ◌≤◌, IfOk, Some, fold, length, slice_get};
+ghost use Rattle.std.specs.Prelude.{◌≡◌, ◌∷◌, ◌≤◌, IfOk, fold, length};
 ghost use Rattle.rb_script.specs.declared.limits.TheConstants.{MAX_DIRECTIVES};
 ghost use Rattle.rb_script.specs.Reading.{directive_of};
 ghost use Rattle.rb_machine.specs.Cluster.{empty};
@@ -14,8 +14,9 @@ use crate::trace::tracer::Tracer;
 use rb_cluster::Cluster;
 use rb_machine::{Both, Machine, PrintedLines};
 use rb_raftlog::RaftLog;
-use rb_replay::{Outputs, Session};
+use rb_replay::{Outputs, Session, block_at};
 use rb_script::{Block, Lines, Script};
+use rb_script_report::number_at;
 use std::alloc::{AllocError, Global};
 
 /// The format of the objects.
@@ -53,23 +54,6 @@ fn run<L: RaftLog>(
         output: first.or_ok()?,
         tracer: second,
     })
-}
-
-// The block of the directive at an index, which counts from 0.
-fn block_at(script: &Script, index: usize) -> &Block
-    requires few { length script.now.blocks ≤ MAX_DIRECTIVES }
-    requires within { index < length script.now.blocks }
-    ensures { slice_get script.now.blocks index ≡ Some result.now }
-{
-    script.block(index + 1).unwrap()
-}
-
-// The number at an index, which counts from 0.
-fn number_at(numbers: &[usize], index: usize) -> usize
-    requires { index < length numbers.now }
-    ensures { slice_get numbers.now index ≡ Some result }
-{
-    numbers[index]
 }
 
 // Runs the directives, each once. What they printed is given back, and what happened.

@@ -1,51 +1,58 @@
-use Rattle.std.proofs.Common.{ℕ, List, [], ◌∷◌, ap, sym, ◌∙◌}
-use Rattle.std.specs.Prelude.{codes}
-use Rattle.rb_view.specs.EventRows.{event_rows}
-use Rattle.rb_view.specs.Rows.{number, row, text}
-use Rattle.rb_view.proofs.EventLaws.{one_row}
+use Rattle.std.proofs.Common.{◌≡◌, ◌∙◌, ℕ, Bool, true, false, List, [], ◌∷◌, ◌++◌, ap, refl, sym, append_assoc, append-nil}
+use Rattle.std.specs.Prelude.{codes, if◌then◌else◌}
+use Rattle.std.specs.List.{flat_map}
+use Rattle.std.proofs.lemmas.List.Concat.{flat_map-append}
+use Rattle.rb_message.specs.declared.event.Event.{Event}
+use Rattle.rb_texts.specs.EventForms.{PlainForm, event_form, is_hidden, plain_form}
+use Rattle.rb_view.specs.declared.rows.row.RowPlace.TheVariants.{Next}
+use Rattle.rb_view.specs.EventRows.{event_rows, form_rows, value_cells}
+use Rattle.rb_view.specs.Rows.{Row, before, cell_text, front_text, next_text, number, row}
+use Rattle.rb_text.proofs.SentLaws.{and_then, no_more, sent_all, sent_none, writes_along}
 use Rattle.rb_view.proofs.rows.event.put_event.Goals as goal
 
-pub returns-in-CannotCampaign-clause-wrote : goal.returns-in-CannotCampaign-clause-wrote
+-- no rows
+none : (e : Event) (f : PlainForm) → f ≡ event_form e → is_hidden f.shown ≡ true → flat_map next_text (event_rows e) ≡ []
 unfolding event_rows
-returns-in-CannotCampaign-clause-wrote g c =
-    one_row c.put_said.result (g.S.Sink.held c.args.sink.now) (g.S.Sink.held c.put_said.new.sink) c.args.event.now (row (codes "cannot-campaign") (number c.in-CannotCampaign.id ∷ text c.no_campaign_name.result.now ∷ []))
-    (ap event_rows c.in-CannotCampaign.is ∙ ap (λ (t : List ℕ). row (codes "cannot-campaign") (number c.in-CannotCampaign.id ∷ text t ∷ []) ∷ []) (sym c.no_campaign_name.ensures))
-    c.put_said.ensures.wrote
+none e f is hidden =
+    ap (λ (x : PlainForm). flat_map next_text (form_rows e.id x)) (sym is)
+    ∙ ap (λ (b : Bool). flat_map next_text (if b then [] else row f.name (number e.id ∷ value_cells f.shown f.pieces) ∷ [])) hidden
 
-pub returns-in-AppendsNothing-clause-wrote : goal.returns-in-AppendsNothing-clause-wrote
-unfolding event_rows
-returns-in-AppendsNothing-clause-wrote g c =
-    one_row c.put_of-in-AppendsNothing.result (g.S.Sink.held c.args.sink.now) (g.S.Sink.held c.put_of-in-AppendsNothing.new.sink) c.args.event.now (row (codes "appends-nothing") (number c.in-AppendsNothing.id ∷ []))
-    (ap event_rows c.in-AppendsNothing.is) c.put_of-in-AppendsNothing.ensures.wrote
+-- the row in the parts in which it goes out
+parted : (e : Event) (f : PlainForm) → f ≡ event_form e → is_hidden f.shown ≡ false
+    → (before Next ++ front_text f.name) ++ (flat_map cell_text (number e.id ∷ []) ++ (flat_map cell_text (value_cells f.shown f.pieces) ++ codes "]")) ≡ flat_map next_text (event_rows e)
+unfolding event_rows next_text
+parted e f is seen =
+    let id = flat_map cell_text (number e.id ∷ []) in
+    let values = flat_map cell_text (value_cells f.shown f.pieces) in
+    let whole : Row = row f.name (number e.id ∷ value_cells f.shown f.pieces) in
+    append_assoc (before Next) (front_text f.name) (id ++ (values ++ codes "]"))
+    ∙ ap (λ (l : List ℕ). before Next ++ (front_text f.name ++ l))
+    (sym (append_assoc id values (codes "]")) ∙ ap (λ (l : List ℕ). l ++ codes "]") (sym (flat_map-append cell_text (number e.id ∷ []) (value_cells f.shown f.pieces))))
+    ∙ sym (append-nil (next_text whole))
+    ∙ sym (ap (λ (b : Bool). flat_map next_text (if b then [] else whole ∷ [])) seen)
+    ∙ ap (λ (x : PlainForm). flat_map next_text (form_rows e.id x)) is
 
-pub returns-in-ReplacedChange-clause-wrote : goal.returns-in-ReplacedChange-clause-wrote
-unfolding event_rows
-returns-in-ReplacedChange-clause-wrote g c =
-    one_row c.put_at.result (g.S.Sink.held c.args.sink.now) (g.S.Sink.held c.put_at.new.sink) c.args.event.now (row (codes "replaced-change") (number c.in-ReplacedChange.id ∷ number c.in-ReplacedChange.index ∷ text c.replaced_name.result.now ∷ []))
-    (ap event_rows c.in-ReplacedChange.is ∙ ap (λ (t : List ℕ). row (codes "replaced-change") (number c.in-ReplacedChange.id ∷ number c.in-ReplacedChange.index ∷ text t ∷ []) ∷ []) (sym c.replaced_name.ensures))
-    c.put_at.ensures.wrote
+pub returns-then-is_hidden-clause-wrote : goal.returns-then-is_hidden-clause-wrote
+returns-then-is_hidden-clause-wrote g c =
+    let whole = flat_map next_text (event_rows c.args.event.now) in
+    sent_all (none c.args.event.now (plain_form c.event_form-form.result) c.event_form-form.ensures (sym c.is_hidden.ensures ∙ c.if-is_hidden.true)) (sent_none (g.S.Sink.held c.args.sink.now) whole whole refl)
 
-pub returns-in-RefusedChange-clause-wrote : goal.returns-in-RefusedChange-clause-wrote
-unfolding event_rows
-returns-in-RefusedChange-clause-wrote g c =
-    one_row c.put_at-in-RefusedChange.result (g.S.Sink.held c.args.sink.now) (g.S.Sink.held c.put_at-in-RefusedChange.new.sink) c.args.event.now (row (codes "refused-change") (number c.in-RefusedChange.id ∷ number c.in-RefusedChange.index ∷ text c.fault_name.result.now ∷ []))
-    (ap event_rows c.in-RefusedChange.is ∙ ap (λ (t : List ℕ). row (codes "refused-change") (number c.in-RefusedChange.id ∷ number c.in-RefusedChange.index ∷ text t ∷ []) ∷ []) (sym c.fault_name.ensures))
-    c.put_at-in-RefusedChange.ensures.wrote
+pub returns-in_err-put_front-clause-wrote : goal.returns-in_err-put_front-clause-wrote
+returns-in_err-put_front-clause-wrote g c =
+    writes_along _ _ _ _ _ (parted c.args.event.now (plain_form c.event_form-form.result) c.event_form-form.ensures (sym c.is_hidden.ensures ∙ c.if-is_hidden.false))
+    (no_more _ _ _ _ _ c.from_residual.ensures.0 c.in_err-put_front.ensures.wrote)
 
-pub returns-in-TransferStarts-clause-wrote : goal.returns-in-TransferStarts-clause-wrote
-unfolding event_rows
-returns-in-TransferStarts-clause-wrote g c =
-    one_row c.put_to.result (g.S.Sink.held c.args.sink.now) (g.S.Sink.held c.put_to.new.sink) c.args.event.now (row (codes "transfer-starts") (number c.in-TransferStarts.id ∷ number c.in-TransferStarts.to ∷ []))
-    (ap event_rows c.in-TransferStarts.is) c.put_to.ensures.wrote
+pub returns-in_err-put_cells-clause-wrote : goal.returns-in_err-put_cells-clause-wrote
+returns-in_err-put_cells-clause-wrote g c =
+    writes_along _ _ _ _ _ (parted c.args.event.now (plain_form c.event_form-form.result) c.event_form-form.ensures (sym c.is_hidden.ensures ∙ c.if-is_hidden.false))
+    (and_then _ _ _ _ _ _ c.in_ok-put_front.ensures.wrote (no_more _ _ _ _ _ c.from_residual-in_err-put_cells.ensures.0 c.in_err-put_cells.ensures.wrote))
 
-pub returns-in-TransferEnds-clause-wrote : goal.returns-in-TransferEnds-clause-wrote
-unfolding event_rows
-returns-in-TransferEnds-clause-wrote g c =
-    one_row c.put_to-in-TransferEnds.result (g.S.Sink.held c.args.sink.now) (g.S.Sink.held c.put_to-in-TransferEnds.new.sink) c.args.event.now (row (codes "transfer-ends") (number c.in-TransferEnds.id ∷ number c.in-TransferEnds.to ∷ []))
-    (ap event_rows c.in-TransferEnds.is) c.put_to-in-TransferEnds.ensures.wrote
+pub returns-in_err-put_values-clause-wrote : goal.returns-in_err-put_values-clause-wrote
+returns-in_err-put_values-clause-wrote g c =
+    writes_along _ _ _ _ _ (parted c.args.event.now (plain_form c.event_form-form.result) c.event_form-form.ensures (sym c.is_hidden.ensures ∙ c.if-is_hidden.false))
+    (and_then _ _ _ _ _ _ c.in_ok-put_front.ensures.wrote (and_then _ _ _ _ _ _ c.in_ok-put_cells.ensures.wrote (no_more _ _ _ _ _ c.from_residual-in_err-put_values.ensures.0 c.in_err-put_values.ensures.wrote)))
 
-pub returns-in-LostQuorum-clause-wrote : goal.returns-in-LostQuorum-clause-wrote
-unfolding event_rows
-returns-in-LostQuorum-clause-wrote g c =
-    one_row c.put_of-in-LostQuorum.result (g.S.Sink.held c.args.sink.now) (g.S.Sink.held c.put_of-in-LostQuorum.new.sink) c.args.event.now (row (codes "lost-quorum") (number c.in-LostQuorum.id ∷ []))
-    (ap event_rows c.in-LostQuorum.is) c.put_of-in-LostQuorum.ensures.wrote
+pub returns-clause-wrote : goal.returns-clause-wrote
+returns-clause-wrote g c =
+    writes_along _ _ _ _ _ (parted c.args.event.now (plain_form c.event_form-form.result) c.event_form-form.ensures (sym c.is_hidden.ensures ∙ c.if-is_hidden.false))
+    (and_then _ _ _ _ _ _ c.in_ok-put_front.ensures.wrote (and_then _ _ _ _ _ _ c.in_ok-put_cells.ensures.wrote (and_then _ _ _ _ _ _ c.in_ok-put_values.ensures.wrote c.put.ensures.wrote)))
