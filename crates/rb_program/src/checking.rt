@@ -5,6 +5,7 @@ ghost use Rattle.rb_program.specs.Choices.{IsAskedBy, accepts, color_choice_of, 
 
 use crate::clusters::Clusters;
 use crate::colors::{ColorChoice, color_choice_of, colors};
+use crate::environment::gives_keys;
 use crate::program_error::ProgramError;
 use crate::progress::TerminalProgress;
 use crate::style::{Style, style_of};
@@ -44,7 +45,7 @@ pub fn check_all<R: Files + Input + Print + Eprint + Env + Clock + AllocGlobal, 
     let (color, style) = colors_and_style(rt.alloc(), choice, terminals)?;
     let targets = targets(rt, &choice.paths)?;
     let colors = colors(rt, color, terminals.output);
-    let asked = request(choice, &targets, style, colors, terminals);
+    let asked = request(choice, &targets, style, colors, terminals, gives_keys(rt));
     let progress = TerminalProgress::new(rt, asked.wants_progress);
     let mut clusters = Clusters {
         alloc: rt.alloc(),
@@ -60,8 +61,10 @@ fn request<'a>(
     style: Style,
     colors: Colors,
     terminals: Terminals,
+    gives_keys: bool,
 ) -> CheckRequest<'a>
     ensures asked { IsAskedBy choice.now style colors terminals result }
+    ensures keys { result.gives_keys ≡ gives_keys }
     ensures targets { result.targets.now ≡ targets.now }
     ensures filters { result.filters.now ≡ choice.now.filters.items }
 {
@@ -72,6 +75,7 @@ fn request<'a>(
         accepts_errors: choice.accepts_errors,
         is_forced: choice.is_forced,
         reviews: choice.reviews,
+        gives_keys,
         is_quiet: choice.is_quiet,
         explains: choice.explains && !choice.is_quiet,
         is_strict: choice.is_strict,

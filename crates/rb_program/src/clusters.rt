@@ -1,7 +1,7 @@
 //! The machine that the scripts of a check run on.
 
-use rb_bench::{RunProgress, ToldLines, run_directive};
-use rb_check::{ExplainedRun, Runner};
+use rb_bench::{DirectiveRunner, RunProgress, ToldLines, run_directive};
+use rb_check::{ExplainedOutput, Runner};
 use rb_cluster::Cluster;
 use rb_machine::Both;
 use rb_raftlog::SplitLog;
@@ -16,43 +16,39 @@ pub(crate) struct Clusters<'p, P> {
     pub(crate) progress: &'p P,
 }
 
-impl<'p, P: RunProgress> Runner for Clusters<'p, P> {
+impl<'p, P: RunProgress> DirectiveRunner for Clusters<'p, P> {
     type Machine = Cluster<SplitLog>;
 
-    fn begin(&mut self, directives: usize) {
-        self.progress.begin(directives);
-    }
+    type Progress = P;
 
-    fn end(&mut self) {
-        self.progress.end();
+    fn progress(&self) -> &P {
+        self.progress
     }
 
     fn run(
         &mut self,
-        machine: Cluster<SplitLog>,
-        directive: DirectiveRef<'_>,
-    ) -> Result<(Cluster<SplitLog>, Lines), AllocError> {
-        let mut machine = machine;
-        let output = run_directive(self.alloc, &mut machine, &directive, self.progress)?;
-        Ok((machine, output))
+        machine: &mut Cluster<SplitLog>,
+        directive: &DirectiveRef<'_>,
+    ) -> Result<Lines, AllocError> {
+        run_directive(self.alloc, machine, directive, self.progress)
     }
+}
 
+impl<'p, P: RunProgress> Runner for Clusters<'p, P> {
     #[tactic(auto, unfolding(rb_machine::specs::Outcome::outcome))]
     fn run_explained(
         &mut self,
         alloc: Global,
-        machine: Cluster<SplitLog>,
-        directive: DirectiveRef<'_>,
-    ) -> Result<ExplainedRun<Cluster<SplitLog>>, AllocError> {
-        let mut machine = machine;
+        machine: &mut Cluster<SplitLog>,
+        directive: &DirectiveRef<'_>,
+    ) -> Result<ExplainedOutput, AllocError> {
         let mut both = Both {
-            first: ToldLines::new(alloc, self.progress, &directive),
+            first: ToldLines::new(alloc, self.progress, directive),
             second: LineReasons::new(alloc),
         };
-        machine.run_watched(&directive, &mut both)?;
+        machine.run_watched(directive, &mut both)?;
         let Both { first, second } = both;
-        Ok(ExplainedRun {
-            machine,
+        Ok(ExplainedOutput {
             output: first.printed.or_ok()?,
             reasons: second.all()?,
         })

@@ -2,7 +2,7 @@
 
 use crate::job::{Job, run_from, run_job};
 use crate::program_error::ProgramError;
-use rb_bench::{BenchFault, Mode, Outlet, RunProgress, run_over_with_progress, serve};
+use rb_bench::{BenchFault, Mode, Outlet, RunProgress, run_over, serve};
 use rb_report::check::Status;
 use rb_script::MAX_SCRIPT;
 use rb_text::{ReadSource, Source, read_up_to};
@@ -45,7 +45,7 @@ impl<'p, P: RunProgress> Job for Running<'p, P> {
         source: &mut S,
         writer: &mut W,
     ) -> Result<Status, BenchFault> {
-        run_over_with_progress(alloc, source, writer, self.mode, self.every, self.progress)
+        run_over(alloc, source, writer, self.mode, self.every, self.progress)
     }
 }
 

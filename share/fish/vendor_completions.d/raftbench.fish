@@ -23,7 +23,7 @@ complete -c raftbench -n '__fish_seen_subcommand_from check' -s v -l verbose -d 
 complete -c raftbench -n '__fish_seen_subcommand_from check' -l first -d 'Show the first mismatch of each script alone'
 complete -c raftbench -n '__fish_seen_subcommand_from check' -l brief -d 'Show one line for each script that differs'
 complete -c raftbench -n '__fish_seen_subcommand_from check' -s q -l quiet -d 'Show nothing'
-complete -c raftbench -n '__fish_seen_subcommand_from check' -l why -d 'Tell why nothing came of a message, below the output that is shown'
+complete -c raftbench -n '__fish_seen_subcommand_from check' -l why -d 'Tell why nothing came of a message, or which entries gave way, below the output that is shown'
 complete -c raftbench -n '__fish_seen_subcommand_from check' -l strict -d 'End with 1 also for warnings, and for errors that no comment expects'
 complete -c raftbench -n '__fish_seen_subcommand_from check' -l color -x -a 'auto always never' -d 'When to show colours'
 complete -c raftbench -n '__fish_seen_subcommand_from run rewrite session' -l every -x -a '1 4 16 64' -d 'Directives from one checkpoint to the next'
