@@ -104,7 +104,7 @@ def measure(directives: int, rounds: int) -> None:
 
 
 def measure_mismatches(rounds: int) -> None:
-    """A letter in the last of many long mismatches, whose lines are compared again."""
+    """A letter in the last of many long mismatches, which alone is compared again."""
     quiet = ["add-nodes 1 voters=(1) index=10", "campaign 1", "stabilize", *["propose 1 a"] * LONG, "stabilize"]
     expected = "".join(f"{line}\n" for line in range(LONG))
     text = "".join(f"{head} log-level=none\n----\nok\n\n" if head[0] != "p" else f"{head}\n----\nok\n\n" for head in quiet)

@@ -11,7 +11,7 @@ import signal
 import subprocess
 import termios
 import time
-from collections.abc import Iterator, Sequence
+from collections.abc import Callable, Iterator, Sequence
 from typing import Any
 
 from tests.check.checking import ACCEPTED, BAD, GOOD, MOST_SECONDS, TIME, UNKNOWN, differs, files, mismatch, run, totals, tree
@@ -103,38 +103,61 @@ def question(number: int, count: int) -> bytes:
     return b"%d of %d: " % (number, count) + QUESTION
 
 
-def reviewed(room: pathlib.Path, answers: tuple[bytes, ...], *words: str, ends: bytes = b"") -> tuple[int, bytes]:
-    """The status, and what a terminal got that answers each question by the next of these, and then by what ends it."""
-    master, slave = pty.openpty()
-    how = termios.tcgetattr(slave)
-    how[3] &= ~termios.ECHO
-    termios.tcsetattr(slave, termios.TCSANOW, how)
+# An answer to a question: bytes to write, a function to call with the process, or a number of seconds to wait before the next answer.
+Given = bytes | float | Callable[[subprocess.Popen[bytes]], object]
+
+
+def asked_on(terminal: tuple[int, int], call: Sequence[str | pathlib.Path], room: pathlib.Path, answers: Sequence[Given], env: dict[str, str]) -> tuple[int, bytes]:
+    """The status, and what a terminal got, of which these are both sides, and where each question is answered by the next of these."""
+    master, slave = terminal
 
     def leads() -> None:
-        # Whoever runs the tests may ignore it.
-        signal.signal(signal.SIGINT, signal.SIG_DFL)
+        # Whoever runs the tests may ignore them, and a shell can't hear what was ignored when it began.
+        for ends in (signal.SIGHUP, signal.SIGINT, signal.SIGQUIT, signal.SIGTERM):
+            signal.signal(ends, signal.SIG_DFL)
         os.setsid()
         fcntl.ioctl(0, termios.TIOCSCTTY, 0)
-    child = subprocess.Popen([PROGRAM, "check", "--review", "--color=never", *words], cwd=room, stdin=slave, stdout=slave, stderr=slave, preexec_fn=leads)
-    os.close(slave)
-    got, seen, left, end = b"", 0, [*(answer + b"\n" for answer in answers), *([ends] if ends else [])], time.monotonic() + MOST_SECONDS
+    child = subprocess.Popen(call, cwd=room, stdin=slave, stdout=slave, stderr=slave, preexec_fn=leads, env={**os.environ, **env})
+    got, seen, left, start, end = b"", 0, list(answers), 0.0, time.monotonic() + MOST_SECONDS
     while time.monotonic() < end:
-        ready, _, _ = select.select([master], [], [], 1)
+        is_over = child.poll() is not None
+        ready, _, _ = select.select([master], [], [], 0.02)
         if ready:
-            try:
-                more = os.read(master, 65536)
-            except OSError:
-                break
-            got += more
-            if got[seen:].endswith(QUESTION) and left:
-                seen = len(got)
-                os.write(master, left.pop(0))
-        elif child.poll() is not None:
+            got += os.read(master, 65536)
+        elif is_over:
             break
-    os.close(master)
+        if left and got[seen:].endswith(QUESTION) and time.monotonic() >= start:
+            answer = left.pop(0)
+            if isinstance(answer, float):
+                start = time.monotonic() + answer
+                continue
+            seen = len(got)
+            if isinstance(answer, bytes):
+                os.write(master, answer)
+            else:
+                answer(child)
     if child.poll() is None and left:
         child.kill()
     return child.wait(timeout=MOST_SECONDS), TIME.sub(b"TIME\n", got.replace(b"\r\n", b"\n"))
+
+
+@contextlib.contextmanager
+def terminal(without: int = 0) -> Iterator[tuple[int, int]]:
+    """Both sides of a terminal, without these of the local modes."""
+    master, slave = pty.openpty()
+    how = termios.tcgetattr(slave)
+    how[3] &= ~without
+    termios.tcsetattr(slave, termios.TCSANOW, how)
+    yield master, slave
+    os.close(slave)
+    os.close(master)
+
+
+def reviewed(room: pathlib.Path, answers: tuple[bytes, ...], *words: str, ends: bytes = b"") -> tuple[int, bytes]:
+    """The status, and what a terminal got that answers each question by the next of these, and then by what ends it."""
+    with terminal(without=termios.ECHO) as sides:
+        lines = [*(answer + b"\n" for answer in answers), *([ends] if ends else [])]
+        return asked_on(sides, [PROGRAM, "check", "--review", "--color=never", *words], room, lines, {})
 
 
 def first(path: str, differ: int, directives: int, line: int = 1) -> bytes:

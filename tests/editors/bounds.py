@@ -101,17 +101,24 @@ def bounded_runs(_edits: int) -> Iterator[str]:
 
 def bounded_comparisons(_edits: int) -> Iterator[str]:
     """Outputs of 1,990 lines with one in common with what is expected in the middle: 4 million pairs of lines each. Five are compared, as by `check`, and then
-    those whose lines still fit; the next letter begins anew."""
+    those whose lines still fit; the next letter begins anew. Without the first the sixth is compared too."""
     quiet = ["add-nodes 1 voters=(1) index=10", "campaign 1", "stabilize", *["propose 1 a"] * 1990, "stabilize"]
     same = '1/1000 "a"'
     wrong = "".join((same if line == 500 else f"{line}") + "\n" for line in range(1990))
-    text = script_of([f"{head} log-level=none" if head[:1] != "p" else head for head in quiet]) + f"raft-log 1\n----\n{wrong}\n" * 8
+    front = script_of([f"{head} log-level=none" if head[:1] != "p" else head for head in quiet])
+    block = f"raft-log 1\n----\n{wrong}\n"
+    text = front + block * 8
     last = "status 1\n----\nx\n"
+
+    def signs_of(mismatches: list[dict[str, Any]]) -> list[str]:
+        """The sign of the line in common, where each mismatch shows it first."""
+        return [next(line[:2] for line in it["message"].split("\n\n", 1)[-1].split("\n") if line[2:] == same and line[:2] != "+ ") for it in mismatches]
+
     with Client(PROGRAM) as client:
         client.begin()
         client.send(opened(URI, text + last))
         found, _ = told(client)
-        signs = [next(line[:2] for line in it["message"].split("\n\n", 1)[-1].split("\n") if line[2:] == same and line[:2] != "+ ") for it in found[:8]]
+        signs = signs_of(found[:8])
         if signs != ["  "] * 5 + ["- "] * 3 or len(found) != 9 or not found[8]["message"].startswith("- x\n"):
             yield f"{len(found)} diagnostics, and the line in common has {signs}"
         for version, letter in enumerate("yz", 2):
@@ -120,6 +127,12 @@ def bounded_comparisons(_edits: int) -> Iterator[str]:
             again, _ = told(client)
             if again[:8] != found[:8] or not again[8]["message"].startswith(f"- {'yz'[version - 2::-1]}x\n"):
                 yield f"after {letter!r} others: {[it['message'][:20] for it in again]}"
+        first, behind = {"line": front.count("\n"), "character": 0}, {"line": (front + block).count("\n"), "character": 0}
+        for version, end, new, count in (4, behind, "", 7), (5, first, block, 8):
+            client.send(changed(URI, version, {"range": {"start": first, "end": end}, "text": new}))
+            again, _ = told(client)
+            if len(again) != count + 1 or (signs := signs_of(again[:count])) != ["  "] * 5 + ["- "] * (count - 5):
+                yield f"of {count} mismatches {len(again)} diagnostics, and the line in common has {signs}"
         if (status := client.end()) != 0:
             yield f"status {status}"
 

@@ -29,6 +29,7 @@ SOURCES = {
     "bin/raftbench": "made",
     "bin/raftbench-from-etcd": "editors/from-etcd",
     "bin/raftbench-to-shiviz": "editors/to-shiviz",
+    "bin/raftbench-review": "editors/review",
     **{f"share/{name}": f"share/{name}" for name in kept(TOP / "share")},
     **{f"share/raftbench/editors/{name}": f"editors/{name}" for name in ["README.md", *EDITORS]},
 }
@@ -103,6 +104,19 @@ def test_is_used_where_it_is_put(place: Clone) -> None:
     around = {"PATH": f"{pathlib.Path(sys.executable).parent}:/usr/bin:/bin"}
     status, output, told = place.call([script], program=place.prefix / "bin/raftbench-from-etcd", around=around)
     assert (status, told) == (0, "") and "INFO 1 started at 1/10 with voters=(1)" in output, (status, output, told)
+
+
+def test_reviews_where_it_is_put(place: Clone) -> None:
+    """What sets the terminal for a review calls the program that is installed beside it, by a link too, and in a clone that above it."""
+    place.around.pop("RAFTBENCH", None)
+    place.install()
+    review = place.prefix / "bin/raftbench-review"
+    (place.room / "link").symlink_to(review)
+    for program in (review, place.room / "link", "./raftbench-review"):
+        assert place.call(["a b", "-v"], program=program, cwd=review.parent) == (0, "program check --review a b -v\n", ""), program
+    assert place.call("raftbench-review x", program="sh", cwd=review.parent)[1] == "program check --review x\n"
+    place.write("raftbench", "#!/bin/sh\necho clone \"$@\"\n")
+    assert place.call("x", program=place.clone / "editors/review")[1] == "clone check --review x\n"
 
 
 def test_takes_words(place: Clone) -> None:

@@ -98,13 +98,13 @@ def test_has_what_is_used(place: Clone) -> None:
     name = path.name.removesuffix(".tar.gz")
     assert [it.name for it in members] == sorted((it.name for it in members), key=lambda it: it.split("/")), "not in order"
     there = {it.name.removeprefix(f"{name}/") for it in members if it.isfile()}
-    wanted = {"PROOF", "README.md", "bin/raftbench", "bin/raftbench-from-etcd", "bin/raftbench-to-shiviz"}
+    wanted = {"PROOF", "README.md", "bin/raftbench", "bin/raftbench-from-etcd", "bin/raftbench-review", "bin/raftbench-to-shiviz"}
     wanted |= {f"{it}/{path}" for it in ("docs", "examples", "nodes", "plain", "tests/cases/rules") for path in kept(TOP / it)}
     # Adapters that were built here aren't packed.
     wanted = {it for it in wanted if "/out/" not in it}
     wanted |= {"tests/nodes/bugs.txt"}
     wanted |= {f"share/{path}" for path in kept(TOP / "share")}
-    wanted |= {f"share/raftbench/editors/{path}" for path in kept(TOP / "editors") if path not in ("from-etcd", "to-shiviz")}
+    wanted |= {f"share/raftbench/editors/{path}" for path in kept(TOP / "editors") if path not in ("from-etcd", "review", "to-shiviz")}
     assert there == wanted, there ^ wanted
     when = int(place.git("log", "-1", "--format=%ct"))
     for it in members:
@@ -296,7 +296,7 @@ def test_debian_has_a_package(place: Clone) -> None:
 
     dpkg("--install", package)
     listed = dpkg("--listfiles", "raftbench").splitlines()
-    for name in ("bin/raftbench", "bin/raftbench-from-etcd", "share/man/man1/raftbench.1.gz", "share/zsh/vendor-completions/_raftbench", "share/raftbench/nodes/run",
+    for name in ("bin/raftbench", "bin/raftbench-from-etcd", "bin/raftbench-review", "share/man/man1/raftbench.1.gz", "share/zsh/vendor-completions/_raftbench", "share/raftbench/nodes/run",
                  "share/doc/raftbench/copyright", "share/doc/raftbench/changelog.Debian.gz", "share/doc/raftbench/PROOF", "share/bash-completion/completions/raftbench"):
         assert f"/usr/{name}" in listed and (root / "usr" / name).is_file(), name
     bare = {"PATH": f"{root / 'usr/bin'}:{pathlib.Path(sys.executable).parent}:/usr/bin:/bin"}
