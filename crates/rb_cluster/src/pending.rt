@@ -3,7 +3,8 @@
 //! They are in one list, in the order in which they were sent. A message never changes, so a copy of the list costs a pointer a message.
 
 ghost use Rattle.std.specs.Prelude.{◌≡◌, IfOk, OnOk};
-ghost use Rattle.rb_machine.specs.Pending.{is_selected, is_for, mail, other_mail, has_room, sent, all_sent};
+ghost use Rattle.rb_machine.specs.Cluster as plain;
+ghost use Rattle.rb_machine.specs.Pending.{is_selected, is_for, mail, other_mail, has_room, sent, all_sent, with_pending};
 ghost use Rattle.rb_machine.specs.Observers.{watched, after};
 
 use crate::cluster::Cluster;
@@ -72,6 +73,37 @@ pub(crate) fn split(
     })
 }
 
+/// Appends a message to the pending ones, or drops it if there is no room.
+pub(crate) fn send<L: RaftLog, O: Observer<L>>(
+    alloc: Global,
+    pending: &mut Vec<SharedMessage>,
+    message: Message,
+    observer: &mut O,
+) -> Result<(), AllocError>
+    ensures { OnOk result ((c : plain.Cluster) → watched (with_pending c pending.new.items) (O.meaning observer.new) ≡ after O.taking O.settling (O.meaning observer.old) (sent (with_pending c pending.old.items) message)) }
+{
+    if !has_room(pending) {
+        return observer.observe(&Item::Moved(Verb::NoRoomFor, &message));
+    }
+    pending.push(SharedMessage::new(alloc, message)?)?;
+    Ok(())
+}
+
+/// Appends messages, in their order.
+pub(crate) fn send_all<L: RaftLog, O: Observer<L>>(
+    alloc: Global,
+    pending: &mut Vec<SharedMessage>,
+    messages: Vec<Message>,
+    observer: &mut O,
+) -> Result<(), AllocError>
+    ensures { OnOk result ((c : plain.Cluster) → watched (with_pending c pending.new.items) (O.meaning observer.new) ≡ after O.taking O.settling (O.meaning observer.old) (all_sent (with_pending c pending.old.items) messages.items)) }
+{
+    for message in messages {
+        send(alloc, pending, message, observer)?;
+    }
+    Ok(())
+}
+
 impl<L: RaftLog> Cluster<L> {
     /// Appends a message to the pending ones, or drops it if there is no room.
     pub(crate) fn send<O: Observer<L>>(
@@ -81,24 +113,6 @@ impl<L: RaftLog> Cluster<L> {
     ) -> Result<(), AllocError>
         ensures { OnOk result (watched self.new (O.meaning observer.new) ≡ after O.taking O.settling (O.meaning observer.old) (sent self.old message)) }
     {
-        if !has_room(&self.pending) {
-            return observer.observe(&Item::Moved(Verb::NoRoomFor, &message));
-        }
-        self.pending.push(SharedMessage::new(self.alloc, message)?)?;
-        Ok(())
-    }
-
-    /// Appends messages, in their order.
-    pub(crate) fn send_all<O: Observer<L>>(
-        &mut self,
-        messages: Vec<Message>,
-        observer: &mut O,
-    ) -> Result<(), AllocError>
-        ensures { OnOk result (watched self.new (O.meaning observer.new) ≡ after O.taking O.settling (O.meaning observer.old) (all_sent self.old messages.items)) }
-    {
-        for message in messages {
-            self.send(message, observer)?;
-        }
-        Ok(())
+        send(self.alloc, &mut self.pending, message, observer)
     }
 }

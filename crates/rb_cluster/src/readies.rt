@@ -1,20 +1,25 @@
 //! `process-ready`: shows a node's ready and processes it.
 
-ghost use Rattle.std.specs.Prelude.{◌≡◌, ◌+◌, OnOk, fold, map};
+ghost use Rattle.std.specs.Prelude.{◌≡◌, ◌+◌, OnOk, Some, fold, map};
 ghost use Rattle.rb_raftlog.specs.Log.{not_durable};
 ghost use Rattle.rb_node.specs.Readying.{ready, applying, others};
 ghost use Rattle.rb_texts.specs.Items as items;
+ghost use Rattle.rb_machine.specs.Cluster as plain;
+ghost use Rattle.rb_machine.specs.Cluster.{node_at, with_node};
 ghost use Rattle.rb_machine.specs.Entries.{entry_items};
-ghost use Rattle.rb_machine.specs.Readies.{hard_items, snapshot_items, ready_items, node_advanced, advanced_and_settled, ready_processed, ready_processed_each};
+ghost use Rattle.rb_machine.specs.Pending.{with_pending};
+ghost use Rattle.rb_machine.specs.Readies.{hard_items, snapshot_items, ready_items, advanced_and_settled, ready_processed, ready_processed_each};
 ghost use Rattle.rb_machine.specs.Observers.{watched, after};
 
 use crate::cluster::{Cluster, place_of};
+use crate::pending::send_all;
+use crate::shared_message::SharedMessage;
 use rb_machine::{Observer, show_events};
 use rb_message::Outbox;
 use rb_node::{Node, ReadyView};
 use rb_raftlog::RaftLog;
 use rb_texts::Item;
-use std::alloc::AllocError;
+use std::alloc::{AllocError, Global};
 
 // Shows the hard state and a restored snapshot, if they are ready.
 fn show_hard<O: Observer<L>, L: RaftLog>(
@@ -130,34 +135,25 @@ fn show_ready<O: Observer<L>, L: RaftLog>(
     show_waited(observer, node.status().id, view.waiting())
 }
 
+// Advances a node, sends its outgoing messages, and shows its events, and then the node, which has settled.
+fn advance_and_settle<L: RaftLog, O: Observer<L>>(
+    node: &mut Node<L>,
+    id: u64,
+    alloc: Global,
+    pending: &mut Vec<SharedMessage>,
+    observer: &mut O,
+) -> Result<(), AllocError>
+    ensures { OnOk result ((c : plain.Cluster) → (c.pending ≡ pending.old.items) → node_at c id ≡ Some node.old → watched (with_pending (with_node c id node.new) pending.new.items) (O.meaning observer.new) ≡ after O.taking O.settling (O.meaning observer.old) (advanced_and_settled c id)) }
+{
+    let mut events = Vec::new(alloc);
+    let mut messages = Vec::new(alloc);
+    node.advance(&mut messages, &mut events)?;
+    send_all(alloc, pending, messages, observer)?;
+    show_events(observer, &events)?;
+    observer.settle(id, node)
+}
+
 impl<L: RaftLog> Cluster<L> {
-    // Advances a node, sends its outgoing messages, and shows its events.
-    fn advance<O: Observer<L>>(&mut self, id: u64, observer: &mut O) -> Result<(), AllocError>
-        ensures { OnOk result (watched self.new (O.meaning observer.new) ≡ after O.taking O.settling (O.meaning observer.old) (node_advanced self.old id)) }
-    {
-        let mut events = Vec::new(self.alloc);
-        let mut messages = Vec::new(self.alloc);
-        let Some(shared) = self.nodes.get_mut(place_of(id)) else {
-            return Ok(());
-        };
-        let node = shared.make_mut()?;
-        node.advance(&mut messages, &mut events)?;
-        self.send_all(messages, observer)?;
-        show_events(observer, &events)
-    }
-
-    // Advances a node, which has then settled.
-    fn advance_and_settle<O: Observer<L>>(
-        &mut self,
-        id: u64,
-        observer: &mut O,
-    ) -> Result<(), AllocError>
-        ensures { OnOk result (watched self.new (O.meaning observer.new) ≡ after O.taking O.settling (O.meaning observer.old) (advanced_and_settled self.old id)) }
-    {
-        self.advance(id, observer)?;
-        self.show_settled(id, observer)
-    }
-
     /// Processes a node's ready, or shows that there is none.
     #[tactic(auto, unfolding(rb_machine::specs::Readies::whole_ready_processed))]
     pub(crate) fn process_one_ready<O: Observer<L>>(
@@ -167,14 +163,15 @@ impl<L: RaftLog> Cluster<L> {
     ) -> Result<(), AllocError>
         ensures { OnOk result (watched self.new (O.meaning observer.new) ≡ after O.taking O.settling (O.meaning observer.old) (ready_processed self.old id)) }
     {
-        let Some(node) = self.node_with(id) else {
+        let Some(shared) = self.nodes.get_mut(place_of(id)) else {
             return Ok(());
         };
-        if !node.has_ready() {
+        if !shared.node().has_ready() {
             return observer.observe(&Item::NothingReady(id));
         }
-        show_ready(observer, id, node)?;
-        self.advance_and_settle(id, observer)
+        show_ready(observer, id, shared.node())?;
+        let node = shared.make_mut()?;
+        advance_and_settle(node, id, self.alloc, &mut self.pending, observer)
     }
 
     /// Processes the ready of nodes, in their order.

@@ -1,16 +1,14 @@
 -- The values of flags. (This project's.)
 use Rattle.std.specs.Prelude.{ℕ, Bool, Option, Some, None, replicate, slice_set, slice_index_or}
+use denote.Enum.Declared.{tag_of}
+use Rattle.rb_directive.specs.contracts.argument.Flag.{the_type}
 use Rattle.rb_directive.specs.declared.argument.Flag.{Flag}
-use Rattle.rb_directive.specs.declared.argument.Flag.TheVariants as flags
 use Rattle.rb_directive.specs.declared.argument.TheConstants.{FLAGS}
 use Rattle.rb_directive.specs.declared.flag_values.FlagValues.{FlagValues}
 
--- the position of a flag's value
+-- the position of a flag's value is that of its variant
 abbrev pub flag_place : Flag → ℕ
-flag_place flags.Prevote = 0
-flag_place flags.CheckQuorum = 1
-flag_place flags.StepDown = 2
-flag_place flags.FirstVersion = 3
+flag_place flag = tag_of the_type flag
 
 unfoldable pub no_flags : FlagValues
 no_flags = record { values = replicate FLAGS None }

@@ -61,30 +61,8 @@ impl<M: Machine> Session<M> {
         Session::begin(alloc, bytes, every as usize, meter)
     }
 
-    /// Reads the script of the bytes and runs it whole, as [`Session::start`] does, for whoever edits no directive: the empty
-    /// cluster alone is kept, so an edit runs all that is before it again.
-    pub fn run_once(
-        alloc: Global,
-        bytes: &[u8],
-        meter: &mut M::Meter,
-    ) -> Result<Session<M>, StartFault>
-        requires { M.Meter.count_of meter.old ≤ 2 ^ 62 }
-        ensures script { IfOk result (λ s. Reads bytes.now s.script) }
-        ensures run { IfOk result IsOneRun }
-        ensures points { IfOk result (λ s. s.points ≡ 0 ∷ []) }
-        ensures counted { IfOk result (λ s. M.Meter.count_of meter.new ≡ M.Meter.count_of meter.old + length s.script.blocks) }
-        ensures spaced { result ≢ Err StartFault.BadSpacing }
-        ensures only { (s : PlainScript) → Reads bytes.now s → IfErr result (λ fault. fault ≡ StartFault.OutOfMemory) }
-        ensures refused { IfErr result (λ fault. TellsStartFault fault (read_of bytes.now)) }
-        ensures early { IfSome (early_fault bytes.now) (λ fault. result ≡ Err (StartFault.Script fault)) }
-        ensures risen { IfErr result (λ fault. RisesFor fault bytes.now (M.Meter.count_of meter.old) (M.Meter.count_of meter.new)) }
-    {
-        // No script has so many directives.
-        Session::begin(alloc, bytes, MAX_DIRECTIVES + 1, meter)
-    }
-
     /// The session of a script that was run elsewhere, where it printed these, for whoever edits no directive: nothing is executed, and the
-    /// empty cluster alone is kept, as by [`Session::run_once`].
+    /// empty cluster alone is kept, so an edit runs all that is before it.
     pub fn from_outputs(
         alloc: Global,
         script: Script,

@@ -1,7 +1,6 @@
 //! Writes the report of a script.
 
 ghost use Rattle.std.specs.Prelude.{false, ◌≡◌, ◌≢◌, ◌+◌, ◌<◌, ◌≤◌, ℕ, List, [], Option, Err, IfSome, IfNone, IsOk, IsTrue, length};
-ghost use Rattle.rb_script.specs.declared.limits.TheConstants.{MAX_DIRECTIVES};
 ghost use Rattle.rb_script.specs.Writes.{Writes};
 ghost use Rattle.rb_replay.specs.Run.{outputs};
 ghost use Rattle.rb_replay.specs.Report.{same_lines, mismatches};
@@ -54,9 +53,7 @@ pub fn first_index<M: Machine>(session: &Session<M>) -> Option<usize>
     ensures none { IfNone result (mismatches session.now.script ≡ []) }
     ensures some { IfSome result (λ i. IsFirst (i + 1) (mismatches session.now.script)) }
     ensures within { IfSome result (λ i. i < length session.now.script.blocks) }
-    ensures few { length session.now.script.blocks ≤ MAX_DIRECTIVES }
 {
-    let _count = session.len();
     let places = session.mismatches();
     if places.is_empty() {
         return None;
