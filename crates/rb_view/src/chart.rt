@@ -9,6 +9,7 @@ mod arrow;
 mod arrows;
 mod builder;
 mod canvas;
+mod canvas_arrows;
 mod chart;
 mod columns;
 mod css_class;

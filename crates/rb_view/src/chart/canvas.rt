@@ -11,19 +11,15 @@ use crate::chart::labels::Label;
 use crate::chart::marks::{
     committed_words, compacted_words, event_class, event_words, note_class, saved_words,
 };
-use crate::chart::messages::{aim_words, label_words, message_words};
 use crate::chart::part::ChartPhase;
 use crate::chart::row_layout::RowLayout;
 use crate::chart::sentence::{line_of, sentence};
 use crate::chart::shape::Shape;
 use crate::chart::shown::shown;
-use crate::chart::sizes::{
-    ASIDE, HEADING, MOST_HEAD, MOST_MARK, MOST_NOTE, SLOT, least_right, middle, right_edge,
-};
+use crate::chart::sizes::{ASIDE, HEADING, MOST_HEAD, MOST_MARK, MOST_NOTE, least_right, middle};
 use crate::chart::source::ScriptSource;
-use crate::chart::telling::Ending;
 use rb_cluster::SharedNode;
-use rb_message::{Event, EventKind, Message};
+use rb_message::{Event, EventKind};
 use rb_raftlog::RaftLog;
 use rb_text::Piece;
 use rb_texts::{Item, Verb, event_form};
@@ -39,30 +35,24 @@ const HEAD_DOWN: u64 = 17;
 const NAME_Y: u64 = 22;
 // How far the words of a mark are above the middle of their slot.
 const MARK_UP: u64 = 2;
-// How far down the arrow of a message goes that doesn't arrive.
-const DOWN: u64 = 8;
-// Ids are at most 32, and there are 13 types of messages.
-const TYPES: usize = 13;
-
-const QUEUES: usize = 33 * TYPES;
 
 /// A picture that is being drawn, and the state of the run so far.
 #[derive(Drop)]
 pub(crate) struct Canvas<'a> {
-    alloc: Global,
-    chart: Chart,
+    pub(crate) alloc: Global,
+    pub(crate) chart: Chart,
     source: ScriptSource<'a>,
     // whether the line above belongs to a note
     is_in_note: bool,
-    columns: Columns,
-    slots: RowLayout,
+    pub(crate) columns: Columns,
+    pub(crate) slots: RowLayout,
     has_begun: bool,
     // the node whose ready is handled, and the first and the last entry that became durable
     ready: u64,
     saved: Option<(u64, u64)>,
     // for each arrow
-    places: Vec<ArrowPlace>,
-    labels: Vec<Label>,
+    pub(crate) places: Vec<ArrowPlace>,
+    pub(crate) labels: Vec<Label>,
 }
 
 impl<'a> Canvas<'a> {
@@ -385,134 +375,4 @@ impl<'a> Canvas<'a> {
         }
         Ok(())
     }
-
-    // ---- messages
-
-    /// A message is sent, and its arrow begins.
-    pub(crate) fn send(&mut self, message: &Message) -> Result<(), AllocError> {
-        let y = self.slots.next();
-        let is_loop = message.to == message.from;
-        let end = y.saturating_add(if is_loop { SLOT } else { DOWN });
-        self.places.push(ArrowPlace {
-            y,
-            end,
-            is_short: true,
-        })?;
-        self.chart.reach(right_edge(message.from, message.to));
-        let label = self.label(message, y)?;
-        self.labels.push(label)?;
-        Ok(())
-    }
-
-    fn label(&mut self, message: &Message, y: u64) -> Result<Label, AllocError> {
-        let words = message_words(self.alloc, message)?;
-        let line = self.slots.line;
-        self.chart
-            .tell_sent(line, message.from, message.to, words.as_slice())?;
-        let aim = aim_words(self.alloc, message)?;
-        let label = label_words(self.alloc, message, words.as_slice())?;
-        Label::add(
-            &mut self.chart,
-            message,
-            y,
-            aim.as_slice(),
-            label.as_slice(),
-        )
-    }
-
-    // An arrow ends in the next slot.
-    fn end_arrow(&mut self, arrow: Option<usize>, end: u64) {
-        let Some(at) = arrow else {
-            return;
-        };
-        if let Some(place) = self.places.get_mut(at) {
-            place.end = end;
-            place.is_short = false;
-        }
-    }
-
-    fn deliver(&mut self, message: &Message, arrow: Option<usize>) -> Result<(), AllocError> {
-        let end = self.slots.next();
-        self.end_arrow(arrow, end);
-        if let Some(label) = self.label_of(arrow) {
-            label.drop_aim(&mut self.chart);
-        }
-        self.tell_end(message, Ending::Delivered)
-    }
-
-    fn label_of(&self, arrow: Option<usize>) -> Option<Label> {
-        match self.labels.get(arrow?) {
-            Some(label) => Some(*label),
-            None => None,
-        }
-    }
-
-    fn lose(&mut self, message: &Message, arrow: Option<usize>) -> Result<(), AllocError> {
-        let end = self.slots.next();
-        if self.columns.has(message.to) {
-            self.end_arrow(arrow, end);
-        }
-        self.tell_end(message, Ending::Dropped)
-    }
-
-    // An arrow that is new begins here too.
-    fn give_up(&mut self, message: &Message, arrow: Option<usize>) -> Result<(), AllocError> {
-        if arrow == Some(self.places.len()) {
-            self.send(message)?;
-        }
-        self.tell_end(message, Ending::GivenUp)
-    }
-
-    fn tell_end(&mut self, message: &Message, ending: Ending) -> Result<(), AllocError> {
-        let words = message_words(self.alloc, message)?;
-        let line = self.slots.line;
-        self.chart
-            .tell_end(line, message.from, message.to, words.as_slice(), ending)
-    }
-
-    // Describes the messages in flight: by node, and by type.
-    fn tell_waiting(&mut self, arrows: &[Arrow], positions: &[usize]) -> Result<(), AllocError> {
-        for queue in 0..QUEUES {
-            self.tell_queue(arrows, positions, queue)?;
-        }
-        Ok(())
-    }
-
-    fn tell_queue(
-        &mut self,
-        arrows: &[Arrow],
-        positions: &[usize],
-        queue: usize,
-    ) -> Result<(), AllocError> {
-        for at in positions {
-            if let Some(arrow) = arrows.get(*at) {
-                if queue_of(*arrow) == queue {
-                    self.tell_arrow(*arrow, *at)?;
-                }
-            }
-        }
-        Ok(())
-    }
-
-    fn tell_arrow(&mut self, arrow: Arrow, at: usize) -> Result<(), AllocError> {
-        let Some(label) = self.label_of(Some(at)) else {
-            return Ok(());
-        };
-        let words = label.words(self.alloc, &self.chart)?;
-        let line = self.slots.line;
-        self.chart.tell_end(
-            line,
-            arrow.from,
-            arrow.to,
-            words.as_slice(),
-            Ending::Waiting,
-        )
-    }
-}
-
-// The index of a message in flight, by its node and its type.
-fn queue_of(arrow: Arrow) -> usize {
-    (arrow.to as usize)
-        .saturating_mul(TYPES)
-        .saturating_add(arrow.message_type as usize)
 }
