@@ -1,5 +1,5 @@
 -- What is found, after a step that finds no script and one that finds one, and what is lost.
-use Rattle.std.proofs.Common.{◌≡◌, ◌∙◌, ℕ, ◌+◌, Bool, List, [], ◌∷◌, ◌++◌, IfOk, Result, Ok, Err, Some, String, Vec, drop, get_or, length, take, ◌<◌, string_bytes, ap, append_assoc, subst, sym}
+use Rattle.std.proofs.Common.{◌≡◌, ◌∙◌, ℕ, ◌+◌, Bool, List, [], ◌∷◌, ◌++◌, Some, String, Vec, drop, get_or, length, take, ◌<◌, string_bytes, ap, append_assoc, subst, sym}
 use Rattle.std.specs.Prelude.{slice_get}
 use Rattle.std.specs.List.{All}
 use Rattle.std.proofs.lemmas.List.{drop_more, map-append, take_more}
@@ -49,7 +49,3 @@ undecodable_step folder names i d old had new within so_far more =
     ∙ append_assoc old (undecodable folder (take i names)) (undecodable folder (get_or names i d ∷ []))
     ∙ sym (ap (λ (ls : List (List ℕ × PathError)). old ++ ls)
     (ap (undecodable folder) (take_more names i d within) ∙ map-append _ (take i names) (get_or names i d ∷ [])))
-
-pub always : {X Y : Type 0} (r : Result X Y) (P : Type 0) → P → IfOk r (λ _. P)
-always (Ok x) P p = p
-always (Err y) P p = tt

@@ -65,7 +65,7 @@ of_reading : (cause : Option Error) (f : Failure) → MatchOption cause (f ≡ f
 of_reading None f h = tt
 of_reading (Some error) f h = h
 
--- why an ignore file isn't read
-pub still_of_reading : (r : Result (Option (String Global)) PathError) (error : PathError) → IsOfOpening error → IfErr r (λ told. told ≡ error) → IfErr r IsOfReading
-still_of_reading (Ok text) error h e = tt
-still_of_reading (Err told) error h e = subst IsOfReading (sym e) (of_reading error.cause error.failure h)
+-- why an ignore file isn't read: one that is missing is none
+pub still_of_reading : (r : Result (Option (String Global)) PathError) (error : PathError) (missing : Bool) → IsOfOpening error → (missing ≡ true → r ≡ Ok None) → (missing ≡ false → r ≡ Err error) → IfErr r IsOfReading
+still_of_reading r error true h none same = subst (λ (q : Result (Option (String Global)) PathError). IfErr q IsOfReading) (sym (none refl)) tt
+still_of_reading r error false h none same = subst (λ (q : Result (Option (String Global)) PathError). IfErr q IsOfReading) (sym (same refl)) (of_reading error.cause error.failure h)

@@ -1,5 +1,5 @@
 -- What finding scripts gives. (This project's.)
-use Rattle.std.specs.Prelude.{◌≡◌, ℕ, Bool, true, false, not, ◌&&◌, if◌then◌else◌, List, [], ◌∷◌, ◌++◌, None, Some, Option, Ok, Err, Result, String, Vec, codes, map, string_bytes}
+use Rattle.std.specs.Prelude.{◌≡◌, ℕ, Bool, true, false, not, ◌&&◌, if◌then◌else◌, List, [], ◌∷◌, ◌++◌, None, Some, Option, Ok, Err, Result, String, Vec, MatchBool, codes, map, string_bytes}
 use Rattle.std.specs.List.{All, list_any}
 use Rattle.std.specs.Path.{path_join}
 use Rattle.std.specs.Str.{bytes_eq}
@@ -9,12 +9,11 @@ use Rattle.rb_report.specs.declared.check.failure.Failure.TheVariants as failure
 use Rattle.rb_files.specs.Ignored.{ignored_by, slash}
 use Rattle.rb_files.specs.Names.{is_script_name}
 use Rattle.rb_files.specs.PathErrors.{IsOfReading, is_missing, without_cause}
-use Rattle.rb_files.specs.declared.entry.PathEntry.{PathEntry}
-use Rattle.rb_files.specs.declared.entry.PathEntry.TheVariants as entries
 use Rattle.rb_files.specs.declared.finding.Found.{Found}
 use Rattle.rb_files.specs.declared.finding.FailedPath.{FailedPath}
 use Rattle.rb_files.specs.declared.finding.Search.{Search}
 use Rattle.rb_files.specs.declared.finding.Waiting.{Waiting}
+use Rattle.rb_files.specs.declared.listing.Listing.{Listing}
 use Rattle.rb_files.specs.declared.path_error.PathError.{PathError}
 
 abbrev pub exclamation_mark : ℕ
@@ -55,28 +54,34 @@ waiting_of ignored folder [] = []
 waiting_of ignored folder (name ∷ names) =
     waiting_of ignored folder names ++ unless_ignored ignored (path_join folder (string_bytes name)) (is_script_name (string_bytes name))
 
--- nothing is found, lost or to be visited
-abbrev pub StaysAsItIs : Search → Search → Type 0
-StaysAsItIs old new = (new.found ≡ old.found) × (new.waiting ≡ old.waiting) × (new.ignored ≡ old.ignored)
-
 -- the path is lost, and nothing else happens
 abbrev pub Loses : List ℕ → PathError → Search → Search → Type 0
 Loses path error old new =
-    (new.found.scripts ≡ old.found.scripts) × (losses new.found.lost.items ≡ losses old.found.lost.items ++ (path, error) ∷ []) × (new.waiting ≡ old.waiting) × (new.ignored ≡ old.ignored)
+    (new ≡ record old { found = record old.found { lost = new.found.lost } })
+    × (losses new.found.lost.items ≡ losses old.found.lost.items ++ (path, error) ∷ [])
+
+-- these wait too, and nothing else happens
+abbrev pub WaitsFor : List (List ℕ × Bool) → Search → Search → Type 0
+WaitsFor paths old new = (new ≡ record old { waiting = new.waiting }) × (names_of new.waiting.items ≡ names_of old.waiting.items ++ paths)
 
 -- the paths of a folder whose names are no text
 abbrev pub undecodable : List ℕ → List (Vec ℕ Global) → List (List ℕ × PathError)
 undecodable folder names = map (λ name. (folder ++ slash ∷ name.items, without_cause failures.NotRead)) names
 
--- a folder's name that is no script's, and is no folder's path
-abbrev pub is_passed_over : Waiting → PathEntry → Bool
-is_passed_over next (entries.Folder id) = false
-is_passed_over next (entries.File id) = not next.is_script
-is_passed_over next (entries.Other failure) = not next.is_script
+-- a folder's names that are text wait, and the others are lost
+abbrev pub Waits : List ℕ → Listing → Search → Search → Type 0
+Waits folder listing old new =
+    (new ≡ record old { waiting = new.waiting; found = record old.found { lost = new.found.lost } })
+    × (losses new.found.lost.items ≡ losses old.found.lost.items ++ undecodable folder listing.strange.items)
+    × (names_of new.waiting.items ≡ names_of old.waiting.items ++ waiting_of old.ignored.items folder listing.names.items)
 
 -- a name that was listed and is gone, which was no folder's and would be no script's
 abbrev pub is_vanished : Waiting → PathError → Bool
 is_vanished next error = (not next.is_script && not next.is_folder) && is_missing error
+
+-- a path that can't be looked at is lost, unless it vanished
+abbrev pub Misses : Waiting → PathError → Search → Search → Type 0
+Misses next error old new = MatchBool (is_vanished next error) (new ≡ old) (Loses (string_bytes next.path) error old new)
 
 -- a folder's ignore file
 abbrev pub ignore_file : List ℕ → List ℕ
@@ -86,7 +91,7 @@ ignore_file folder = path_join folder (codes ".raftbenchignore")
 abbrev pub Heeds : List ℕ → Result (Option (String Global)) PathError → Bool → Search → Search → Type 0
 Heeds folder (Ok None) visits old new = (visits ≡ true) × (new ≡ old)
 Heeds folder (Ok (Some text)) visits old new =
-    (visits ≡ true) × (new.found ≡ old.found) × (new.waiting ≡ old.waiting)
+    (visits ≡ true) × (new ≡ record old { ignored = new.ignored })
     × (map string_bytes new.ignored.items ≡ map string_bytes old.ignored.items ++ ignored_by folder (string_bytes text))
 Heeds folder (Err error) visits old new = (visits ≡ false) × Loses (ignore_file folder) error old new
 

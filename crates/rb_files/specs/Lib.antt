@@ -1,4 +1,5 @@
 pub mod Finds
+pub mod Walks
 pub mod Ignored
 pub mod Places
 pub mod PathErrors

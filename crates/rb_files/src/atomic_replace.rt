@@ -1,9 +1,10 @@
 //! The place of a real file.
 
-ghost use Rattle.std.specs.Prelude.{◌≡◌, ◌↔◌, Err, None, Some, IfOk, IsOk, MatchResult, option_and_then, option_map, string_bytes, true};
-ghost use Rattle.std.specs.Fs.{new_options, with_create_new, with_write};
+ghost use Rattle.std.specs.Prelude.{◌≡◌, ◌↔◌, Err, None, Some, IfErr, IfOk, IfSome, IsOk, MatchResult, OnOk, false, option_and_then, option_map, string_bytes, true};
+ghost use Rattle.std.specs.Io.KnownBytes.{Appends};
+ghost use Rattle.std.specs.Fs.{metadata_len, metadata_mode, new_options, permissions_mode, with_create_new, with_write};
 ghost use Rattle.std.specs.Path.{path_join};
-ghost use Rattle.rb_files.specs.Names.{folder_of, new_name};
+ghost use Rattle.rb_files.specs.Names.{folder_of, new_name, owner_to_give};
 ghost use Rattle.rb_files.specs.PathErrors.{IsOfReading, of_writing};
 
 use crate::entry::{folder_of, followed};
@@ -11,9 +12,9 @@ use crate::file_look::FileLook;
 use crate::file_place::FilePlace;
 use crate::path_error::PathError;
 use std::alloc::{AllocError, Global};
-use std::fs::{Metadata, OpenFile, OpenOptions};
+use std::fs::{Metadata, OpenFile, OpenOptions, Permissions};
 use std::io::{ErrorKind, Write};
-use std::os::unix::fs::{MetadataExt, OpenOptionsExt, chown};
+use std::os::unix::fs::{MetadataExt, OpenOptionsExt, PermissionsExt, chown};
 use std::path::Path;
 use std::rt::Files;
 use std::{fs, io};
@@ -35,18 +36,50 @@ pub struct AtomicReplace<'a, R: Files> {
     new: Option<NewFile<R::File>>,
 }
 
-// A file that is open, and its path.
+// A file that is open, its path, and what it was given.
 #[derive(Drop)]
 struct NewFile<F: Drop> {
     path: String,
     file: F,
+    // the mode that it was given last, once it has its owner
+    mode: Option<u32>,
+    // all of its bytes were stored
+    is_stored: bool,
+}
+
+// The user and the group to whom a file belongs.
+#[derive(Clone, Copy)]
+struct Owner {
+    user: u32,
+    group: u32,
+}
+
+impl Owner {
+    // The standard library gives no numbers to compare these with.
+    fn of(metadata: &Metadata) -> Owner {
+        Owner {
+            user: metadata.uid(),
+            group: metadata.gid(),
+        }
+    }
+
+    // The owner that a file has to be given, if it has another one.
+    fn to_give(self, wanted: Owner) -> Option<Owner>
+        ensures { result ≡ owner_to_give self wanted }
+    {
+        if self.user == wanted.user && self.group == wanted.group {
+            None
+        } else {
+            Some(wanted)
+        }
+    }
 }
 
 impl<'a, R: Files + AllocGlobal> AtomicReplace<'a, R> {
     /// The place of the file at the path, its links followed, which was `seen` when it was read.
     pub fn new(rt: &'a R, path: &str, seen: Metadata) -> Result<AtomicReplace<'a, R>, PathError>
-        // There is no new file yet, and no look.
-        ensures { MatchResult result (λ place. (place.new ≡ None) × (place.last ≡ None)) IsOfReading }
+        // There is no new file yet, and no look; the file counts as unchanged if it is as it was seen.
+        ensures { MatchResult result (λ place. (place.new ≡ None) × (place.last ≡ None) × (place.seen ≡ seen) × (place.read.len ≡ metadata_len seen)) IsOfReading }
     {
         let target = followed(rt, path)?;
         Ok(AtomicReplace {
@@ -75,7 +108,7 @@ impl<'a, R: Files + AllocGlobal> AtomicReplace<'a, R> {
             let path = self.new_path(number)?;
             let opened = new_file_options().mode(0o600).open(self.rt, path.as_str());
             match opened {
-                Ok(file) => return Ok(NewFile { path, file }),
+                Ok(file) => return Ok(NewFile::new(path, file)),
                 Err(error) if error.kind() == ErrorKind::AlreadyExists => {}
                 Err(error) => return Err(error),
             }
@@ -141,15 +174,75 @@ fn unchanged(now: &FileLook, seen: &FileLook) -> Result<(), PathError>
 }
 
 impl<F: Write + OpenFile + Drop> NewFile<F> {
-    // The owner first, since a change of it may take rights away. Who may not give a file away keeps it.
-    fn settle<R: Files>(&self, rt: &R, seen: &Metadata) -> io::Result<()> {
-        let now = self.file.metadata()?;
-        if now.uid() != seen.uid() || now.gid() != seen.gid() {
-            let _ = chown(rt, self.path.as_str(), Some(seen.uid()), Some(seen.gid()));
+    // It was given nothing yet.
+    fn new(path: String, file: F) -> NewFile<F>
+        ensures { result ≡ record { path = path; file = file; mode = None; is_stored = false } }
+    {
+        NewFile {
+            path,
+            file,
+            mode: None,
+            is_stored: false,
         }
-        self.file.set_permissions(seen.permissions())?;
-        self.file.sync_all()
     }
+
+    // Appends the text, which is not stored then.
+    fn put(&mut self, text: &[u8]) -> io::Result<()>
+        ensures bytes { OnOk result (Appends (F.contents self.old.file) (F.contents self.new.file) text.now) }
+        ensures left { self.new.is_stored ≡ false }
+    {
+        self.is_stored = false;
+        self.file.write_all(text)
+    }
+
+    // The owner first, since a change of it may take rights away. Who may not give a file away keeps it.
+    fn settle<R: Files>(&mut self, rt: &R, seen: &Metadata) -> io::Result<()>
+        ensures settled { IfOk result (λ _. (self.new.mode ≡ Some (metadata_mode seen.now)) × (self.new.is_stored ≡ true)) }
+        ensures file { self.new.file ≡ self.old.file }
+    {
+        let now = self.file.metadata()?;
+        if let Some(owner) = Owner::of(&now).to_give(Owner::of(seen)) {
+            let _ = self.give_owner(rt, owner);
+        }
+        self.give_rights(seen.permissions())?;
+        self.store()
+    }
+
+    fn give_owner<R: Files>(&mut self, rt: &R, owner: Owner) -> io::Result<()>
+        ensures { self.new ≡ record self.old { mode = None } }
+    {
+        self.mode = None;
+        chown(rt, self.path.as_str(), Some(owner.user), Some(owner.group))
+    }
+
+    fn give_rights(&mut self, permissions: Permissions) -> io::Result<()>
+        ensures given { IfOk result (λ _. self.new ≡ record self.old { mode = Some (permissions_mode permissions) }) }
+        ensures failed { IfErr result (λ _. self.new ≡ self.old) }
+    {
+        let mode = permissions.mode();
+        self.file.set_permissions(permissions)?;
+        self.mode = Some(mode);
+        Ok(())
+    }
+
+    fn store(&mut self) -> io::Result<()>
+        ensures stored { IfOk result (λ _. self.new ≡ record self.old { is_stored = true }) }
+        ensures failed { IfErr result (λ _. self.new ≡ self.old) }
+    {
+        self.file.sync_all()?;
+        self.is_stored = true;
+        Ok(())
+    }
+}
+
+// There is no new file any more, unless the call failed that renamed or removed it.
+fn without<F: Drop>(file: &mut Option<NewFile<F>>, outcome: io::Result<()>) -> Result<(), PathError>
+    ensures { MatchResult outcome (λ _. IsOk result × (file.new ≡ None)) (λ error. (result ≡ Err (of_writing error)) × (file.new ≡ file.old)) }
+{
+    if outcome.is_ok() {
+        *file = None;
+    }
+    answered(outcome)
 }
 
 fn missing() -> io::Error {
@@ -173,6 +266,8 @@ impl<'a, R: Files + AllocGlobal> FilePlace for AtomicReplace<'a, R> {
 
     ghost is_unchanged = { λ place. place.last ≡ Some place.read };
 
+    ghost is_settled = { λ place. IfSome place.new (λ new. (new.mode ≡ Some (metadata_mode place.seen)) × (new.is_stored ≡ true)) };
+
     fn create(&mut self) -> Result<(), PathError> {
         answered(self.check_rights())?;
         match self.new_file() {
@@ -186,13 +281,13 @@ impl<'a, R: Files + AllocGlobal> FilePlace for AtomicReplace<'a, R> {
 
     fn put(&mut self, text: &[u8]) -> Result<(), PathError> {
         match &mut self.new {
-            Some(new) => answered(new.file.write_all(text)),
+            Some(new) => answered(new.put(text)),
             None => answered(Err(missing())),
         }
     }
 
     fn settle(&mut self) -> Result<(), PathError> {
-        match &self.new {
+        match &mut self.new {
             Some(new) => answered(new.settle(self.rt, &self.seen)),
             None => answered(Err(missing())),
         }
@@ -211,23 +306,17 @@ impl<'a, R: Files + AllocGlobal> FilePlace for AtomicReplace<'a, R> {
 
     fn rename(&mut self) -> Result<(), PathError> {
         let outcome = match &self.new {
-            Some(new) => answered(fs::rename(self.rt, new.path.as_str(), self.target.as_str())),
-            None => return answered(Err(missing())),
+            Some(new) => fs::rename(self.rt, new.path.as_str(), self.target.as_str()),
+            None => Err(missing()),
         };
-        if outcome.is_ok() {
-            self.new = None;
-        }
-        outcome
+        without(&mut self.new, outcome)
     }
 
     fn remove(&mut self) -> Result<(), PathError> {
         let outcome = match &self.new {
-            Some(new) => answered(fs::remove_file(self.rt, new.path.as_str())),
-            None => return answered(Err(missing())),
+            Some(new) => fs::remove_file(self.rt, new.path.as_str()),
+            None => Err(missing()),
         };
-        if outcome.is_ok() {
-            self.new = None;
-        }
-        outcome
+        without(&mut self.new, outcome)
     }
 }

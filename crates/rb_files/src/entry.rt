@@ -3,19 +3,21 @@
 //! A script is known by the folder that it is in and its name there, and a folder by its number in the file system: so each is found
 //! once, whatever paths and links lead to it. Two names of one file by hard links are two scripts, since each may be given a text of its own.
 
-ghost use Rattle.std.specs.Prelude.{◌≡◌, IfErr, IfOk, string_bytes};
+ghost use Rattle.std.specs.Prelude.{◌≡◌, IfErr, IfOk, IfSome, Ok, Some, string_bytes};
 ghost use Rattle.std.specs.Path.{path_join};
-ghost use Rattle.rb_files.specs.Entries.{file_of};
+ghost use Rattle.rb_report.specs.declared.check.failure.Failure.TheVariants as failures;
+ghost use Rattle.rb_files.specs.declared.kind.Kind.{Kind};
+ghost use Rattle.rb_files.specs.Entries.{IsFileNamed, IsLinked, LeadsTo, file_of, special};
 ghost use Rattle.rb_files.specs.Names.{folder_id, folder_of, name_of};
 ghost use Rattle.rb_files.specs.PathErrors.{IsOfReading};
 
 use crate::file_look::FileLook;
+use crate::kind::Kind;
 use crate::path_error::PathError;
 use rb_report::check::Failure;
 use std::alloc::{AllocError, Global};
 use std::fs;
 use std::fs::Metadata;
-use std::os::unix::fs::FileTypeExt;
 use std::path::Path;
 use std::rt::Files;
 
@@ -60,35 +62,46 @@ pub(crate) enum PathEntry {
 pub(crate) fn entry_at<R: Files + AllocGlobal>(rt: &R, path: &str) -> Result<PathEntry, PathError>
     ensures { IfErr result IsOfReading }
 {
-    if let Some(failure) = no_file_at(rt, path) {
+    if let Some(failure) = special_at(rt, path) {
         return Ok(PathEntry::Other(failure));
     }
     let target = followed(rt, path)?;
     let metadata = looked_at(rt, target.as_str())?;
-    if metadata.is_dir() {
-        Ok(PathEntry::Folder(FolderId::of(&FileLook::of(&metadata))))
-    } else if metadata.is_file() {
-        Ok(PathEntry::File(file_id(rt, target.as_str())?))
-    } else {
-        Ok(PathEntry::Other(Failure::NoFile))
+    entry_of(
+        rt,
+        target.as_str(),
+        Kind::of(&metadata),
+        &FileLook::of(&metadata),
+    )
+}
+
+// What a look shows at a path that is no link.
+fn entry_of<R: Files + AllocGlobal>(
+    rt: &R,
+    target: &str,
+    kind: Kind,
+    look: &FileLook,
+) -> Result<PathEntry, PathError>
+    ensures folder { kind ≡ Kind.Folder → result ≡ Ok (PathEntry.Folder (folder_id look.now)) }
+    ensures file { kind ≡ Kind.File → IfOk result (IsFileNamed (name_of target.now)) }
+    ensures other { (kind ≡ Kind.Folder → ⊥) → (kind ≡ Kind.File → ⊥) → result ≡ Ok (PathEntry.Other failures.NoFile) }
+    ensures why { IfErr result IsOfReading }
+{
+    match kind {
+        Kind::Folder => Ok(PathEntry::Folder(FolderId::of(look))),
+        Kind::File => Ok(PathEntry::File(file_id(rt, target)?)),
+        _ => Ok(PathEntry::Other(Failure::NoFile)),
     }
 }
 
-// What the system follows the path to, where that is no file and no folder. The link of a process's own pipe, to which /dev/stdin leads,
+// Why what the system follows the path to is no script, if its kind alone says so. The link of a process's own pipe, to which /dev/stdin leads,
 // names nothing that could be followed by its text.
-fn no_file_at<R: Files>(rt: &R, path: &str) -> Option<Failure> {
-    let Ok(metadata) = fs::metadata(rt, path) else {
-        return None;
-    };
-    let kind = metadata.file_type();
-    if kind.is_fifo() {
-        Some(Failure::Pipe)
-    } else if kind.is_socket() {
-        Some(Failure::Socket)
-    } else if kind.is_char_device() || kind.is_block_device() {
-        Some(Failure::Device)
-    } else {
-        None
+fn special_at<R: Files>(rt: &R, path: &str) -> Option<Failure>
+    ensures { IfSome result (λ failure. (kind : Kind) × (special kind ≡ Some failure)) }
+{
+    match fs::metadata(rt, path) {
+        Ok(metadata) => Kind::of(&metadata).special(),
+        Err(_) => None,
     }
 }
 
@@ -114,10 +127,11 @@ fn looked_at<R: Files>(rt: &R, path: &str) -> Result<Metadata, PathError>
 
 /// The path that the links at the end of this one lead to.
 pub(crate) fn followed<R: Files + AllocGlobal>(rt: &R, path: &str) -> Result<String, PathError>
-    ensures { IfErr result IsOfReading }
+    ensures links { IfOk result (λ target. LeadsTo MOST_LINKS path.now (string_bytes target)) }
+    ensures why { IfErr result IsOfReading }
 {
     let mut target = String::from_str(rt.alloc(), path)?;
-    for _ in 0..=MOST_LINKS {
+    for links in 0..MOST_LINKS + 1 {
         if !looked_at(rt, target.as_str())?.is_symlink() {
             return Ok(target);
         }
@@ -127,7 +141,8 @@ pub(crate) fn followed<R: Files + AllocGlobal>(rt: &R, path: &str) -> Result<Str
 }
 
 fn next_link<R: Files + AllocGlobal>(rt: &R, link: &str) -> Result<String, PathError>
-    ensures { IfErr result IsOfReading }
+    ensures link { IfOk result (λ target. IsLinked link.now (string_bytes target)) }
+    ensures why { IfErr result IsOfReading }
 {
     match fs::read_link(rt, link) {
         Ok(target) => Ok(linked(rt.alloc(), link, target.as_str())?),

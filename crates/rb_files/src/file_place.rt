@@ -6,7 +6,7 @@
 //! directly after a look that showed the file as it was when it was read. What real files hold is not known: that their place,
 //! [`crate::AtomicReplace`], does what the trait says is tested, with calls of the system that fail in turn.
 
-ghost use Rattle.std.specs.Prelude.{◌≡◌, None, Option, IfOk, List, OnOk, ℕ};
+ghost use Rattle.std.specs.Prelude.{◌≡◌, ⊤, None, Option, IfOk, List, OnOk, ℕ};
 ghost use Rattle.std.specs.Io.KnownBytes.{Appends};
 ghost use Rattle.rb_files.specs.Places.{Standing, Turns, Prepares, Puts, Looks, Fills, Removes, Replaces, IsFresh, created, settled, renamed};
 
@@ -23,6 +23,9 @@ pub trait FilePlace {
     // the last look showed the file that was read, as it was then
     ghost is_unchanged: { Self → Type 0 };
 
+    // the new file has the old one's rights, and is stored, as the system said; true, where that isn't recorded
+    ghost is_settled: { Self → Type 0 } = { λ _. ⊤ };
+
     /// Makes the new file, without a text.
     fn create(&mut self) -> Result<(), PathError>
         ensures { Turns created result (stands self.old) (stands self.new) };
@@ -35,17 +38,20 @@ pub trait FilePlace {
     /// Gives the new file the old one's rights, and waits until it is stored.
     fn settle(&mut self) -> Result<(), PathError>
         ensures told { Turns settled result (stands self.old) (stands self.new) }
+        ensures settled { IfOk result (λ _. is_settled self.new) }
         ensures bytes { contents self.new ≡ contents self.old };
 
     /// Looks at the file. Fails unless it is the one that was read, as it was then.
     fn look(&mut self) -> Result<(), PathError>
         ensures told { Looks result (stands self.old) (stands self.new) }
         ensures same { IfOk result (λ _. is_unchanged self.new) }
+        ensures settled { is_settled self.old → is_settled self.new }
         ensures bytes { contents self.new ≡ contents self.old };
 
     /// Renames the new file to the old one.
     fn rename(&mut self) -> Result<(), PathError>
-        requires { is_unchanged self.old }
+        requires same { is_unchanged self.old }
+        requires settled { is_settled self.old }
         ensures { Turns renamed result (stands self.old) (stands self.new) };
 
     /// Removes the new file.
@@ -99,6 +105,7 @@ fn prepare<P: FilePlace>(place: &mut P, text: &[u8]) -> Result<(), PathError>
     ensures told { Prepares text.now result (P.stands place.old) (P.stands place.new) }
     ensures bytes { OnOk result (Appends (P.contents place.old) (P.contents place.new) text.now) }
     ensures same { OnOk result (P.is_unchanged place.new) }
+    ensures settled { OnOk result (P.is_settled place.new) }
 {
     place.put(text)?;
     place.settle()?;

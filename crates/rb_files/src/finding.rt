@@ -4,27 +4,25 @@
 //! folder's scripts are in its name's place. Each script and each folder is looked at once, so that loops of links end.
 //! What a folder's file `.raftbenchignore` names, a path a line, isn't looked at, unless it is itself one of the paths.
 
-ghost use Rattle.std.specs.Prelude.{◌≡◌, ◌<◌, ◌||◌, ◌++◌, ◌∷◌, [], false, true, IfErr, IfOk, Some, length, map, slice_get, string_bytes};
-ghost use Rattle.std.specs.BTreeSet.{contains, insert_key};
-ghost use Rattle.rb_report.specs.declared.check.failure.Failure.{Failure};
+ghost use Rattle.std.specs.Prelude.{◌≡◌, ◌<◌, ◌++◌, ◌∷◌, [], ⊤, false, true, IfErr, IfOk, Ok, Err, Some, length, map, slice_get, string_bytes};
+ghost use Rattle.std.specs.BTreeSet.{IsUnchanged, contains, insert_key};
 ghost use Rattle.rb_report.specs.declared.check.failure.Failure.TheVariants as failures;
-ghost use Rattle.rb_files.specs.declared.entry.FileId.{FileId};
-ghost use Rattle.rb_files.specs.declared.entry.FolderId.{FolderId};
-ghost use Rattle.rb_files.specs.Finds.{AreTold, Heeds, IsFound, IsKept, Loses, StaysAsItIs, ignore_file, is_ignored, is_passed_over, is_vanished, losses, names_of, undecodable, unless_ignored, waiting_of};
+ghost use Rattle.rb_files.specs.Finds.{AreTold, Heeds, IsFound, IsKept, Loses, Misses, Waits, WaitsFor, ignore_file, is_ignored, unless_ignored, waiting_of};
 ghost use Rattle.rb_files.specs.Ignored.{ignored_by, slash};
-ghost use Rattle.rb_files.specs.Names.{is_script_name};
+ghost use Rattle.rb_files.specs.Names.{AreInOrder, is_script_name};
 ghost use Rattle.rb_files.specs.PathErrors.{IsOfReading, without_cause};
+ghost use Rattle.rb_files.specs.Walks.{EndsWith, Enters, Follows, IsBegun, IsWalk, Lists, LooksAt, Takes, Visits, asked};
 
-use crate::entry::{FileId, FolderId, PathEntry, entry_at};
+use crate::entry::{FileId, FolderId, PathEntry};
 use crate::filter::is_kept;
-use crate::ignored::{IGNORED, ignored_by, ignored_in};
-use crate::listing::{Listing, listed};
+use crate::ignored::{IGNORED, ignored_by};
+use crate::listing::Listing;
 use crate::path_error::PathError;
+use crate::tree::{SystemTree, Tree};
 use rb_report::check::Failure;
 use std::alloc::{AllocError, Global};
 use std::collections::BTreeSet;
 use std::convert::AsStr;
-use std::fs;
 use std::path::Path;
 use std::rt::Files;
 
@@ -49,20 +47,29 @@ pub struct Found {
 }
 
 /// The scripts of the paths; of them those whose paths have each of the words in them, and none that is after a `!`.
-#[tactic(auto, using(crate::proofs::FindLaws::nothing_told))]
 pub fn find<R: Files + AllocGlobal, S: AsStr>(rt: &R, paths: &[S], words: &[String]) -> Found
-    // Each word holds of each path, and each loss is what the system said. That all scripts are found is only tested: what
-    // the system's folders hold is not known.
-    ensures { IsFound words.now result }
+    // Each word holds of each path, and each loss is what the system said.
+    ensures kept { IsFound words.now result }
+    // Unless memory runs out, it is what a walk from these paths finds. What the system's folders hold is not known; their names come in order.
+    ensures walked { result.is_cut ≡ false → IsWalk (λ _ _. ⊤) (λ _ _. ⊤) (λ _ said. IfOk said (λ listing. AreInOrder listing.names.items)) ⟦<FileId as Ord>⟧.cmp ⟦<FolderId as Ord>⟧.cmp words.now (map S.text paths.now) result }
 {
-    let mut search = Search::new(rt.alloc());
-    for path in paths {
-        if search.look_from(rt, path.as_str(), words).is_err() {
+    find_in(&SystemTree(rt), paths, words)
+}
+
+// The scripts of a tree.
+#[tactic(auto, using(crate::proofs::FindLaws::nothing_told))]
+fn find_in<T: Tree, S: AsStr>(tree: &T, paths: &[S], words: &[String]) -> Found
+    ensures kept { IsFound words.now result }
+    ensures walked { result.is_cut ≡ false → IsWalk (T.entries tree.now) (T.ignores tree.now) (T.listings tree.now) ⟦<FileId as Ord>⟧.cmp ⟦<FolderId as Ord>⟧.cmp words.now (map S.text paths.now) result }
+{
+    let mut search = Search::new(tree.alloc());
+    match search.visit_all(tree, paths, words) {
+        Ok(()) => search.found,
+        Err(AllocError) => {
             search.found.is_cut = true;
-            break;
+            search.found
         }
     }
-    search.found
 }
 
 // A path that is still to be looked at.
@@ -88,7 +95,7 @@ struct Search {
 
 impl Search {
     fn new(alloc: Global) -> Search
-        ensures scripts { result.found.scripts.items ≡ [] }
+        ensures begun { IsBegun [] result }
         ensures lost { result.found.lost.items ≡ [] }
     {
         Search {
@@ -104,30 +111,39 @@ impl Search {
         }
     }
 
-    // Finds the scripts of a path of the command line.
-    fn look_from<R: Files + AllocGlobal>(
+    // Finds the scripts of the paths.
+    fn visit_all<T: Tree, S: AsStr>(
         &mut self,
-        rt: &R,
-        path: &str,
+        tree: &T,
+        paths: &[S],
         words: &[String],
     ) -> Result<(), AllocError>
-        requires { IsFound words.now self.old.found }
-        ensures { IsFound words.now self.new.found }
+        requires found { IsFound words.now self.old.found }
+        requires begun { IsBegun [] self.old }
+        ensures found { IsFound words.now self.new.found }
+        ensures walked { IfOk result (λ _. IsWalk (T.entries tree.now) (T.ignores tree.now) (T.listings tree.now) ⟦<FileId as Ord>⟧.cmp ⟦<FolderId as Ord>⟧.cmp words.now (map S.text paths.now) self.new.found) }
     {
-        self.let_path_wait(rt.alloc(), path)?;
-        for _ in 0..u64::MAX {
-            let Some(next) = self.waiting.pop() else {
-                break;
-            };
-            self.look_at(rt, next, words)?;
+        self.let_paths_wait(tree.alloc(), paths)?;
+        self.walk(tree, words)
+    }
+
+    // Lets the paths of the command line wait, the first of them to be the next. A file there is a script, whatever its name is.
+    fn let_paths_wait<S: AsStr>(&mut self, alloc: Global, paths: &[S]) -> Result<(), AllocError>
+        ensures found { self.new.found ≡ self.old.found }
+        ensures waits { IfOk result (λ _. WaitsFor (asked (map S.text paths.now)) self.old self.new) }
+    {
+        let mut left = paths.len();
+        while left > 0 {
+            left -= 1;
+            self.let_path_wait(alloc, path_at(paths, left))?;
         }
         Ok(())
     }
 
-    // Lets a path of the command line wait. A file there is a script, whatever its name is.
+    // Lets a path of the command line wait.
     fn let_path_wait(&mut self, alloc: Global, path: &str) -> Result<(), AllocError>
         ensures found { self.new.found ≡ self.old.found }
-        ensures waits { IfOk result (λ _. names_of self.new.waiting.items ≡ names_of self.old.waiting.items ++ (path.now, true) ∷ []) }
+        ensures waits { IfOk result (λ _. WaitsFor ((path.now, true) ∷ []) self.old self.new) }
     {
         let path = String::from_str(alloc, path)?;
         Ok(
@@ -139,51 +155,84 @@ impl Search {
         )
     }
 
+    // Looks at what waits, until nothing does.
+    fn walk<T: Tree>(&mut self, tree: &T, words: &[String]) -> Result<(), AllocError>
+        requires { IsFound words.now self.old.found }
+        ensures found { IsFound words.now self.new.found }
+        ensures walked { IfOk result (λ _. EndsWith (T.entries tree.now) (T.ignores tree.now) (T.listings tree.now) ⟦<FileId as Ord>⟧.cmp ⟦<FolderId as Ord>⟧.cmp words.now self.old self.new.found) }
+    {
+        for _ in 0..u64::MAX {
+            let Some(next) = self.waiting.pop() else {
+                return Ok(());
+            };
+            self.look_at(tree, next, words)?;
+        }
+        // No memory holds as many paths.
+        Err(AllocError)
+    }
+
     #[tactic(auto, using(crate::proofs::FindLaws::still_found))]
-    fn look_at<R: Files + AllocGlobal>(
+    fn look_at<T: Tree>(
         &mut self,
-        rt: &R,
+        tree: &T,
         next: Waiting,
         words: &[String],
     ) -> Result<(), AllocError>
         requires { IsFound words.now self.old.found }
-        ensures { IsFound words.now self.new.found }
+        ensures found { IsFound words.now self.new.found }
+        ensures looked { IfOk result (λ _. LooksAt (T.entries tree.now) (T.ignores tree.now) (T.listings tree.now) ⟦<FileId as Ord>⟧.cmp ⟦<FolderId as Ord>⟧.cmp words.now next self.old self.new) }
     {
-        match entry_at(rt, next.path.as_str()) {
-            Ok(entry) => self.look_in(rt, next, entry, words),
+        match tree.entry_at(next.path.as_str()) {
+            Ok(entry) => self.look_in(tree, next, entry, words),
             Err(error) => self.miss(next, error),
         }
     }
 
     // Of what is at the path.
     #[tactic(auto, using(crate::proofs::FindLaws::still_found))]
-    fn look_in<R: Files + AllocGlobal>(
+    fn look_in<T: Tree>(
         &mut self,
-        rt: &R,
+        tree: &T,
         next: Waiting,
         entry: PathEntry,
         words: &[String],
     ) -> Result<(), AllocError>
         requires { IsFound words.now self.old.found }
         ensures found { IsFound words.now self.new.found }
-        ensures passed { is_passed_over next entry ≡ true → self.new ≡ self.old }
-        // A device, a pipe or a socket is lost where a script is asked for.
-        ensures lost { (failure : Failure) → entry ≡ PathEntry.Other failure → next.is_script ≡ true
-            → IfOk result (λ _. Loses (string_bytes next.path) (without_cause failure) self.old self.new) }
-        // A file and a folder are visited once.
-        ensures file { (id : FileId) → entry ≡ PathEntry.File id → contains ⟦<FileId as Ord>⟧.cmp self.old.files id ≡ true → StaysAsItIs self.old self.new }
-        ensures folder { (id : FolderId) → entry ≡ PathEntry.Folder id → contains ⟦<FolderId as Ord>⟧.cmp self.old.folders id ≡ true → StaysAsItIs self.old self.new }
-        ensures script { (id : FileId) → entry ≡ PathEntry.File id → next.is_script ≡ true → IsKept words.now (string_bytes next.path) → contains ⟦<FileId as Ord>⟧.cmp self.old.files id ≡ false
-            → IfOk result (λ _. self.new.found.scripts.items ≡ self.old.found.scripts.items ++ next.path ∷ []) }
+        ensures follows { IfOk result (λ _. Follows (T.entries tree.now) (T.ignores tree.now) (T.listings tree.now) ⟦<FileId as Ord>⟧.cmp ⟦<FolderId as Ord>⟧.cmp words.now next (Ok entry) self.old self.new) }
     {
         match entry {
-            PathEntry::Folder(id) => self.enter(rt, next.path, id),
-            PathEntry::File(id) if next.is_script => self.take(next.path, id, words),
-            PathEntry::File(_) => Ok(()),
-            PathEntry::Other(failure) if next.is_script => {
-                self.lose(next.path, PathError::alone(failure))
-            }
-            PathEntry::Other(_) => Ok(()),
+            PathEntry::Folder(id) => self.enter(tree, next.path.as_str(), id),
+            PathEntry::File(id) => self.offer(next, id, words),
+            PathEntry::Other(failure) => self.refuse(next, failure),
+        }
+    }
+
+    // A file is a script if it is named, or its name in a folder ends in `.txt`.
+    fn offer(&mut self, next: Waiting, id: FileId, words: &[String]) -> Result<(), AllocError>
+        requires { IsFound words.now self.old.found }
+        ensures found { IsFound words.now self.new.found }
+        ensures taken { next.is_script ≡ true → IfOk result (λ _. Takes ⟦<FileId as Ord>⟧.cmp words.now next.path id self.old self.new) }
+        ensures passed { next.is_script ≡ false → self.new ≡ self.old }
+    {
+        if next.is_script {
+            self.take(next.path, id, words)
+        } else {
+            Ok(())
+        }
+    }
+
+    // A device, a pipe or a socket is lost where a script is asked for.
+    fn refuse(&mut self, next: Waiting, failure: Failure) -> Result<(), AllocError>
+        ensures scripts { self.new.found.scripts ≡ self.old.found.scripts }
+        ensures told { AreTold self.old.found.lost.items → AreTold self.new.found.lost.items }
+        ensures lost { next.is_script ≡ true → IfOk result (λ _. Loses (string_bytes next.path) (without_cause failure) self.old self.new) }
+        ensures passed { next.is_script ≡ false → self.new ≡ self.old }
+    {
+        if next.is_script {
+            self.lose(next.path, PathError::alone(failure))
+        } else {
+            Ok(())
         }
     }
 
@@ -191,8 +240,7 @@ impl Search {
     fn miss(&mut self, next: Waiting, error: PathError) -> Result<(), AllocError>
         ensures scripts { self.new.found.scripts ≡ self.old.found.scripts }
         ensures told { AreTold self.old.found.lost.items → IsOfReading error → AreTold self.new.found.lost.items }
-        ensures lost { is_vanished next error ≡ false → IfOk result (λ _. Loses (string_bytes next.path) error self.old self.new) }
-        ensures vanished { is_vanished next error ≡ true → self.new ≡ self.old }
+        ensures missed { IfOk result (λ _. Misses next error self.old self.new) }
     {
         if !next.is_script && !next.is_folder && error.failure == Failure::NotFound {
             return Ok(());
@@ -203,7 +251,6 @@ impl Search {
     #[tactic(auto, using(crate::proofs::FindLaws::one_more_told))]
     fn lose(&mut self, path: String, error: PathError) -> Result<(), AllocError>
         ensures scripts { self.new.found.scripts ≡ self.old.found.scripts }
-        ensures folders { self.new.folders ≡ self.old.folders }
         ensures told { AreTold self.old.found.lost.items → IsOfReading error → AreTold self.new.found.lost.items }
         ensures lost { IfOk result (λ _. Loses (string_bytes path) error self.old self.new) }
     {
@@ -216,10 +263,12 @@ impl Search {
         requires { IsFound words.now self.old.found }
         ensures found { IsFound words.now self.new.found }
         ensures filtered { (IsKept words.now (string_bytes path) → ⊥) → self.new ≡ self.old }
-        ensures known { contains ⟦<FileId as Ord>⟧.cmp self.old.files id ≡ true → StaysAsItIs self.old self.new }
+        ensures known { IsKept words.now (string_bytes path) → contains ⟦<FileId as Ord>⟧.cmp self.old.files id ≡ true
+            → IfOk result (λ _. (self.new ≡ record self.old { files = self.new.files }) × IsUnchanged self.old.files self.new.files) }
         ensures added { IsKept words.now (string_bytes path) → contains ⟦<FileId as Ord>⟧.cmp self.old.files id ≡ false
-            → IfOk result (λ _. self.new.found.scripts.items ≡ self.old.found.scripts.items ++ path ∷ []) }
-        ensures files { IsKept words.now (string_bytes path) → IfOk result (λ _. self.new.files.keys ≡ insert_key ⟦<FileId as Ord>⟧.cmp self.old.files.keys id) }
+            → IfOk result (λ _. (self.new ≡ record self.old { files = self.new.files; found = record self.old.found { scripts = self.new.found.scripts } })
+            × (self.new.found.scripts.items ≡ self.old.found.scripts.items ++ path ∷ [])
+            × (self.new.files.keys ≡ insert_key ⟦<FileId as Ord>⟧.cmp self.old.files.keys id)) }
     {
         if !is_kept(path.as_str(), words) {
             return Ok(());
@@ -230,29 +279,54 @@ impl Search {
         Ok(self.found.scripts.push(path)?)
     }
 
-    // Lets a folder's names wait, the first of them to be the next.
-    fn enter<R: Files + AllocGlobal>(
-        &mut self,
-        rt: &R,
-        folder: String,
-        id: FolderId,
-    ) -> Result<(), AllocError>
+    // Visits a folder, unless it was visited before.
+    fn enter<T: Tree>(&mut self, tree: &T, folder: &str, id: FolderId) -> Result<(), AllocError>
         ensures scripts { self.new.found.scripts ≡ self.old.found.scripts }
         ensures told { AreTold self.old.found.lost.items → AreTold self.new.found.lost.items }
-        ensures once { contains ⟦<FolderId as Ord>⟧.cmp self.old.folders id ≡ true → StaysAsItIs self.old self.new }
-        ensures entered { IfOk result (λ _. self.new.folders.keys ≡ insert_key ⟦<FolderId as Ord>⟧.cmp self.old.folders.keys id) }
+        ensures entered { IfOk result (λ _. Enters (T.ignores tree.now) (T.listings tree.now) ⟦<FolderId as Ord>⟧.cmp folder.now id self.old self.new) }
     {
         if !self.folders.insert(id)? {
             return Ok(());
         }
-        let ignored = ignored_in(rt, folder.as_str());
-        if !self.heed_ignored(rt.alloc(), folder.as_str(), ignored)? {
+        self.visit(tree, folder)
+    }
+
+    // Visits a folder: what it ignores is known before its names wait.
+    fn visit<T: Tree>(&mut self, tree: &T, folder: &str) -> Result<(), AllocError>
+        ensures scripts { self.new.found.scripts ≡ self.old.found.scripts }
+        ensures told { AreTold self.old.found.lost.items → AreTold self.new.found.lost.items }
+        ensures visited { IfOk result (λ _. Visits (T.ignores tree.now) (T.listings tree.now) folder.now self.old self.new) }
+    {
+        let ignored = tree.ignored_in(folder);
+        if !self.heed_ignored(tree.alloc(), folder, ignored)? {
             return Ok(());
         }
-        match listed(rt, folder.as_str()) {
-            Ok(listing) => self.wait_for(rt, folder.as_str(), listing),
-            Err(error) => self.lose(folder, error),
+        self.list(tree, folder)
+    }
+
+    // Lets a folder's names wait, the first of them to be the next.
+    fn list<T: Tree>(&mut self, tree: &T, folder: &str) -> Result<(), AllocError>
+        ensures scripts { self.new.found.scripts ≡ self.old.found.scripts }
+        ensures told { AreTold self.old.found.lost.items → AreTold self.new.found.lost.items }
+        ensures listed { IfOk result (λ _. Lists (T.listings tree.now) folder.now self.old self.new) }
+    {
+        match tree.listed(folder) {
+            Ok(listing) => self.wait_for(tree, folder, listing),
+            Err(error) => self.lose_folder(tree.alloc(), folder, error),
         }
+    }
+
+    fn lose_folder(
+        &mut self,
+        alloc: Global,
+        folder: &str,
+        error: PathError,
+    ) -> Result<(), AllocError>
+        ensures scripts { self.new.found.scripts ≡ self.old.found.scripts }
+        ensures told { AreTold self.old.found.lost.items → IsOfReading error → AreTold self.new.found.lost.items }
+        ensures lost { IfOk result (λ _. Loses folder.now error self.old self.new) }
+    {
+        self.lose(String::from_str(alloc, folder)?, error)
     }
 
     // Records the paths that a folder's ignore file names, if there is one. Returns whether the folder is visited: not if that file can't be read.
@@ -263,7 +337,6 @@ impl Search {
         ignored: Result<Option<String>, PathError>,
     ) -> Result<bool, AllocError>
         ensures scripts { self.new.found.scripts ≡ self.old.found.scripts }
-        ensures folders { self.new.folders ≡ self.old.folders }
         ensures told { AreTold self.old.found.lost.items → IfErr ignored IsOfReading → AreTold self.new.found.lost.items }
         ensures heeded { IfOk result (λ visits. Heeds folder.now ignored visits self.old self.new) }
     {
@@ -282,9 +355,7 @@ impl Search {
 
     // Records the paths that a folder's ignore file names.
     fn ignore(&mut self, alloc: Global, folder: &str, text: &str) -> Result<(), AllocError>
-        ensures found { self.new.found ≡ self.old.found }
-        ensures waiting { self.new.waiting ≡ self.old.waiting }
-        ensures folders { self.new.folders ≡ self.old.folders }
+        ensures same { self.new ≡ record self.old { ignored = self.new.ignored } }
         ensures ignored { IfOk result (λ _. map string_bytes self.new.ignored.items
             ≡ map string_bytes self.old.ignored.items ++ ignored_by folder.now text.now) }
     {
@@ -304,82 +375,71 @@ impl Search {
         false
     }
 
-    fn wait_for<R: Files + AllocGlobal>(
+    fn wait_for<T: Tree>(
         &mut self,
-        rt: &R,
+        tree: &T,
         folder: &str,
         listing: Listing,
     ) -> Result<(), AllocError>
         ensures scripts { self.new.found.scripts ≡ self.old.found.scripts }
         ensures told { AreTold self.old.found.lost.items → AreTold self.new.found.lost.items }
-        ensures folders { self.new.folders ≡ self.old.folders }
         // A name that is no text is lost.
-        ensures lost { IfOk result (λ _. losses self.new.found.lost.items ≡ losses self.old.found.lost.items ++ undecodable folder.now listing.strange.items) }
-        ensures waits { IfOk result (λ _. names_of self.new.waiting.items
-            ≡ names_of self.old.waiting.items ++ waiting_of self.old.ignored.items folder.now listing.names.items) }
+        ensures waits { IfOk result (λ _. Waits folder.now listing self.old self.new) }
     {
         for name in &listing.strange {
-            self.report_undecodable_name(rt.alloc(), folder, name.as_slice())?;
+            self.report_undecodable_name(tree.alloc(), folder, name.as_slice())?;
         }
-        self.let_names_wait(rt, folder, listing.names.as_slice())
+        self.let_names_wait(tree, folder, listing.names.as_slice())
     }
 
     // Lets a folder's names wait, the first of them to be the next.
-    fn let_names_wait<R: Files + AllocGlobal>(
+    fn let_names_wait<T: Tree>(
         &mut self,
-        rt: &R,
+        tree: &T,
         folder: &str,
         names: &[String],
     ) -> Result<(), AllocError>
         ensures found { self.new.found ≡ self.old.found }
-        ensures folders { self.new.folders ≡ self.old.folders }
-        ensures waits { IfOk result (λ _. names_of self.new.waiting.items
-            ≡ names_of self.old.waiting.items ++ waiting_of self.old.ignored.items folder.now names.now) }
+        ensures waits { IfOk result (λ _. WaitsFor (waiting_of self.old.ignored.items folder.now names.now) self.old self.new) }
     {
         let mut left = names.len();
         while left > 0 {
             left -= 1;
-            self.let_name_wait(rt, folder, name_at(names, left))?;
+            self.let_name_wait(tree, folder, name_at(names, left))?;
         }
         Ok(())
     }
 
     // Lets a name of a folder wait.
-    fn let_name_wait<R: Files + AllocGlobal>(
+    fn let_name_wait<T: Tree>(
         &mut self,
-        rt: &R,
+        tree: &T,
         folder: &str,
         name: &String,
     ) -> Result<(), AllocError>
         ensures found { self.new.found ≡ self.old.found }
-        ensures folders { self.new.folders ≡ self.old.folders }
-        ensures ignored { self.new.ignored ≡ self.old.ignored }
-        ensures waits { IfOk result (λ _. names_of self.new.waiting.items
-            ≡ names_of self.old.waiting.items ++ waiting_of self.old.ignored.items folder.now (name.now ∷ [])) }
+        ensures waits { IfOk result (λ _. WaitsFor (waiting_of self.old.ignored.items folder.now (name.now ∷ [])) self.old self.new) }
     {
         let path = Path::new(folder)
-            .join(rt.alloc(), name.as_str())?
+            .join(tree.alloc(), name.as_str())?
             .into_string();
-        self.let_wait(rt, path, is_script_name(name.as_str()))
+        self.let_wait(tree, path, is_script_name(name.as_str()))
     }
 
     // Lets a path of a folder wait, unless a folder's file names it.
-    fn let_wait<R: Files>(
+    fn let_wait<T: Tree>(
         &mut self,
-        rt: &R,
+        tree: &T,
         path: String,
         is_script: bool,
     ) -> Result<(), AllocError>
         ensures found { self.new.found ≡ self.old.found }
-        ensures folders { self.new.folders ≡ self.old.folders }
-        ensures ignored { self.new.ignored ≡ self.old.ignored }
-        ensures waits { IfOk result (λ _. names_of self.new.waiting.items
-            ≡ names_of self.old.waiting.items ++ unless_ignored self.old.ignored.items (string_bytes path) is_script) }
+        ensures waits { IfOk result (λ _. WaitsFor (unless_ignored self.old.ignored.items (string_bytes path) is_script) self.old self.new) }
     {
         if self.is_ignored(path.as_str()) {
             return Ok(());
         }
-        let is_folder = !is_script && is_folder_now(rt, path.as_str());
+        let is_folder = !is_script && tree.is_folder_now(path.as_str());
         Ok(
             self.waiting.push(Waiting {
                 path,
@@ -398,11 +458,8 @@ impl Search {
         name: &[u8],
     ) -> Result<(), AllocError>
         ensures scripts { self.new.found.scripts ≡ self.old.found.scripts }
-        ensures waiting { self.new.waiting ≡ self.old.waiting }
-        ensures folders { self.new.folders ≡ self.old.folders }
-        ensures ignored { self.new.ignored ≡ self.old.ignored }
         ensures told { AreTold self.old.found.lost.items → AreTold self.new.found.lost.items }
-        ensures lost { IfOk result (λ _. losses self.new.found.lost.items ≡ losses self.old.found.lost.items ++ (folder.now ++ slash ∷ name.now, without_cause failures.NotRead) ∷ []) }
+        ensures lost { IfOk result (λ _. Loses (folder.now ++ slash ∷ name.now) (without_cause failures.NotRead) self.old self.new) }
     {
         let mut path = Vec::from_slice(alloc, folder.as_bytes())?;
         path.push(b'/')?;
@@ -419,6 +476,13 @@ fn ignored_path(alloc: Global, folder: &str) -> Result<String, AllocError>
     Ok(Path::new(folder).join(alloc, IGNORED)?.into_string())
 }
 
+fn path_at<S: AsStr>(paths: &[S], index: usize) -> &str
+    requires { index < length paths.now }
+    ensures { slice_get (map S.text paths.now) index ≡ Some result.now }
+{
+    paths[index].as_str()
+}
+
 fn name_at(names: &[String], index: usize) -> &String
     requires { index < length names.now }
     ensures { slice_get names.now index ≡ Some result.now }
@@ -432,12 +496,4 @@ fn is_script_name(name: &str) -> bool
 {
     let bytes = name.as_bytes();
     &bytes[bytes.len().saturating_sub(4)..] == b".txt".as_slice()
-}
-
-// A name that vanishes before it is visited is known to have been a folder.
-fn is_folder_now<R: Files>(rt: &R, path: &str) -> bool {
-    match fs::metadata(rt, path) {
-        Ok(metadata) => metadata.is_dir(),
-        Err(_) => false,
-    }
 }

@@ -2,6 +2,7 @@
 
 ghost use Rattle.std.specs.Prelude.{◌≡◌, ◌↔◌, ◌≤◌, false, true, Err, IfErr, IfOk, IsOk, None, Ok, map, option_map, string_bytes};
 ghost use Rattle.std.specs.Io.BufRead.{strip_last};
+ghost use Rattle.std.specs.Io.Take.{take_limit};
 ghost use Rattle.std.specs.Str.Lines.{lines};
 ghost use Rattle.rb_files.specs.Ignored.{ignored_by, named_by, slash};
 ghost use Rattle.rb_files.specs.PathErrors.{IsOfReading, is_missing};
@@ -10,7 +11,7 @@ use crate::opening::opened;
 use crate::path_error::PathError;
 use rb_report::check::Failure;
 use std::alloc::{AllocError, Global};
-use std::io::ErrorKind;
+use std::io::{ErrorKind, Read, Take};
 use std::path::Path;
 use std::rt::Files;
 use std::{fs, io};
@@ -47,9 +48,18 @@ fn text_of<R: Files + AllocGlobal>(rt: &R, path: &str) -> Result<Option<String>,
         Ok(opened) => opened,
         Err(error) => return unless_missing(error),
     };
-    within_limit(metadata.len())?;
-    match io::read_to_string(rt.alloc(), file) {
-        Ok(text) => Ok(Some(text)),
+    Ok(Some(read_within(rt.alloc(), file, metadata.len())?))
+}
+
+// Reads a file that was opened with this length.
+fn read_within<F: Read + Drop>(alloc: Global, file: Take<F>, len: u64) -> Result<String, PathError>
+    requires { take_limit file ≡ len }
+    ensures limit { IfOk result (λ _. len ≤ MAX_IGNORED) }
+    ensures why { IfErr result IsOfReading }
+{
+    within_limit(len)?;
+    match io::read_to_string(alloc, file) {
+        Ok(text) => Ok(text),
         Err(error) => Err(PathError::of_reading(error)),
     }
 }
@@ -58,7 +68,6 @@ fn text_of<R: Files + AllocGlobal>(rt: &R, path: &str) -> Result<Option<String>,
 fn unless_missing(error: PathError) -> Result<Option<String>, PathError>
     ensures missing { is_missing error ≡ true → result ≡ Ok None }
     ensures failed { is_missing error ≡ false → result ≡ Err error }
-    ensures why { IfErr result (λ told. told ≡ error) }
 {
     if error.failure == Failure::NotFound {
         return Ok(None);

@@ -11,9 +11,11 @@ mod file_place;
 mod filter;
 mod finding;
 mod ignored;
+mod kind;
 mod listing;
 mod opening;
 mod path_error;
+mod tree;
 
 pub use atomic_replace::AtomicReplace;
 pub use entry::{FileId, file_at};

@@ -1,8 +1,9 @@
 //! The names in a folder.
 
-ghost use Rattle.std.specs.Prelude.{◌≡◌, ◌↔◌, ◌++◌, ◌∷◌, [], ℕ, List, true, false, IfErr, IfOk, IfSome, IsUtf8, Ok, map, string_bytes};
+ghost use Rattle.std.specs.Prelude.{◌≡◌, ◌↔◌, ◌++◌, ◌∷◌, [], ℕ, List, false, IfErr, IfOk, IfSome, Ok, map, string_bytes};
 ghost use Rattle.std.specs.Io.KnownBytes.{IsAtEnd};
-ghost use Rattle.rb_files.specs.Names.{AreInOrder, HasName, IsAdded, is_hidden};
+ghost use Rattle.rb_files.specs.Ignored.{slash};
+ghost use Rattle.rb_files.specs.Names.{AreInOrder, HasName, IsAdded, IsListing, is_hidden, parts_of, strange_bytes, strange_names, text_names};
 ghost use Rattle.rb_files.specs.PathErrors.{IsOfReading};
 
 use crate::path_error::PathError;
@@ -30,15 +31,61 @@ pub(crate) fn listed<R: Files + AllocGlobal>(rt: &R, folder: &str) -> Result<Lis
     ensures why { IfErr result IsOfReading }
 {
     let alloc = rt.alloc();
-    let bytes = all_names(rt, folder)?;
+    let path = with_slash(alloc, folder)?;
+    match rt.open_dir(path.as_str()) {
+        Ok(mut folder) => read_listing(alloc, &mut folder),
+        Err(error) => Err(PathError::of_reading(error)),
+    }
+}
+
+// The folder's path, which ends in a slash.
+fn with_slash(alloc: Global, folder: &str) -> Result<String, AllocError>
+    ensures { IfOk result (λ path. string_bytes path ≡ folder.now ++ slash ∷ []) }
+{
+    let mut path = String::from_str(alloc, folder)?;
+    path.push('/')?;
+    Ok(path)
+}
+
+// Reads the names of a folder to the last, and sorts them.
+fn read_listing<D: Read>(alloc: Global, folder: &mut D) -> Result<Listing, PathError>
+    ensures all { IfOk result (λ listing. IfSome (D.remaining folder.old) (λ bytes. IsListing (parts_of bytes) listing)) }
+    ensures order { IfOk result (λ listing. AreInOrder listing.names.items) }
+    ensures why { IfErr result IsOfReading }
+{
+    let bytes = read_all(alloc, folder)?;
+    Ok(listing_of(alloc, bytes.as_slice())?)
+}
+
+// The listing of a folder that gave these bytes.
+fn listing_of(alloc: Global, bytes: &[u8]) -> Result<Listing, AllocError>
+    ensures { IfOk result (IsListing (parts_of bytes.now)) }
+{
+    let parts = parts_of(alloc, bytes)?;
+    let mut listing = gathered(alloc, parts.as_slice())?;
+    put_in_order(&mut listing.names);
+    Ok(listing)
+}
+
+// The names, cut at the NULs.
+fn parts_of(alloc: Global, bytes: &[u8]) -> Result<Vec<&[u8]>, AllocError>
+    ensures { IfOk result (λ parts. map (λ part. part.now) parts.items ≡ parts_of bytes.now) }
+{
+    bytes.split(|byte| *byte == 0).collect(alloc)
+}
+
+// The names that aren't hidden, as they came.
+fn gathered(alloc: Global, parts: &[&[u8]]) -> Result<Listing, AllocError>
+    ensures names { IfOk result (λ listing. map string_bytes listing.names.items ≡ text_names (map (λ part. part.now) parts.now)) }
+    ensures strange { IfOk result (λ listing. strange_bytes listing.strange.items ≡ strange_names (map (λ part. part.now) parts.now)) }
+{
     let mut listing = Listing {
         names: Vec::new(alloc),
         strange: Vec::new(alloc),
     };
-    for name in bytes.split(|byte| *byte == 0) {
-        listing.add(alloc, name)?;
+    for part in parts {
+        listing.add(alloc, part)?;
     }
-    put_in_order(&mut listing.names);
     Ok(listing)
 }
 
@@ -54,9 +101,8 @@ fn put_in_order(names: &mut Vec<String>)
 impl Listing {
     // Adds a name that isn't hidden. The empty name comes after the last one.
     fn add(&mut self, alloc: Global, name: &[u8]) -> Result<(), AllocError>
-        ensures hidden { is_hidden name.now ≡ true → IfOk result (λ _. self.new ≡ self.old) }
-        ensures text { is_hidden name.now ≡ false → IsUtf8 name.now → IfOk result (λ _. map string_bytes self.new.names.items ≡ map string_bytes self.old.names.items ++ name.now ∷ []) }
-        ensures strange { is_hidden name.now ≡ false → (IsUtf8 name.now → ⊥) → IfOk result (λ _. map (λ v. v.items) self.new.strange.items ≡ map (λ v. v.items) self.old.strange.items ++ name.now ∷ []) }
+        ensures names { IfOk result (λ _. map string_bytes self.new.names.items ≡ map string_bytes self.old.names.items ++ text_names (name.now ∷ [])) }
+        ensures strange { IfOk result (λ _. strange_bytes self.new.strange.items ≡ strange_bytes self.old.strange.items ++ strange_names (name.now ∷ [])) }
     {
         if is_hidden(name) {
             return Ok(());
@@ -76,19 +122,6 @@ fn is_hidden(name: &[u8]) -> bool
         [first, ..] => *first == b'.',
         [] => true,
     }
-}
-
-// The names, each ended by a NUL.
-fn all_names<R: Files + AllocGlobal>(rt: &R, folder: &str) -> Result<Vec<u8>, PathError>
-    ensures { IfErr result IsOfReading }
-{
-    let mut path = String::from_str(rt.alloc(), folder)?;
-    path.push('/')?;
-    let mut folder = match rt.open_dir(path.as_str()) {
-        Ok(folder) => folder,
-        Err(error) => return Err(PathError::of_reading(error)),
-    };
-    read_all(rt.alloc(), &mut folder)
 }
 
 // Reads all names of a folder.

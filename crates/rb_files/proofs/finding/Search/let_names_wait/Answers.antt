@@ -1,7 +1,9 @@
-use Rattle.std.proofs.Common.{◌≡◌, ◌∙◌, ℕ, Bool, ◌+◌, ◌-◌, ◌++◌, [], ◌∷◌, List, String, Vec, drop, ap, arith}
+use Rattle.std.proofs.Common.{◌≡◌, ◌∙◌, ℕ, Bool, ◌+◌, ◌-◌, ◌++◌, [], ◌∷◌, List, String, drop, ap, arith}
 use Rattle.std.specs.declared.alloc.Global.{Global}
 use Rattle.rb_files.specs.Finds.{names_of, waiting_of}
+use Rattle.rb_files.specs.declared.finding.Search.{Search}
 use Rattle.rb_files.proofs.FindLaws.{names_step}
+use Rattle.rb_files.proofs.WalkLaws.{wait_on}
 use Rattle.rb_files.proofs.finding.Search.let_names_wait.Goals as goal
 
 pub loop-left-preserved : goal.loop-left-preserved
@@ -16,15 +18,16 @@ loop-left-preserved g c =
     let had : List (List ℕ × Bool) = names_of c.loop-left.self.waiting.items in
     record {
       found = c.in_ok-let_name_wait.ensures.found ∙ c.loop-left.invariant.found;
-      folders = c.in_ok-let_name_wait.ensures.folders ∙ c.loop-left.invariant.folders;
-      ignored = c.in_ok-let_name_wait.ensures.ignored ∙ c.loop-left.invariant.ignored;
+      same = wait_on c.args.self.now c.loop-left.self c.let_name_wait.new.self c.loop-left.invariant.same c.in_ok-let_name_wait.ensures.waits.0;
       waits = names_step ignored folder names k name old had _ c.name_at.ensures
           (c.loop-left.invariant.waits ∙ ap (λ (n : ℕ). old ++ waiting_of ignored folder (drop n names)) on)
-          (c.in_ok-let_name_wait.ensures.waits ∙ ap (λ (v : Vec (String Global) Global). had ++ waiting_of v.items folder (name ∷ [])) c.loop-left.invariant.ignored);
+          (c.in_ok-let_name_wait.ensures.waits.1 ∙ ap (λ (s : Search). had ++ waiting_of s.ignored.items folder (name ∷ [])) c.loop-left.invariant.same);
       within = omega (arith, c.loop-left.invariant.within);
     }
 
 pub returns-clause-waits : goal.returns-clause-waits
 returns-clause-waits g c =
-    let none : c.loop-left.left ≡ 0 = omega (arith, c.loop-left-test.false) in
-    c.loop-left.invariant.waits ∙ ap (λ (n : ℕ). names_of c.args.self.now.waiting.items ++ waiting_of c.args.self.now.ignored.items c.args.folder.now (drop n c.args.names.now)) none
+    let none : c.loop-left.left ≡ 0 = omega (arith, c.loop-left-test.false) in (
+      c.loop-left.invariant.same,
+      c.loop-left.invariant.waits ∙ ap (λ (n : ℕ). names_of c.args.self.now.waiting.items ++ waiting_of c.args.self.now.ignored.items c.args.folder.now (drop n c.args.names.now)) none,
+    )

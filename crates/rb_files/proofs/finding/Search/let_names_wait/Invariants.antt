@@ -6,8 +6,7 @@ use Rattle.rb_files.proofs.finding.Search.let_names_wait.Given as goal
 abbrev pub invariant-loop-left : goal.invariant-loop-left
 invariant-loop-left g l = record {
   found : l.self.found ≡ l.fn.self.found;
-  folders : l.self.folders ≡ l.fn.self.folders;
-  ignored : l.self.ignored ≡ l.fn.self.ignored;
+  same : l.self ≡ record l.fn.self { waiting = l.self.waiting };
   waits : names_of l.self.waiting.items ≡ names_of l.fn.self.waiting.items ++ waiting_of l.fn.self.ignored.items l.folder (drop l.left l.names);
   within : l.left ≤ length l.names;
 }

@@ -7,8 +7,6 @@ abbrev pub invariant-loop-name : goal.invariant-loop-name
 invariant-loop-name g l = record {
   scripts : l.self.found.scripts ≡ l.fn.self.found.scripts;
   told : AreTold l.fn.self.found.lost.items → AreTold l.self.found.lost.items;
-  folders : l.self.folders ≡ l.fn.self.folders;
+  same : l.self ≡ record l.fn.self { found = record l.fn.self.found { lost = l.self.found.lost } };
   lost : losses l.self.found.lost.items ≡ losses l.fn.self.found.lost.items ++ undecodable l.folder (take l.name-index l.name-items);
-  waiting : l.self.waiting ≡ l.fn.self.waiting;
-  ignored : l.self.ignored ≡ l.fn.self.ignored;
 }
