@@ -3,7 +3,10 @@ pub mod CountLaws
 pub mod EndingLaws
 pub mod FormatLaws
 pub mod LineLaws
+pub mod LostLaws
+pub mod NamedLaws
 pub mod PlaceLaws
+pub mod QuietLaws
 pub mod ReasonLaws
 pub mod ReviewLaws
 pub mod ShownLaws

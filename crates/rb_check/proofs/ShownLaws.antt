@@ -1,7 +1,7 @@
 -- What goes out on a report's streams, one text after another.
-use Rattle.std.proofs.Common.{◌≡◌, ◌∙◌, ℕ, Bool, true, false, List, [], ◌++◌, length, Option, Some, None, Result, Ok, Err, refl, ap, sym, subst, append_assoc, append-nil}
+use Rattle.std.proofs.Common.{◌≡◌, ◌∙◌, ℕ, ◌+◌, ◌-◌, ◌^◌, Bool, true, false, List, [], ◌++◌, length, Option, Some, None, Result, Ok, Err, refl, ap, sym, subst, append_assoc, append-nil, arith}
 use Rattle.std.specs.Io.KnownBytes.{Appends, Keeps}
-use Rattle.std.specs.Prelude.{IsOk, not, ◌==◌, if◌then◌else◌, is_some, codes}
+use Rattle.std.specs.Prelude.{IfErr, IfOk, IsOk, min, not, ◌==◌, if◌then◌else◌, is_some, codes}
 use Rattle.std.proofs.KnownBytes.{Appends-nil, Appends-trans, Appends-kept}
 use Rattle.rb_report.specs.declared.check.failure.Failure.TheVariants.{NotShown}
 use Rattle.rb_report.specs.declared.check.outcome.Outcome.TheVariants as outcomes
@@ -18,7 +18,7 @@ use Rattle.rb_check.specs.declared.differing.Differing.{Differing}
 use Rattle.rb_check.specs.declared.remark.Remark.{Remark}
 use Rattle.rb_check.specs.declared.report_state.ReportForm.{ReportForm}
 use Rattle.rb_check.specs.declared.report_state.ReportState.{ReportState}
-use Rattle.rb_check.specs.Shown.{HeldAfter, GoesOut, Told, beginning, begun_text, cleared, clearing, closed, closing_text, differing_text, ending, in_form, lacking, list_text, listed_text, noticed_text, own_after, people_text, programs_text, remark_text}
+use Rattle.rb_check.specs.Shown.{HeldAfter, GoesOut, GoesOutIf, GoesOutInPart, Told, beginning, begun_text, cleared, clearing, closed, closing_text, differing_text, ending, in_form, lacking, lacks_memory, list_text, listed_text, noticed_text, own_after, people_text, programs_text, remark_text}
 
 -- ---- held bytes
 
@@ -92,16 +92,18 @@ own_kept true y a b h e = e
 module _ {one two three : ReportState} {a b c : Option (List ℕ)} {t : List ℕ} where
   -- what the second text is may depend on the report's own failures
   pub goes_then : (text : ReportForm → Totals → List ℕ) → GoesOut one two a b t → GoesOut two three b c (text two.form two.own) → GoesOut one three a c (t ++ text one.form one.own)
-  goes_then text first second = λ memory.
-      let two_out = second memory in
-      let one_out = first two_out.memory in
-      let same : one.is_closed ≡ two.is_closed → text two.form two.own ≡ text one.form one.own = λ e. ap (λ (f : ReportForm). text f two.own) one_out.form ∙ ap (text one.form) (own_kept one.is_closed two.is_closed one.own two.own e one_out.own) in
-      record {
-        form = two_out.form ∙ one_out.form;
-        memory = one_out.memory;
-        held = held_then one.is_closed two.is_closed three.is_closed a b c t (text one.form one.own) one_out.held (held_same one.is_closed two.is_closed three.is_closed a b c t (text two.form two.own) (text one.form one.own) same one_out.held two_out.held);
-        own = own_then one.is_closed two.is_closed three.is_closed one.own two.own three.own a b c t (text two.form two.own) one_out.held two_out.held one_out.own two_out.own;
-      }
+  goes_then text first second = record {
+    form = second.form ∙ first.form;
+    out = λ memory.
+        let two_out = second.out memory in
+        let one_out = first.out two_out.memory in
+        let same : one.is_closed ≡ two.is_closed → text two.form two.own ≡ text one.form one.own = λ e. ap (λ (f : ReportForm). text f two.own) first.form ∙ ap (text one.form) (own_kept one.is_closed two.is_closed one.own two.own e one_out.own) in
+        record {
+          memory = one_out.memory;
+          held = held_then one.is_closed two.is_closed three.is_closed a b c t (text one.form one.own) one_out.held (held_same one.is_closed two.is_closed three.is_closed a b c t (text two.form two.own) (text one.form one.own) same one_out.held two_out.held);
+          own = own_then one.is_closed two.is_closed three.is_closed one.own two.own three.own a b c t (text two.form two.own) one_out.held two_out.held one_out.own two_out.own;
+        };
+  }
 
   pub goes_on : (text : ReportForm → List ℕ) → GoesOut one two a b t → GoesOut two three b c (text two.form) → GoesOut one three a c (t ++ text one.form)
   goes_on text first second = goes_then (λ f own. text f) first second
@@ -117,7 +119,7 @@ own_none false own = refl
 own_none true own = refl
 
 pub goes_nothing : (s : ReportState) (a : Option (List ℕ)) → GoesOut s s a a []
-goes_nothing s a = λ memory. record { form = refl; memory = memory; held = held_none s.is_closed a; own = own_none s.is_closed s.own }
+goes_nothing s a = record { form = refl; out = λ memory. record { memory = memory; held = held_none s.is_closed a; own = own_none s.is_closed s.own } }
 
 -- nothing goes out any more
 held_closed : (x : Bool) (a : Option (List ℕ)) (t : List ℕ) → x ≡ true → HeldAfter x x a a t
@@ -125,11 +127,17 @@ held_closed false a t is = absurd cc
 held_closed true a t is = Appends-nil a
 
 pub goes_nowhere : (s : ReportState) (a : Option (List ℕ)) (t : List ℕ) → s.is_closed ≡ true → GoesOut s s a a t
-goes_nowhere s a t is = λ memory. record { form = refl; memory = memory; held = held_closed s.is_closed a t is; own = own_none s.is_closed s.own }
+goes_nowhere s a t is = record { form = refl; out = λ memory. record { memory = memory; held = held_closed s.is_closed a t is; own = own_none s.is_closed s.own } }
+
+one_lacks : (w : ℕ) → not (min (w + 1) (2 ^ 64 - 1) == 0) ≡ true
+one_lacks w = grind arith
+
+none_lacks : (w : ℕ) → not (min (w + 0) (2 ^ 64 - 1) == 0) ≡ false → not (w == 0) ≡ false
+none_lacks w none = grind arith
 
 -- memory was refused for it
 pub goes_lacking : (s t : ReportState) (a b : Option (List ℕ)) (text : List ℕ) → t ≡ lacking s → GoesOut s t a b text
-goes_lacking s t a b text is = λ memory. let no : true ≡ false = sym (ap (λ (v : ReportState). v.lacks_memory) is) ∙ memory in absurd cc
+goes_lacking s t a b text is = record { form = ap (λ (v : ReportState). v.form) is; out = λ memory. let no : true ≡ false = sym (ap lacks_memory is ∙ one_lacks s.own.without_memory) ∙ memory in absurd cc }
 
 -- ---- a text that was put, and handed on
 
@@ -138,7 +146,7 @@ held_open false a b t is h = h
 held_open true a b t is h = absurd cc
 
 pub goes_whole : {s : ReportState} {a c : Option (List ℕ)} {t : List ℕ} (b : Option (List ℕ)) → s.is_closed ≡ false → Appends a b t → Keeps b c → GoesOut s s a c t
-goes_whole {s} {a} {c} {t} b not_closed h k = λ memory. record { form = refl; memory = memory; held = held_open s.is_closed a c t not_closed (Appends-kept a b c t h k); own = own_none s.is_closed s.own }
+goes_whole {s} {a} {c} {t} b not_closed h k = record { form = refl; out = λ memory. record { memory = memory; held = held_open s.is_closed a c t not_closed (Appends-kept a b c t h k); own = own_none s.is_closed s.own } }
 
 held_failed : (x : Bool) {a b : Option (List ℕ)} {t : List ℕ} → x ≡ false → AppendsFront a b t → HeldAfter x true a b t
 held_failed false is h = h
@@ -149,14 +157,29 @@ own_failed false own is = refl
 own_failed true own is = absurd cc
 
 went_failed : {s : ReportState} {a b c : Option (List ℕ)} {t : List ℕ} → s.is_closed ≡ false → AppendsFront a b t → Keeps b c → GoesOut s (closed s) a c t
-went_failed {s} not_closed f k = λ memory. record { form = refl; memory = memory; held = held_failed s.is_closed not_closed (front_flushed f k); own = own_failed s.is_closed s.own not_closed }
+went_failed {s} not_closed f k = record { form = refl; out = λ memory. record { memory = none_lacks s.own.without_memory memory; held = held_failed s.is_closed not_closed (front_flushed f k); own = own_failed s.is_closed s.own not_closed } }
 
 pub goes_failed : {s u : ReportState} {a b c d : Option (List ℕ)} {t : List ℕ} → s.is_closed ≡ false → AppendsFront a b t → Keeps b c → u ≡ closed s → d ≡ c → GoesOut s u a d t
 goes_failed {s} {u} {a} {b} {c} {d} {t} not_closed f k is at =
     subst (λ (v : ReportState). GoesOut s v a d t) (sym is) (subst (λ (e : Option (List ℕ)). GoesOut s (closed s) a e t) (sym at) (went_failed not_closed f k))
 
+-- a beginning of a text was put
+pub goes_front : {s : ReportState} {a b : Option (List ℕ)} {t : List ℕ} → s.is_closed ≡ false → AppendsFront a b t → GoesOutInPart s s a b
+goes_front {s} {a} {b} not_closed f = record {
+  text = f.front;
+  out = record { form = refl; out = λ memory. record { memory = memory; held = held_open s.is_closed a b f.front not_closed f.appended; own = own_none s.is_closed s.own } };
+}
+
 pub along : {s u : ReportState} {a b : Option (List ℕ)} {t v : List ℕ} → t ≡ v → GoesOut s u a b t → GoesOut s u a b v
 along {s} {u} {a} {b} e h = subst (λ (l : List ℕ). GoesOut s u a b l) e h
+
+-- nothing was put
+pub goes_kept : (s : ReportState) {a b : Option (List ℕ)} → Keeps a b → GoesOut s s a b []
+goes_kept s {a} {b} k = record { form = refl; out = λ memory. record { memory = memory; held = held_kept s.is_closed a b k; own = own_none s.is_closed s.own } }
+  where
+    held_kept : (x : Bool) (a b : Option (List ℕ)) → Keeps a b → HeldAfter x x a b []
+    held_kept false a b k = Appends-kept a a b [] (Appends-nil a) k
+    held_kept true a b k = Appends-kept a a b [] (Appends-nil a) k
 
 -- ---- by equations
 
@@ -184,6 +207,50 @@ pub goes_shown : {X : Type 0} (s u n : ReportState) (a b c d : Option (List ℕ)
     → Writes r b c t → ((before : Option (List ℕ)) (text : List ℕ) → u.is_closed ≡ false → Writes r before c text → GoesOut u n before d text) → GoesOut s n a d t
 goes_shown s u n a b c d t r found e f is open_is put shows =
     goes_from e (shows a t (ap (λ (v : ReportState). v.is_closed) e ∙ not_closed_true s.is_closed (sym is ∙ open_is)) (subst (λ (h : Option (List ℕ)). Writes r h c t) f put))
+
+-- after how bytes go out has changed
+pub goes_heeded : {s u n : ReportState} {a b c : Option (List ℕ)} {t : List ℕ} → u ≡ s → Keeps a b → GoesOut u n b c t → GoesOut s n a c t
+goes_heeded {s} {u} {n} {a} {b} {c} {t} e k out = goes_from e (goes_on (λ (f : ReportForm). t) (goes_kept u k) out)
+
+-- ---- where a call may fail
+
+pub part_nothing : (s : ReportState) (a : Option (List ℕ)) → GoesOutInPart s s a a
+part_nothing s a = record { text = []; out = goes_nothing s a }
+
+pub part_whole : {s u : ReportState} {a b : Option (List ℕ)} (t : List ℕ) → GoesOut s u a b t → GoesOutInPart s u a b
+part_whole t out = record { text = t; out = out }
+
+pub part_then : {one two three : ReportState} {a b c : Option (List ℕ)} {t : List ℕ} → GoesOut one two a b t → GoesOutInPart two three b c → GoesOutInPart one three a c
+part_then {t = t} first part = record { text = t ++ part.text; out = goes_on (λ (f : ReportForm). part.text) first part.out }
+
+pub if_along : {X E : Type 0} (r : Result X E) (s u : ReportState) (a b : Option (List ℕ)) (t v : List ℕ) → t ≡ v → GoesOutIf r s u a b t → GoesOutIf r s u a b v
+if_along r s u a b t v e h = subst (λ (l : List ℕ). GoesOutIf r s u a b l) e h
+
+pub if_from : {X E : Type 0} (r : Result X E) (s u n : ReportState) (a b : Option (List ℕ)) (t : List ℕ) → u ≡ s → GoesOutIf r u n a b t → GoesOutIf r s n a b t
+if_from r s u n a b t e h = subst (λ (v : ReportState). GoesOutIf r v n a b t) e h
+
+-- one text after another, of which the second may fail
+pub if_ok : {X E : Type 0} {P : Type 0} (r : Result X E) (one two three : ReportState) (a b c : Option (List ℕ)) (t u : List ℕ) → GoesOut one two a b t → GoesOutIf r two three b c u → (GoesOut one three a c (t ++ u) → P) → IfOk r (λ _. P)
+if_ok (Ok x) one two three a b c t u first second so = so (goes_on (λ (form : ReportForm). u) first second)
+if_ok (Err e) one two three a b c t u first second so = tt
+
+pub if_err : {X E : Type 0} (r : Result X E) (one two three : ReportState) (a b c : Option (List ℕ)) (t u : List ℕ) → GoesOut one two a b t → GoesOutIf r two three b c u → IfErr r (λ _. GoesOutInPart one three a c)
+if_err (Ok x) one two three a b c t u first second = tt
+if_err (Err e) one two three a b c t u first second = part_then first second
+
+pub ok_so : {X E : Type 0} {P Q : Type 0} (r : Result X E) → (P → Q) → IfOk r (λ _. P) → IfOk r (λ _. Q)
+ok_so (Ok x) so p = so p
+ok_so (Err e) so p = tt
+
+pub on_err : {X E : Type 0} {P : Type 0} (r : Result X E) → P → IfErr r (λ _. P)
+on_err (Ok x) p = tt
+on_err (Err e) p = p
+
+-- the output was found open, and a script was shown
+pub goes_showed : {X Y E : Type 0} (s u n : ReportState) (a b c d : Option (List ℕ)) (t : List ℕ) (r : Result X ShowFault) (done : Result Y E) (found : Bool) → u ≡ s → b ≡ a → found ≡ not s.is_closed → found ≡ true
+    → Shows r b c t → ((before : Option (List ℕ)) (text : List ℕ) → u.is_closed ≡ false → Shows r before c text → GoesOutIf done u n before d text) → GoesOutIf done s n a d t
+goes_showed s u n a b c d t r done found e f is open_is put shows =
+    if_from done s u n a d t e (shows a t (ap (λ (v : ReportState). v.is_closed) e ∙ not_closed_true s.is_closed (sym is ∙ open_is)) (subst (λ (h : Option (List ℕ)). Shows r h c t) f put))
 
 -- ---- what is said of a script
 
@@ -215,11 +282,11 @@ module _ {s u : ReportState} {a b : Option (List ℕ)} (form : ReportForm) where
   pub closed_people : (t : Totals) (ms : ℕ) → form.format ≡ None → GoesOut s u a b (totals_text t ms) → GoesOut s u a b (closing_text form t ms)
   closed_people t ms e h = subst (λ (f : Option Format). GoesOut s u a b (in_form f (totals_text t ms) (ending t))) (sym e) h
 
-none_listed : (o : Option Format) (t : List ℕ) → is_some o ≡ true → in_form o t (λ _. []) ≡ []
+pub none_listed : (o : Option Format) (t : List ℕ) → is_some o ≡ true → in_form o t (λ _. []) ≡ []
 none_listed None t is = absurd cc
 none_listed (Some f) t is = refl
 
-all_listed : (o : Option Format) (t : List ℕ) → is_some o ≡ false → in_form o t (λ _. []) ≡ t
+pub all_listed : (o : Option Format) (t : List ℕ) → is_some o ≡ false → in_form o t (λ _. []) ≡ t
 all_listed None t is = refl
 all_listed (Some f) t is = absurd cc
 

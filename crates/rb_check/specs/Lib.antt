@@ -8,9 +8,11 @@ pub mod Xml
 pub mod Junit
 pub mod Formats
 pub mod Endings
+pub mod Lost
 pub mod Place
 pub mod Reasons
 pub mod Reported
 pub mod Reviews
+pub mod ScriptTexts
 pub mod Shown
 pub mod Visible

@@ -176,3 +176,10 @@ review_of review left questions = reviewed_all (reviewing [] (review_behind revi
 -- what is said where a review ends before all scripts were looked at
 abbrev pub quit_text : ℕ → ℕ → List ℕ
 quit_text accepted left = codes "the review ends here; accepted so far: " ++ (decimal accepted ++ (codes "; scripts not looked at: " ++ (decimal left ++ codes "\n")))
+
+-- at the end of all scripts it is said only of a review that has ended
+abbrev pub review_end : Review → ℕ → ℕ → List ℕ
+review_end reviews.Each accepted left = []
+review_end reviews.Rest accepted left = []
+review_end reviews.Skipped accepted left = []
+review_end reviews.Over accepted left = quit_text accepted left

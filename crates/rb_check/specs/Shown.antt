@@ -1,11 +1,13 @@
 -- What a report writes on its streams. (This project's.)
-use Rattle.std.specs.Prelude.{◌≡◌, ℕ, Bool, true, false, if◌then◌else◌, ◌==◌, List, [], ◌∷◌, ◌++◌, Option, None, Some, codes, decimal, string_bytes, length}
+use Rattle.std.specs.Prelude.{◌≡◌, ℕ, Bool, true, false, not, if◌then◌else◌, ◌==◌, ◌&&◌, ◌||◌, nat_lt, List, [], ◌∷◌, ◌++◌, Option, None, Some, is_some, Result, Ok, Err, codes, decimal, string_bytes, length}
 use Rattle.std.specs.List.{flat_map}
 use Rattle.std.specs.Io.KnownBytes.{Appends}
+use Rattle.rb_files.specs.declared.path_error.PathError.{PathError}
 use Rattle.rb_script.specs.Writes.{AppendsFront}
 use Rattle.rb_report.specs.declared.check.colors.Colors.{Colors}
 use Rattle.rb_report.specs.declared.check.colors.Colors.TheVariants.{Off}
-use Rattle.rb_report.specs.declared.check.failure.Failure.TheVariants.{NotShown, OutOfMemory}
+use Rattle.rb_report.specs.declared.check.failure.Failure.{Failure}
+use Rattle.rb_report.specs.declared.check.failure.Failure.TheVariants.{NotRead, NotShown, NotWritten, OutOfMemory}
 use Rattle.rb_report.specs.declared.check.outcome.Outcome.TheVariants as outcomes
 use Rattle.rb_report.specs.declared.check.totals.Totals.{Totals}
 use Rattle.rb_report.specs.Briefs.{brief_text}
@@ -16,6 +18,8 @@ use Rattle.rb_report.specs.Pieces.{noun}
 use Rattle.rb_report.specs.Refusals.{fault_line, refusal_text, sentence}
 use Rattle.rb_report.specs.Shown.{escape}
 use Rattle.rb_script_report.specs.declared.accept_options.AcceptFilter.{AcceptFilter}
+use Rattle.rb_script_report.specs.declared.view.Detail.{Detail}
+use Rattle.rb_script_report.specs.declared.view.Detail.TheVariants as details
 use Rattle.rb_script_report.specs.declared.warning.Warning.{Warning}
 use Rattle.rb_script_report.specs.Accepting.{is_picked}
 use Rattle.rb_check.specs.declared.check_request.CheckRequest.{CheckRequest}
@@ -43,7 +47,6 @@ abbrev pub started : CheckRequest → ReportState
 started asked = record {
   form = record { format = asked.format; is_strict = asked.is_strict };
   is_closed = asked.is_quiet;
-  lacks_memory = false;
   own = nothing;
 }
 
@@ -53,7 +56,11 @@ closed s = record s { is_closed = true; own = together s.own (of_outcome (outcom
 
 -- memory was refused for one of its texts
 abbrev pub lacking : ReportState → ReportState
-lacking s = record s { lacks_memory = true; own = together s.own (of_outcome (outcomes.Failed OutOfMemory)) }
+lacking s = record s { own = together s.own (of_outcome (outcomes.Failed OutOfMemory)) }
+
+-- it was refused for some text: then that is the check's status
+abbrev pub lacks_memory : ReportState → Bool
+lacks_memory s = not (s.own.without_memory == 0)
 
 -- ---- what goes out
 
@@ -72,14 +79,24 @@ own_after true is own = own
 
 -- the text went out on standard output, unless that failed
 pub record WentOut (old new : ReportState) (before after : Option (List ℕ)) (text : List ℕ) : Type 0 where
-  pub form : new.form ≡ old.form
-  pub memory : old.lacks_memory ≡ false
+  pub memory : lacks_memory old ≡ false
   pub held : HeldAfter old.is_closed new.is_closed before after text
   pub own : new.own ≡ own_after old.is_closed new.is_closed old.own
 
 -- the same, unless memory was refused for a text of the report
-abbrev pub GoesOut : ReportState → ReportState → Option (List ℕ) → Option (List ℕ) → List ℕ → Type 0
-GoesOut old new before after text = new.lacks_memory ≡ false → WentOut old new before after text
+pub record GoesOut (old new : ReportState) (before after : Option (List ℕ)) (text : List ℕ) : Type 0 where
+  pub form : new.form ≡ old.form
+  pub out : lacks_memory new ≡ false → WentOut old new before after text
+
+-- some text went out
+pub record GoesOutInPart (old new : ReportState) (before after : Option (List ℕ)) : Type 0 where
+  pub text : List ℕ
+  pub out : GoesOut old new before after text
+
+-- the text went out; or the call failed, and some text did
+abbrev pub GoesOutIf : {X E : Type 0} → Result X E → ReportState → ReportState → Option (List ℕ) → Option (List ℕ) → List ℕ → Type 0
+GoesOutIf (Ok x) old new before after text = GoesOut old new before after text
+GoesOutIf (Err e) old new before after text = GoesOutInPart old new before after
 
 -- the text was written, if the stream takes all
 abbrev pub Told : Type 0 → Type 0 → Option (List ℕ) → Option (List ℕ) → List ℕ → Type 0
@@ -208,6 +225,17 @@ closing_text form t ms = in_form form.format (totals_text t ms) (ending t)
 abbrev pub end_text : Bool → ReportForm → List Differing → Totals → ℕ → List ℕ
 end_text lists form ds t ms = listed_text lists form ds ++ closing_text form t ms
 
+-- the scripts that differ are listed, where there are several scripts and not each has its line already
+abbrev pub lists : Detail → ℕ → Bool
+lists details.Brief n = false
+lists details.First n = nat_lt 1 n
+lists details.Differing n = nat_lt 1 n
+lists details.All n = nat_lt 1 n
+
+-- nothing is said at the end if there is no script, unless programs read it
+abbrev pub last_text : CheckRequest → ℕ → ReportForm → List Differing → Totals → ℕ → List ℕ
+last_text asked n form ds t milliseconds = if nat_lt 0 n || is_some form.format then end_text (lists asked.shown n) form ds t milliseconds else []
+
 -- ---- the stream of errors
 
 -- the cursor goes back to the line's first column, and the line is cleared (ECMA-48)
@@ -219,6 +247,26 @@ cleared shows_progress = if shows_progress then clearing else []
 
 abbrev pub progress_text : ℕ → ℕ → List ℕ
 progress_text done all = clearing ++ (decimal done ++ (codes " of " ++ (decimal all ++ codes " scripts")))
+
+-- whether the failure alone says too little
+abbrev pub says_little : Failure → Bool
+says_little NotRead = true
+says_little NotWritten = true
+says_little other = false
+
+-- then the system's words follow, if there is an error of the system's
+abbrev pub says_cause : PathError → Bool
+says_cause error = says_little error.failure && is_some error.cause
+
+abbrev pub cause_line : List ℕ → List ℕ → List ℕ
+cause_line path words = path ++ (codes ": " ++ (words ++ codes "\n"))
+
+abbrev pub cause_text : Bool → List ℕ → List ℕ → List ℕ
+cause_text says path words = if says then cause_line path words else []
+
+-- why a path failed, and what the system says of it
+abbrev pub failure_lines : List ℕ → PathError → List ℕ → List ℕ
+failure_lines path error words = failure_text path error.failure ++ cause_text (says_cause error) path words
 
 -- a new file that could be neither used nor removed
 abbrev pub left_file_text : List ℕ → List ℕ

@@ -1,17 +1,18 @@
 //! Showing the directives that are named, and nothing else of their script.
 
-ghost use Rattle.std.specs.Prelude.{◌≡◌, ◌<◌, length};
+ghost use Rattle.std.specs.Prelude.{◌≡◌, ◌+◌, ◌<◌, IfErr, IfOk, length};
 ghost use Rattle.rb_script_report.specs.Layouts.{IsLayout};
+ghost use Rattle.rb_check.specs.ScriptTexts.{AreShown, alone_text};
+ghost use Rattle.rb_check.specs.Shown.{GoesOutIf, GoesOutInPart};
 
-use crate::check_request::CheckRequest;
 use crate::checked_script::CheckedScript;
 use crate::place::place_at;
 use crate::report::Report;
 use crate::report_sink::ReportSink;
 use rb_files::PathError;
 use rb_machine::Machine;
-use rb_report::check::Failure;
-use rb_script_report::{Detail, ShownScript, View, put_alone};
+use rb_report::check::{Colors, Failure};
+use rb_script_report::{Detail, ShownScript, View, number_at, put_alone};
 use std::alloc::Global;
 
 /// Shows the last directive whose head is at each of the lines or above it: what differs, or else its output.
@@ -21,19 +22,22 @@ use std::alloc::Global;
 /// If there is no directive at a line or above it, or memory was refused.
 pub(crate) fn show_alone<M: Machine, W: ReportSink, E: ReportSink>(
     alloc: Global,
-    asked: &CheckRequest<'_>,
+    colors: Colors,
     subject: &CheckedScript<'_, M>,
     lines: &[usize],
     report: &mut Report<W, E>,
 ) -> Result<(), PathError>
     requires { IsLayout subject.now.text.now.bytes.items subject.now.session.now.script subject.now.layout.now }
-    ensures { report.new.counts ≡ report.old.counts }
+    ensures counts { report.new.counts ≡ report.old.counts }
+    ensures shown { IfOk result (λ _. AreShown (alone_text colors subject.now.path.now subject.now.layout.now subject.now.whys.now subject.now.session.now.script) subject.now.layout.now.heads.items lines.now report.old.state report.new.state (W.held report.old.output) (W.held report.new.output)) }
+    ensures part { IfErr result (λ _. GoesOutInPart report.old.state report.new.state (W.held report.old.output) (W.held report.new.output)) }
 {
-    for line in lines {
-        let Some((place, _)) = place_at(subject.layout.heads.as_slice(), *line) else {
+    for i in 0..lines.len() {
+        let line = number_at(lines, i);
+        let Some((place, _)) = place_at(subject.layout.heads.as_slice(), line) else {
             return Err(PathError::alone(Failure::NoDirective));
         };
-        show_directive(alloc, asked, subject, place - 1, report)?;
+        show_directive(alloc, colors, subject, place - 1, report)?;
     }
     Ok(())
 }
@@ -41,21 +45,22 @@ pub(crate) fn show_alone<M: Machine, W: ReportSink, E: ReportSink>(
 // Shows the directive at an index.
 fn show_directive<M: Machine, W: ReportSink, E: ReportSink>(
     alloc: Global,
-    asked: &CheckRequest<'_>,
+    colors: Colors,
     subject: &CheckedScript<'_, M>,
     index: usize,
     report: &mut Report<W, E>,
 ) -> Result<(), PathError>
     requires layout { IsLayout subject.now.text.now.bytes.items subject.now.session.now.script subject.now.layout.now }
     requires within { index < length subject.now.layout.now.heads.items }
-    ensures { report.new.counts ≡ report.old.counts }
+    ensures counts { report.new.counts ≡ report.old.counts }
+    ensures shown { GoesOutIf result report.old.state report.new.state (W.held report.old.output) (W.held report.new.output) (alone_text colors subject.now.path.now subject.now.layout.now subject.now.whys.now subject.now.session.now.script (index + 1)) }
 {
     if !report.is_open() {
         return Ok(());
     }
     let view = View {
         path: subject.path.as_bytes(),
-        colors: report.colors(asked.colors),
+        colors,
         shown: Detail::All,
     };
     let run = ShownScript {

@@ -1,6 +1,6 @@
 //! Checking one script. Nothing is held longer than its script.
 
-ghost use Rattle.std.specs.Prelude.{◌≡◌, ◌≢◌, ◌<◌, ℕ, [], IfOk, IfErr, length};
+ghost use Rattle.std.specs.Prelude.{◌≡◌, ◌≢◌, ℕ, [], IfOk, IfErr, length};
 ghost use Rattle.rb_replay.specs.Report.{mismatches};
 ghost use Rattle.rb_script_report.specs.Layouts.{IsLayout};
 ghost use Rattle.rb_check.specs.Findings.{AreFindings};
@@ -9,30 +9,24 @@ ghost use Rattle.rb_check.specs.Reported.{Reported};
 ghost use Rattle.rb_check.specs.Endings.{AcceptsSaid, AreWanted, EndsAs, ending_at, has_warnings};
 
 use crate::accepting::accept;
-use crate::alone::show_alone;
 use crate::check_request::CheckRequest;
 use crate::checked_script::CheckedScript;
 use crate::ending::{CheckEnding, ending_of};
-use crate::format::Format;
-use crate::formatted::formatted;
 use crate::person::Person;
-use crate::picking::{lines_alone, named_heads, picked_of};
+use crate::picking::{named_heads, picked_of};
 use crate::ran::{Ran, ScriptEnd};
 use crate::reasons::run_script;
 use crate::report::Report;
 use crate::report_sink::ReportSink;
 use crate::review::{Reviewer, reviewed};
 use crate::runner::Runner;
+use crate::showing::tell;
 use crate::system::{System, Text};
 use rb_files::PathError;
 use rb_machine::Machine;
 use rb_replay::{Session, StartFault};
 use rb_report::check::Failure;
-use rb_script_report::{
-    AcceptFilter, AcceptOptions, Detail, Layout, View, Warning, is_quiet, put_checked, summary_of,
-    warnings,
-};
-use std::alloc::{AllocError, Global};
+use rb_script_report::{AcceptFilter, AcceptOptions, Layout, Warning, summary_of, warnings};
 
 /// Checks the script at the path: shows its mismatches, and accepts them if that was asked for.
 ///
@@ -149,32 +143,6 @@ fn ending_at<M: Machine>(
     ending_of(asked, is_warned, subject.session.mismatches().len())
 }
 
-// Shows what there is to show: the directives that are named alone, or the lines that look like a slip and what differs.
-fn tell<M: Machine, S: System, W: ReportSink, E: ReportSink>(
-    system: &S,
-    asked: &CheckRequest<'_>,
-    subject: &CheckedScript<'_, M>,
-    report: &mut Report<W, E>,
-) -> Result<(), PathError>
-    requires { AreFindings subject.now.text.now.bytes.items subject.now.session.now.script subject.now.layout.now subject.now.warnings.now subject.now.ran }
-    ensures { report.new.counts ≡ report.old.counts }
-{
-    let alloc = system.alloc();
-    if let Some(lines) = lines_alone(system, asked, subject.path)? {
-        return show_alone(alloc, asked, subject, &lines, report);
-    }
-    if warns(asked, subject.session) {
-        report.warn(subject.path, subject.warnings);
-    }
-    show(alloc, asked, subject, report)
-}
-
-// Whether the lines that look like a slip are shown.
-fn warns<M: Machine>(asked: &CheckRequest<'_>, session: &Session<M>) -> bool {
-    let may_accept = asked.accepts && !session.mismatches().is_empty();
-    may_accept || asked.is_strict || shows_warnings(asked.shown)
-}
-
 // Accepts the outputs that are said yes to.
 fn accept_reviewed<M: Machine, S: System, P: Person, W: ReportSink, E: ReportSink>(
     system: &S,
@@ -201,77 +169,4 @@ fn wanted_of(said: &[usize]) -> AcceptOptions<'_>
         picked: AcceptFilter::Heads(said),
         errors: true,
     }
-}
-
-// With less detail than the mismatches only that is shown, and why nothing is accepted.
-fn shows_warnings(shown: Detail) -> bool {
-    match shown {
-        Detail::Differing | Detail::All => true,
-        Detail::First | Detail::Brief => false,
-    }
-}
-
-// Shows the script's report to people or programs. If it is empty, nothing is computed.
-fn show<M: Machine, W: ReportSink, E: ReportSink>(
-    alloc: Global,
-    asked: &CheckRequest<'_>,
-    subject: &CheckedScript<'_, M>,
-    report: &mut Report<W, E>,
-) -> Result<(), PathError>
-    requires { AreFindings subject.now.text.now.bytes.items subject.now.session.now.script subject.now.layout.now subject.now.warnings.now subject.now.ran }
-    ensures { report.new.counts ≡ report.old.counts }
-{
-    if asked.format != Some(Format::Junit) && is_quiet(subject.session, asked.shown) {
-        return Ok(());
-    }
-    match asked.format {
-        Some(format) => Ok(show_programs(alloc, format, asked.is_strict, subject, report)?),
-        None => show_people(alloc, asked, subject, report),
-    }
-}
-
-// Shows the script's report to people.
-fn show_people<M: Machine, W: ReportSink, E: ReportSink>(
-    alloc: Global,
-    asked: &CheckRequest<'_>,
-    subject: &CheckedScript<'_, M>,
-    report: &mut Report<W, E>,
-) -> Result<(), PathError>
-    requires { IsLayout subject.now.text.now.bytes.items subject.now.session.now.script subject.now.layout.now }
-    ensures { report.new.counts ≡ report.old.counts }
-{
-    if !report.is_open() {
-        return Ok(());
-    }
-    let view = View {
-        path: subject.path.as_bytes(),
-        colors: report.colors(asked.colors),
-        shown: asked.shown,
-    };
-    let sink = &mut report.output;
-    let shown = put_checked(
-        alloc,
-        sink,
-        subject.session,
-        subject.layout,
-        view,
-        subject.whys,
-    );
-    report.showed(shown)
-}
-
-// Shows the script's report to programs.
-fn show_programs<M: Machine, W: ReportSink, E: ReportSink>(
-    alloc: Global,
-    format: Format,
-    is_strict: bool,
-    subject: &CheckedScript<'_, M>,
-    report: &mut Report<W, E>,
-) -> Result<(), AllocError>
-    requires { AreFindings subject.now.text.now.bytes.items subject.now.session.now.script subject.now.layout.now subject.now.warnings.now subject.now.ran }
-    ensures { report.new.counts ≡ report.old.counts }
-{
-    let text = formatted(alloc, format, is_strict, subject)?;
-    report.put(&text);
-    Ok(())
 }

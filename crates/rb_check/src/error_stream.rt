@@ -1,9 +1,8 @@
 //! The stream of errors: failures, and how far the work is.
 
-ghost use Rattle.std.specs.Prelude.{◌≡◌, ℕ, List, ◌++◌, false, IsOk};
+ghost use Rattle.std.specs.Prelude.{◌≡◌, ℕ, List, ◌++◌, false, is_some, IsOk, IsSome};
 ghost use Rattle.rb_script.specs.Writes.{Writes};
-ghost use Rattle.rb_report.specs.Failures.{failure_text};
-ghost use Rattle.rb_check.specs.Shown.{Told, cleared, progress_text};
+ghost use Rattle.rb_check.specs.Shown.{Told, cause_line, cleared, failure_lines, progress_text, says_cause, says_little};
 
 use crate::notes::Note;
 use crate::report_sink::ReportSink;
@@ -64,7 +63,7 @@ impl<E: ReportSink> ErrorStream<E> {
     /// Writes why a path failed, and what the system says of it, if the failure alone says too little.
     pub(crate) fn tell_failure(&mut self, path: &[u8], error: PathError)
         ensures shown { self.new.shows_progress ≡ false }
-        ensures told { (cause : List ℕ) × Told (E.takes_all self.old.sink) (E.takes_all self.new.sink) (E.held self.old.sink) (E.held self.new.sink) (cleared self.old.shows_progress ++ (failure_text path.now error.failure ++ cause)) }
+        ensures told { (words : List ℕ) × Told (E.takes_all self.old.sink) (E.takes_all self.new.sink) (E.held self.old.sink) (E.held self.new.sink) (cleared self.old.shows_progress ++ failure_lines path.now error words) }
     {
         let failure = error.failure;
         self.tell(&Note::Failure(path, failure));
@@ -76,7 +75,7 @@ impl<E: ReportSink> ErrorStream<E> {
 
     fn tell_cause(&mut self, path: &[u8], cause: io::Error)
         ensures shown { self.new.shows_progress ≡ self.old.shows_progress }
-        ensures told { (words : List ℕ) × Told (E.takes_all self.old.sink) (E.takes_all self.new.sink) (E.held self.old.sink) (E.held self.new.sink) words }
+        ensures told { (words : List ℕ) × Told (E.takes_all self.old.sink) (E.takes_all self.new.sink) (E.held self.old.sink) (E.held self.new.sink) (cause_line path.now words) }
     {
         let _ = put_cause(&mut self.sink, path, cause);
         let _ = self.sink.flush();
@@ -94,7 +93,7 @@ impl<E: ReportSink> ErrorStream<E> {
 
 // Writes what the system says of a path's error, in a line.
 fn put_cause<E: ReportSink>(sink: &mut E, path: &[u8], cause: io::Error) -> Result<(), WriteFault>
-    ensures wrote { (words : List ℕ) × Writes result (E.held sink.old) (E.held sink.new) words }
+    ensures wrote { (words : List ℕ) × Writes result (E.held sink.old) (E.held sink.new) (cause_line path.now words) }
     ensures all { E.takes_all sink.old → IsOk result × E.takes_all sink.new }
 {
     sink.put(path)?;
@@ -120,8 +119,11 @@ fn put_progress<E: ReportSink>(sink: &mut E, done: usize, all: usize) -> Result<
 }
 
 // The system's error, if the failure alone says too little.
-fn said_cause(error: PathError) -> Option<io::Error> {
-    if tells_too_little(error.failure) {
+fn said_cause(error: PathError) -> Option<io::Error>
+    ensures said { is_some result ≡ says_cause error }
+    ensures own { IsSome result → result ≡ error.cause }
+{
+    if says_little(error.failure) {
         error.cause
     } else {
         None
@@ -129,7 +131,9 @@ fn said_cause(error: PathError) -> Option<io::Error> {
 }
 
 // Whether the system's own words say more.
-fn tells_too_little(failure: Failure) -> bool {
+fn says_little(failure: Failure) -> bool
+    ensures { result ≡ says_little failure }
+{
     match failure {
         Failure::NotRead | Failure::NotWritten => true,
         _ => false,

@@ -47,6 +47,7 @@ mod report_sink;
 mod report_state;
 mod review;
 mod runner;
+mod showing;
 mod system;
 mod target;
 mod totals_object;

@@ -1,8 +1,13 @@
 //! `raftbench check`: scripts, and folders of scripts.
 
-ghost use Rattle.std.specs.Prelude.{◌≡◌, ◌≢◌, ◌≤◌, IfOk, IfErr, length};
-ghost use Rattle.rb_check.specs.Reported.{AreCounted, IsCheckStatus, IsCounted};
+ghost use Rattle.std.specs.Prelude.{◌≡◌, ◌≢◌, ◌≤◌, IfOk, IfErr, length, map};
 ghost use Rattle.std.specs.IoError.{error_kind};
+ghost use Rattle.rb_report.specs.declared.check.outcome.Outcome.TheVariants.{Failed};
+ghost use Rattle.rb_report.specs.Counts.{of_outcome, together};
+ghost use Rattle.rb_check.specs.Lost.{counted_failures, lost_failures, lost_text, path_failure, path_text, paths_text, whole_failure, whole_text};
+ghost use Rattle.rb_check.specs.Reported.{AreCounted, IsCheckStatus, IsCounted};
+ghost use Rattle.rb_check.specs.Reviews.{review_end};
+ghost use Rattle.rb_check.specs.Shown.{GoesOut, last_text, lists};
 
 use crate::check_request::CheckRequest;
 use crate::checking::check_script;
@@ -13,7 +18,7 @@ use crate::report_sink::{ReportSink, stream_over};
 use crate::review::{Review, Reviewer};
 use crate::runner::Runner;
 use crate::system::{RuntimeSystem, System};
-use rb_files::{Found, PathError, find};
+use rb_files::{FailedPath, Found, PathError, find};
 use rb_report::check::{Failure, Status};
 use rb_script_report::Detail;
 use rb_text::FailFast;
@@ -91,7 +96,9 @@ fn tell_progress<C: Clock, W: ReportSink, E: ReportSink>(
     all: usize,
     report: &mut Report<W, E>,
 )
-    ensures { report.new.counts ≡ report.old.counts }
+    ensures counts { report.new.counts ≡ report.old.counts }
+    ensures state { report.new.state ≡ report.old.state }
+    ensures output { report.new.output ≡ report.old.output }
 {
     if progress.is_due(clock) {
         report.show_progress(done, all);
@@ -100,7 +107,8 @@ fn tell_progress<C: Clock, W: ReportSink, E: ReportSink>(
 
 // If the review ended, says how many scripts are left.
 fn end_review<W: ReportSink, E: ReportSink>(review: Review, left: usize, report: &mut Report<W, E>)
-    ensures { report.new.counts ≡ report.old.counts }
+    ensures counts { report.new.counts ≡ report.old.counts }
+    ensures shown { GoesOut report.old.state report.new.state (W.held report.old.output) (W.held report.new.output) (review_end review report.old.counts.accepted left) }
 {
     if review == Review::Over {
         report.tell_quit(left);
@@ -130,24 +138,68 @@ fn end<W: ReportSink, E: ReportSink>(
     milliseconds: u64,
     report: &mut Report<W, E>,
 )
-    ensures { report.new.counts ≡ report.old.counts }
+    ensures counts { report.new.counts ≡ report.old.counts }
+    ensures shown { GoesOut report.old.state report.new.state (W.held report.old.output) (W.held report.new.output)
+        (last_text asked.now n report.old.state.form report.old.differing.items (together report.old.counts report.old.state.own) milliseconds) }
 {
     if n > 0 || report.is_for_programs() {
-        report.end(n > 1 && asked.shown != Detail::Brief, milliseconds);
+        report.end(lists(asked.shown, n), milliseconds);
+    }
+}
+
+// Whether the scripts that differ are listed at the end, of n scripts.
+fn lists(shown: Detail, n: usize) -> bool
+    ensures { result ≡ lists shown n }
+{
+    match shown {
+        Detail::Brief => false,
+        Detail::First | Detail::Differing | Detail::All => n > 1,
     }
 }
 
 // Reports the paths that could not be read.
-fn tell_lost<W: ReportSink, E: ReportSink>(found: &Found, report: &mut Report<W, E>) {
-    for lost in &found.lost {
-        report.heed(&lost.path, None);
-        report.fail(&lost.path, lost.error);
+fn tell_lost<W: ReportSink, E: ReportSink>(found: &Found, report: &mut Report<W, E>)
+    ensures counts { report.new.counts ≡ counted_failures report.old.counts (lost_failures found.now) }
+    ensures shown { GoesOut report.old.state report.new.state (W.held report.old.output) (W.held report.new.output) (lost_text report.old.state.form found.now) }
+{
+    tell_each_lost(found.lost.as_slice(), report);
+    tell_if(found.is_cut, Failure::OutOfMemory, report);
+    tell_if(
+        found.scripts.as_slice().is_empty(),
+        Failure::NoScripts,
+        report,
+    );
+}
+
+// Reports the paths that failed.
+fn tell_each_lost<W: ReportSink, E: ReportSink>(lost: &[FailedPath], report: &mut Report<W, E>)
+    ensures counts { report.new.counts ≡ counted_failures report.old.counts (map path_failure lost.now) }
+    ensures shown { GoesOut report.old.state report.new.state (W.held report.old.output) (W.held report.new.output) (paths_text report.old.state.form lost.now) }
+{
+    for i in 0..lost.len() {
+        tell_one_lost(&lost[i], report);
     }
-    if found.is_cut {
-        report.fail(b"raftbench", PathError::alone(Failure::OutOfMemory));
-    }
-    if found.scripts.is_empty() {
-        report.fail(b"raftbench", PathError::alone(Failure::NoScripts));
+}
+
+fn tell_one_lost<W: ReportSink, E: ReportSink>(lost: &FailedPath, report: &mut Report<W, E>)
+    ensures counts { report.new.counts ≡ together report.old.counts (of_outcome (Failed (path_failure lost.now))) }
+    ensures shown { GoesOut report.old.state report.new.state (W.held report.old.output) (W.held report.new.output) (path_text report.old.state.form lost.now) }
+{
+    report.heed(&lost.path, None);
+    report.fail(&lost.path, lost.error);
+}
+
+// Reports a failure of the check as a whole, if there is one.
+fn tell_if<W: ReportSink, E: ReportSink>(
+    has_failed: bool,
+    failure: Failure,
+    report: &mut Report<W, E>,
+)
+    ensures counts { report.new.counts ≡ counted_failures report.old.counts (whole_failure has_failed failure) }
+    ensures shown { GoesOut report.old.state report.new.state (W.held report.old.output) (W.held report.new.output) (whole_text report.old.state.form has_failed failure) }
+{
+    if has_failed {
+        report.fail(b"raftbench", PathError::alone(failure));
     }
 }
 

@@ -1,8 +1,10 @@
 //! The directives that are to be accepted, if lines are named.
 
-ghost use Rattle.std.specs.Prelude.{◌≡◌, IfOk, IfNone};
+ghost use Rattle.std.specs.Prelude.{◌≡◌, ◌++◌, ◌∷◌, [], false, IfErr, IfNone, IfOk, IfSome, None};
 ghost use Rattle.rb_script_report.specs.Layouts.{IsLayout};
 ghost use Rattle.rb_check.specs.Endings.{unnamed};
+ghost use Rattle.rb_check.specs.ScriptTexts.{ArePicked, matched_at, matched_text};
+ghost use Rattle.rb_check.specs.Shown.{GoesOut, GoesOutInPart};
 
 use crate::check_request::CheckRequest;
 use crate::checked_script::CheckedScript;
@@ -13,7 +15,7 @@ use crate::system::System;
 use crate::target::Target;
 use rb_files::PathError;
 use rb_machine::Machine;
-use rb_script_report::{AcceptFilter, picked_unnamed};
+use rb_script_report::{AcceptFilter, number_at, picked_unnamed};
 use std::alloc::{AllocError, Global};
 use std::io;
 
@@ -34,8 +36,7 @@ pub(crate) fn named_heads<M: Machine, S: System, W: ReportSink, E: ReportSink>(
     let Some(lines) = named_lines(system, asked.targets, subject.path)? else {
         return Ok(None);
     };
-    let heads = subject.layout.heads.as_slice();
-    Ok(Some(heads_at(alloc, &lines, heads, subject, report)?))
+    Ok(Some(heads_at(alloc, &lines, subject, report)?))
 }
 
 /// Which directives may be accepted: those of the named heads, or, if none is named, those that are accepted then.
@@ -75,7 +76,9 @@ pub(crate) fn lines_alone<S: System>(
     system: &S,
     asked: &CheckRequest<'_>,
     path: &str,
-) -> Result<Option<Vec<usize>>, AllocError> {
+) -> Result<Option<Vec<usize>>, AllocError>
+    ensures { IfOk result (λ lines. IfSome lines (λ _. (asked.now.accepts ≡ false) × (asked.now.format ≡ None))) }
+{
     if asked.accepts || asked.format.is_some() {
         return Ok(None);
     }
@@ -114,26 +117,43 @@ fn names<S: System>(system: &S, target: &Target, path: &str) -> bool {
 fn heads_at<M: Machine, W: ReportSink, E: ReportSink>(
     alloc: Global,
     lines: &[usize],
-    heads: &[usize],
     subject: &CheckedScript<'_, M>,
     report: &mut Report<W, E>,
 ) -> Result<Vec<usize>, PathError>
-    ensures { report.new.counts ≡ report.old.counts }
+    ensures counts { report.new.counts ≡ report.old.counts }
+    ensures picked { IfOk result (λ picked. ArePicked (matched_text report.old.state.form subject.now.path.now subject.now.layout.now.heads.items subject.now.session.now.script) subject.now.layout.now.heads.items lines.now picked.items report.old.state report.new.state (W.held report.old.output) (W.held report.new.output)) }
+    ensures part { IfErr result (λ _. GoesOutInPart report.old.state report.new.state (W.held report.old.output) (W.held report.new.output)) }
 {
     let mut picked = Vec::new(alloc);
-    for line in lines {
-        let Some((place, head)) = place_at(heads, *line) else {
+    for i in 0..lines.len() {
+        let line = number_at(lines, i);
+        let Some((place, head)) = place_at(subject.layout.heads.as_slice(), line) else {
             return Err(no_directive());
         };
-        if !subject.session.mismatches().contains(&place) {
-            report.tell_expected(subject.path, head);
-        }
+        tell_matched(subject, place, head, report);
         push(&mut picked, head)?;
     }
     Ok(picked)
 }
 
-fn push(picked: &mut Vec<usize>, head: usize) -> Result<(), AllocError> {
+// Says of the directive at the place, with its head on the line, that its output is the expected one, if it is.
+fn tell_matched<M: Machine, W: ReportSink, E: ReportSink>(
+    subject: &CheckedScript<'_, M>,
+    place: usize,
+    head: usize,
+    report: &mut Report<W, E>,
+)
+    ensures counts { report.new.counts ≡ report.old.counts }
+    ensures shown { GoesOut report.old.state report.new.state (W.held report.old.output) (W.held report.new.output) (matched_at report.old.state.form subject.now.path.now subject.now.session.now.script head place) }
+{
+    if !subject.session.mismatches().contains(&place) {
+        report.tell_expected(subject.path, head);
+    }
+}
+
+fn push(picked: &mut Vec<usize>, head: usize) -> Result<(), AllocError>
+    ensures { IfOk result (λ _. picked.new.items ≡ picked.old.items ++ head ∷ []) }
+{
     picked.push(head)?;
     Ok(())
 }

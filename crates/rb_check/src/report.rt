@@ -3,14 +3,14 @@
 //! Results go to standard output, failures and the progress line to standard error. If standard output fails,
 //! that is reported once, and the check continues without it. `GoesOut` says what each call writes on standard output.
 
-ghost use Rattle.std.specs.Prelude.{◌≡◌, ◌≢◌, ℕ, false, not, List, Option, IfOk, is_some};
+ghost use Rattle.std.specs.Prelude.{◌≡◌, ◌≢◌, ℕ, true, false, not, List, Option, is_some};
 ghost use Rattle.std.specs.List.{list_any};
 ghost use Rattle.std.specs.Io.KnownBytes.{Keeps};
 ghost use Rattle.rb_script.specs.Writes.{AppendsFront, Writes};
 ghost use Rattle.rb_report.specs.Counts.{nothing, status_of, together};
 ghost use Rattle.rb_script_report.specs.Shows.{Shows};
 ghost use Rattle.rb_check.specs.declared.visible.Showing.TheVariants.{AsIs};
-ghost use Rattle.rb_check.specs.Shown.{GoesOut, closed, colors_in, lacking, noticed_text, programs_text, remark_text, shown_in, started};
+ghost use Rattle.rb_check.specs.Shown.{GoesOut, GoesOutIf, closed, colors_in, lacking, lacks_memory, noticed_text, programs_text, remark_text, shown_in, started};
 ghost use Rattle.rb_check.specs.Visible.{acts};
 
 use crate::check_request::CheckRequest;
@@ -101,6 +101,8 @@ impl<W: ReportSink, E: ReportSink> Report<W, E> {
         ensures right { result ≢ Status.BadUsage }
         // It is the status of all counts.
         ensures counts { result ≡ status_of is_strict (together self.now.counts self.now.state.own) }
+        // If memory was refused for a text, the status says so.
+        ensures memory { lacks_memory self.now.state ≡ true → result ≡ Status.OutOfMemory }
     {
         self.totals().status(is_strict)
     }
@@ -149,7 +151,7 @@ impl<W: ReportSink, E: ReportSink> Report<W, E> {
     pub(crate) fn showed(&mut self, shown: Result<(), ShowFault>) -> Result<(), PathError>
         ensures counts { self.new.counts ≡ self.old.counts }
         ensures shown { (before : Option (List ℕ)) (text : List ℕ) → self.old.state.is_closed ≡ false → Shows shown before (W.held self.old.output) text
-            → IfOk result (λ _. GoesOut self.old.state self.new.state before (W.held self.new.output) text) }
+            → GoesOutIf result self.old.state self.new.state before (W.held self.new.output) text }
     {
         match shown {
             Ok(()) => {
@@ -164,7 +166,7 @@ impl<W: ReportSink, E: ReportSink> Report<W, E> {
     fn showed_in_part(&mut self, fault: ShowFault) -> Result<(), PathError>
         ensures counts { self.new.counts ≡ self.old.counts }
         ensures shown { (before : Option (List ℕ)) (text : List ℕ) → self.old.state.is_closed ≡ false → AppendsFront before (W.held self.old.output) text
-            → IfOk result (λ _. GoesOut self.old.state self.new.state before (W.held self.new.output) text) }
+            → GoesOutIf result self.old.state self.new.state before (W.held self.new.output) text }
     {
         match fault {
             ShowFault::Writing => {

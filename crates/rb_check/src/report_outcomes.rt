@@ -1,12 +1,12 @@
 //! What a report says of each script, and what it counts.
 
-ghost use Rattle.std.specs.Prelude.{◌≡◌, ◌-◌, ◌<◌, [], IfOk, Some, length, slice_get};
+ghost use Rattle.std.specs.Prelude.{◌≡◌, ◌++◌, ◌-◌, ◌<◌, [], Some, length, slice_get};
 ghost use Rattle.rb_report.specs.declared.check.outcome.Outcome.TheVariants.{Refused, Failed};
 ghost use Rattle.rb_report.specs.Counts.{of_outcome, together};
 ghost use Rattle.rb_check.specs.declared.remark.Remark.TheVariants as remarks;
 ghost use Rattle.rb_check.specs.Counts.{counted_as, left_as};
 ghost use Rattle.rb_check.specs.Reviews.{quit_text};
-ghost use Rattle.rb_check.specs.Shown.{GoesOut, left_one, left_text, noticed_text, remark_text, warnings_text};
+ghost use Rattle.rb_check.specs.Shown.{GoesOut, Told, cleared, left_file_text, left_one, left_text, long_line_text, noticed_text, remark_text, warnings_text};
 
 use crate::differing::Differing;
 use crate::notes::Note;
@@ -167,6 +167,7 @@ impl<W: ReportSink, E: ReportSink> Report<W, E> {
     pub(crate) fn tell_left(&mut self, path: &str)
         ensures counts { self.new.counts ≡ self.old.counts }
         ensures shown { GoesOut self.old.state self.new.state (W.held self.old.output) (W.held self.new.output) [] }
+        ensures told { Told (E.takes_all self.old.errors.sink) (E.takes_all self.new.errors.sink) (E.held self.old.errors.sink) (E.held self.new.errors.sink) (cleared self.old.errors.shows_progress ++ left_file_text path.now) }
     {
         self.errors.tell(&Note::LeftFile(path.as_bytes()));
     }
@@ -175,6 +176,7 @@ impl<W: ReportSink, E: ReportSink> Report<W, E> {
     pub(crate) fn tell_bad_output(&mut self, path: &str, line: usize)
         ensures counts { self.new.counts ≡ self.old.counts }
         ensures shown { GoesOut self.old.state self.new.state (W.held self.old.output) (W.held self.new.output) [] }
+        ensures told { Told (E.takes_all self.old.errors.sink) (E.takes_all self.new.errors.sink) (E.held self.old.errors.sink) (E.held self.new.errors.sink) (cleared self.old.errors.shows_progress ++ long_line_text path.now line) }
     {
         self.errors.tell(&Note::LongLine(path.as_bytes(), line));
     }

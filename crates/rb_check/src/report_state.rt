@@ -22,8 +22,6 @@ pub(crate) struct ReportState {
     pub(crate) form: ReportForm,
     /// Whether nothing goes to standard output: it has failed, or nothing is wanted there.
     pub(crate) is_closed: bool,
-    /// Whether memory was refused for a text.
-    pub(crate) lacks_memory: bool,
     /// The report's own failures: of its output, and of memory.
     pub(crate) own: Totals,
 }
@@ -39,7 +37,6 @@ impl ReportState {
                 is_strict: asked.is_strict,
             },
             is_closed: asked.is_quiet,
-            lacks_memory: false,
             own: Totals::new(),
         }
     }
@@ -56,7 +53,6 @@ impl ReportState {
     pub(crate) fn lack_memory(&mut self)
         ensures { self.new ≡ lacking self.old }
     {
-        self.lacks_memory = true;
         self.own.add(Outcome::Failed(Failure::OutOfMemory));
     }
 }

@@ -10,5 +10,5 @@ returns-clause-counted g c = record {
   counts = c.check_each.new.report.counts;
   own = c.end.new.report.state.own;
   counted = c.check_each.ensures.counted;
-  is = c.status.ensures.counts ∙ ap (λ (t : Totals). status_of c.args.asked.is_strict (together t c.end.new.report.state.own)) c.end.ensures;
+  is = c.status.ensures.counts ∙ ap (λ (t : Totals). status_of c.args.asked.is_strict (together t c.end.new.report.state.own)) c.end.ensures.counts;
 }

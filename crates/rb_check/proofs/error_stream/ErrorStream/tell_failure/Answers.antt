@@ -1,17 +1,23 @@
-use Rattle.std.proofs.Common.{ℕ, List, [], ◌++◌, ap, sym, append_assoc, append-nil}
+use Rattle.std.proofs.Common.{◌∙◌, ℕ, Bool, List, [], ◌++◌, ap, sym, append_assoc, append-nil}
 use Rattle.rb_report.specs.Failures.{failure_text}
-use Rattle.rb_check.specs.Shown.{cleared}
+use Rattle.rb_check.specs.Shown.{cause_line, cause_text, cleared}
 use Rattle.rb_check.proofs.ShownLaws.{told_along, told_then}
 use Rattle.rb_check.proofs.error_stream.ErrorStream.tell_failure.Goals as goal
 
 pub returns-in-Some-clause-told : goal.returns-in-Some-clause-told
 returns-in-Some-clause-told g c =
     let first = cleared c.args.self.now.shows_progress in
-    let failure = failure_text c.args.path.now c.args.error.failure in
-    let words = c.tell_cause.ensures.told in
-    (words.0, told_along _ _ (append_assoc first failure words.0) (told_then _ _ _ (first ++ failure) words.0 c.tell.ensures.told words.1))
+    let path = c.args.path.now in
+    let failure = failure_text path c.args.error.failure in
+    let words = c.tell_cause.ensures.told in (
+      words.0,
+      told_along _ _ (append_assoc first failure (cause_line path words.0) ∙ ap (λ (says : Bool). first ++ (failure ++ cause_text says path words.0)) c.in-Some.ensures.said)
+          (told_then _ _ _ (first ++ failure) (cause_line path words.0) c.tell.ensures.told words.1),
+    )
 
 pub returns-in-None-clause-told : goal.returns-in-None-clause-told
 returns-in-None-clause-told g c =
     let first = cleared c.args.self.now.shows_progress in
-    ([], told_along _ _ (ap (λ (l : List ℕ). first ++ l) (sym (append-nil (failure_text c.args.path.now c.args.error.failure)))) c.tell.ensures.told)
+    let path = c.args.path.now in
+    let failure = failure_text path c.args.error.failure in
+    ([], told_along _ _ (ap (λ (l : List ℕ). first ++ l) (sym (append-nil failure)) ∙ ap (λ (says : Bool). first ++ (failure ++ cause_text says path [])) c.in-None.ensures.said) c.tell.ensures.told)

@@ -1,0 +1,94 @@
+-- What a report shows of a script that ran. (This project's.)
+use Rattle.std.specs.Prelude.{◌≡◌, ℕ, ◌≤◌, ◌==◌, ◌&&◌, ◌||◌, Bool, true, false, not, if◌then◌else◌, List, [], ◌∷◌, ◌++◌, Option, Some, None, length, map}
+use Rattle.std.specs.List.{flat_map, list_any}
+use Rattle.std.specs.List.Sorted.{IsNonDecreasing}
+use Rattle.rb_script.specs.Lines.{Line}
+use Rattle.rb_script.specs.Script.{PlainScript}
+use Rattle.rb_replay.specs.Report.{mismatches}
+use Rattle.rb_report.specs.declared.check.colors.Colors.{Colors}
+use Rattle.rb_report.specs.declared.check.table.TheConstants.{MAX_SCRIPT_CELLS}
+use Rattle.rb_script_report.specs.declared.layout.Layout.{Layout}
+use Rattle.rb_script_report.specs.declared.view.Detail.{Detail}
+use Rattle.rb_script_report.specs.declared.view.Detail.TheVariants as details
+use Rattle.rb_script_report.specs.Checked.{head_line}
+use Rattle.rb_script_report.specs.Whys.{told_alone, told_text}
+use Rattle.rb_check.specs.declared.check_request.CheckRequest.{CheckRequest}
+use Rattle.rb_check.specs.declared.format.Format.{Format}
+use Rattle.rb_check.specs.declared.format.Format.TheVariants.{Json, Github, Junit}
+use Rattle.rb_check.specs.declared.remark.Remark.TheVariants as remarks
+use Rattle.rb_check.specs.declared.report_state.ReportForm.{ReportForm}
+use Rattle.rb_check.specs.declared.report_state.ReportState.{ReportState}
+use Rattle.rb_check.specs.Counts.{warnings_in}
+use Rattle.rb_check.specs.Formats.{script_text}
+use Rattle.rb_check.specs.Place.{ArePartedAt}
+use Rattle.rb_check.specs.Shown.{GoesOut, in_form, remark_text, warnings_text}
+
+-- ---- its warnings and its report
+
+abbrev pub shows_warnings : Detail → Bool
+shows_warnings details.Differing = true
+shows_warnings details.All = true
+shows_warnings details.First = false
+shows_warnings details.Brief = false
+
+-- warnings are shown unless little is to be shown; but always if they count as mismatches, or if outputs may be accepted
+abbrev pub warns : CheckRequest → PlainScript → Bool
+warns asked s = (asked.accepts && not (length (mismatches s) == 0)) || (asked.is_strict || shows_warnings asked.shown)
+
+abbrev pub shown_warnings : CheckRequest → ReportForm → List ℕ → Layout → PlainScript → List ℕ
+shown_warnings asked form path l s = if warns asked s then warnings_text form path (warnings_in l.text l.heads.items s) else []
+
+-- to people, or in the format for programs
+abbrev pub report_text : CheckRequest → Colors → List ℕ → Layout → List (List Line) → PlainScript → List ℕ
+report_text asked colors path l whys s =
+    in_form asked.format (told_text asked.shown colors l.text path whys l.heads.items s) (λ format. script_text format asked.is_strict l.text path whys l.heads.items s)
+
+-- in JUnit's XML each script has its case
+abbrev pub may_be_empty : Option Format → Bool
+may_be_empty None = true
+may_be_empty (Some Json) = true
+may_be_empty (Some Github) = true
+may_be_empty (Some Junit) = false
+
+-- ---- directives that are named by lines
+
+-- the place of the last head at the line or above it, if the heads are in order
+pub record IsNamed (heads : List ℕ) (line place : ℕ) : Type 0 where
+  pub from_1 : 1 ≤ place
+  pub last : IsNonDecreasing heads → ArePartedAt heads line place
+
+-- a place for each line
+unfoldable pub AreNamed : List ℕ → List ℕ → List ℕ → Type 0
+AreNamed heads [] [] = Unit {0}
+AreNamed heads [] (place ∷ places) = ⊥
+AreNamed heads (line ∷ lines) [] = ⊥
+AreNamed heads (line ∷ lines) (place ∷ places) = IsNamed heads line place × AreNamed heads lines places
+
+-- a directive alone: what differs, or its output
+abbrev pub alone_text : Colors → List ℕ → Layout → List (List Line) → PlainScript → ℕ → List ℕ
+alone_text colors path l whys s place = told_alone MAX_SCRIPT_CELLS true colors l.text path whys l.heads.items s place
+
+-- a directive that was to be accepted, and whose output is the expected one
+abbrev pub matched_at : ReportForm → List ℕ → PlainScript → ℕ → ℕ → List ℕ
+matched_at form path s head place = if list_any (λ k. k == place) (mismatches s) then [] else remark_text form path (remarks.Matches head)
+
+abbrev pub matched_text : ReportForm → List ℕ → List ℕ → PlainScript → ℕ → List ℕ
+matched_text form path heads s place = matched_at form path s (head_line heads place) place
+
+-- the directives that the lines name are shown, one after another
+pub record AreShown (text : ℕ → List ℕ) (heads lines : List ℕ) (old new : ReportState) (before after : Option (List ℕ)) : Type 0 where
+  pub places : List ℕ
+  pub named : AreNamed heads lines places
+  pub out : GoesOut old new before after (flat_map text places)
+
+-- the heads of the directives that the lines name are picked, and those that match are said to
+pub record ArePicked (text : ℕ → List ℕ) (heads lines picked : List ℕ) (old new : ReportState) (before after : Option (List ℕ)) : Type 0 where
+  pub places : List ℕ
+  pub named : AreNamed heads lines places
+  pub picked_are : picked ≡ map (head_line heads) places
+  pub out : GoesOut old new before after (flat_map text places)
+
+-- what is shown of a script: the directives that are named, alone; or its warnings and its report
+pub data IsTold (asked : CheckRequest) (colors : Colors) (form : ReportForm) (path : List ℕ) (l : Layout) (whys : List (List Line)) (s : PlainScript) (text : List ℕ) : Type 0 where
+  alone : (lines places : List ℕ) → AreNamed l.heads.items lines places → asked.accepts ≡ false → asked.format ≡ None → text ≡ flat_map (alone_text colors path l whys s) places → IsTold asked colors form path l whys s text
+  whole : text ≡ shown_warnings asked form path l s ++ report_text asked colors path l whys s → IsTold asked colors form path l whys s text

@@ -1,0 +1,168 @@
+//! Showing a script that ran: its warnings and its report, or the directives that are named alone.
+
+ghost use Rattle.std.specs.Prelude.{◌≡◌, ℕ, List, IfErr, IfOk};
+ghost use Rattle.rb_script_report.specs.Layouts.{IsLayout};
+ghost use Rattle.rb_script_report.specs.Whys.{told_text};
+ghost use Rattle.rb_check.specs.Findings.{AreFindings};
+ghost use Rattle.rb_check.specs.Formats.{script_text};
+ghost use Rattle.rb_check.specs.ScriptTexts.{IsTold, may_be_empty, report_text, shown_warnings, shows_warnings, warns};
+ghost use Rattle.rb_check.specs.Shown.{GoesOut, GoesOutIf, GoesOutInPart, colors_in};
+
+use crate::alone::show_alone;
+use crate::check_request::CheckRequest;
+use crate::checked_script::CheckedScript;
+use crate::format::Format;
+use crate::formatted::formatted;
+use crate::picking::lines_alone;
+use crate::report::Report;
+use crate::report_sink::ReportSink;
+use crate::system::System;
+use rb_files::PathError;
+use rb_machine::Machine;
+use rb_replay::Session;
+use rb_report::check::Colors;
+use rb_script_report::{Detail, View, is_quiet, put_checked};
+use std::alloc::{AllocError, Global};
+
+/// Shows what there is to show: the directives that are named alone, or the warnings and what differs.
+///
+/// # Errors
+///
+/// If a named line has no directive, or memory was refused.
+pub(crate) fn tell<M: Machine, S: System, W: ReportSink, E: ReportSink>(
+    system: &S,
+    asked: &CheckRequest<'_>,
+    subject: &CheckedScript<'_, M>,
+    report: &mut Report<W, E>,
+) -> Result<(), PathError>
+    requires { AreFindings subject.now.text.now.bytes.items subject.now.session.now.script subject.now.layout.now subject.now.warnings.now subject.now.ran }
+    ensures counts { report.new.counts ≡ report.old.counts }
+    ensures shown { IfOk result (λ _. (text : List ℕ) × (IsTold asked.now (colors_in report.old.showing asked.now.colors) report.old.state.form subject.now.path.now subject.now.layout.now subject.now.whys.now subject.now.session.now.script text)
+        × GoesOut report.old.state report.new.state (W.held report.old.output) (W.held report.new.output) text) }
+    ensures part { IfErr result (λ _. GoesOutInPart report.old.state report.new.state (W.held report.old.output) (W.held report.new.output)) }
+{
+    let alloc = system.alloc();
+    let colors = report.colors(asked.colors);
+    if let Some(lines) = lines_alone(system, asked, subject.path)? {
+        return show_alone(alloc, colors, subject, &lines, report);
+    }
+    warn(asked, subject, report);
+    show(alloc, asked, colors, subject, report)
+}
+
+// Shows the warnings, if they are to be shown.
+fn warn<M: Machine, W: ReportSink, E: ReportSink>(
+    asked: &CheckRequest<'_>,
+    subject: &CheckedScript<'_, M>,
+    report: &mut Report<W, E>,
+)
+    requires { AreFindings subject.now.text.now.bytes.items subject.now.session.now.script subject.now.layout.now subject.now.warnings.now subject.now.ran }
+    ensures counts { report.new.counts ≡ report.old.counts }
+    ensures shown { GoesOut report.old.state report.new.state (W.held report.old.output) (W.held report.new.output) (shown_warnings asked.now report.old.state.form subject.now.path.now subject.now.layout.now subject.now.session.now.script) }
+{
+    if warns(asked, subject.session) {
+        report.warn(subject.path, subject.warnings);
+    }
+}
+
+// Whether the warnings are shown.
+fn warns<M: Machine>(asked: &CheckRequest<'_>, session: &Session<M>) -> bool
+    ensures { result ≡ warns asked.now session.now.script }
+{
+    let may_accept = asked.accepts && !session.mismatches().is_empty();
+    may_accept || asked.is_strict || shows_warnings(asked.shown)
+}
+
+// With less detail than the mismatches only that is shown.
+fn shows_warnings(shown: Detail) -> bool
+    ensures { result ≡ shows_warnings shown }
+{
+    match shown {
+        Detail::Differing | Detail::All => true,
+        Detail::First | Detail::Brief => false,
+    }
+}
+
+// Shows the script's report to people or programs. If it is empty, nothing is computed.
+fn show<M: Machine, W: ReportSink, E: ReportSink>(
+    alloc: Global,
+    asked: &CheckRequest<'_>,
+    colors: Colors,
+    subject: &CheckedScript<'_, M>,
+    report: &mut Report<W, E>,
+) -> Result<(), PathError>
+    requires { AreFindings subject.now.text.now.bytes.items subject.now.session.now.script subject.now.layout.now subject.now.warnings.now subject.now.ran }
+    ensures counts { report.new.counts ≡ report.old.counts }
+    ensures shown { GoesOutIf result report.old.state report.new.state (W.held report.old.output) (W.held report.new.output) (report_text asked.now colors subject.now.path.now subject.now.layout.now subject.now.whys.now subject.now.session.now.script) }
+{
+    if may_be_empty(asked.format) && is_quiet(subject.session, asked.shown) {
+        return Ok(());
+    }
+    match asked.format {
+        Some(format) => show_programs(alloc, format, asked.is_strict, subject, report),
+        None => show_people(alloc, asked.shown, colors, subject, report),
+    }
+}
+
+// Whether the report of a script may be empty.
+fn may_be_empty(format: Option<Format>) -> bool
+    ensures { result ≡ may_be_empty format }
+{
+    match format {
+        Some(Format::Junit) => false,
+        Some(Format::Json) => true,
+        Some(Format::Github) => true,
+        None => true,
+    }
+}
+
+// Shows the script's report to people.
+fn show_people<M: Machine, W: ReportSink, E: ReportSink>(
+    alloc: Global,
+    shown: Detail,
+    colors: Colors,
+    subject: &CheckedScript<'_, M>,
+    report: &mut Report<W, E>,
+) -> Result<(), PathError>
+    requires { IsLayout subject.now.text.now.bytes.items subject.now.session.now.script subject.now.layout.now }
+    ensures counts { report.new.counts ≡ report.old.counts }
+    ensures shown { GoesOutIf result report.old.state report.new.state (W.held report.old.output) (W.held report.new.output)
+        (told_text shown colors subject.now.layout.now.text subject.now.path.now subject.now.whys.now subject.now.layout.now.heads.items subject.now.session.now.script) }
+{
+    if !report.is_open() {
+        return Ok(());
+    }
+    let view = View {
+        path: subject.path.as_bytes(),
+        colors,
+        shown,
+    };
+    let sink = &mut report.output;
+    let written = put_checked(
+        alloc,
+        sink,
+        subject.session,
+        subject.layout,
+        view,
+        subject.whys,
+    );
+    report.showed(written)
+}
+
+// Shows the script's report to programs.
+fn show_programs<M: Machine, W: ReportSink, E: ReportSink>(
+    alloc: Global,
+    format: Format,
+    is_strict: bool,
+    subject: &CheckedScript<'_, M>,
+    report: &mut Report<W, E>,
+) -> Result<(), PathError>
+    requires { AreFindings subject.now.text.now.bytes.items subject.now.session.now.script subject.now.layout.now subject.now.warnings.now subject.now.ran }
+    ensures counts { report.new.counts ≡ report.old.counts }
+    ensures shown { GoesOutIf result report.old.state report.new.state (W.held report.old.output) (W.held report.new.output)
+        (script_text format is_strict subject.now.layout.now.text subject.now.path.now subject.now.whys.now subject.now.layout.now.heads.items subject.now.session.now.script) }
+{
+    let text = formatted(alloc, format, is_strict, subject)?;
+    report.put(&text);
+    Ok(())
+}
