@@ -1,17 +1,23 @@
 -- What the words of the command line ask for. (This project's.)
-use Rattle.std.specs.Prelude.{ℕ, ◌≡◌, ◌||◌, ◌&&◌, not, Bool, true, false, if◌then◌else◌, List, Option, Some, None, codes, option_map, unwrap_or}
+use Rattle.std.specs.Prelude.{ℕ, ◌≡◌, ◌||◌, ◌&&◌, not, Bool, true, false, if◌then◌else◌, List, Option, Some, None, IfSome, codes, option_map, string_bytes, unwrap_or}
 use Rattle.std.specs.Path.{path_file_name, rsplit_once}
 use Rattle.std.specs.Str.{bytes_eq}
 use Rattle.rb_text.specs.Numbers.{number_of}
 use Rattle.rb_args.specs.declared.choice.CheckChoice.{CheckChoice}
 use Rattle.rb_report.specs.declared.check.colors.Colors.{Colors}
+use Rattle.rb_report.specs.declared.check.status.Status.{Status}
 use Rattle.rb_report.specs.declared.check.colors.Colors.TheVariants as shades
 use Rattle.rb_script_report.specs.declared.view.Detail.{Detail}
 use Rattle.rb_script_report.specs.declared.view.Detail.TheVariants as shown
 use Rattle.rb_check.specs.declared.check_request.CheckRequest.{CheckRequest}
+use Rattle.rb_check.specs.Reported.{IsCheckStatus}
 use Rattle.rb_check.specs.declared.format.Format.{Format}
 use Rattle.rb_check.specs.declared.format.Format.TheVariants as formats
+use Rattle.rb_report.specs.Manual.{page_in, pages}
+use Rattle.rb_report.specs.Nearest.{names_of, nearest}
 use Rattle.rb_program.specs.declared.checking.Terminals.{Terminals}
+use Rattle.rb_program.specs.declared.program_error.ProgramError.{ProgramError}
+use Rattle.rb_program.specs.declared.program_error.ProgramError.TheVariants as refusals
 use Rattle.rb_program.specs.declared.colors.ColorChoice.{ColorChoice}
 use Rattle.rb_program.specs.declared.colors.ColorChoice.TheVariants as colors
 use Rattle.rb_program.specs.declared.usage_error.UsageError.{UsageError}
@@ -90,6 +96,65 @@ with_line (Some parts) = option_map (λ line. (parts.0, line)) (number_of parts.
 abbrev pub path_and_line : List ℕ → Option (List ℕ × ℕ)
 path_and_line word = with_line (rsplit_once 58 word)
 
+-- the word is a path; or it names a line of a file
+abbrev pub Names : List ℕ → List ℕ → Option ℕ → Type 0
+Names word path None = path ≡ word
+Names word path (Some line) = path_and_line word ≡ Some (path, line)
+
+-- the word names no directive of a file, and is told, if there is memory for it
+abbrev pub IsPlace : List ℕ → UsageError → Type 0
+IsPlace word (misuses.Place text) = string_bytes text ≡ word
+IsPlace word misuse = ⊥
+
+abbrev pub IsMisplaced : List ℕ → ProgramError → Type 0
+IsMisplaced word (refusals.OwnUsage misuse) = IsPlace word misuse
+IsMisplaced word refusal = refusal ≡ refusals.OutOfMemory
+
 -- what a script is called where it is shown: the last name of its path
 abbrev pub shown_name : List ℕ → List ℕ
 shown_name file = if bytes_eq file (codes "-") then codes "standard input" else unwrap_or (path_file_name file) file
+
+-- a word that is no directive's name is told, and the name that is near it
+abbrev pub IsMisspelled : List ℕ → UsageError → Type 0
+IsMisspelled name (misuses.Directive word meant) = (string_bytes word ≡ name) × IfSome meant (λ m. nearest name (names_of pages) ≡ Some m.now)
+IsMisspelled name misuse = ⊥
+
+-- no directive has the name, which is told, if there is memory for it
+abbrev pub IsUnknown : List ℕ → ProgramError → Type 0
+IsUnknown name (refusals.OwnUsage misuse) = (page_in pages name ≡ None) × IsMisspelled name misuse
+IsUnknown name refusal = (page_in pages name ≡ None) × (refusal ≡ refusals.OutOfMemory)
+
+-- the line that is asked for, if one is; nothing, where the text is no number
+abbrev pub line_asked : Option (List ℕ) → Option (Option ℕ)
+line_asked None = Some None
+line_asked (Some word) = option_map (λ line. Some line) (number_of word)
+
+-- the text after `--from` is no line, which is told with it, if there is memory for that
+abbrev pub IsFrom : Option (List ℕ) → UsageError → Type 0
+IsFrom from (misuses.From text) = from ≡ Some (string_bytes text)
+IsFrom from misuse = ⊥
+
+abbrev pub IsWrongFrom : Option (List ℕ) → ProgramError → Type 0
+IsWrongFrom from (refusals.OwnUsage misuse) = (line_asked from ≡ None) × IsFrom from misuse
+IsWrongFrom from refusal = (line_asked from ≡ None) × (refusal ≡ refusals.OutOfMemory)
+
+-- the same after `--until`
+abbrev pub IsUntil : Option (List ℕ) → UsageError → Type 0
+IsUntil until (misuses.Until text) = until ≡ Some (string_bytes text)
+IsUntil until misuse = ⊥
+
+abbrev pub IsWrongUntil : Option (List ℕ) → ProgramError → Type 0
+IsWrongUntil until (refusals.OwnUsage misuse) = (line_asked until ≡ None) × IsUntil until misuse
+IsWrongUntil until refusal = (line_asked until ≡ None) × (refusal ≡ refusals.OutOfMemory)
+
+-- the status of a check whose options are right, and which does what they say
+pub record IsCheckOf (choice : CheckChoice) (terminals : Terminals) (status : Status) : Type 0 where
+  pub color : ColorChoice
+  pub style : Style
+  pub refuses : Bool
+  pub asked : CheckRequest
+  pub color_is : color_choice_of (option_map string_bytes choice.color) ≡ Some color
+  pub style_is : style_of (option_map string_bytes choice.format) ≡ Some style
+  pub reviews : review_fault choice style terminals ≡ None
+  pub is_asked : IsAskedBy choice style (colors_of color terminals.output refuses) terminals asked
+  pub status_is : IsCheckStatus asked status

@@ -1,7 +1,9 @@
 pub mod Written
 pub mod Drawn
 pub mod Traced
+pub mod Documents
 pub mod Refusals
+pub mod Sentences
 pub mod Notes
 pub mod Work
 pub mod Choices

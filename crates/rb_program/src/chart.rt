@@ -1,5 +1,8 @@
 //! `raftbench chart FILE [--from LINE] [--until LINE]`: the picture of a script.
 
+ghost use Rattle.std.specs.Prelude.{◌≡◌, ◌≢◌, IfErr, IfOk, Some, option_map};
+ghost use Rattle.rb_program.specs.Choices.{IsWrongFrom, IsWrongUntil, line_asked};
+
 use crate::document::{DocumentKind, write_document};
 use crate::program_error::ProgramError;
 use crate::usage_error::{UsageError, misused};
@@ -15,7 +18,9 @@ pub(crate) fn chart<R: Files + Input + Print + AllocGlobal>(
     file: &str,
     from: Option<&str>,
     until: Option<&str>,
-) -> Result<Status, ProgramError> {
+) -> Result<Status, ProgramError>
+    ensures { IfOk result (λ status. status ≢ Status.Refused) }
+{
     let part = ChartPart {
         from: first_line(rt.alloc(), from)?,
         until: last_line(rt.alloc(), until)?,
@@ -28,7 +33,10 @@ pub(crate) fn chart<R: Files + Input + Print + AllocGlobal>(
 }
 
 // The line after `--from`, if it is given.
-fn first_line(alloc: Global, from: Option<&str>) -> Result<Option<u64>, ProgramError> {
+fn first_line(alloc: Global, from: Option<&str>) -> Result<Option<u64>, ProgramError>
+    ensures asked { IfOk result (λ line. line_asked (option_map (λ word. word.now) from.entry) ≡ Some line) }
+    ensures wrong { IfErr result (λ refusal. IsWrongFrom (option_map (λ word. word.now) from.entry) refusal) }
+{
     let Some(word) = from else {
         return Ok(None);
     };
@@ -42,7 +50,10 @@ fn first_line(alloc: Global, from: Option<&str>) -> Result<Option<u64>, ProgramE
 }
 
 // The line after `--until`, if it is given.
-fn last_line(alloc: Global, until: Option<&str>) -> Result<Option<u64>, ProgramError> {
+fn last_line(alloc: Global, until: Option<&str>) -> Result<Option<u64>, ProgramError>
+    ensures asked { IfOk result (λ line. line_asked (option_map (λ word. word.now) until.entry) ≡ Some line) }
+    ensures wrong { IfErr result (λ refusal. IsWrongUntil (option_map (λ word. word.now) until.entry) refusal) }
+{
     let Some(word) = until else {
         return Ok(None);
     };

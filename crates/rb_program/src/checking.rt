@@ -1,7 +1,7 @@
 //! `raftbench check PATH..`: scripts and folders of scripts.
 
 ghost use Rattle.std.specs.Prelude.{◌≡◌, ◌≢◌, IfOk, IsOk, MatchOption, Err, None, Some, option_map, string_bytes};
-ghost use Rattle.rb_program.specs.Choices.{IsAskedBy, accepts, color_choice_of, review_fault, shown_of, style_of};
+ghost use Rattle.rb_program.specs.Choices.{IsAskedBy, IsCheckOf, accepts, color_choice_of, review_fault, shown_of, style_of};
 
 use crate::clusters::Clusters;
 use crate::colors::{ColorChoice, color_choice_of, colors};
@@ -40,7 +40,9 @@ pub fn check_all<R: Files + Input + Print + Eprint + Env + Clock + AllocGlobal, 
     terminals: Terminals,
 ) -> Result<Status, ProgramError>
     // Wrong arguments are a usage error.
-    ensures { IfOk result (λ status. status ≢ Status.BadUsage) }
+    ensures right { IfOk result (λ status. status ≢ Status.BadUsage) }
+    // The check is that of the options.
+    ensures asked { IfOk result (λ status. IsCheckOf choice.now terminals status) }
 {
     let (color, style) = colors_and_style(rt.alloc(), choice, terminals)?;
     let targets = targets(rt, &choice.paths)?;

@@ -1,6 +1,6 @@
 //! Whether colours are shown.
 
-ghost use Rattle.std.specs.Prelude.{◌≡◌, option_map};
+ghost use Rattle.std.specs.Prelude.{◌≡◌, Bool, option_map};
 ghost use Rattle.rb_program.specs.Choices.{color_choice_of, colors_of};
 
 use crate::environment::has_text;
@@ -30,11 +30,9 @@ pub(crate) fn color_choice_of(word: Option<&str>) -> Option<ColorChoice>
 
 /// Whether colours are shown, where the report goes to a terminal or not. By itself it shows them on a terminal, where the environment's
 /// NO_COLOR has no text (no-color.org).
-pub(crate) fn colors<R: Env + AllocGlobal>(
-    rt: &R,
-    color: ColorChoice,
-    is_terminal: bool,
-) -> Colors {
+pub(crate) fn colors<R: Env + AllocGlobal>(rt: &R, color: ColorChoice, is_terminal: bool) -> Colors
+    ensures { (refuses : Bool) × (result ≡ colors_of color is_terminal refuses) }
+{
     colors_of(color, is_terminal, has_text(rt, "NO_COLOR"))
 }
 

@@ -1,6 +1,9 @@
 //! `raftbench directives`: the list of directives, or one of them.
 
-ghost use Rattle.std.specs.Prelude.{◌≡◌, IfOk};
+ghost use Rattle.std.specs.Prelude.{◌≡◌, IfErr, IfOk, IfSome, IsSome, IsUtf8};
+ghost use Rattle.rb_report.specs.Manual.{page_in, pages};
+ghost use Rattle.rb_report.specs.Nearest.{names_of, nearest};
+ghost use Rattle.rb_program.specs.Choices.{IsUnknown};
 
 use crate::program_error::ProgramError;
 use crate::usage_error::UsageError;
@@ -9,8 +12,8 @@ use rb_report::help::{nearest_name, page_of, put_manual};
 use rb_script::{Sink, Through, WriteFault};
 use rb_text::FailFast;
 use std::alloc::Global;
-use std::io;
 use std::io::{BufWriter, Write};
+use std::{io, str};
 
 /// Shows the directive of this name, or an overview of all.
 ///
@@ -36,13 +39,30 @@ pub fn show_directives<R: Print + AllocGlobal>(
     status_of(handed_on(&mut sink, written))
 }
 
-fn page_named(alloc: Global, name: &str) -> Result<&'static [u8], ProgramError> {
+// The page of the directive with this name.
+fn page_named(alloc: Global, name: &str) -> Result<&'static [u8], ProgramError>
+    ensures found { IfOk result (λ page. page_in pages name.now ≡ Some page.now) }
+    ensures unknown { IfErr result (λ refusal. IsUnknown name.now refusal) }
+{
     if let Some(page) = page_of(name.as_bytes()) {
         return Ok(page);
     }
     let unknown = String::from_str(alloc, name)?;
-    let meant = nearest_name(name.as_bytes());
-    Err(ProgramError::OwnUsage(UsageError::Directive(unknown, meant)))
+    Err(ProgramError::OwnUsage(UsageError::Directive(unknown, name_near(name))))
+}
+
+// The name of a directive that is near this one.
+fn name_near(name: &str) -> Option<&'static str>
+    ensures near { IfSome result (λ near. nearest name.now (names_of pages) ≡ Some near.now) }
+    ensures found { IfSome (nearest name.now (names_of pages)) (λ near. IsUtf8 near → IsSome result) }
+{
+    match nearest_name(name.as_bytes()) {
+        Some(near) => match str::from_utf8(near) {
+            Ok(near) => Some(near),
+            Err(_) => None,
+        },
+        None => None,
+    }
 }
 
 /// The status after writing, or after writing failed.

@@ -1,7 +1,8 @@
 //! `raftbench page|trace FILE`, and the picture of `raftbench chart`: a document of a script, under the script's name.
 
-ghost use Rattle.std.specs.Prelude.{◌≡◌};
+ghost use Rattle.std.specs.Prelude.{◌≡◌, ◌≢◌, true, IfOk};
 ghost use Rattle.rb_program.specs.Choices.{shown_name};
+ghost use Rattle.rb_program.specs.Documents.{DocumentsOver};
 
 use crate::chart_over::chart_over;
 use crate::job::{Job, run_job};
@@ -31,7 +32,9 @@ pub(crate) enum DocumentKind {
 pub(crate) fn page<R: Files + Input + Print + AllocGlobal>(
     rt: &R,
     file: &str,
-) -> Result<Status, ProgramError> {
+) -> Result<Status, ProgramError>
+    ensures { IfOk result (λ status. status ≢ Status.Refused) }
+{
     let status = write_document(rt, file, DocumentKind::Page)?;
     if status == Status::Refused {
         return Err(ProgramError::PageTooLarge);
@@ -57,6 +60,10 @@ struct Documenting<'a> {
 }
 
 impl<'a> Job for Documenting<'a> {
+    ghost is_right = { λ _. true };
+
+    ghost answers = { λ job all left result old new. DocumentsOver job.kind job.name.now all left result old new };
+
     fn run<S: Source, W: Outlet>(
         &self,
         alloc: Global,

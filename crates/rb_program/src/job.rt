@@ -1,5 +1,10 @@
 //! One script, from reading it to writing the result.
 
+ghost use Rattle.std.specs.Prelude.{◌≡◌, ℕ, Bool, true, List, Option, Result, Err, IfOk, IfSome};
+ghost use Rattle.rb_report.specs.declared.check.status.Status.{Status};
+ghost use Rattle.rb_bench.specs.declared.fault.BenchFault.{BenchFault};
+ghost use Rattle.rb_program.specs.Refusals.{EndsAs};
+
 use crate::program_error::ProgramError;
 use crate::running::{ended, explained, opened};
 use rb_bench::{BenchFault, Outlet};
@@ -13,13 +18,21 @@ use std::rt::Files;
 
 /// A job for one script.
 pub(crate) trait Job {
+    // its interval is one that a session takes
+    ghost is_right: { Self → Bool };
+
+    // what comes of a source that has these bytes, and then has those left, and of what a writer held and holds then
+    ghost answers: { Self → List ℕ → Option (List ℕ) → Result Status BenchFault → Option (List ℕ) → Option (List ℕ) → Type 0 };
+
     /// Reads the script from the source, and writes the result.
     fn run<S: Source, W: Outlet>(
         &self,
         alloc: Global,
         source: &mut S,
         writer: &mut W,
-    ) -> Result<Status, BenchFault>;
+    ) -> Result<Status, BenchFault>
+        ensures right { IfOk result (λ _. is_right self.now ≡ true) }
+        ensures answered { is_right self.now ≡ true → IfSome (S.left source.old) (λ all. answers self.now all (S.left source.new) result (W.held writer.old) (W.held writer.new)) };
 }
 
 /// Does it with the script in the file, or on standard input.
@@ -27,7 +40,9 @@ pub(crate) fn run_job<R: Files + Input + Print + AllocGlobal, J: Job>(
     rt: &R,
     file: &str,
     job: &J,
-) -> Result<Status, ProgramError> {
+) -> Result<Status, ProgramError>
+    ensures { IfOk result (λ _. J.is_right job.now ≡ true) }
+{
     if file == "-" {
         run_from(rt, &mut ReadSource(rt.reader()), job)
     } else {
@@ -39,7 +54,9 @@ fn run_opened<R: Files + Print + AllocGlobal, J: Job>(
     rt: &R,
     file: &str,
     job: &J,
-) -> Result<Status, ProgramError> {
+) -> Result<Status, ProgramError>
+    ensures { IfOk result (λ _. J.is_right job.now ≡ true) }
+{
     let ended = run_from(rt, &mut ReadSource(opened(rt, file)?), job);
     match ended {
         Ok(status) => Ok(status),
@@ -52,7 +69,11 @@ pub(crate) fn run_from<R: Print + AllocGlobal, S: Source, J: Job>(
     rt: &R,
     source: &mut S,
     job: &J,
-) -> Result<Status, ProgramError> {
+) -> Result<Status, ProgramError>
+    ensures right { IfOk result (λ _. J.is_right job.now ≡ true) }
+    // If the source's bytes are known, it ends as the job answers them.
+    ensures answered { J.is_right job.now ≡ true → IfSome (S.left source.old) (λ all. EndsAs (J.answers job.now all (S.left source.new)) result) }
+{
     let alloc = rt.alloc();
     let mut writer = Through(BufWriter::new(alloc, FailFast(io::writer(rt)))?);
     ended(job.run(alloc, source, &mut writer))

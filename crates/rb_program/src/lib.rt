@@ -15,6 +15,7 @@ mod colors;
 mod directives;
 mod document;
 mod environment;
+mod error_lines;
 mod job;
 mod laws;
 mod look;

@@ -1,6 +1,7 @@
 //! `raftbench look FILE:LINE`: the cluster after a directive.
 
 ghost use Rattle.std.specs.Prelude.{◌≤◌, length};
+ghost use Rattle.rb_program.specs.Choices.{IsMisplaced};
 
 use crate::directives::{handed_on, status_of};
 use crate::program_error::ProgramError;
@@ -40,7 +41,9 @@ pub(crate) fn look_at<R: Files + Print + AllocGlobal>(
     show(rt, word, at, &read, place)
 }
 
-fn no_place(alloc: Global, word: &str) -> ProgramError {
+fn no_place(alloc: Global, word: &str) -> ProgramError
+    ensures { IsMisplaced word.now result }
+{
     match String::from_str(alloc, word) {
         Ok(text) => ProgramError::OwnUsage(UsageError::Place(text)),
         Err(_) => ProgramError::OutOfMemory,

@@ -1,19 +1,21 @@
 //! Why the program could not do its work.
 
 ghost use Rattle.std.specs.Prelude.{◌≡◌};
+ghost use Rattle.std.specs.IoError.{error_kind};
 ghost use Rattle.clap.specs.Values.{kind_of};
-ghost use Rattle.rb_program.specs.Refusals.{EndsByKind, EndsWith};
+ghost use Rattle.rb_program.specs.declared.program_error.ProgramError.TheVariants.{OutOfMemory};
+ghost use Rattle.rb_program.specs.Refusals.{EndsByKind, EndsWith, of_bench, of_choice, of_kind, of_reading, of_script, status_by_kind};
+ghost use Rattle.rb_program.specs.Sentences.{refused_word};
 
 use crate::environment::asks_for_explanations;
-use crate::usage_error::{UsageError, shown_name, shown_text};
+use crate::error_lines::{FirstLine, SecondLine};
+use crate::usage_error::{UsageError, shown_name, shown_text, tell_help};
 use clap::error::ErrorKind;
 use rb_args::ChoiceFault;
-use rb_bench::{BenchFault, script_fault_name};
-use rb_report::check::{Status, fault_line};
+use rb_bench::BenchFault;
+use rb_report::check::Status;
 use rb_script::ScriptFault;
 use rb_text::ReadFault;
-use rb_view::chart::MAX_EVENTS;
-use rb_view::steps::MAX_PAGE;
 use std::alloc::AllocError;
 use std::io;
 use std::rt::Env;
@@ -61,106 +63,74 @@ impl ProgramError {
     pub fn tell<R: Eprint + Print + Env + AllocGlobal>(&self, rt: &R, is_read: bool) -> Status
         ensures { EndsWith self.now result }
     {
-        let status = self.tell_why(rt);
+        let shown = shown_name(rt.alloc(), self.word());
+        let word = shown_text(&shown);
+        let status = self.tell_why(rt, word);
         if is_read || asks_for_explanations(rt) {
-            self.explain(rt);
+            self.explain(rt, word);
         }
         status
     }
 
-    // The one line with the reason.
-    fn tell_why<R: Eprint + Print + AllocGlobal>(&self, rt: &R) -> Status
+    // The word that it is about; empty, if there is none.
+    fn word(&self) -> &str
+        ensures { result.now ≡ refused_word self.now }
+    {
+        match self {
+            ProgramError::Usage(misuse) => misuse.word(),
+            ProgramError::OwnUsage(misuse) => misuse.word(),
+            ProgramError::Unopened(path, _) => path.as_str(),
+            ProgramError::Folder(path) => path.as_str(),
+            ProgramError::Clap(_)
+            | ProgramError::Script(_)
+            | ProgramError::ChartTooLarge
+            | ProgramError::PageTooLarge
+            | ProgramError::Io
+            | ProgramError::OutOfMemory => "",
+        }
+    }
+
+    // Writes the line with the reason.
+    fn tell_why<R: Eprint + Print>(&self, rt: &R, word: &str) -> Status
         ensures { EndsWith self.now result }
     {
         match self {
             ProgramError::Clap(error) => tell_clap(rt, error),
-            ProgramError::Usage(_) => {
-                say(rt, "bad usage");
+            ProgramError::Usage(_) | ProgramError::OwnUsage(_) => {
+                say(rt, self, word);
                 Status::BadUsage
             }
-            ProgramError::OwnUsage(misuse) => {
-                let _ = eprint!(rt; "raftbench: ");
-                misuse.tell(rt);
-                Status::BadUsage
-            }
-            ProgramError::Script(fault) => {
-                tell_script(rt, *fault);
+            ProgramError::Script(_) | ProgramError::ChartTooLarge | ProgramError::PageTooLarge => {
+                say(rt, self, word);
                 Status::Refused
             }
-            ProgramError::ChartTooLarge => tell_chart_too_large(rt),
-            ProgramError::PageTooLarge => tell_page_too_large(rt),
-            ProgramError::Unopened(_, _) | ProgramError::Folder(_) | ProgramError::Io => tell_io(
-                rt,
-            ),
+            ProgramError::Unopened(_, _) | ProgramError::Folder(_) | ProgramError::Io => {
+                say(rt, self, word);
+                Status::Failed
+            }
             ProgramError::OutOfMemory => {
-                say(rt, "out of memory");
+                say(rt, self, word);
                 Status::OutOfMemory
             }
         }
     }
 
-    // The second line, if the first doesn't say enough to a person.
-    fn explain<R: Eprint + AllocGlobal>(&self, rt: &R) {
-        match self {
-            ProgramError::Usage(misuse) => misuse.tell(rt),
-            ProgramError::Unopened(path, error) => {
-                let shown = shown_name(rt.alloc(), path.as_str());
-                let path = shown_text(&shown);
-                let _ = eprintln!(rt; "{path}: {error}");
-            }
-            ProgramError::Folder(path) => {
-                let shown = shown_name(rt.alloc(), path.as_str());
-                let path = shown_text(&shown);
-                let _ = eprintln!(rt;
-                    "{path}: it is a folder, and not a script; raftbench check takes folders"
-                );
-            }
-            ProgramError::Clap(_)
-            | ProgramError::OwnUsage(_)
-            | ProgramError::Script(_)
-            | ProgramError::ChartTooLarge
-            | ProgramError::PageTooLarge
-            | ProgramError::Io
-            | ProgramError::OutOfMemory => {}
+    // Writes the second line, if the first doesn't say enough to a person.
+    fn explain<R: Eprint + AllocGlobal>(&self, rt: &R, word: &str) {
+        if let ProgramError::Usage(UsageError::NoCommand) = self {
+            return tell_help(rt);
         }
+        let line = SecondLine {
+            refusal: self,
+            word,
+        };
+        let _ = eprint!(rt; "{line}");
     }
 }
 
-fn say<R: Eprint>(rt: &R, what: &str) {
-    let _ = eprintln!(rt; "raftbench: {what}");
-}
-
-fn tell_chart_too_large<R: Eprint>(rt: &R) -> Status
-    ensures { result ≡ Status.Refused }
-{
-    let _ = eprintln!(rt;
-        "raftbench: a picture has room for {MAX_EVENTS} events: choose a part by --from and --until"
-    );
-    Status::Refused
-}
-
-fn tell_page_too_large<R: Eprint>(rt: &R) -> Status
-    ensures { result ≡ Status.Refused }
-{
-    let _ = eprintln!(rt;
-        "raftbench: a page has room for {MAX_PAGE} bytes of rows: divide the script, or see a part of it by chart"
-    );
-    Status::Refused
-}
-
-fn tell_io<R: Eprint>(rt: &R) -> Status
-    ensures { result ≡ Status.Failed }
-{
-    say(rt, "input or output failed");
-    Status::Failed
-}
-
-fn tell_script<R: Eprint>(rt: &R, fault: ScriptFault) {
-    let name = script_fault_name(fault);
-    let _ = match fault_line(fault) {
-        Some(line) => eprintln!(rt; "raftbench: script refused: {name} at line {line}"),
-        None => eprintln!(rt; "raftbench: script refused: {name}"),
-    };
+fn say<R: Eprint>(rt: &R, refusal: &ProgramError, word: &str) {
+    let line = FirstLine { refusal, word };
+    let _ = eprint!(rt; "{line}");
 }
 
 // Help was asked for, and goes to standard output: where that fails, what was asked for wasn't done. What says that arguments
@@ -168,15 +138,27 @@ fn tell_script<R: Eprint>(rt: &R, fault: ScriptFault) {
 fn tell_clap<R: Eprint + Print>(rt: &R, error: &clap::Error) -> Status
     ensures { EndsByKind (kind_of error.now) result }
 {
-    let went_out = error.print(rt).is_ok();
-    match error.kind() {
+    let status = status_by_kind(error.kind(), error.print(rt).is_ok());
+    if status == Status::Failed {
+        say(rt, &ProgramError::Io, "");
+    }
+    status
+}
+
+// The status of a text of clap's that went out, or did not.
+fn status_by_kind(kind: ErrorKind, went_out: bool) -> Status
+    ensures { result ≡ status_by_kind kind went_out }
+{
+    match kind {
         ErrorKind::DisplayHelp | ErrorKind::DisplayVersion if went_out => Status::Matched,
-        ErrorKind::DisplayHelp | ErrorKind::DisplayVersion => tell_io(rt),
+        ErrorKind::DisplayHelp | ErrorKind::DisplayVersion => Status::Failed,
         _ => Status::BadUsage,
     }
 }
 
 impl From<ChoiceFault> for ProgramError {
+    ghost from_gives = { λ fault made. made ≡ of_choice fault };
+
     fn from(fault: ChoiceFault) -> ProgramError {
         match fault {
             ChoiceFault::Refused(error) => ProgramError::Clap(error),
@@ -186,6 +168,8 @@ impl From<ChoiceFault> for ProgramError {
 }
 
 impl From<BenchFault> for ProgramError {
+    ghost from_gives = { λ fault made. made ≡ of_bench fault };
+
     fn from(fault: BenchFault) -> ProgramError {
         match fault {
             BenchFault::Spacing => ProgramError::Usage(UsageError::Spacing),
@@ -197,6 +181,8 @@ impl From<BenchFault> for ProgramError {
 }
 
 impl From<ScriptFault> for ProgramError {
+    ghost from_gives = { λ fault made. made ≡ of_script fault };
+
     fn from(fault: ScriptFault) -> ProgramError {
         match fault {
             ScriptFault::OutOfMemory => ProgramError::OutOfMemory,
@@ -206,6 +192,8 @@ impl From<ScriptFault> for ProgramError {
 }
 
 impl From<ReadFault> for ProgramError {
+    ghost from_gives = { λ fault made. made ≡ of_reading fault };
+
     fn from(fault: ReadFault) -> ProgramError {
         match fault {
             ReadFault::Io => ProgramError::Io,
@@ -215,16 +203,25 @@ impl From<ReadFault> for ProgramError {
 }
 
 impl From<io::Error> for ProgramError {
+    ghost from_gives = { λ error made. made ≡ of_kind (error_kind error) };
+
     fn from(error: io::Error) -> ProgramError {
-        if error.kind() == io::ErrorKind::OutOfMemory {
-            ProgramError::OutOfMemory
-        } else {
-            ProgramError::Io
-        }
+        of_kind(error.kind())
+    }
+}
+
+fn of_kind(kind: io::ErrorKind) -> ProgramError
+    ensures { result ≡ of_kind kind }
+{
+    match kind {
+        io::ErrorKind::OutOfMemory => ProgramError::OutOfMemory,
+        _ => ProgramError::Io,
     }
 }
 
 impl From<AllocError> for ProgramError {
+    ghost from_gives = { λ _ made. made ≡ OutOfMemory };
+
     fn from(_error: AllocError) -> ProgramError {
         ProgramError::OutOfMemory
     }

@@ -1,5 +1,11 @@
 //! `raftbench run|rewrite|session FILE`: the report of a script, its text with its outputs, and a session on it.
 
+ghost use Rattle.std.specs.Prelude.{◌≡◌, ◌⊎◌, true, IfErr, IfOk, Some};
+ghost use Rattle.rb_replay.specs.Start.{is_checkpoint_interval};
+ghost use Rattle.rb_bench.specs.Runs.{RunsOver};
+ghost use Rattle.rb_bench.specs.Serves.{ServesOut};
+ghost use Rattle.rb_program.specs.Refusals.{Explains, IsFolder, IsUnopened, of_run};
+
 use crate::job::{Job, run_from, run_job};
 use crate::program_error::ProgramError;
 use rb_bench::{BenchFault, Mode, Outlet, RunProgress, run_over, serve};
@@ -18,7 +24,9 @@ pub(crate) fn run<R: Files + Input + Print + AllocGlobal, P: RunProgress>(
     mode: Mode,
     every: u64,
     progress: &P,
-) -> Result<Status, ProgramError> {
+) -> Result<Status, ProgramError>
+    ensures { IfOk result (λ _. is_checkpoint_interval every ≡ true) }
+{
     run_job(
         rt,
         file,
@@ -39,6 +47,10 @@ struct Running<'p, P> {
 }
 
 impl<'p, P: RunProgress> Job for Running<'p, P> {
+    ghost is_right = { λ job. is_checkpoint_interval job.every };
+
+    ghost answers = { λ job all left result old new. RunsOver job.mode all left result old new };
+
     fn run<S: Source, W: Outlet>(
         &self,
         alloc: Global,
@@ -50,7 +62,9 @@ impl<'p, P: RunProgress> Job for Running<'p, P> {
 }
 
 /// What it came to, or why it came to nothing. It stands by itself so that what was opened is closed on one way out.
-pub(crate) fn ended(status: Result<Status, BenchFault>) -> Result<Status, ProgramError> {
+pub(crate) fn ended(status: Result<Status, BenchFault>) -> Result<Status, ProgramError>
+    ensures { result ≡ of_run status }
+{
     Ok(status?)
 }
 
@@ -59,7 +73,9 @@ pub(crate) fn session<R: Files + Input + Print + AllocGlobal>(
     rt: &R,
     file: &str,
     every: u64,
-) -> Result<Status, ProgramError> {
+) -> Result<Status, ProgramError>
+    ensures { IfOk result (λ _. is_checkpoint_interval every ≡ true) }
+{
     let script = script(rt, file)?;
     let serving = Serving {
         script: &script,
@@ -76,6 +92,10 @@ struct Serving<'a> {
 }
 
 impl<'a> Job for Serving<'a> {
+    ghost is_right = { λ job. is_checkpoint_interval job.every };
+
+    ghost answers = { λ job all left result old new. ServesOut (Some all) result job.script.now job.every old new };
+
     fn run<S: Source, W: Outlet>(
         &self,
         alloc: Global,
@@ -101,14 +121,21 @@ pub(crate) fn explained<R: Files + AllocGlobal>(
     rt: &R,
     file: &str,
     refusal: ProgramError,
-) -> ProgramError {
-    let is_folder = matches!(&refusal, ProgramError::Io) && is_folder(rt, file);
-    if !is_folder {
-        return refusal;
+) -> ProgramError
+    ensures { Explains file.now refusal result }
+{
+    match &refusal {
+        ProgramError::Io if is_folder(rt, file) => folder(rt.alloc(), file),
+        _ => refusal,
     }
-    match String::from_str(rt.alloc(), file) {
+}
+
+fn folder(alloc: Global, file: &str) -> ProgramError
+    ensures { IsFolder file.now result ⊎ (result ≡ ProgramError.Io) }
+{
+    match String::from_str(alloc, file) {
         Ok(path) => ProgramError::Folder(path),
-        Err(_) => refusal,
+        Err(_) => ProgramError::Io,
     }
 }
 
@@ -117,7 +144,9 @@ fn is_folder<R: Files>(rt: &R, path: &str) -> bool {
 }
 
 /// A file that can't be opened is failed input, whatever the system's error is.
-pub(crate) fn opened<R: Files + AllocGlobal>(rt: &R, file: &str) -> Result<R::File, ProgramError> {
+pub(crate) fn opened<R: Files + AllocGlobal>(rt: &R, file: &str) -> Result<R::File, ProgramError>
+    ensures { IfErr result (λ refusal. IsUnopened file.now refusal) }
+{
     match File::open(rt, file) {
         Ok(opened) => Ok(opened),
         Err(error) => match String::from_str(rt.alloc(), file) {

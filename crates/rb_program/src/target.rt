@@ -1,7 +1,7 @@
 //! The PATHs of `check`, and FILE:LINE.
 
 ghost use Rattle.std.specs.Prelude.{◌≡◌, IfOk, option_map, string_bytes};
-ghost use Rattle.rb_program.specs.Choices.{path_and_line};
+ghost use Rattle.rb_program.specs.Choices.{Names, path_and_line};
 
 use rb_check::Target;
 use rb_text::number_of;
@@ -43,7 +43,10 @@ fn target(alloc: Global, path: &str, line: Option<usize>) -> Result<Target, Allo
     Ok(Target { path, line })
 }
 
-fn named<'a, R: Files>(rt: &R, word: &'a str) -> (&'a str, Option<usize>) {
+// A path, and a line of its file; whether the word is the name of something is the system's to say.
+fn named<'a, R: Files>(rt: &R, word: &'a str) -> (&'a str, Option<usize>)
+    ensures { Names word.now result.0.now result.1 }
+{
     if fs::metadata(rt, word).is_ok() {
         return (word, None);
     }

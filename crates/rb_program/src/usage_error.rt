@@ -1,9 +1,15 @@
 //! Usage errors, each with a sentence.
 
+ghost use Rattle.std.specs.Prelude.{◌≡◌, ◌⊎◌, [], IfSome, Some, option_map, string_bytes};
+ghost use Rattle.std.specs.Fmt.{WritesOnOk};
+ghost use Rattle.rb_program.specs.Sentences.{IsShown, misused_word, unknown_line, usage_line};
+ghost use Rattle.rb_program.specs.Work.{IsOfEvery};
+
 use rb_args::{ChoiceFault, chosen};
 use rb_check::visible_name;
 use std::alloc::Global;
-use std::str;
+use std::fmt::Display;
+use std::{fmt, str};
 
 /// A usage error.
 pub enum UsageError {
@@ -34,7 +40,7 @@ pub enum UsageError {
     /// The argument of `look` doesn't name a directive of a file.
     Place(String),
     /// No directive has the name; and the one that is near it.
-    Directive(String, Option<&'static [u8]>),
+    Directive(String, Option<&'static str>),
 }
 
 // Written out, so that giving one back is a call wherever it is owned, and is proved here alone.
@@ -60,65 +66,90 @@ impl Drop for UsageError {
 }
 
 impl UsageError {
-    /// Writes the sentence for a person.
-    pub(crate) fn tell<R: Eprint + AllocGlobal>(&self, rt: &R) {
+    /// The word that it is about; empty, if there is none.
+    pub(crate) fn word(&self) -> &str
+        ensures { result.now ≡ misused_word self.now }
+    {
         match self {
-            UsageError::NoCommand => tell_help(rt),
-            UsageError::Directive(name, meant) => {
-                let shown = shown_name(rt.alloc(), name.as_str());
-                tell_directive(rt, shown_text(&shown), *meant);
-            }
-            _ => {
-                let (option, word, wanted) = self.sentence();
-                let shown = shown_name(rt.alloc(), word);
-                let word = shown_text(&shown);
-                let _ = eprintln!(rt; "{option}{word}{wanted}");
-            }
-        }
-    }
-
-    // The option, its text, and what was expected.
-    fn sentence(&self) -> (&str, &str, &str) {
-        match self {
-            UsageError::NoText => ("", "", "the words are to be UTF-8"),
-            UsageError::NoFile => ("", "", "FILE is missing: the file of a script"),
-            UsageError::Input => (
-                "-: ",
-                "",
-                "a session's commands come from standard input, so its script stands in a file",
-            ),
-            UsageError::Every(text) => ("--every ", text.as_str(), ": a number from 1 to 64"),
-            UsageError::Spacing => ("--every", "", ": a number from 1 to 64"),
-            UsageError::Color(text) => ("--color ", text.as_str(), ": auto, always or never"),
-            UsageError::Format(text) => (
-                "--format ",
-                text.as_str(),
-                ": text, json, github or junit",
-            ),
-            UsageError::NoTerminal => (
-                "--review",
-                "",
-                ": it asks on a terminal, and standard input or output is none",
-            ),
-            UsageError::Unseen => (
-                "--review",
-                "",
-                ": it shows what it asks about, so it goes with neither --quiet nor --format",
-            ),
-            UsageError::From(text) => ("--from ", text.as_str(), ": the line of a directive"),
-            UsageError::Until(text) => ("--until ", text.as_str(), ": the line of a directive"),
-            UsageError::Place(text) => (
-                "",
-                text.as_str(),
-                ": FILE:LINE, where a directive stands at the line or above it",
-            ),
-            UsageError::NoCommand | UsageError::Directive(_, _) => ("", "", ""),
+            UsageError::NoText
+            | UsageError::NoCommand
+            | UsageError::NoFile
+            | UsageError::Input
+            | UsageError::Spacing
+            | UsageError::NoTerminal
+            | UsageError::Unseen => "",
+            UsageError::Every(text) => text.as_str(),
+            UsageError::Color(text) => text.as_str(),
+            UsageError::Format(text) => text.as_str(),
+            UsageError::From(text) => text.as_str(),
+            UsageError::Until(text) => text.as_str(),
+            UsageError::Place(text) => text.as_str(),
+            UsageError::Directive(name, _) => name.as_str(),
         }
     }
 }
 
+/// The sentence of a usage error for a person, with its word as it is shown.
+#[derive(Clone, Copy)]
+pub(crate) struct UsageLine<'a> {
+    pub(crate) misuse: &'a UsageError,
+    pub(crate) word: &'a str,
+}
+
+impl Display for UsageLine<'_> {
+    ghost output = { λ line. usage_line line.misuse.now line.word.now };
+
+    fn fmt<W: fmt::Write>(&self, f: &mut fmt::Formatter<W>) -> fmt::Result {
+        let word = self.word;
+        match self.misuse {
+            UsageError::NoText => f.write_str("the words are to be UTF-8\n"),
+            UsageError::NoCommand => Ok(()),
+            UsageError::NoFile => f.write_str("FILE is missing: the file of a script\n"),
+            UsageError::Input => f.write_str(
+                "-: a session's commands come from standard input, so its script stands in a file\n",
+            ),
+            UsageError::Every(_) => write!(f, "--every {word}: a number from 1 to 64\n"),
+            UsageError::Spacing => f.write_str("--every: a number from 1 to 64\n"),
+            UsageError::Color(_) => write!(f, "--color {word}: auto, always or never\n"),
+            UsageError::Format(_) => write!(f, "--format {word}: text, json, github or junit\n"),
+            UsageError::NoTerminal => f.write_str(
+                "--review: it asks on a terminal, and standard input or output is none\n",
+            ),
+            UsageError::Unseen => f.write_str(
+                "--review: it shows what it asks about, so it goes with neither --quiet nor --format\n",
+            ),
+            UsageError::From(_) => write!(f, "--from {word}: the line of a directive\n"),
+            UsageError::Until(_) => write!(f, "--until {word}: the line of a directive\n"),
+            UsageError::Place(_) => write!(
+                f,
+                "{word}: FILE:LINE, where a directive stands at the line or above it\n"
+            ),
+            UsageError::Directive(_, meant) => write_unknown(f, word, *meant),
+        }
+    }
+}
+
+// Writes that no directive has this name, and which one may be meant.
+fn write_unknown<W: fmt::Write>(
+    f: &mut fmt::Formatter<W>,
+    name: &str,
+    meant: Option<&'static str>,
+) -> fmt::Result
+    ensures { WritesOnOk W.write_str_gives f.old result (unknown_line name.now (option_map (λ m. m.now) meant.entry)) f.new }
+{
+    match meant {
+        Some(meant) => write!(f, "no directive is called {name}; did you mean {meant}?\n"),
+        None => write!(
+            f,
+            "no directive is called {name}; raftbench directives shows those that there are\n"
+        ),
+    }
+}
+
 /// What is wrong with the text of `--every`, where it isn't one that a session takes.
-pub(crate) fn usage_error_of_every(alloc: Global, every: Option<&str>) -> UsageError {
+pub(crate) fn usage_error_of_every(alloc: Global, every: Option<&str>) -> UsageError
+    ensures { IsOfEvery (option_map (λ word. word.now) every.entry) result }
+{
     match misused(alloc, every) {
         Some(text) => UsageError::Every(text),
         None => UsageError::Spacing,
@@ -126,7 +157,9 @@ pub(crate) fn usage_error_of_every(alloc: Global, every: Option<&str>) -> UsageE
 }
 
 /// The text, if it is given and there is memory for it.
-pub(crate) fn misused(alloc: Global, word: Option<&str>) -> Option<String> {
+pub(crate) fn misused(alloc: Global, word: Option<&str>) -> Option<String>
+    ensures { IfSome result (λ text. option_map (λ word. word.now) word.entry ≡ Some (string_bytes text)) }
+{
     match String::from_str(alloc, word?) {
         Ok(text) => Some(text),
         Err(_) => None,
@@ -134,31 +167,27 @@ pub(crate) fn misused(alloc: Global, word: Option<&str>) -> Option<String> {
 }
 
 /// Copies a word for a terminal, in which no byte of it acts; empty if memory is refused.
-pub(crate) fn shown_name(alloc: Global, name: &str) -> Vec<u8> {
-    visible_name(alloc, name.as_bytes()).unwrap_or(Vec::new(alloc))
+pub(crate) fn shown_name(alloc: Global, name: &str) -> Vec<u8>
+    ensures { IsShown name.now result.items }
+{
+    match visible_name(alloc, name.as_bytes()) {
+        Ok(shown) => shown,
+        Err(_) => Vec::new(alloc),
+    }
 }
 
 /// The text of such a word.
-pub(crate) fn shown_text(shown: &Vec<u8>) -> &str {
-    str::from_utf8(shown.as_slice()).unwrap_or("")
+pub(crate) fn shown_text(shown: &Vec<u8>) -> &str
+    ensures { (result.now ≡ shown.now.items) ⊎ (result.now ≡ []) }
+{
+    match str::from_utf8(shown.as_slice()) {
+        Ok(text) => text,
+        Err(_) => "",
+    }
 }
 
-fn tell_directive<R: Eprint>(rt: &R, name: &str, meant: Option<&'static [u8]>) {
-    let meant = match meant {
-        Some(bytes) => str::from_utf8(bytes).unwrap_or(""),
-        None => "",
-    };
-    let _ = if meant.is_empty() {
-        eprintln!(rt;
-            "no directive is called {name}; raftbench directives shows those that there are"
-        )
-    } else {
-        eprintln!(rt; "no directive is called {name}; did you mean {meant}?")
-    };
-}
-
-// The help of the whole program.
-fn tell_help<R: Eprint + AllocGlobal>(rt: &R) {
+/// Writes the help of the whole program.
+pub(crate) fn tell_help<R: Eprint + AllocGlobal>(rt: &R) {
     if let Some(help) = help(rt.alloc()) {
         let _ = eprint!(rt; "{help}");
     }
