@@ -92,7 +92,7 @@ func run(c call) object {
 		for _, n := range nodes {
 			n.stop()
 		}
-		nodes, letters, changes = map[uint64]*node{}, nil, map[[2]uint64][]string{}
+		nodes, letters, changes = map[uint64]*node{}, nil, map[written][]string{}
 		runtime.GC()
 		return object{}
 	case "ready":

@@ -58,15 +58,23 @@ func (n *node) shownLog() object {
 	return object{"base": object{"index": index, "term": term}, "durable": n.LastIndex(), "entries": shownEntries(logs)}
 }
 
-// changes has the words of each change that was appended, by its term and index. The library's entry has the whole configuration.
-var changes map[[2]uint64][]string
+// changes has the words of each change that was appended. The library's entry has the whole configuration.
+var changes map[written][]string
+
+// written is an entry. In clusters joined by hand, two leaders of a term may write different ones at an index.
+type written struct {
+	term, index uint64
+	data        string
+}
+
+func writtenIn(log *raft.Log) written { return written{log.Term, log.Index, string(log.Data)} }
 
 func shownEntries(logs []*raft.Log) []object {
 	shown := []object{}
 	for _, log := range logs {
 		entry := object{"index": log.Index, "term": log.Term, "data": log.Data}
 		if log.Type == raft.LogConfiguration {
-			words := append([]string{}, changes[[2]uint64{log.Term, log.Index}]...)
+			words := append([]string{}, changes[writtenIn(log)]...)
 			entry = object{"index": log.Index, "term": log.Term, "change": object{"transition": "auto", "words": words}}
 		}
 		shown = append(shown, entry)

@@ -114,9 +114,9 @@ def views_of(node: AnyNode) -> list[str]:
     return [f"{node.id} sees {view_text(id, view)}" for id, view in sorted(node.views.items()) if id != node.id]
 
 
-def known_message(m: Message) -> str:
+def known_message(m: Message, without: frozenset[str] = frozenset()) -> str:
     """What is compared of a message, as a text. Who a passed on transfer is from isn't compared: not every library says so."""
-    text = message_text(m)
+    text = message_text(m._replace(commit=0) if "commit" in without else m)
     if m.kind == "MsgTransferLeader":
         text = text.partition("->")[2]
     hint = f" logTerm={m.log_term}" if m.kind == "MsgAppResp" and m.log_term else ""
@@ -199,7 +199,7 @@ class Beside:
             yield "ready: " + {"hard": "hard state", "must": "sync", "need": "sync"}.get(first.split()[1], first.split()[1]), int(first.split()[0]), wanted, came
 
     def message_differences(self) -> Iterator[Found]:
-        wanted, came = (list(map(known_message, cluster.sent)) for cluster in (self.ours, self.theirs))
+        wanted, came = ([known_message(m, self.without) for m in cluster.sent] for cluster in (self.ours, self.theirs))
         if "order" not in self.chosen.aspects:
             wanted, came = sorted(wanted), sorted(came)
         if wanted == came:

@@ -26,6 +26,7 @@ class Member:
         self.call = self.call_ticks = self.beat = self.beat_ticks = 0
         self.sent_to = 0  # the last index of the call
         self.has_more = self.has_failed = self.is_asked = False
+        self.is_deferred = self.serves = False  # a transfer asks for a call once this one is over; this call was asked for by one
 
     def is_free(self) -> bool:
         return not self.call and not self.has_failed
@@ -37,19 +38,33 @@ class Member:
         else:
             self.is_asked, self.last = True, last
 
-    def fail(self, last: int) -> None:
-        """A failed call is made again at the next tick."""
-        self.call, self.has_failed = 0, True
-        if self.has_more:
-            self.has_more = False
-            self.ask(last)
+    def defer(self, last: int) -> None:
+        """More is to be sent for a transfer, which waits until that call is over. It is made before others that were asked for."""
+        if self.call or self.is_asked:
+            self.is_deferred = True
+        else:
+            self.is_asked, self.last, self.serves = True, last, True
 
-    def age(self, last: int) -> None:
+    def takes_more(self) -> bool:
+        """Whether another call was asked for, which is made now."""
+        wants, self.serves = self.is_deferred or self.has_more, self.is_deferred
+        self.is_deferred, self.has_more = False, self.has_more and self.is_deferred
+        return wants
+
+    def fail(self, last: int, transfers: bool) -> None:
+        """A failed call is made again at the next tick. A transfer asks for another one, after what was asked for before."""
+        again = transfers and self.serves and self.next <= last
+        self.call, self.has_failed, self.is_deferred = 0, True, self.is_deferred or again and not self.has_more
+        if self.takes_more():
+            self.is_asked, self.last = True, last
+        self.is_deferred = self.is_deferred or again and not self.serves
+
+    def is_too_old(self) -> bool:
+        """Whether a tick is the last one of the call."""
         self.call_ticks, self.beat_ticks = self.call_ticks + 1, self.beat_ticks + 1
-        if self.call and self.call_ticks >= MOST_TICKS:
-            self.fail(last)
         if self.beat_ticks >= MOST_TICKS:
             self.beat = 0
+        return bool(self.call) and self.call_ticks >= MOST_TICKS
 
 
 class CallRules(Ruled):
@@ -168,7 +183,7 @@ class CallRules(Ruled):
         member.has_failed = member.is_asked = False
         member.call, member.call_ticks, member.sent_to = self.number(), 0, 0
         self.commits_sent[member.call] = self.heard_commit
-        if before is None:
+        if before is None or member.next <= member.last > self.last():  # A node that no longer leads may lack what it was to send.
             snapshot = self.snapshot()
             member.sent_to = snapshot.index
             return self.send("MsgSnap", member.id, term=member.term, snapshot=snapshot, context=member.call)
@@ -261,8 +276,9 @@ class CallRules(Ruled):
             member.next, view.match = member.sent_to + 1, max(view.match, member.sent_to)
         if member.next <= member.last:
             self.call_member(member)
-        elif member.has_more:
-            self.go_on(member)
+        elif member.takes_more():
+            member.last = self.last()
+            self.call_member(member)
         self.commits()
         return self.hand_over(m.sender)
 
@@ -276,13 +292,19 @@ class CallRules(Ruled):
             return super().start_transfer(m)
         if m.target not in self.members or self.transferee or self.handed:
             return self.ignore(m)
-        self.elapsed, self.transferee = 0, m.target
-        if self.members[m.target].next <= self.last() and self.members[m.target].is_free():
-            self.go_on(self.members[m.target])
+        self.elapsed, self.transferee, member = 0, m.target, self.members[m.target]
+        if member.next <= self.last() and member.is_free():
+            member.serves = True
+            self.go_on(member)
+        elif member.next <= self.last():
+            member.defer(self.last())
         return self.hand_over(m.target)
 
     def hand_over(self, to: int) -> None:
-        if self.role == "leader" and to == self.transferee and self.members[to].next > self.last() and not self.handed:
+        if self.role != "leader" or to != self.transferee or self.handed:
+            return
+        member = self.members[to]
+        if member.next > self.last() and not member.is_deferred and not member.serves:
             self.send("MsgTimeoutNow", to)
 
     def campaign_by_transfer(self, m: Message) -> None:
@@ -298,6 +320,9 @@ class CallRules(Ruled):
     def why_not_now(self, kind: str) -> str | None:
         return None if self.are_calls() and kind == "transfer" else super().why_not_now(kind)
 
+    def fail(self, member: Member) -> None:
+        member.fail(self.last(), member.id == self.transferee)
+
     # Time
 
     def ask(self, kind: str, term: int, by_transfer: bool) -> None:
@@ -305,7 +330,6 @@ class CallRules(Ruled):
         super().ask(kind, term, by_transfer)
 
     def tick(self) -> None:
-        self.asked_ticks += 1
         if not self.are_calls():
             return super().tick()
         if self.role == "leader":
@@ -340,9 +364,10 @@ class CallRules(Ruled):
 
     def age_calls(self) -> None:
         for member in (*self.left, *(self.members.values() if self.role == "leader" else ())):
-            member.age(self.last())
+            if member.is_too_old():
+                self.fail(member)
         self.left = [member for member in self.left if member.call or member.is_asked]
-        self.handed_ticks += 1
+        self.asked_ticks, self.handed_ticks = self.asked_ticks + 1, self.handed_ticks + 1
         if self.handed and self.handed_ticks >= MOST_TICKS:
             self.handed = 0
             self.end_transfer()
@@ -357,6 +382,6 @@ class CallRules(Ruled):
             if m.kind == "MsgHeartbeat" and m.context == member.beat:
                 member.beat = 0
             elif m.kind in ("MsgApp", "MsgSnap") and m.context == member.call:
-                member.fail(self.last())
+                self.fail(member)
         self.left = [member for member in self.left if member.call or member.is_asked]
         return None

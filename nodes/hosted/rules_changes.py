@@ -14,6 +14,12 @@ class FirstForm(Change):
     """A change that was asked for in etcd's first form."""
 
 
+class WholeChange(Change):
+    """A change whose entry has all members."""
+
+    members: Config
+
+
 class ChangeRules(Ruled):
     """Changes of the configuration."""
 
@@ -35,6 +41,8 @@ class ChangeRules(Ruled):
         return None
 
     def config_after(self, change: Change) -> Config:
+        if isinstance(change, WholeChange):
+            return change.members
         if self.on("no-words-leave-with-auto") and not change.words and change.transition != "auto":
             return enter_joint(self.config, (), change.transition == "implicit")
         return super().config_after(change)
@@ -73,6 +81,9 @@ class ChangeRules(Ruled):
             return
         if self.on("impossible-change-declined") and self.is_impossible(change):
             return
+        if self.on("change-has-all-members") and not self.is_impossible(change):
+            members, change = self.config_after(change), WholeChange(*change)
+            change.members = members
         super().append_change(change)
 
     def is_impossible(self, change: Change) -> bool:

@@ -3,7 +3,7 @@ from __future__ import annotations
 
 from typing import Any
 
-from plain.config import Change, vote_result
+from plain.config import Change, both, vote_result
 from plain.node import Disk, Node
 from plain.records import Body, Message, Numbered, Ready
 
@@ -37,6 +37,17 @@ class Ruled(Node):
 
     def lose(self, m: Message) -> None:
         """The bench drops a message of this node."""
+
+    def commits(self) -> bool:
+        """A leader may look only at the last entry that it has saved."""
+        if not self.on("last-saved-commits"):
+            return super().commits()
+        is_held = both(self.config, lambda id: id in self.views and self.views[id].match >= self.durable)
+        if not is_held or self.durable <= self.commit or self.term_at(self.durable) != self.term:
+            return False
+        self.commit = self.durable
+        self.tell_all()
+        return True
 
     def entries_from(self, index: int, to: int | None = None) -> list[Numbered]:
         """Rules may commit what a log lacks, or apply again what was compacted: there are no such entries."""
@@ -119,6 +130,15 @@ class OwnRules(Ruled):
             is_now = self.role == "follower"
             self.waiting = [m for m in self.waiting if m.to == self.id or m.kind != "MsgAppResp" or is_now and m.term == self.term]
         return super().ready()
+
+    def advance(self) -> None:
+        super().advance()
+        for index, entry in self.entries_from(self.applied + 1, self.commit) if self.on("own-commit-applies-at-once") else ():
+            self.applied = index
+            if isinstance(entry.body, Change):
+                self.apply_change(index, entry.body)
+            else:
+                self.content += entry.body
 
     def restart(self, saved: str = "nothing") -> None:
         if self.on("saved-at-once"):

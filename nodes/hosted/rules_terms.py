@@ -1,7 +1,9 @@
 """Rules of campaigns, votes, terms, time, and of what is passed on to a leader."""
 from __future__ import annotations
 
-from plain.config import both, vote_result
+from typing import Any
+
+from plain.config import both
 from plain.node import Disk
 from plain.records import Message
 
@@ -10,25 +12,34 @@ from .rules_own import Ruled
 FROM_LEADERS = ("MsgApp", "MsgHeartbeat", "MsgSnap")
 ASKING = ("candidate", "precandidate")
 ANSWERS = ("MsgAppResp", "MsgVoteResp", "MsgPreVoteResp", "MsgHeartbeatResp")
+# The roles in which the later term of an answer counts, if it needs one.
+ASKERS = {"MsgVoteResp": ("candidate",), "MsgPreVoteResp": ASKING}
 
 
 class TermRules(Ruled):
     """Campaigns, terms, time, transfers."""
 
     led_at = 0
+    asked_term = 0  # of the message that is handled
+    was_told = False  # to campaign, by a leader
+    has_handed_over = False  # the transfer that is under way
     heard: dict[int, int] = {}
 
     def start_from(self, disk: Disk) -> None:
         super().start_from(disk)
-        if self.on("lone-voter-leads") and self.config.voters() == {self.id}:
+        if self.is_lone_leader():
             self.lead_on()
+
+    def is_lone_leader(self) -> bool:
+        return self.on("lone-voter-leads") and self.config.voters() == {self.id}
 
     def why_not(self) -> str | None:
         why = super().why_not()
         is_free = self.on("pending-change-campaigns") and not self.has_first_form_pending() or self.on("change-counts-when-appended")
         if why == "change pending" and is_free or why == "snapshot pending" and self.on("snapshot-always-installed"):
             return None
-        return None if why == "not a voter" and self.on("unstable-member-campaigns") and self.is_unstable() else why
+        may = self.on("unstable-member-campaigns") and self.is_unstable() or self.on("nonvoter-times-out") and self.role == "candidate"
+        return None if why == "not a voter" and may else why
 
     def why_not_now(self, kind: str) -> str | None:
         return None if self.on("won-question-campaigns") and kind == "elected" else super().why_not_now(kind)
@@ -41,36 +52,47 @@ class TermRules(Ruled):
         return super().answer_older(m)
 
     def count_vote(self, m: Message) -> None:
-        self.votes.setdefault(m.sender, not m.refused)
-        if self.on("refused-candidate-stays") and vote_result(self.config, self.votes) == "lost":
-            return None
+        if self.on("refused-candidate-stays") and m.refused:
+            return self.ignore(m)
         return super().count_vote(m)
 
     def raise_term(self, m: Message) -> None:
         if self.on("heartbeat-answers-have-no-term") and m.kind == "MsgHeartbeatResp":
             return
-        if self.on("answers-need-their-role") and m.kind in ANSWERS and self.role not in (ASKING if "Vote" in m.kind else ("leader",)):
+        if self.on("answers-need-their-role") and m.kind in ANSWERS and self.role not in ASKERS.get(m.kind, ("leader",)):
             return
         if self.on("stale-leader-keeps-term") and m.kind == "MsgAppResp":
             if self.role == "leader":
                 self.follow(self.term, 0)
             return
         lead = self.lead if self.role == "follower" and self.on("lead-is-kept") and m.kind not in FROM_LEADERS else 0
+        clock = self.elapsed, self.timeout
+        keeps_clock = self.role == "follower" and self.on("later-term-keeps-clock")
         super().raise_term(m)
+        if keeps_clock:
+            self.elapsed, self.timeout = clock
         if lead and m.term == self.term:
             self.lead = lead
 
+    def by_role(self, m: Message) -> None:
+        if self.role == "leader" and m.kind in ("MsgApp", "MsgHeartbeat") and self.on("leader-follows-another"):
+            self.follow(self.term, m.sender)
+        super().by_role(m)
+
     def answer_candidate(self, m: Message) -> None:
         lead, vote = self.lead, self.vote
+        if self.on("nonvoter-refuses") and self.id not in self.config.voters():
+            return self.send(f"{m.kind}Resp", m.sender, refused=True)
         if self.on("pre-vote-ignores-vote") and m.kind == "MsgPreVote":
             self.lead = self.vote = 0
             super().answer_candidate(m)
             self.lead, self.vote = lead, vote
-            return
+            return None
         if self.on("lead-is-kept") and self.vote == 0 and m.kind == "MsgVote":
             self.lead = 0
         super().answer_candidate(m)
         self.lead = lead if self.on("lead-is-kept") else self.lead
+        return None
 
     def is_undisturbed(self, m: Message) -> bool:
         if self.on("known-leader-may-ask") and m.sender == self.lead:
@@ -84,9 +106,12 @@ class TermRules(Ruled):
         return is_it
 
     def campaign(self, kind: str = "usual") -> None:
+        if self.is_lone_leader() and self.why_not_now(kind) is None:
+            return self.lead_on()
         timeout = self.timeout
-        if self.on("candidate-asks-once") and self.role == "candidate" and kind == "usual":
-            kind = "elected"
+        if self.role == "candidate" and kind == "usual":
+            kind = self.kind_again()
+        self.was_told = kind == "transfer"
         if self.on("declined-campaign-forgets-leader") and self.why_not_now(kind) == "not a voter":
             self.lead = 0
         super().campaign(kind)
@@ -96,6 +121,13 @@ class TermRules(Ruled):
             self.elapsed = 0
         if self.on("pre-vote-keeps-timeout") and self.role == "precandidate" and kind == "usual":
             self.timeout = timeout
+        return None
+
+    def kind_again(self) -> str:
+        """The kind of a candidate's next campaign."""
+        if self.on("told-candidate-stays-told") and self.was_told:
+            return "transfer"
+        return "elected" if self.on("candidate-asks-once") else "usual"
 
     def tick(self) -> None:
         self.ticks += 1
@@ -105,10 +137,37 @@ class TermRules(Ruled):
             self.follow(self.term, 0)
         else:
             super().tick()
+            self.time_out_nonvoter()
+            self.beat_snapshots()
             again, self.lost = frozenset(self.views) - {self.id} if self.on("heartbeats-append") else self.lost, frozenset()
             for id in sorted(again & self.views.keys() if self.role == "leader" else ()):
                 self.views[id].waiting = False
                 self.sends(id, "tell")
+
+    def beat_snapshots(self) -> None:
+        """Heartbeats that are appends have no entries while a snapshot is on its way."""
+        for id in self.others() if self.on("heartbeats-append") else ():
+            if self.views[id].state == "snapshot":
+                self.send("MsgApp", id, index=self.last(), log_term=self.last_term(), commit=self.commit, entries=())
+
+    def time_out_nonvoter(self) -> None:
+        """The timeout of a node that doesn't vote may pass too."""
+        is_due = self.role != "leader" and self.id not in self.config.voters() and self.elapsed >= self.timeout
+        if self.on("nonvoter-times-out") and is_due:
+            self.elapsed = 0
+            self.campaign()
+
+    def send(self, kind: str, to: int, **parts: Any) -> None:
+        """Heartbeats that are appends have no message of their own. Those that a read asks for have a context."""
+        if kind == "MsgHeartbeat" and "context" not in parts and self.on("heartbeats-append"):
+            return
+        if kind == "MsgTimeoutNow" and self.on("transfer-goes-by-sent"):
+            if self.has_handed_over:
+                return
+            self.has_handed_over = True
+        if kind == "MsgPreVoteResp" and to != self.id and self.on("pre-vote-answer-has-asked-term"):
+            parts["term"] = self.asked_term
+        super().send(kind, to, **parts)
 
     def lose(self, m: Message) -> None:
         """What is in flight is forgotten, and what the member lacks goes again."""
@@ -120,6 +179,7 @@ class TermRules(Ruled):
 
     def lead_on(self) -> None:
         self.led_at, self.heard = self.ticks, {}
+        self.commit = max(self.commit, self.durable) if self.is_lone_leader() else self.commit
         super().lead_on()
 
     def new_view(self, id: int, active: bool) -> None:
@@ -148,6 +208,7 @@ class TermRules(Ruled):
 
     def step(self, m: Message) -> None:
         self.hear(m)
+        self.asked_term = m.term
         if self.on("pre-vote-refusal-keeps-term") and self.is_of_next_term(m):
             return self.ignore(m)
         if self.on("stranger-ignored") and m.kind in ANSWERS and m.sender not in self.config.members():
@@ -190,7 +251,7 @@ class TermRules(Ruled):
             return self.end_transfer()
         if self.on("one-transfer-at-a-time") and self.transferee:
             return self.ignore(m)
-        view = self.views.get(m.target)
+        view, self.has_handed_over = self.views.get(m.target), False
         if view and self.on("transfer-goes-by-sent") and m.target in self.config.voters() - {self.id, self.transferee} and view.next > self.last():
             self.end_transfer()
             self.elapsed, self.transferee = 0, m.target

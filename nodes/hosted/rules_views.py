@@ -4,8 +4,8 @@ from __future__ import annotations
 from typing import Any
 
 from plain.config import Config
-from plain.node import View
-from plain.records import Body, Entry, Message, Snapshot
+from plain.node import Disk, View
+from plain.records import Body, Entry, Message, Numbered, Ready, Snapshot
 
 from .rules_own import Ruled
 
@@ -15,6 +15,9 @@ class ViewRules(Ruled):
 
     is_new_leader = False
     is_held = False  # while nothing is sent
+    is_answering = False  # while an acknowledgement is handled
+    has_nothing_new = False  # the append that is handled
+    held: list[tuple[int, int, int]]  # commits of appends that aren't saved, after the index and the term of their last entry
 
     def lead_on(self) -> None:
         self.is_new_leader = True
@@ -31,6 +34,8 @@ class ViewRules(Ruled):
         view = self.views.get(id)
         if self.is_held:
             return None
+        if self.is_answering and self.on("no-empty-after-acknowledged"):
+            mode = "news"
         if view is None or id == self.id or view.next - 1 >= self.base:
             return super().sends(id, mode)
         if view.is_paused(self.options.inflight):
@@ -77,7 +82,18 @@ class ViewRules(Ruled):
             self.sends(m.sender, "tell")
         return None
 
+    def take_answer(self, m: Message) -> None:
+        self.is_answering = not m.refused
+        super().take_answer(m)
+        self.is_answering = False
+
     def take_acceptance(self, m: Message, view: View) -> None:
+        if self.on("snapshot-ends-in-probe") and view.state == "snapshot" and self.acknowledged(m) >= max(view.pending, view.match + 1):
+            view.match = self.acknowledged(m)
+            view.to_probe()
+            view.waiting = True
+            self.commits()
+            return None
         if not self.on("probe-ends-above"):
             return super().take_acceptance(m, view)
         index, was_paused = self.acknowledged(m), view.is_paused(self.options.inflight)
@@ -101,17 +117,59 @@ class ViewRules(Ruled):
     def take_refusal(self, m: Message, view: View) -> None:
         if self.on("refusal-has-term") and m.log_term:
             m = m._replace(hint=self.hint(m.hint, m.log_term))
-        if self.on("refused-append-waits"):
-            self.is_held, before = True, view.next
-            super().take_refusal(m, view)
-            self.is_held = False
-            if view.next != before:
-                view.waiting, self.lost = True, self.lost | {m.sender}
-            return None
+        if not self.on("refused-append-waits"):
+            return self.step_back(m, view)
+        self.is_held, before = True, view.next
+        self.step_back(m, view)
+        self.is_held = False
+        if view.next != before:
+            view.waiting, self.lost = True, self.lost | {m.sender}
+        return None
+
+    def step_back(self, m: Message, view: View) -> None:
         if self.on("refusal-goes-below-match") and view.state == "probe" and m.index == view.next - 1:
             view.next, view.waiting = max(1, min(m.index, m.hint + 1)), False
             return self.sends(m.sender, "tell")
         return super().take_refusal(m, view)
+
+    def send(self, kind: str, to: int, **parts: Any) -> None:
+        if kind == "MsgAppResp" and self.has_nothing_new and not parts.get("refused") and self.on("saved-is-acknowledged"):
+            parts["index"] = min(parts["index"], self.durable)
+        super().send(kind, to, **parts)
+
+    def last_told(self) -> int:
+        """The index that a refusal hints at, if that is the last one."""
+        return self.durable if self.on("saved-is-acknowledged") else self.last()
+
+    def put_after(self, numbered: list[Numbered]) -> None:
+        self.has_nothing_new = all(self.term_at(at) == entry.term for at, entry in numbered)
+        super().put_after(numbered)
+
+    def by_role(self, m: Message) -> None:
+        before = self.commit
+        super().by_role(m)
+        if m.kind == "MsgApp" and self.commit > before and self.on("commit-waits-for-saved"):
+            self.hold_commit(before)
+        self.has_nothing_new = False
+
+    def hold_commit(self, before: int) -> None:
+        """What an append commits counts once its entries are saved; without new ones, as far as the log is saved."""
+        if self.has_nothing_new:
+            self.commit = max(before, min(self.commit, self.durable))
+        else:
+            self.held.append((self.last(), self.last_term(), self.commit))
+            self.commit = before
+
+    def ready(self) -> Ready:
+        for index, term, commit in self.held if self.role == "follower" else ():
+            if self.term_at(index) == term:
+                self.commit = max(self.commit, commit)
+        self.held = []
+        return super().ready()
+
+    def start_from(self, disk: Disk) -> None:
+        self.held = []
+        super().start_from(disk)
 
     def take_append(self, m: Message) -> None:
         if self.on("compacted-is-refused"):
@@ -124,7 +182,7 @@ class ViewRules(Ruled):
             hint = self.hint(m.index, m.log_term) or max(self.base - 1, 0)
             return self.answer_append(m, refused=True, index=m.index, hint=hint, log_term=self.term_at(hint) or 0)
         if self.on("refusal-hints-last") and is_refused:
-            return self.answer_append(m, refused=True, index=m.index, hint=self.last())
+            return self.answer_append(m, refused=True, index=m.index, hint=self.last_told())
         if self.on("old-append-answered") and m.index < self.commit:
             return self.answer_append(m, index=self.commit)
         return super().take_append(m)
@@ -136,7 +194,7 @@ class ViewRules(Ruled):
 
     def take_below_commit(self, m: Message) -> None:
         if self.term_at(m.index) != m.log_term:
-            return self.answer_append(m, refused=True, index=m.index, hint=self.last())
+            return self.answer_append(m, refused=True, index=m.index, hint=self.last_told())
         self.put_after(list(enumerate(m.entries, m.index + 1)))
         self.commit = max(self.commit, min(m.commit, m.index + len(m.entries)))
         return self.answer_append(m, index=m.index + len(m.entries))

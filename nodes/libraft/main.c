@@ -12,8 +12,6 @@
 enum { MOST_NODES = 64, CHUNK = 1 << 16 };
 
 static struct node *nodes[MOST_NODES];
-/* For nodes/promises: commits and what is applied are shown too, and terms begin as on libraft's own disk. */
-static bool shows_all;
 /* All messages since the last reset: a message's `own` is its place here. */
 static struct letters letters;
 
@@ -87,16 +85,17 @@ static struct node *started(const json_t *call)
     struct raft_buffer content = read_bytes(json_string_value(json_object_get(base, "content")));
     bool pre_vote = json_is_true(json_object_get(options, "prevote"));
     raft_id id = (raft_id)number(call, "node");
-    raft_term base_term = (raft_term)number(base, "term");
-    /* On libraft's own disk the term is at least 1, and at least that of the snapshot. */
-    raft_term term = shows_all ? (base_term > 1 ? base_term : 1) : 0;
-    struct node *n = node_start(id, term, (raft_index)number(base, "index"), base_term, &members, content, pre_vote);
+    raft_index index = (raft_index)number(base, "index");
+    struct node *n = node_start(id, index, index > 0 ? (raft_term)number(base, "term") + 1 : 0, &members, content, pre_vote);
     raft_configuration_close(&members);
     raft_free(content.base);
     return n;
 }
 
 /* What is shown */
+
+/* On libraft's own disk terms begin at 1, and 0 stands for no entry: here they are one more than in the protocol. */
+static json_int_t shown_term(raft_term term) { return term > 0 ? (json_int_t)term - 1 : 0; }
 
 static json_t *shown_config(const struct raft_configuration *members)
 {
@@ -129,7 +128,7 @@ static json_t *shown_state(struct node *n)
     } else if (n->raft.state == RAFT_FOLLOWER) {
         lead = n->raft.follower_state.current_leader.id;
     }
-    return json_pack("{s:{ss sI sI sI sI sI so so sb} s[]}", "state", "role", role_of(n), "term", (json_int_t)n->raft.current_term,
+    return json_pack("{s:{ss sI sI sI sI sI so so sb} s[]}", "state", "role", role_of(n), "term", shown_term(n->raft.current_term),
                      "vote", (json_int_t)n->raft.voted_for, "lead", (json_int_t)lead, "commit", (json_int_t)n->raft.commit_index,
                      "applied", (json_int_t)n->shown_applied, "content", shown_bytes(content), "config",
                      shown_config(&n->raft.configuration), "ready", (int)node_has_ready(n), "events");
@@ -141,7 +140,7 @@ static json_t *shown_entry(raft_index index, const struct raft_entry *entry)
     if (entry->type != RAFT_COMMAND) {
         data.len = 0;
     }
-    return json_pack("{sI sI so}", "term", (json_int_t)entry->term, "index", (json_int_t)index, "data", shown_bytes(data));
+    return json_pack("{sI sI so}", "term", shown_term(entry->term), "index", (json_int_t)index, "data", shown_bytes(data));
 }
 
 static json_t *shown_entries(const struct node *n, raft_index after, raft_index through)
@@ -159,15 +158,15 @@ static json_t *shown_append(const struct raft_append_entries *append)
     for (unsigned at = 0; at < append->n_entries; at++) {
         json_array_append_new(entries, shown_entry(append->prev_log_index + 1 + at, &append->entries[at]));
     }
-    return json_pack("{ss sI sI sI sI so}", "type", "MsgApp", "term", (json_int_t)append->term, "index",
-                     (json_int_t)append->prev_log_index, "logTerm", (json_int_t)append->prev_log_term, "commit",
+    return json_pack("{ss sI sI sI sI so}", "type", "MsgApp", "term", shown_term(append->term), "index",
+                     (json_int_t)append->prev_log_index, "logTerm", shown_term(append->prev_log_term), "commit",
                      (json_int_t)append->leader_commit, "entries", entries);
 }
 
 static json_t *shown_vote(const struct raft_request_vote *vote)
 {
-    return json_pack("{ss sI sI sI sb}", "type", vote->pre_vote ? "MsgPreVote" : "MsgVote", "term", (json_int_t)vote->term, "index",
-                     (json_int_t)vote->last_log_index, "logTerm", (json_int_t)vote->last_log_term, "transfer",
+    return json_pack("{ss sI sI sI sb}", "type", vote->pre_vote ? "MsgPreVote" : "MsgVote", "term", shown_term(vote->term), "index",
+                     (json_int_t)vote->last_log_index, "logTerm", shown_term(vote->last_log_term), "transfer",
                      (int)vote->disrupt_leader);
 }
 
@@ -179,7 +178,7 @@ static json_t *shown_content(const struct raft_message *m)
     case RAFT_IO_APPEND_ENTRIES_RESULT: {
         const struct raft_append_entries_result *result = &m->append_entries_result;
         bool refused = result->rejected > 0;
-        return json_pack("{ss sI sI sb sI}", "type", "MsgAppResp", "term", (json_int_t)result->term, "index",
+        return json_pack("{ss sI sI sb sI}", "type", "MsgAppResp", "term", shown_term(result->term), "index",
                          (json_int_t)(refused ? result->rejected : result->last_log_index), "reject", (int)refused, "rejectHint",
                          (json_int_t)(refused ? result->last_log_index : 0));
     }
@@ -188,16 +187,16 @@ static json_t *shown_content(const struct raft_message *m)
     case RAFT_IO_REQUEST_VOTE_RESULT: {
         const struct raft_request_vote_result *result = &m->request_vote_result;
         const char *type = result->pre_vote == raft_tribool_true ? "MsgPreVoteResp" : "MsgVoteResp";
-        return json_pack("{ss sI sb}", "type", type, "term", (json_int_t)result->term, "reject", (int)!result->vote_granted);
+        return json_pack("{ss sI sb}", "type", type, "term", shown_term(result->term), "reject", (int)!result->vote_granted);
     }
     case RAFT_IO_INSTALL_SNAPSHOT: {
         const struct raft_install_snapshot *install = &m->install_snapshot;
-        return json_pack("{ss sI s{sI sI so so}}", "type", "MsgSnap", "term", (json_int_t)install->term, "snapshot", "index",
-                         (json_int_t)install->last_index, "term", (json_int_t)install->last_term, "content",
+        return json_pack("{ss sI s{sI sI so so}}", "type", "MsgSnap", "term", shown_term(install->term), "snapshot", "index",
+                         (json_int_t)install->last_index, "term", shown_term(install->last_term), "content",
                          shown_bytes(install->data), "config", shown_config(&install->conf));
     }
     default:
-        return json_pack("{ss sI}", "type", "MsgTimeoutNow", "term", (json_int_t)m->timeout_now.term);
+        return json_pack("{ss sI}", "type", "MsgTimeoutNow", "term", shown_term(m->timeout_now.term));
     }
 }
 
@@ -222,7 +221,7 @@ static json_t *shown_ready(struct node *n)
     }
     raft_index base = node_log_base(n), last = n->raft.last_stored;
     json_t *entries = shown_entries(n, stored > base ? stored : base, last < node_log_last(n) ? last : node_log_last(n));
-    json_t *hard = json_pack("{sI sI sI}", "term", (json_int_t)n->raft.current_term, "vote", (json_int_t)n->raft.voted_for, "commit",
+    json_t *hard = json_pack("{sI sI sI}", "term", shown_term(n->raft.current_term), "vote", (json_int_t)n->raft.voted_for, "commit",
                              (json_int_t)n->raft.commit_index);
     json_t *committed = shown_entries(n, n->shown_commit > base ? n->shown_commit : base, n->raft.last_applied);
     return json_pack("{s{so so so so}}", "ready", "hard", hard, "entries", entries, "committed", committed, "messages", messages);
@@ -231,7 +230,7 @@ static json_t *shown_ready(struct node *n)
 static json_t *shown_log(const struct node *n)
 {
     raft_index base = node_log_base(n);
-    return json_pack("{s{sI sI} sI so}", "base", "index", (json_int_t)base, "term", (json_int_t)node_term_at(n, base), "durable",
+    return json_pack("{s{sI sI} sI so}", "base", "index", (json_int_t)base, "term", shown_term(node_term_at(n, base)), "durable",
                      (json_int_t)n->raft.last_stored, "entries", shown_entries(n, base, node_log_last(n)));
 }
 
@@ -255,13 +254,6 @@ static json_t *greeting(void)
 {
     json_t *without = json_pack("[sssssssssss]", "forget_leader", "report_unreachable", "compact", "snapshot", "propose_change",
                                 "inflight", "step_down_on_removal", "status", "ready", "sync", "torn");
-    if (!shows_all) {
-        json_array_append_new(without, json_string("applied"));
-        json_array_append_new(without, json_string("content"));
-        json_array_append_new(without, json_string("commit"));
-        /* In term 0, that of a new node, libraft takes no entry for stored. */
-        json_array_append_new(without, json_string("durable"));
-    }
     return json_pack("{ss si so s[s] s[s] sb sb}", "name", "libraft " VERSION, "protocol", 1, "without", without, "calls", "restart",
                      "always", "checkquorum", "open", 1, "batch", 1);
 }
@@ -385,9 +377,7 @@ static char *next_line(void)
 int main(int count, char **words)
 {
     for (int at = 1; at < count; at++) {
-        bool cures = strcmp(words[at], "--cured") == 0;
-        node_is_cured = node_is_cured || cures;
-        shows_all = shows_all || !cures;
+        node_is_cured = node_is_cured || strcmp(words[at], "--cured") == 0;
     }
     memory_start();
     for (char *line; (line = next_line()) != NULL;) {

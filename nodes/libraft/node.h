@@ -86,8 +86,8 @@ struct node {
 /* Whether acknowledgements end where the append did, and go to who sent it: docs/FOUND.md, libraft, 1 and 3. */
 extern bool node_is_cured;
 
-/* A node that begins with a snapshot, in a term of its own; `members` and `content` are copied. */
-struct node *node_start(raft_id id, raft_term term, raft_index base, raft_term base_term, const struct raft_configuration *members,
+/* A node that begins with a snapshot, in term 1 as on libraft's own disk; `members` and `content` are copied. */
+struct node *node_start(raft_id id, raft_index base, raft_term base_term, const struct raft_configuration *members,
                         struct raft_buffer content, bool pre_vote);
 void node_campaign(struct node *n);
 void node_tick(struct node *n);

@@ -58,7 +58,16 @@ def part_calls() -> Checks:
     yield "a call without an answer fails after two ticks", is_equal(pending(ran(CALLS, *silent, "tick-heartbeat 1", "process-ready 1"), 2)[-2:], [("MsgApp", 1, 11), ("MsgHeartbeat", 0, 0)])
     late = ran(CALLS, *silent, "deliver-msgs 2", "process-ready 2", "deliver-msgs 1")
     yield "its late answer counts for nothing", is_equal(late.nodes[1].commit, 11)
+    votes = ("add-nodes 2 voters=(1,2) index=10", "tick-election 1", "tick-heartbeat 1", "stabilize")
+    roles = [ran(CALLS, *lines).nodes[1].role for lines in (votes, (votes[0], "campaign 1", *votes[2:]))]
+    yield "a late vote counts for nothing, where the tick that campaigned is the first of two", is_equal(roles, ["candidate", "leader"])
+    round_trip = ("process-ready 1", "deliver-msgs 2", "process-ready 2", "deliver-msgs 1")
+    deferred = (*two[:2], "stabilize rounds=2", "propose 1 a", "transfer-leadership from=1 to=2", *round_trip, *round_trip, "process-ready 1")
+    yield "a transfer asks for an append of its own", is_equal(pending(ran(CALLS, *deferred), 2), [("MsgApp", 0, 11), ("MsgTimeoutNow", 0, 0)])
     hashicorp = tuple(switches_of((LIKE / "hashicorp.txt").read_text()))
+    shorter = ("campaign 2", "campaign 1", *["propose 3 a"] * 2, "process-ready 3", "deliver-msgs drop=(1)", "campaign 1", "stabilize", "tick-heartbeat 3", "process-ready 3")
+    sent = pending(ran(hashicorp, "add-nodes 3 voters=(1,2,3) index=10", "campaign 3", "stabilize", *shorter), 1)
+    yield "who no longer leads sends a snapshot for entries that it lost", is_equal([kind for kind, *_ in sent], ["MsgSnap", "MsgHeartbeat"])
     gone = ran(hashicorp, *two, "campaign 2", "propose-conf-change 1 | r2", "process-ready 1", "deliver-msgs 2", "process-ready 2", "deliver-msgs 1")
     yield "a later term in the answer of a member that was removed ends the lead", is_equal((gone.nodes[1].role, gone.nodes[1].term), ("follower", 1))
     ended = ("add-nodes 2 voters=(1,2) index=10", "campaign 2", "stabilize rounds=1", "campaign 1", "stabilize", "tick-election 2", "process-ready 2")
@@ -81,12 +90,18 @@ def part_changes_of_libraries() -> Checks:
     yield "impossible-change-declined", is_equal([len(ran(switches, *alone).nodes[1].entries_from(11)) for switches in (counted, (*counted, "impossible-change-declined"))], [2, 1])
     added = ("add-nodes 1 voters=1 index=10", "campaign 1", "propose-conf-change 1 | v2")
     yield "own-entry-before-change", is_equal([ran(switches, *added).nodes[1].commit for switches in (counted, (*counted, "own-entry-before-change"))], [11, 12])
+    joined = ("add-nodes 1 voters=1 index=10", "add-nodes 1 voters=2 index=10", "campaign 1", "propose-conf-change 1 | v2", "stabilize")
+    voters = [ran(switches, *joined).nodes[2].config.voters() for switches in (counted, (*counted, "change-has-all-members"))]
+    yield "change-has-all-members", is_equal(voters, [{2}, {1, 2}])
     removed = (*THREE, "propose-conf-change 1 | r1", "propose 1 a")
     yield "leaves-when-committed: goes on", is_equal([len(ran(switches, *removed).nodes[1].entries_from(11)) for switches in (counted, (*counted, "leaves-when-committed"))], [2, 3])
     yield "and leaves", is_equal(ran((*counted, "leaves-when-committed"), *removed, "stabilize").nodes[1].role, "follower")
     demoted = (*THREE, "propose-conf-change 1 | l2", "process-ready 1", "deliver-msgs 2", "campaign 2")
     yield "unstable-member-campaigns", is_equal([ran(switches, *demoted).nodes[2].role for switches in (counted, (*counted, "unstable-member-campaigns"))], ["follower", "candidate"])
     learner = ("add-nodes 3 voters=(1,2) learners=3 index=10", "campaign 1", "stabilize", "campaign 3")
+    timed_out = (*learner[:-1], "tick-election 3")
+    forgets = "declined-campaign-forgets-leader"
+    yield "nonvoter-times-out", is_equal([ran(switches, *timed_out).nodes[3].lead for switches in ((forgets,), (forgets, "nonvoter-times-out"))], [1, 0])
     yield "declined-campaign-forgets-leader", is_equal([ran(switches, *learner).nodes[3].lead for switches in ((), ("declined-campaign-forgets-leader",))], [1, 0])
 
 
@@ -118,6 +133,10 @@ def part_logs_of_libraries() -> Checks:
 
 
 def part_leaders_of_libraries() -> Checks:
+    leaders = [ran(switches, *THREE).nodes[1] for switches in ((), ("leader-follows-another",))]
+    for leader in leaders:
+        leader.step(Message("MsgHeartbeat", 2, 1, 1))
+    yield "leader-follows-another", is_equal([(leader.role, leader.lead) for leader in leaders], [("leader", 1), ("follower", 2)])
     at_follower = (*THREE, "transfer-leadership from=2 to=3", "process-ready 2")
     yield "transfer-refused", is_equal([len(ran(switches, *at_follower).network.pending) for switches in ((), ("transfer-refused",))], [1, 0])
     alone = ran(("lone-voter-leads",), "add-nodes 1 voters=1 index=10").nodes[1]
@@ -134,6 +153,14 @@ def part_leaders_of_libraries() -> Checks:
     waits = ("add-nodes 2 voters=(1,2) index=10", "campaign 1", *["process-ready 1", "deliver-msgs 2", "process-ready 2", "deliver-msgs 1"], "tick-heartbeat 1", "process-ready 1")
     appends = [[kind for kind, *_ in pending(ran(switches, *waits), 2)].count("MsgApp") for switches in ((), ("heartbeats-append",))]
     yield "heartbeats-append", is_equal(appends, [1, 2])
+    again_at_3 = ("deliver-msgs 3", "process-ready 3", "deliver-msgs 1", "process-ready 1")
+    installing = ("add-nodes 2 voters=(1,2,3) index=10", "add-nodes 1 voters=(1,2,3) index=9", "campaign 1", "stabilize 1 2", *again_at_3)
+    yield "a snapshot is on its way", is_equal([kind for kind, *_ in pending(ran(("heartbeats-append",), *installing), 3)], ["MsgSnap"])
+    beat = pending(ran(("heartbeats-append",), *installing, "deliver-msgs drop=3", "tick-heartbeat 1", "process-ready 1"), 3)
+    yield "and heartbeats have no entries", is_equal(beat, [("MsgApp", 0, 11)])
+    sent_then = [[kind for kind, *_ in pending(ran(switches, *installing, *again_at_3), 3)] for switches in ((), ("snapshot-ends-in-probe",))]
+    yield "snapshot-ends-in-probe", is_equal(sent_then, [["MsgApp"], []])
+    yield "and are no messages of their own", is_equal([kind for kind, *_ in pending(ran(("heartbeats-append",), *waits), 2)], ["MsgApp", "MsgApp"])
     asked = ("add-nodes 2 voters=(1,2) index=10 prevote=true", "campaign 2", "process-ready 2", "deliver-msgs 1", "process-ready 1", "deliver-msgs 2", "process-ready 2")
     asks = ("deliver-msgs drop=(1)", "campaign 1", "process-ready 1", "deliver-msgs 2", "process-ready 2")
     refused = [[m.refused for m in ran(switches, *asked, *asks).network.pending if m.kind == "MsgPreVoteResp"] for switches in ((), ("pre-vote-ignores-vote",))]
@@ -141,12 +168,18 @@ def part_leaders_of_libraries() -> Checks:
     due = ("add-nodes 2 voters=(1,2) index=10 prevote=true", *["tick-heartbeat 1"] * 2, "campaign 1", "process-ready 1", "deliver-msgs drop=(2)")
     sent_when_due = [len(pending(ran(switches, *due, "tick-heartbeat 1", "process-ready 1"), 2)) for switches in ((), ("pre-vote-restarts-clock",))]
     yield "pre-vote-restarts-clock", is_equal(sent_when_due, [1, 0])
+    bumped = (*THREE[:2], "stabilize 1 2", "deliver-msgs drop=3", *["campaign 3"] * 2, "process-ready 3", "set-randomized-election-timeout 2 timeout=4", "tick-election 2")
+    bumped_roles = [ran(switches, *bumped, "deliver-msgs 2", "tick-heartbeat 2").nodes[2].role for switches in ((), ("later-term-keeps-clock",))]
+    yield "later-term-keeps-clock", is_equal(bumped_roles, ["follower", "candidate"])
     behind = ("add-nodes 3 voters=(1,2,3) index=10 prevote=true", "campaign 2", "stabilize 2 3", "deliver-msgs drop=1", "campaign 1", "stabilize 1 2")
     roles = [(node.role, node.term) for node in (ran(switches, *behind).nodes[1] for switches in ((), ("pre-vote-refusal-keeps-term",)))]
     yield "pre-vote-refusal-keeps-term", is_equal(roles, [("follower", 1), ("precandidate", 0)])
     handed = ("add-nodes 2 voters=(1,2) index=10", "campaign 1", "stabilize", "propose 1 a", "process-ready 1", "deliver-msgs drop=(2)", "transfer-leadership from=1 to=2", "process-ready 1")
     sent = [[kind for kind, *_ in pending(ran(switches, *handed), 2)] for switches in ((), ("transfer-goes-by-sent",))]
     yield "transfer-goes-by-sent", is_equal(sent, [["MsgApp"], ["MsgTimeoutNow"]])
+    told_once = ("add-nodes 2 voters=(1,2) index=10", "campaign 1", "stabilize", "propose 1 a", "transfer-leadership from=1 to=2", "process-ready 1", "deliver-msgs 2 type=MsgApp")
+    answered = ("deliver-msgs drop=2", "process-ready 2", "deliver-msgs 1", "process-ready 1")
+    yield "and only once", is_equal([kind for kind, *_ in pending(ran(("transfer-goes-by-sent", "commit-told-later"), *told_once, *answered), 2)], [])
     granted = ("add-nodes 3 voters=(1,2,3) index=10", "campaign 1", "process-ready 1", "deliver-msgs 2", "campaign 2", "process-ready 2")
     kinds = [[m.kind for m in ran(switches, *granted).network.pending if m.sender == 2] for switches in ((), ("saved-answers-in-order",))]
     yield "saved-answers-in-order", is_equal(kinds, [["MsgVote", "MsgVote", "MsgVoteResp"], ["MsgVoteResp", "MsgVote", "MsgVote"]])
@@ -160,6 +193,47 @@ def part_leaders_of_libraries() -> Checks:
     twice = (*THREE, "transfer-leadership from=1 to=2", "transfer-leadership from=1 to=3", "process-ready 1")
     told = [[m.to for m in ran(switches, *twice).network.pending if m.kind == "MsgTimeoutNow"] for switches in ((), ("one-transfer-at-a-time",))]
     yield "one-transfer-at-a-time", is_equal(told, [[2, 3], [2]])
+
+
+def part_answers_of_libraft() -> Checks:
+    """Whom libraft votes for, in which term it answers, and what it acknowledges and sends then."""
+    stranger = ("add-nodes 1", "add-nodes 2 voters=(1,2,3) index=10", "campaign 2", "process-ready 2", "deliver-msgs 1", "process-ready 1")
+    refused = [[m.refused for m in ran(switches, *stranger).network.pending if m.kind == "MsgVoteResp"] for switches in ((), ("nonvoter-refuses",))]
+    yield "nonvoter-refuses", is_equal(refused, [[False], [True]])
+    changed = ("add-nodes 2 voters=(1,2) index=10", "campaign 1", "process-ready 1", "deliver-msgs 2", "process-ready 2")
+    node = ran(("refused-candidate-stays",), *changed).nodes[1]
+    for refused_once in (True, False):
+        node.step(Message("MsgVoteResp", 2, 1, 1, refused=refused_once))
+    yield "refused-candidate-stays: who refused may still vote for it", is_equal(node.role, "leader")
+    behind = ("add-nodes 2 voters=(1,2) index=10 prevote=true", "add-nodes 1 voters=(1,2,3) index=9 prevote=true", "campaign 3", "process-ready 3", "deliver-msgs 2", "process-ready 2")
+    terms = [[m.term for m in ran(switches, *behind).network.pending if m.kind == "MsgPreVoteResp"] for switches in ((), ("pre-vote-answer-has-asked-term",))]
+    yield "pre-vote-answer-has-asked-term", is_equal(terms, [[0], [1]])
+    probed = ("add-nodes 2 voters=(1,2) index=10", "campaign 1", "stabilize 1 2 rounds=4", "process-ready 1")
+    sent = [pending(ran(("commit-told-later", *switches), *probed), 2) for switches in ((), ("no-empty-after-acknowledged",))]
+    yield "no-empty-after-acknowledged", is_equal(sent, [[("MsgApp", 0, 11)], []])
+    unsaved = ("add-nodes 2 voters=(1,2) index=10", "campaign 1", "stabilize", "propose 1 a", "process-ready 1", "deliver-msgs 2", "tick-heartbeat 1", "process-ready 1")
+    told = [[m.index for m in ran((*switches, "saved-answers-in-order", "heartbeats-append"), *unsaved, "deliver-msgs 2", "process-ready 2").network.pending if m.kind == "MsgAppResp"]
+            for switches in ((), ("saved-is-acknowledged",))]
+    yield "saved-is-acknowledged", is_equal(told, [[12, 12], [11, 12]])
+    again = ("add-nodes 2 voters=(1,2) index=10", "campaign 1", "stabilize", "transfer-leadership from=1 to=2", "process-ready 1", "deliver-msgs 2", "campaign 2", "process-ready 2")
+    says = [[m.by_transfer for m in ran(switches, *again).network.pending if m.kind == "MsgVote"] for switches in ((), ("told-candidate-stays-told",))]
+    yield "told-candidate-stays-told", is_equal(says, [[True, False], [True, True]])
+
+
+def part_commits_of_libraft() -> Checks:
+    """libraft's followers commit what they have saved, and its nodes apply what they commit."""
+    told = ("add-nodes 2 voters=(1,2) index=10", "campaign 1", "stabilize", "propose 1 a", "process-ready 1", "deliver-msgs 2", "process-ready 2")
+    more_told = ("deliver-msgs 1", "propose 1 b", "process-ready 1", "deliver-msgs 2")
+    switch = ("commit-told-later", "commit-waits-for-saved")
+    commits = [[ran(switches, *told, *more_told, *more).nodes[2].commit for more in ((), ("process-ready 2",))] for switches in (switch[:1], switch)]
+    yield "commit-waits-for-saved", is_equal(commits, [[12, 12], [11, 12]])
+    one = ("add-nodes 2 voters=(1,2) index=10", "campaign 1", "stabilize", "propose 1 a", "process-ready 1", "deliver-msgs 2", "process-ready 2")
+    one_more = ("propose 1 b", "process-ready 1", "deliver-msgs 1")
+    commits = [[ran(switches, *one, *one_more, *more).nodes[1].commit for more in ((), ("stabilize",))] for switches in ((), ("last-saved-commits",))]
+    yield "last-saved-commits", is_equal(commits, [[12, 13], [11, 13]])
+    alone = ("add-nodes 1 voters=1 index=10", "campaign 1", "process-ready 1", "propose 1 a", "process-ready 1")
+    states = [(node.commit, node.applied, node.content) for node in (ran(switches, *alone).nodes[1] for switches in ((), ("own-commit-applies-at-once",)))]
+    yield "own-commit-applies-at-once", is_equal(states, [(12, 10, b""), (12, 12, b"a")])
 
 
 def part_of_etcd() -> Checks:
@@ -199,4 +273,4 @@ def part_late_writes() -> Checks:
         yield f"late-write-not-acknowledged after {after}", is_equal([[m.kind for m in each.network.pending].count("MsgAppResp") for each in clusters], wanted)
 
 
-PARTS = [part_limits_of_logs, part_late_writes, part_of_etcd, part_calls, part_changes_of_libraries, part_logs_of_libraries, part_leaders_of_libraries]
+PARTS = [part_limits_of_logs, part_late_writes, part_of_etcd, part_calls, part_changes_of_libraries, part_logs_of_libraries, part_leaders_of_libraries, part_answers_of_libraft, part_commits_of_libraft]
