@@ -21,7 +21,7 @@ class Sample(NamedTuple):
 
 DIRECTIVE = Sample("How a directive is added", re.compile(r"tick-heartbeat|\bTickHeartbeat\b"), 15)
 EVENT = Sample("How an event is added", re.compile(r"lost-quorum|\bLostQuorum\b"), 5)
-OPTION = Sample("How an option of a directive is added", re.compile(r"checkquorum|\bCheckQuorum\b"), 7, ("rb_node", "rb_tracker"))
+OPTION = Sample("How an option of a directive is added", re.compile(r"checkquorum|\bCheckQuorum\b"), 6, ("rb_node", "rb_tracker"))
 TYPE = Sample("How a type of message is added", re.compile(r"TimeoutNow"), 8, ("rb_node", "rb_laws"))
 SAMPLES = (DIRECTIVE, OPTION, TYPE, EVENT)
 # The texts of the manual are made of the document.
