@@ -1,7 +1,6 @@
 //! Objects and commands for programs about a script that ran.
 
-ghost use Rattle.std.specs.Prelude.{◌≡◌, ◌++◌, ◌+◌, ◌-◌, ◌<◌, ◌≤◌, IfOk, length};
-ghost use Rattle.rb_script.specs.declared.limits.TheConstants.{MAX_DIRECTIVES};
+ghost use Rattle.std.specs.Prelude.{◌≡◌, ◌++◌, ◌+◌, ◌-◌, ◌<◌, IfOk, length};
 ghost use Rattle.rb_replay.specs.Run.{outputs};
 ghost use Rattle.rb_replay.specs.Report.{mismatches};
 ghost use Rattle.rb_report.specs.Whys.{reasons_in};
@@ -128,7 +127,6 @@ fn add_mismatch<M: Machine>(
     index: usize,
 ) -> Result<(), AllocError>
     requires count { length subject.now.layout.now.heads.items ≡ length subject.now.session.now.script.blocks }
-    requires few { length subject.now.session.now.script.blocks ≤ MAX_DIRECTIVES }
     requires within { index < length subject.now.session.now.script.blocks }
     ensures { IfOk result (λ _. text.new.items ≡ text.old.items ++ mismatch_command subject.now.path.now subject.now.whys.now subject.now.layout.now.heads.items subject.now.session.now.script (index + 1)) }
 {

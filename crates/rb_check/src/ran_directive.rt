@@ -1,7 +1,6 @@
 //! A directive of a script that ran.
 
-ghost use Rattle.std.specs.Prelude.{◌≡◌, ◌<◌, ◌≤◌, IfOk, Some, length, slice_get};
-ghost use Rattle.rb_script.specs.declared.limits.TheConstants.{MAX_DIRECTIVES};
+ghost use Rattle.std.specs.Prelude.{◌≡◌, ◌<◌, IfOk, Some, length, slice_get};
 ghost use Rattle.rb_replay.specs.Run.{outputs};
 ghost use Rattle.rb_report.specs.Whys.{reasons_in};
 ghost use Rattle.rb_script_report.specs.Checked.{head_of};
@@ -29,7 +28,6 @@ pub(crate) fn directive_at<'a, M: Machine>(
     index: usize,
 ) -> RanDirective<'a>
     requires count { length subject.now.layout.now.heads.items ≡ length subject.now.session.now.script.blocks }
-    requires few { length subject.now.session.now.script.blocks ≤ MAX_DIRECTIVES }
     requires within { index < length subject.now.session.now.script.blocks }
     ensures path { result.place.path.now ≡ subject.now.path.now }
     ensures line { slice_get subject.now.layout.now.heads.items index ≡ Some result.place.line }

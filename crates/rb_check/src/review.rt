@@ -4,7 +4,6 @@
 //! accepted and what is still to be asked. Each function here does a part of it.
 
 ghost use Rattle.std.specs.Prelude.{◌≡◌, ◌++◌, ◌∷◌, [], ◌<◌, ◌≤◌, ◌^◌, ◌+◌, ℕ, IfOk, drop, length};
-ghost use Rattle.rb_script.specs.declared.limits.TheConstants.{MAX_DIRECTIVES};
 ghost use Rattle.rb_replay.specs.Run.{outputs};
 ghost use Rattle.rb_script_report.specs.Layouts.{IsLayout};
 ghost use Rattle.rb_check.specs.Reviews.{answered_one, as_list, next_review, questions_of, review_behind, review_of, reviewed_all, reviewing, said_by, said_unasked};
@@ -186,7 +185,6 @@ fn question_at<M: Machine>(
     index: usize,
 ) -> Option<ReviewQuestion>
     requires layout { IsLayout subject.now.text.now.bytes.items subject.now.session.now.script subject.now.layout.now }
-    requires few { length subject.now.session.now.script.blocks ≤ MAX_DIRECTIVES }
     requires within { index < length subject.now.session.now.script.blocks }
     // It is the next of those that are left.
     ensures { let left = λ (n : ℕ). questions_of asked.now.accepts_errors picked.entry subject.now.layout.now.text (drop n subject.now.layout.now.heads.items) (drop n subject.now.session.now.script.blocks) (drop n (outputs subject.now.session.now.script)) in
