@@ -6,6 +6,7 @@ import os
 import pathlib
 import pty
 import re
+import resource
 import select
 import signal
 import subprocess
@@ -344,18 +345,18 @@ def piped(room: pathlib.Path, call: str) -> tuple[int, bytes, bytes]:
 
 
 def slow_directive(room: pathlib.Path) -> bytes:
-    """The last directive of a script of 4,107, which takes some two seconds: two followers hand 4,096 proposals to and fro."""
+    """The last directive of a script of 4,107, which takes a processor some four seconds: two followers hand 4,096 proposals to and fro."""
     heads = ["add-nodes 2 voters=(1,2) index=10", "send-snapshot 1 2", "send-snapshot 2 1", "deliver-msgs 1 2", "log-level none", "process-ready 1 2", "deliver-msgs 1 2"]
     heads += ["propose 1 x"] * 4096
-    rounds, last = 1, 1
+    rounds = 1
     while True:
-        slow = [f"stabilize rounds={rounds}"] * 3 + [f"stabilize rounds={last}"]
-        (room / "slow.txt").write_text("".join(f"{head}\n----\nok\n\n" for head in [*heads, *slow]))
-        start = time.monotonic()
+        slow = f"stabilize rounds={rounds}"
+        (room / "slow.txt").write_text("".join(f"{head}\n----\nok\n\n" for head in [*heads, *[slow] * 4]))
+        before = resource.getrusage(resource.RUSAGE_CHILDREN).ru_utime
         assert piped(room, "run")[2] == b""
-        if time.monotonic() - start > 2 or last == 1000:
-            return slow[-1].encode()
-        last = min(2 * last, 1000)
+        if resource.getrusage(resource.RUSAGE_CHILDREN).ru_utime - before > 4 or rounds == 1000:
+            return slow.encode()
+        rounds = min(2 * rounds, 1000)
 
 
 def test_directive_that_takes_long(room: pathlib.Path) -> Iterator[str]:
