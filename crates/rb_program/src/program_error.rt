@@ -91,7 +91,7 @@ impl ProgramError {
     }
 
     // Writes the line with the reason.
-    fn tell_why<R: Eprint + Print>(&self, rt: &R, word: &str) -> Status
+    fn tell_why<R: Eprint + Print + AllocGlobal>(&self, rt: &R, word: &str) -> Status
         ensures { EndsWith self.now result }
     {
         match self {
@@ -135,14 +135,29 @@ fn say<R: Eprint>(rt: &R, refusal: &ProgramError, word: &str) {
 
 // Help was asked for, and goes to standard output: where that fails, what was asked for wasn't done. What says that arguments
 // are wrong goes to standard error, and they are wrong whether or not it gets there.
-fn tell_clap<R: Eprint + Print>(rt: &R, error: &clap::Error) -> Status
+fn tell_clap<R: Eprint + Print + AllocGlobal>(rt: &R, error: &clap::Error) -> Status
     ensures { EndsByKind (kind_of error.now) result }
 {
-    let status = status_by_kind(error.kind(), error.print(rt).is_ok());
+    let status = status_by_kind(error.kind(), put_clap(rt, error));
     if status == Status::Failed {
         say(rt, &ProgramError::Io, "");
     }
     status
+}
+
+// Writes clap's text, and returns whether it went out. No byte of an argument in it acts.
+fn put_clap<R: Eprint + Print + AllocGlobal>(rt: &R, error: &clap::Error) -> bool {
+    if !error.use_stderr() {
+        return error.print(rt).is_ok();
+    }
+    match format!(in rt.alloc(); "{error}") {
+        Ok(text) => {
+            let shown = shown_name(rt.alloc(), text.as_str());
+            let text = shown_text(&shown);
+            eprint!(rt; "{text}").is_ok()
+        }
+        Err(_) => false,
+    }
 }
 
 // The status of a text of clap's that went out, or did not.
