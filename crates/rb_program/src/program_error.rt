@@ -16,7 +16,7 @@ use rb_bench::BenchFault;
 use rb_report::check::Status;
 use rb_script::ScriptFault;
 use rb_text::ReadFault;
-use std::alloc::AllocError;
+use std::alloc::{AllocError, Global};
 use std::io;
 use std::rt::Env;
 
@@ -145,18 +145,25 @@ fn tell_clap<R: Eprint + Print + AllocGlobal>(rt: &R, error: &clap::Error) -> St
     status
 }
 
-// Writes clap's text, and returns whether it went out. No byte of an argument in it acts.
+// Writes clap's text, and returns whether it went out. No byte of an argument in it acts, unless memory was refused.
 fn put_clap<R: Eprint + Print + AllocGlobal>(rt: &R, error: &clap::Error) -> bool {
-    if !error.use_stderr() {
-        return error.print(rt).is_ok();
+    let shown = shown_clap(rt.alloc(), error);
+    let text = shown_text(&shown);
+    if text.is_empty() {
+        error.print(rt).is_ok()
+    } else {
+        eprint!(rt; "{text}").is_ok()
     }
-    match format!(in rt.alloc(); "{error}") {
-        Ok(text) => {
-            let shown = shown_name(rt.alloc(), text.as_str());
-            let text = shown_text(&shown);
-            eprint!(rt; "{text}").is_ok()
-        }
-        Err(_) => false,
+}
+
+// What is wrong with arguments, for a terminal; empty if memory was refused, or if help was asked for.
+fn shown_clap(alloc: Global, error: &clap::Error) -> Vec<u8> {
+    if !error.use_stderr() {
+        return Vec::new(alloc);
+    }
+    match format!(in alloc; "{error}") {
+        Ok(text) => shown_name(alloc, text.as_str()),
+        Err(_) => Vec::new(alloc),
     }
 }
 
