@@ -408,7 +408,7 @@ def test_names_that_act_in_a_terminal(room: pathlib.Path) -> Iterator[str]:
     listed_wanted = b"./a\\x1b[2J.txt: 1 of 1 differ, first at line 1\n./c.txt: 1 of 1 differ, first at line 1\n\n"
     if status != 4 or b"./a\\x1b[2J.txt:1: log-level info\n" not in output or listed_wanted not in output or told != b"no\\x1bwhere: no such file or folder\n":
         yield f"{status} {output!r} {told!r}"
-    # One that begins like an option is told by the reader of the command line.
+    # The parser of the command line reports one that begins like an option.
     status, output, told = run(room, "--a\x1b[2J.txt")
     if status != 2 or output or not told.startswith(b"error: unexpected argument '--a\\x1b[2J.txt' found\n") or b"\x1b" in told:
         yield f"as an option: {status} {output!r} {told!r}"

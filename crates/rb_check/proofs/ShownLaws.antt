@@ -229,7 +229,7 @@ if_along r s u a b t v e h = subst (λ (l : List ℕ). GoesOutIf r s u a b l) e 
 pub if_from : {X E : Type 0} (r : Result X E) (s u n : ReportState) (a b : Option (List ℕ)) (t : List ℕ) → u ≡ s → GoesOutIf r u n a b t → GoesOutIf r s n a b t
 if_from r s u n a b t e h = subst (λ (v : ReportState). GoesOutIf r v n a b t) e h
 
--- one text after another, of which the second may fail
+-- two texts in a row; writing the second may fail
 pub if_ok : {X E : Type 0} {P : Type 0} (r : Result X E) (one two three : ReportState) (a b c : Option (List ℕ)) (t u : List ℕ) → GoesOut one two a b t → GoesOutIf r two three b c u → (GoesOut one three a c (t ++ u) → P) → IfOk r (λ _. P)
 if_ok (Ok x) one two three a b c t u first second so = so (goes_on (λ (form : ReportForm). u) first second)
 if_ok (Err e) one two three a b c t u first second so = tt

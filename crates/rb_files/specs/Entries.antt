@@ -46,11 +46,11 @@ IsFileNamed name entry = (id : FileId) × (entry ≡ entries.File id) × (string
 abbrev pub IsLinked : List ℕ → List ℕ → Type 0
 IsLinked link target = (text : List ℕ) × (target ≡ path_join (folder_of link) text)
 
--- so many links, one after another, lead there
+-- n links in a row lead from the path to the target
 abbrev pub LeadsBy : ℕ → List ℕ → List ℕ → Type 0
 LeadsBy zero path target = target ≡ path
 LeadsBy (suc n) path target = (link : List ℕ) × LeadsBy n path link × IsLinked link target
 
--- at most so many links lead there
+-- at most this many links lead from the path to the target
 abbrev pub LeadsTo : ℕ → List ℕ → List ℕ → Type 0
 LeadsTo most path target = (n : ℕ) × (n ≤ most) × LeadsBy n path target

@@ -101,7 +101,7 @@ abbrev pub Names : List ℕ → List ℕ → Option ℕ → Type 0
 Names word path None = path ≡ word
 Names word path (Some line) = path_and_line word ≡ Some (path, line)
 
--- the word names no directive of a file, and is told, if there is memory for it
+-- the usage error quotes the word, which names no directive of a file
 abbrev pub IsPlace : List ℕ → UsageError → Type 0
 IsPlace word (misuses.Place text) = string_bytes text ≡ word
 IsPlace word misuse = ⊥
@@ -114,12 +114,12 @@ IsMisplaced word refusal = refusal ≡ refusals.OutOfMemory
 abbrev pub shown_name : List ℕ → List ℕ
 shown_name file = if bytes_eq file (codes "-") then codes "standard input" else unwrap_or (path_file_name file) file
 
--- a word that is no directive's name is told, and the name that is near it
+-- the usage error quotes the name, and suggests at most the nearest one
 abbrev pub IsMisspelled : List ℕ → UsageError → Type 0
 IsMisspelled name (misuses.Directive word meant) = (string_bytes word ≡ name) × IfSome meant (λ m. nearest name (names_of pages) ≡ Some m.now)
 IsMisspelled name misuse = ⊥
 
--- no directive has the name, which is told, if there is memory for it
+-- no directive has the name; the refusal quotes it, or memory was refused
 abbrev pub IsUnknown : List ℕ → ProgramError → Type 0
 IsUnknown name (refusals.OwnUsage misuse) = (page_in pages name ≡ None) × IsMisspelled name misuse
 IsUnknown name refusal = (page_in pages name ≡ None) × (refusal ≡ refusals.OutOfMemory)
@@ -129,7 +129,7 @@ abbrev pub line_asked : Option (List ℕ) → Option (Option ℕ)
 line_asked None = Some None
 line_asked (Some word) = option_map (λ line. Some line) (number_of word)
 
--- the text after `--from` is no line, which is told with it, if there is memory for that
+-- the usage error quotes the text after `--from`, which is not a line
 abbrev pub IsFrom : Option (List ℕ) → UsageError → Type 0
 IsFrom from (misuses.From text) = from ≡ Some (string_bytes text)
 IsFrom from misuse = ⊥

@@ -69,7 +69,7 @@ abbrev pub IsOfEvery : Option (List ℕ) → UsageError → Type 0
 IsOfEvery every (misuses.Every text) = every ≡ Some (string_bytes text)
 IsOfEvery every misuse = misuse ≡ misuses.Spacing
 
--- a usage error is told with the text after `--every`, if that is what is wrong
+-- if the checkpoint interval is wrong, the usage error quotes the text after `--every`
 abbrev pub TellsEvery : Option (List ℕ) → UsageError → UsageError → Type 0
 TellsEvery every misuses.Spacing told = IsOfEvery every told
 TellsEvery every misuse told = told ≡ misuse

@@ -81,7 +81,7 @@ more_one_line n =
 give_way_one_line : (n : ℕ) → is_one_line (give_way_text n) ≡ true
 give_way_one_line n = elim (n == 1) as (λ b. is_one_line (if b then codes " gives way" else codes " give way") ≡ true) [ true ↦ refl | false ↦ refl ]
 
--- the line lists the first entries, counts the others, and says that all give way
+-- the line lists the first entries that are overwritten, and counts the others
 parts_one_line : (n last : ℕ) (es : List Entry) → is_one_line ((few_entries_text n (codes "  ") last es ++ more_text (length es - n)) ++ give_way_text (length es)) ≡ true
 parts_one_line n last es =
     let few = few_entries_text n (codes "  ") last es in

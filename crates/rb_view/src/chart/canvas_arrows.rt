@@ -1,4 +1,4 @@
-//! The arrows of a picture: where each begins and ends, its label, and what is told of it.
+//! The arrows of a picture: where each begins and ends, its label and its description.
 
 use crate::chart::arrow::{Arrow, ArrowPlace};
 use crate::chart::canvas::Canvas;
