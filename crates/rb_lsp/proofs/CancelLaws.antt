@@ -1,8 +1,21 @@
 -- Requests that their client has cancelled.
-use Rattle.std.proofs.Common.{◌≡◌, ℕ, ◌-◌, List, [], sym, subst, arith, append-nil}
-use Rattle.rb_lsp.specs.Cancels.{CancelWaits, Cancels, later, now}
+use Rattle.std.proofs.Common.{◌≡◌, ℕ, ◌-◌, List, [], ◌++◌, Option, Some, ap, sym, subst, ◌∙◌, arith, append-nil}
+use Rattle.std.specs.Prelude.{IfOk, Result, Ok, Err}
+use Rattle.serde_json.specs.Data.{Data}
+use Rattle.serde_json.specs.Written.{compact_text}
+use Rattle.rb_lsp.specs.declared.rpc.limits.TheConstants.{MAX_WAITING}
+use Rattle.rb_lsp.specs.declared.server.reach.Reach.{Reach}
+use Rattle.rb_lsp.specs.declared.server.reach.Reach.TheVariants.{Cancelled, Whole}
+use Rattle.rb_lsp.specs.Said.{Said, request}
+use Rattle.rb_lsp.specs.Cancels.{CancelWaits, Cancels, IsCancelled, MayReach, later, now, undone}
+use Rattle.rb_lsp.specs.declared.server.server.ServerReply.{ServerReply}
+use Rattle.rb_lsp.specs.Meanings.{Meaning}
+use Rattle.rb_lsp.specs.Replies.{PlainServer, answer_body, sent, told_of}
+use Rattle.rb_lsp.specs.declared.server.method.Method.{Method}
+use Rattle.rb_lsp.specs.Methods.{method_of}
+use Rattle.rb_lsp.specs.Serves.{Heeds}
 use Rattle.rb_lsp.specs.Messages.{HasNoMessage, IsMessage, NeverHasMessage}
-use Rattle.rb_lsp.proofs.MessageLaws.{one_message}
+use Rattle.rb_lsp.proofs.MessageLaws.{longer, one_message}
 
 pub none_of_no_more : (id : List ℕ) (n : ℕ) (bytes : List ℕ) → n ≡ 0 → CancelWaits id n bytes → ⊥
 none_of_no_more id n bytes none (now n' bytes' body rest some is cancels) = omega (arith, none, some)
@@ -21,3 +34,58 @@ only_later id n bytes body rest first other (now n' bytes' body' rest' some is c
     absurd (other (subst (Cancels id) (sym (one_message bytes body body' rest rest' first is).0) cancels))
 only_later id n bytes body rest first other (later n' bytes' body' rest' some is waits) =
     subst (CancelWaits id (n - 1)) (sym (one_message bytes body body' rest rest' first is).1) waits
+
+-- ---- what follows the bytes changes nothing
+
+waits_longer : (id : List ℕ) (n : ℕ) (bytes more : List ℕ) → CancelWaits id n bytes → CancelWaits id n (bytes ++ more)
+waits_longer id n bytes more (now n' bytes' body rest some is cancels) = now n (bytes ++ more) body (rest ++ more) some (longer bytes more body rest is) cancels
+waits_longer id n bytes more (later n' bytes' body rest some is waits) = later n (bytes ++ more) body (rest ++ more) some (longer bytes more body rest is) (waits_longer id (n - 1) rest more waits)
+
+pub may_longer : (heard : Option Said) (reach : Reach) (held more all : List ℕ) → all ≡ held ++ more → MayReach heard reach held → MayReach heard reach all
+may_longer heard reach held more all is may = record {
+  only = λ id method params asks cancelled. subst (IsCancelled id) (sym is) (waits_longer (compact_text id) MAX_WAITING held more (may.only id method params asks cancelled));
+}
+
+-- ---- how far a message is done
+
+-- all of it
+pub may_whole : (heard : Option Said) (held : List ℕ) → MayReach heard Whole held
+may_whole heard held = record { only = λ id method params asks cancelled. absurd cc }
+
+-- a request, by what is known of its answer
+pub request_may : {E : Type 0} (r : Result ServerReply E) (what : Said) (id : Data) (method : List ℕ) (params : Option Data) (held : List ℕ) → request id method params ≡ what
+    → IfOk r (λ heard. heard.reach ≡ Cancelled → IsCancelled id held) → IfOk r (λ heard. MayReach (Some what) heard.reach held)
+request_may (Ok heard) what id method params held is only = record {
+  only = λ id' method' params' asks cancelled.
+      let same : id ≡ id' = cc in
+      subst (λ (d : Data). IsCancelled d held) same (only cancelled);
+}
+request_may (Err e) what id method params held is only = tt
+
+pub request_heeds : {E : Type 0} (r : Result ServerReply E) (meaning : Meaning) (server : PlainServer) (what : Said) (id : Data) (name : List ℕ) (method : Method) (params : Option Data) (held : List ℕ)
+    → request id name params ≡ what → method ≡ method_of name
+    → IfOk r (λ heard. IsCancelled id held → heard.out.items ≡ sent (Some (answer_body meaning (undone heard.reach) server method params id))) → IfOk r (λ heard. Heeds meaning server what held heard.reach heard.out.items)
+request_heeds (Ok heard) meaning server what id name method params held is named known = record {
+  out_is = λ id' method' params' asks waits.
+      let same : id ≡ id' = cc in
+      known (subst (λ (d : Data). IsCancelled d held) (sym same) waits)
+      ∙ ap (λ (m : Method). sent (Some (answer_body meaning (undone heard.reach) server m params id))) named
+      ∙ ap (told_of meaning (undone heard.reach) server) is;
+}
+request_heeds (Err e) meaning server what id name method params held is named known = tt
+
+-- another message
+abbrev pub IsNoRequest : Said → Type 0
+IsNoRequest what = (id : Data) (method : List ℕ) (params : Option Data) → what ≡ request id method params → ⊥
+
+pub others_may : {E : Type 0} (r : Result ServerReply E) (what : Said) (held : List ℕ) → IsNoRequest what → IfOk r (λ heard. MayReach (Some what) heard.reach held)
+others_may (Ok heard) what held none = record {
+  only = λ id method params asks cancelled.
+      let same : what ≡ request id method params = cc in
+      absurd (none id method params same);
+}
+others_may (Err e) what held none = tt
+
+pub others_heed : {E : Type 0} (r : Result ServerReply E) (meaning : Meaning) (server : PlainServer) (what : Said) (held : List ℕ) → IsNoRequest what → IfOk r (λ heard. Heeds meaning server what held heard.reach heard.out.items)
+others_heed (Ok heard) meaning server what held none = record { out_is = λ id method params asks waits. absurd (none id method params asks) }
+others_heed (Err e) meaning server what held none = tt

@@ -115,9 +115,9 @@ no_end meaning server next all body rest text status heard m h on (inr e) =
 one_text : (meaning : Meaning) {server last other : PlainServer} {all left more a b : List ℕ} {r s : List Reach} (p q : ExitStatus) (x y : List ℕ) → r ≡ s → Begins meaning server all r last left a → IsEnd meaning last left p x
     → Begins meaning server all s other more b → IsEnd meaning other more q y → AreOne p q (a ++ x) (b ++ y)
 one_text meaning p q x y same_refusals (stands server all) e (stands server' all') f = one_end meaning server all x y p q e f
-one_text meaning p q x y same_refusals (stands server all) e (goes_on server' next last all' body rest left text heard none later m h on b) f = absurd (no_end meaning server next all body rest x p heard m h on e)
-one_text meaning p q x y same_refusals (goes_on server next last all body rest left text heard none later m h on b) e (stands server' all') f = absurd (no_end meaning server next all body rest y q heard m h on f)
-one_text meaning p q x y same_refusals (goes_on server next last all body rest left text heard none later m h on b) e (goes_on server' next' last' all' body' rest' left' text' heard' none' later' m' h' on' b') f =
+one_text meaning p q x y same_refusals (stands server all) e (goes_on server' next last all' body rest left text heard none later m h on may b) f = absurd (no_end meaning server next all body rest x p heard m h on e)
+one_text meaning p q x y same_refusals (goes_on server next last all body rest left text heard none later m h on may b) e (stands server' all') f = absurd (no_end meaning server next all body rest y q heard m h on f)
+one_text meaning p q x y same_refusals (goes_on server next last all body rest left text heard none later m h on may b) e (goes_on server' next' last' all' body' rest' left' text' heard' none' later' m' h' on' may' b') f =
     let memory : none ≡ none' = cc in
     let laters : later ≡ later' = cc in
     let same = heard_one all body body' rest rest' heard heard' m m' h h' in

@@ -32,3 +32,13 @@ pub end_known : (before known after : Option (List ℕ)) (has_ended : Bool) (hel
     → HasNoMessage held → given ≡ (end_of held) → GivesNext given before after body
 end_known before known after true held body given ended kept none is = subst (λ (n : NextMessage). GivesNext n before after body) (sym is) (end_given before after held body kept none)
 end_known before known after false held body given ended kept none is = cc
+
+-- the bytes that are left begin with those that are held
+pub left_follows : (known : Option (List ℕ)) (has_ended : Bool) (held rest : List ℕ) → known_of has_ended held known ≡ Some rest → (more : List ℕ) × (rest ≡ held ++ more)
+left_follows known true held rest is =
+    let same : held ≡ rest = cc in
+    ([], sym same ∙ sym (append-nil held))
+left_follows None false held rest is = absurd cc
+left_follows (Some more) false held rest is =
+    let same : held ++ more ≡ rest = cc in
+    (more, sym same)

@@ -7,6 +7,8 @@ use Rattle.rb_script.specs.Writes.{AppendsFront}
 use Rattle.rb_lsp.specs.Messages.{HasNoMessage, NeverHasMessage}
 use Rattle.rb_lsp.specs.Reading.{LosesMessage}
 use Rattle.rb_lsp.specs.Said.{Said, request, notification}
+use Rattle.rb_lsp.specs.Cancels.{MayReach}
+use Rattle.rb_lsp.proofs.CancelLaws.{may_longer, may_whole}
 use Rattle.serde_json.specs.Data.{Data}
 use Rattle.rb_lsp.specs.declared.rpc.fault.ServeFault.{ServeFault}
 use Rattle.rb_lsp.specs.declared.server.phase.ExitStatus.{ExitStatus}
@@ -18,7 +20,7 @@ use Rattle.rb_lsp.specs.Methods.{method_of}
 use Rattle.rb_lsp.specs.declared.server.method.Method.{Method}
 use Rattle.rb_lsp.specs.declared.server.method.Method.TheVariants.{Exit}
 use Rattle.rb_lsp.specs.Replies.{PlainServer, Turned, On, Over, fresh, noticed_by, published}
-use Rattle.rb_lsp.specs.Talk.{Hears, told, goes, Begins, stands, goes_on, exits, closes, cuts_off, strays, nothing, answer, waits, comes}
+use Rattle.rb_lsp.specs.Talk.{Hears, told, goes, Begins, MayAnswer, stands, goes_on, exits, closes, cuts_off, strays, nothing, answer, waits, comes}
 use Rattle.rb_lsp.specs.Serves.{Responds, StartsAnswer, StartsTelling, Tells, TurnsOut, TurnBreaks, Served, BreaksOff, turned_of}
 
 -- ---- writes
@@ -37,34 +39,49 @@ then_front old mid new text next wrote front = record {
 }
 
 -- what a message has to have went out
-pub tells_by : (meaning : Meaning) (reach : Reach) (server : PlainServer) (heard : Option Said) (old new : Option (List ℕ)) (text : List ℕ) → text ≡ told meaning reach server heard → Appends old new text → Tells meaning server heard old new
-tells_by meaning reach server heard old new text is wrote = record { reach = reach; wrote = subst (λ (l : List ℕ). Appends old new l) is wrote }
+pub tells_by : (meaning : Meaning) (reach : Reach) (server : PlainServer) (heard : Option Said) (held : List ℕ) (old new : Option (List ℕ)) (text : List ℕ) → MayReach heard reach held → text ≡ told meaning reach server heard → Appends old new text
+    → Tells meaning server heard held old new
+tells_by meaning reach server heard held old new text may is wrote = record { reach = reach; may = may; wrote = subst (λ (l : List ℕ). Appends old new l) is wrote }
 
 -- a beginning of it, whatever was answered
-pub starts_err : {X E : Type 0} (r : Result X E) (meaning : Meaning) (reach : Reach) (server : PlainServer) (heard : Option Said) (old new : Option (List ℕ)) (text : List ℕ)
-    → text ≡ told meaning reach server heard → AppendsFront old new text → OnErr r (StartsTelling meaning server heard old new)
-starts_err (Ok x) meaning reach server heard old new text is front = tt
-starts_err (Err e) meaning reach server heard old new text is front = record { reach = reach; wrote = subst (λ (l : List ℕ). AppendsFront old new l) is front }
+pub starts_err : {X E : Type 0} (r : Result X E) (meaning : Meaning) (reach : Reach) (server : PlainServer) (heard : Option Said) (held : List ℕ) (old new : Option (List ℕ)) (text : List ℕ)
+    → MayReach heard reach held → text ≡ told meaning reach server heard → AppendsFront old new text → OnErr r (StartsTelling meaning server heard held old new)
+starts_err (Ok x) meaning reach server heard held old new text may is front = tt
+starts_err (Err e) meaning reach server heard held old new text may is front = record { reach = reach; may = may; wrote = subst (λ (l : List ℕ). AppendsFront old new l) is front }
 
 -- and nothing, where it didn't come to that
-pub none_err : {X E : Type 0} (r : Result X E) (meaning : Meaning) (server : PlainServer) (heard : Option Said) (held : Option (List ℕ)) → OnErr r (StartsTelling meaning server heard held held)
-none_err (Ok x) meaning server heard held = tt
-none_err (Err e) meaning server heard held = record { reach = Whole; wrote = front_none held (told meaning Whole server heard) }
+pub none_err : {X E : Type 0} (r : Result X E) (meaning : Meaning) (server : PlainServer) (heard : Option Said) (held : List ℕ) (old : Option (List ℕ)) → OnErr r (StartsTelling meaning server heard held old old)
+none_err (Ok x) meaning server heard held old = tt
+none_err (Err e) meaning server heard held old = record { reach = Whole; may = may_whole heard held; wrote = front_none old (told meaning Whole server heard) }
 
 -- ---- a message
 
-pub responds_by : (meaning : Meaning) (server then : PlainServer) (body : List ℕ) (heard : Option Said) (old new : Option (List ℕ)) (r : Result (Option ExitStatus) ServeFault) → Hears body heard
-    → IfOk r (λ over. turned_of over then ≡ goes server heard) → OnOk r (Tells meaning server heard old new) → IfOk r (λ over. Responds meaning server body (turned_of over then) old new)
-responds_by meaning server then body heard old new (Ok over) hears is tells = record { heard = heard; hears = hears; turned_is = is; tells = tells }
-responds_by meaning server then body heard old new (Err fault) hears is tells = tt
+pub responds_by : (meaning : Meaning) (server then : PlainServer) (body held : List ℕ) (heard : Option Said) (old new : Option (List ℕ)) (r : Result (Option ExitStatus) ServeFault) → Hears body heard
+    → IfOk r (λ over. turned_of over then ≡ goes server heard) → OnOk r (Tells meaning server heard held old new) → IfOk r (λ over. Responds meaning server body held (turned_of over then) old new)
+responds_by meaning server then body held heard old new (Ok over) hears is tells = record { heard = heard; hears = hears; turned_is = is; tells = tells }
+responds_by meaning server then body held heard old new (Err fault) hears is tells = tt
 
-pub fails_by : (meaning : Meaning) (server : PlainServer) (body : List ℕ) (heard : Option Said) (old new : Option (List ℕ)) (r : Result (Option ExitStatus) ServeFault) → Hears body heard
-    → OnErr r (StartsTelling meaning server heard old new) → OnErr r (StartsAnswer meaning server body old new)
-fails_by meaning server body heard old new (Ok turned) hears s = tt
-fails_by meaning server body heard old new (Err fault) hears s = record { text = told meaning s.reach server heard; may = answer server body heard s.reach hears; wrote = s.wrote }
+pub fails_by : (meaning : Meaning) (server : PlainServer) (body held : List ℕ) (heard : Option Said) (old new : Option (List ℕ)) (r : Result (Option ExitStatus) ServeFault) → Hears body heard
+    → OnErr r (StartsTelling meaning server heard held old new) → OnErr r (StartsAnswer meaning server body held old new)
+fails_by meaning server body held heard old new (Ok turned) hears s = tt
+fails_by meaning server body held heard old new (Err fault) hears s = record { text = told meaning s.reach server heard; may = answer server body held heard s.reach hears s.may; wrote = s.wrote }
 
-pub says_nothing : (meaning : Meaning) (server : PlainServer) (body : List ℕ) (held : Option (List ℕ)) → StartsAnswer meaning server body held held
-says_nothing meaning server body held = record { text = []; may = nothing server body; wrote = front_none held [] }
+pub says_nothing : (meaning : Meaning) (server : PlainServer) (body held : List ℕ) (old : Option (List ℕ)) → StartsAnswer meaning server body held old old
+says_nothing meaning server body held old = record { text = []; may = nothing server body held; wrote = front_none old [] }
+
+-- ---- a message, by all bytes that are left after it
+
+-- they begin with those that are held
+abbrev pub Follows : List ℕ → Option (List ℕ) → Type 0
+Follows held left = (rest : List ℕ) → left ≡ Some rest → (more : List ℕ) × (rest ≡ held ++ more)
+
+tells_longer : (meaning : Meaning) (server : PlainServer) (heard : Option Said) (held more rest : List ℕ) (old new : Option (List ℕ)) → rest ≡ held ++ more → Tells meaning server heard held old new → Tells meaning server heard rest old new
+tells_longer meaning server heard held more rest old new is t = record { reach = t.reach; may = may_longer heard t.reach held more rest is t.may; wrote = t.wrote }
+
+may_answer_longer : (meaning : Meaning) (server : PlainServer) (body held more rest text : List ℕ) → rest ≡ held ++ more → MayAnswer meaning server body held text → MayAnswer meaning server body rest text
+may_answer_longer meaning server body held more rest text is (nothing server' body' held') = nothing server body rest
+may_answer_longer meaning server body held more rest text is (answer server' body' held' heard reach hears may) =
+    answer server body rest heard reach hears (may_longer heard reach held more rest is may)
 
 -- ---- a turn
 
@@ -79,36 +96,49 @@ told_over meaning reach server (Some (request id method params)) status over = a
 told_over meaning reach server (Some (notification method params)) status over = published_over meaning reach server (method_of method) params status over
 told_over meaning reach server heard status over = refl
 
-takes_by : (meaning : Meaning) (server : PlainServer) (turned : Turned) (before left old new : Option (List ℕ)) (body : List ℕ) → LosesMessage before left body → Responds meaning server body turned old new
+takes_by : (meaning : Meaning) (server : PlainServer) (turned : Turned) (before left old new : Option (List ℕ)) (body held : List ℕ) → Follows held left → LosesMessage before left body → Responds meaning server body held turned old new
     → TurnsOut meaning server turned before left old new
-takes_by meaning server (On next) None left old new body loses r = tt
-takes_by meaning server (On next) (Some all) None old new body loses r = absurd loses
-takes_by meaning server (On next) (Some all) (Some rest) old new body loses r =
-    record { body = body; rest = rest; heard = r.heard; left_is = refl; message = loses; hears = r.hears; next_is = sym r.turned_is; tells = r.tells }
-takes_by meaning server (Over status) None left old new body loses r = tt
-takes_by meaning server (Over status) (Some all) None old new body loses r = absurd loses
-takes_by meaning server (Over status) (Some all) (Some rest) old new body loses r = record {
+takes_by meaning server (On next) None left old new body held follows loses r = tt
+takes_by meaning server (On next) (Some all) None old new body held follows loses r = absurd loses
+takes_by meaning server (On next) (Some all) (Some rest) old new body held follows loses r =
+    let (more, is) = follows rest refl in record {
+      body = body;
+      rest = rest;
+      heard = r.heard;
+      left_is = refl;
+      message = loses;
+      hears = r.hears;
+      next_is = sym r.turned_is;
+      tells = tells_longer meaning server r.heard held more rest old new is r.tells;
+    }
+takes_by meaning server (Over status) None left old new body held follows loses r = tt
+takes_by meaning server (Over status) (Some all) None old new body held follows loses r = absurd loses
+takes_by meaning server (Over status) (Some all) (Some rest) old new body held follows loses r = record {
   text = told meaning Whole server r.heard;
   ends = exits server status all body rest r.heard loses r.hears (sym r.turned_is);
   wrote = subst (λ (l : List ℕ). Appends old new l) (told_over meaning r.tells.reach server r.heard status (sym r.turned_is)) r.tells.wrote;
 }
 
 -- a message came
-pub turns_by : (meaning : Meaning) (server then : PlainServer) (r : Result (Option ExitStatus) ServeFault) (before left old new : Option (List ℕ)) (body seen : List ℕ) → seen ≡ body → LosesMessage before left body
-    → IfOk r (λ over. Responds meaning server seen (turned_of over then) old new) → IfOk r (λ over. TurnsOut meaning server (turned_of over then) before left old new)
-turns_by meaning server then (Ok over) before left old new body seen is loses r =
-    takes_by meaning server (turned_of over then) before left old new body loses (subst (λ (b : List ℕ). Responds meaning server b (turned_of over then) old new) is r)
-turns_by meaning server then (Err fault) before left old new body seen is loses r = tt
+pub turns_by : (meaning : Meaning) (server then : PlainServer) (r : Result (Option ExitStatus) ServeFault) (before left old new : Option (List ℕ)) (body seen held : List ℕ) → seen ≡ body → Follows held left → LosesMessage before left body
+    → IfOk r (λ over. Responds meaning server seen held (turned_of over then) old new) → IfOk r (λ over. TurnsOut meaning server (turned_of over then) before left old new)
+turns_by meaning server then (Ok over) before left old new body seen held is follows loses r =
+    takes_by meaning server (turned_of over then) before left old new body held follows loses (subst (λ (b : List ℕ). Responds meaning server b held (turned_of over then) old new) is r)
+turns_by meaning server then (Err fault) before left old new body seen held is follows loses r = tt
 
-starts_by : (meaning : Meaning) (server : PlainServer) (before left old new : Option (List ℕ)) (body : List ℕ) → LosesMessage before left body → StartsAnswer meaning server body old new → TurnBreaks meaning server before old new
-starts_by meaning server None left old new body loses s = tt
-starts_by meaning server (Some all) None old new body loses s = absurd loses
-starts_by meaning server (Some all) (Some rest) old new body loses s = record { text = s.text; may = comes server all body rest s.text loses s.may; wrote = s.wrote }
+starts_by : (meaning : Meaning) (server : PlainServer) (before left old new : Option (List ℕ)) (body held : List ℕ) → Follows held left → LosesMessage before left body → StartsAnswer meaning server body held old new
+    → TurnBreaks meaning server before old new
+starts_by meaning server None left old new body held follows loses s = tt
+starts_by meaning server (Some all) None old new body held follows loses s = absurd loses
+starts_by meaning server (Some all) (Some rest) old new body held follows loses s =
+    let (more, is) = follows rest refl in
+    record { text = s.text; may = comes server all body rest s.text loses (may_answer_longer meaning server body held more rest s.text is s.may); wrote = s.wrote }
 
-pub breaks_by : (meaning : Meaning) (server : PlainServer) (r : Result (Option ExitStatus) ServeFault) (before left old new : Option (List ℕ)) (body seen : List ℕ) → seen ≡ body → LosesMessage before left body
-    → OnErr r (StartsAnswer meaning server seen old new) → OnErr r (TurnBreaks meaning server before old new)
-breaks_by meaning server (Ok turned) before left old new body seen is loses s = tt
-breaks_by meaning server (Err fault) before left old new body seen is loses s = starts_by meaning server before left old new body loses (subst (λ (b : List ℕ). StartsAnswer meaning server b old new) is s)
+pub breaks_by : (meaning : Meaning) (server : PlainServer) (r : Result (Option ExitStatus) ServeFault) (before left old new : Option (List ℕ)) (body seen held : List ℕ) → seen ≡ body → Follows held left → LosesMessage before left body
+    → OnErr r (StartsAnswer meaning server seen held old new) → OnErr r (TurnBreaks meaning server before old new)
+breaks_by meaning server (Ok turned) before left old new body seen held is follows loses s = tt
+breaks_by meaning server (Err fault) before left old new body seen held is follows loses s =
+    starts_by meaning server before left old new body held follows loses (subst (λ (b : List ℕ). StartsAnswer meaning server b held old new) is s)
 
 -- none came, since a call failed
 breaks_before : (meaning : Meaning) (server : PlainServer) (before held : Option (List ℕ)) → TurnBreaks meaning server before held held
@@ -170,7 +200,7 @@ far_more meaning (Some all) left after old mid new server next far turned =
       wrote = Appends-trans old mid new far.text piece far.wrote t.tells.wrote;
       begins = λ later last end more b. subst (λ (l : List ℕ). Begins meaning fresh all ((far.reaches ++ none ∷ []) ++ later) last end l) (sym (append_assoc far.text piece more))
           (subst (λ (r : List Reach). Begins meaning fresh all r last end (far.text ++ (piece ++ more))) (sym (append_assoc far.reaches (none ∷ []) later))
-          (far.begins (none ∷ later) last end (piece ++ more) (goes_on server next last far.rest t.body t.rest end more t.heard none later t.message t.hears t.next_is b)));
+          (far.begins (none ∷ later) last end (piece ++ more) (goes_on server next last far.rest t.body t.rest end more t.heard none later t.message t.hears t.next_is t.tells.may b)));
     }
 
 pub far_over : (meaning : Meaning) (first left after old mid new : Option (List ℕ)) (server : PlainServer) (status : ExitStatus) → Far meaning first server left old mid → TurnsOut meaning server (Over status) left after mid new → Served meaning first status old new

@@ -34,8 +34,3 @@ is_of_documents DidOpen = true
 is_of_documents DidChange = true
 is_of_documents DidClose = true
 is_of_documents method = false
-
--- whether it asks something of a document
-abbrev pub is_question : Method → Bool
-is_question (Asks question) = true
-is_question method = false

@@ -3,11 +3,13 @@ use Rattle.std.specs.Prelude.{◌≡◌, ℕ, List, ◌++◌, Option, Some, None
 use Rattle.std.specs.Io.KnownBytes.{Appends}
 use Rattle.rb_script.specs.Writes.{AppendsFront}
 use Rattle.rb_lsp.specs.Messages.{IsMessage}
-use Rattle.rb_lsp.specs.Said.{Said}
+use Rattle.serde_json.specs.Data.{Data}
+use Rattle.rb_lsp.specs.Said.{Said, request}
+use Rattle.rb_lsp.specs.Cancels.{IsCancelled, MayReach, undone}
 use Rattle.rb_lsp.specs.declared.server.phase.ExitStatus.{ExitStatus}
 use Rattle.rb_lsp.specs.declared.server.reach.Reach.{Reach}
 use Rattle.rb_lsp.specs.Meanings.{Meaning}
-use Rattle.rb_lsp.specs.Replies.{PlainServer, Turned, On, Over, fresh}
+use Rattle.rb_lsp.specs.Replies.{PlainServer, Turned, On, Over, fresh, told_of}
 use Rattle.rb_lsp.specs.Talk.{Hears, told, goes, Begins, Ends, Talks, MayAnswer, MayCome}
 
 -- the state of a server that has not ended
@@ -15,27 +17,33 @@ abbrev pub turned_of : Option ExitStatus → PlainServer → Turned
 turned_of None server = On server
 turned_of (Some status) server = Over status
 
--- ---- one message
+-- ---- one message, which others follow that were read
+
+-- what goes out for a request that one of the next messages cancels: that it was cancelled, or that memory was refused
+pub record Heeds (meaning : Meaning) (server : PlainServer) (what : Said) (next : List ℕ) (reach : Reach) (out : List ℕ) : Type 0 where
+  pub out_is : (id : Data) (method : List ℕ) (params : Option Data) → what ≡ request id method params → IsCancelled id next → out ≡ told_of meaning (undone reach) server what
 
 -- what it has to have goes out, as far as that was done
-pub record Tells (meaning : Meaning) (server : PlainServer) (heard : Option Said) (old new : Option (List ℕ)) : Type 0 where
+pub record Tells (meaning : Meaning) (server : PlainServer) (heard : Option Said) (next : List ℕ) (old new : Option (List ℕ)) : Type 0 where
   pub reach : Reach
+  pub may : MayReach heard reach next
   pub wrote : Appends old new (told meaning reach server heard)
 
-pub record Responds (meaning : Meaning) (server : PlainServer) (body : List ℕ) (turned : Turned) (old new : Option (List ℕ)) : Type 0 where
+pub record Responds (meaning : Meaning) (server : PlainServer) (body next : List ℕ) (turned : Turned) (old new : Option (List ℕ)) : Type 0 where
   pub heard : Option Said
   pub hears : Hears body heard
   pub turned_is : turned ≡ goes server heard
-  pub tells : Tells meaning server heard old new
+  pub tells : Tells meaning server heard next old new
 
 -- a beginning of it was written
-pub record StartsTelling (meaning : Meaning) (server : PlainServer) (heard : Option Said) (old new : Option (List ℕ)) : Type 0 where
+pub record StartsTelling (meaning : Meaning) (server : PlainServer) (heard : Option Said) (next : List ℕ) (old new : Option (List ℕ)) : Type 0 where
   pub reach : Reach
+  pub may : MayReach heard reach next
   pub wrote : AppendsFront old new (told meaning reach server heard)
 
-pub record StartsAnswer (meaning : Meaning) (server : PlainServer) (body : List ℕ) (old new : Option (List ℕ)) : Type 0 where
+pub record StartsAnswer (meaning : Meaning) (server : PlainServer) (body next : List ℕ) (old new : Option (List ℕ)) : Type 0 where
   pub text : List ℕ
-  pub may : MayAnswer meaning server body text
+  pub may : MayAnswer meaning server body next text
   pub wrote : AppendsFront old new text
 
 -- ---- one step
@@ -49,7 +57,7 @@ pub record Takes (meaning : Meaning) (server next : PlainServer) (all : List ℕ
   pub message : IsMessage all body rest
   pub hears : Hears body heard
   pub next_is : goes server heard ≡ On next
-  pub tells : Tells meaning server heard old new
+  pub tells : Tells meaning server heard rest old new
 
 -- the end of a conversation goes out
 pub record GoesOut (meaning : Meaning) (server : PlainServer) (all : List ℕ) (status : ExitStatus) (old new : Option (List ℕ)) : Type 0 where

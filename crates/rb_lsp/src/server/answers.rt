@@ -3,8 +3,10 @@
 ghost use Rattle.std.specs.Prelude.{◌≡◌, false, IfOk, option_map};
 ghost use Rattle.serde_json.specs.View.{view};
 ghost use Rattle.serde_json.specs.Written.{has_float};
+ghost use Rattle.rb_lsp.specs.Cancels.{IsCancelled, undone};
 ghost use Rattle.rb_lsp.specs.Messages.{frame};
 ghost use Rattle.rb_lsp.specs.Questions.{body_text};
+ghost use Rattle.rb_lsp.specs.Reading.{waiting};
 ghost use Rattle.rb_lsp.specs.Replies.{after, answer_to, body_in, fresh_answer, initialize_answer, no_json, no_message, running_answer};
 
 use crate::rpc::{ErrorCode, failure, success};
@@ -15,6 +17,7 @@ use crate::server::method::Method;
 use crate::server::outgoing::{OutgoingText, framed_answer};
 use crate::server::phase::Phase;
 use crate::server::question::question_told;
+use crate::server::reach::Reach;
 use crate::server::request::ClientRequest;
 use crate::server::service::Service;
 use serde_json::Value;
@@ -88,7 +91,7 @@ fn answer_to(
     }
 }
 
-/// The answer to a request, where these documents are open. What is asked of one is not done if that is cancelled.
+/// The answer to a request, where these documents are open. What is asked of one is not done if one of the next messages cancels it, and only then.
 pub(crate) fn answer_told<V: Service>(
     alloc: Global,
     service: &mut V,
@@ -98,7 +101,9 @@ pub(crate) fn answer_told<V: Service>(
     request: &ClientRequest<'_>,
 ) -> Result<OutgoingText, AllocError>
     requires { has_float (view request.now.id.now) ≡ false }
-    ensures { IfOk result (λ told. told.out.items ≡ frame (body_in V.meaning told.reach documents.now phase method (option_map (λ v. view v.now) request.now.params) (view request.now.id.now))) }
+    ensures said { IfOk result (λ told. told.out.items ≡ frame (body_in V.meaning told.reach documents.now phase method (option_map (λ v. view v.now) request.now.params) (view request.now.id.now))) }
+    ensures only { IfOk result (λ told. told.reach ≡ Reach.Cancelled → IsCancelled (view request.now.id.now) (waiting request.now.reader.now)) }
+    ensures cancelled { IfOk result (λ told. IsCancelled (view request.now.id.now) (waiting request.now.reader.now) → told.out.items ≡ frame (body_in V.meaning (undone told.reach) documents.now phase method (option_map (λ v. view v.now) request.now.params) (view request.now.id.now))) }
 {
     match (phase, method) {
         (Phase::Running(client), Method::Asks(question)) => question_told(

@@ -1,7 +1,7 @@
 //! Limits of what a server keeps and reads, which definitions of the crates below name.
 
 ghost use Rattle.std.specs.Prelude.{◌≡◌, ◌^◌};
-ghost use Rattle.rb_lsp.specs.declared.rpc.limits.TheConstants.{MAX_FIELDS, MAX_HEAD, MAX_BODY, MAX_CALLS};
+ghost use Rattle.rb_lsp.specs.declared.rpc.limits.TheConstants.{MAX_FIELDS, MAX_HEAD, MAX_BODY, MAX_CALLS, MAX_WAITING};
 ghost use Rattle.rb_lsp.specs.declared.document.limits.TheConstants.{MAX_TEXT};
 ghost use Rattle.rb_lsp.specs.declared.server.limits.TheConstants.{MAX_DOCUMENTS, MAX_WORK};
 
@@ -17,6 +17,7 @@ pub fn limits_are()
     ensures head { MAX_HEAD ≡ 4096 }
     ensures body { MAX_BODY ≡ 33554432 }
     ensures calls { MAX_CALLS ≡ 2 ^ 40 }
+    ensures waiting { MAX_WAITING ≡ 1000 }
     ensures text { MAX_TEXT ≡ 67108864 }
     ensures documents { MAX_DOCUMENTS ≡ 1000 }
     ensures work { MAX_WORK ≡ 4000000 }

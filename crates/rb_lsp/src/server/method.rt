@@ -1,7 +1,7 @@
 //! The methods that a server knows.
 
 ghost use Rattle.std.specs.Prelude.{◌≡◌};
-ghost use Rattle.rb_lsp.specs.Methods.{document_method, is_of_documents, is_question, method_of, question_method, whole_method};
+ghost use Rattle.rb_lsp.specs.Methods.{document_method, is_of_documents, method_of, question_method, whole_method};
 
 /// A kind of request about a document.
 #[derive(Clone, Copy, Debug, PartialEq, Eq)]
@@ -94,13 +94,6 @@ pub(crate) fn method_of(name: &str) -> Method
     } else {
         document_method(name)
     }
-}
-
-/// Whether it asks something of a document.
-pub(crate) fn is_question(method: Method) -> bool
-    ensures { result ≡ is_question method }
-{
-    matches!(method, Method::Asks(_))
 }
 
 /// Whether it is about a document.

@@ -5,8 +5,10 @@ ghost use Rattle.serde_json.specs.View.{view};
 ghost use Rattle.serde_json.specs.Written.{compact_text, has_float};
 ghost use Rattle.rb_lsp.specs.declared.document.limits.TheConstants.{MAX_TEXT};
 ghost use Rattle.rb_lsp.specs.Answers.{failure};
+ghost use Rattle.rb_lsp.specs.Cancels.{IsCancelled, undone};
 ghost use Rattle.rb_lsp.specs.Messages.{frame};
 ghost use Rattle.rb_lsp.specs.Documents.{text_of};
+ghost use Rattle.rb_lsp.specs.Reading.{waiting};
 ghost use Rattle.rb_lsp.specs.Questions.{answer_text, asked_of, body_text, cancelled_for, no_memory_for, not_open, of_text, question_body, stopped_for, text_by, unfit, with_asked};
 
 use crate::document::Encoding;
@@ -39,7 +41,8 @@ fn refused(
 #[tactic(auto, unfolding(crate::specs::Questions::unfit))]
 fn unfit(alloc: Global, id: &Value) -> Result<OutgoingText, AllocError>
     requires { has_float (view id.now) ≡ false }
-    ensures { IfOk result (λ told. told.out.items ≡ frame (body_text (unfit (view id.now)))) }
+    ensures out { IfOk result (λ told. told.out.items ≡ frame (body_text (unfit (view id.now)))) }
+    ensures reach { IfOk result (λ told. told.reach ≡ Reach.Whole) }
 {
     let code = ErrorCode::InvalidParams;
     let out = refused(alloc, id, code, "the method takes other params")?;
@@ -50,7 +53,8 @@ fn unfit(alloc: Global, id: &Value) -> Result<OutgoingText, AllocError>
 #[tactic(auto, unfolding(crate::specs::Questions::not_open))]
 fn not_open(alloc: Global, id: &Value) -> Result<OutgoingText, AllocError>
     requires { has_float (view id.now) ≡ false }
-    ensures { IfOk result (λ told. told.out.items ≡ frame (body_text (not_open (view id.now)))) }
+    ensures out { IfOk result (λ told. told.out.items ≡ frame (body_text (not_open (view id.now)))) }
+    ensures reach { IfOk result (λ told. told.reach ≡ Reach.Whole) }
 {
     let code = ErrorCode::InvalidParams;
     let out = refused(alloc, id, code, "the document isn't open")?;
@@ -135,6 +139,27 @@ fn answered<V: Service>(
     Ok(OutgoingText::whole(framed(alloc, body.as_slice())?))
 }
 
+// Makes the answer about an open document, or the error that one of the next messages cancels the request. Then nothing else is done.
+fn unless_cancelled<V: Service>(
+    alloc: Global,
+    service: &mut V,
+    request: &DocumentRequest<'_>,
+    text: &[u8],
+    kept: &V::Kept,
+) -> Result<OutgoingText, AllocError>
+    requires plain { has_float (view request.now.id.now) ≡ false }
+    requires bounded { length text.now ≤ MAX_TEXT }
+    ensures said { IfOk result (λ told. told.out.items ≡ frame (text_by V.meaning told.reach request.now.encoding request.now.query request.now.uri.now (view request.now.id.now) text.now)) }
+    // It isn't done exactly if it is cancelled.
+    ensures cancelled { IfOk result (λ told. told.reach ≡ Reach.Cancelled ↔ IsCancelled (view request.now.id.now) (waiting request.now.reader.now)) }
+{
+    let id = text_of(alloc, request.id)?;
+    if request.reader.has_cancel(alloc, id.as_bytes())? {
+        return cancelled_for(alloc, request.id);
+    }
+    answered(alloc, service, request, text, kept)
+}
+
 // Makes the answer about an open document, or the error that the request was cancelled, or that memory was refused.
 fn of_text<V: Service>(
     alloc: Global,
@@ -146,13 +171,10 @@ fn of_text<V: Service>(
     requires plain { has_float (view request.now.id.now) ≡ false }
     requires bounded { length text.now ≤ MAX_TEXT }
     ensures said { IfOk result (λ told. told.out.items ≡ frame (of_text V.meaning told.reach request.now.encoding request.now.query request.now.uri.now (view request.now.id.now) (Some text.now))) }
-    // It isn't done exactly if it is cancelled.
-    ensures cancelled { IfOk result (λ told. told.reach ≡ Reach.Cancelled ↔ request.now.is_cancelled ≡ true) }
+    ensures only { IfOk result (λ told. told.reach ≡ Reach.Cancelled → IsCancelled (view request.now.id.now) (waiting request.now.reader.now)) }
+    ensures cancelled { IfOk result (λ told. IsCancelled (view request.now.id.now) (waiting request.now.reader.now) → told.out.items ≡ frame (of_text V.meaning (undone told.reach) request.now.encoding request.now.query request.now.uri.now (view request.now.id.now) (Some text.now))) }
 {
-    if request.is_cancelled {
-        return cancelled_for(alloc, request.id);
-    }
-    match answered(alloc, service, request, text, kept) {
+    match unless_cancelled(alloc, service, request, text, kept) {
         Ok(told) => Ok(told),
         Err(AllocError) => Ok(OutgoingText {
             out: no_memory_for(alloc, request.id)?,
@@ -169,7 +191,9 @@ fn of_document<V: Service>(
     request: &DocumentRequest<'_>,
 ) -> Result<OutgoingText, AllocError>
     requires { has_float (view request.now.id.now) ≡ false }
-    ensures { IfOk result (λ told. told.out.items ≡ frame (of_text V.meaning told.reach request.now.encoding request.now.query request.now.uri.now (view request.now.id.now) (text_of request.now.uri.now documents.now))) }
+    ensures said { IfOk result (λ told. told.out.items ≡ frame (of_text V.meaning told.reach request.now.encoding request.now.query request.now.uri.now (view request.now.id.now) (text_of request.now.uri.now documents.now))) }
+    ensures only { IfOk result (λ told. told.reach ≡ Reach.Cancelled → IsCancelled (view request.now.id.now) (waiting request.now.reader.now)) }
+    ensures cancelled { IfOk result (λ told. IsCancelled (view request.now.id.now) (waiting request.now.reader.now) → told.out.items ≡ frame (of_text V.meaning (undone told.reach) request.now.encoding request.now.query request.now.uri.now (view request.now.id.now) (text_of request.now.uri.now documents.now))) }
 {
     match documents.get(request.uri) {
         Some((text, kept)) => of_text(alloc, service, request, text, kept),
@@ -177,7 +201,7 @@ fn of_document<V: Service>(
     }
 }
 
-/// The answer to what is asked of a document, by the method's parameters. It is not done if it is cancelled.
+/// The answer to what is asked of a document, by the method's parameters. It is not done if one of the next messages cancels it, and only then.
 pub(crate) fn question_told<V: Service>(
     alloc: Global,
     service: &mut V,
@@ -187,7 +211,9 @@ pub(crate) fn question_told<V: Service>(
     request: &ClientRequest<'_>,
 ) -> Result<OutgoingText, AllocError>
     requires { has_float (view request.now.id.now) ≡ false }
-    ensures { IfOk result (λ told. told.out.items ≡ frame (question_body V.meaning told.reach encoding documents.now question (option_map (λ v. view v.now) request.now.params) (view request.now.id.now))) }
+    ensures said { IfOk result (λ told. told.out.items ≡ frame (question_body V.meaning told.reach encoding documents.now question (option_map (λ v. view v.now) request.now.params) (view request.now.id.now))) }
+    ensures only { IfOk result (λ told. told.reach ≡ Reach.Cancelled → IsCancelled (view request.now.id.now) (waiting request.now.reader.now)) }
+    ensures cancelled { IfOk result (λ told. IsCancelled (view request.now.id.now) (waiting request.now.reader.now) → told.out.items ≡ frame (question_body V.meaning (undone told.reach) encoding documents.now question (option_map (λ v. view v.now) request.now.params) (view request.now.id.now))) }
 {
     let Some(params) = request.params else {
         return unfit(alloc, request.id);
@@ -203,7 +229,7 @@ pub(crate) fn question_told<V: Service>(
         query,
         uri: uri.as_bytes(),
         id: request.id,
-        is_cancelled: request.is_cancelled,
+        reader: request.reader,
     };
     of_document(alloc, service, documents, &asked)
 }

@@ -1,6 +1,7 @@
 //! A request, as its message has it.
 
 use crate::document::Encoding;
+use crate::rpc::MessageReader;
 use crate::server::query::Query;
 use serde_json::Value;
 
@@ -9,8 +10,8 @@ use serde_json::Value;
 pub(crate) struct ClientRequest<'a> {
     pub(crate) id: &'a Value,
     pub(crate) params: Option<&'a Value>,
-    /// Whether its client has cancelled it. Then what it asks of a document isn't done.
-    pub(crate) is_cancelled: bool,
+    /// What it was read from. If one of the next messages there cancels it, what it asks of a document isn't done.
+    pub(crate) reader: &'a MessageReader,
 }
 
 /// A request about the document with this URI.
@@ -21,5 +22,5 @@ pub(crate) struct DocumentRequest<'a> {
     pub(crate) uri: &'a [u8],
     pub(crate) id: &'a Value,
     /// As in [`ClientRequest`].
-    pub(crate) is_cancelled: bool,
+    pub(crate) reader: &'a MessageReader,
 }

@@ -4,12 +4,14 @@ ghost use Rattle.std.specs.Prelude.{◌≡◌, [], false, Some, None, IfOk, OnOk
 ghost use Rattle.serde_json.specs.View.{view};
 ghost use Rattle.serde_json.specs.Written.{has_float};
 ghost use Rattle.rb_lsp.specs.Said.{said};
+ghost use Rattle.rb_lsp.specs.Cancels.{IsCancelled, MayReach, undone};
 ghost use Rattle.rb_lsp.specs.Notices.{documents_after, notice_of, notice_text};
 ghost use Rattle.rb_lsp.specs.Questions.{body_text};
 ghost use Rattle.rb_lsp.specs.Replies.{after, answer_body, no_json, noticed_by, published, sent, told_of, turned_by, with_phase};
-ghost use Rattle.rb_lsp.specs.Serves.{turned_of};
+ghost use Rattle.rb_lsp.specs.Reading.{waiting};
+ghost use Rattle.rb_lsp.specs.Serves.{Heeds, turned_of};
 
-use crate::rpc::{Incoming, incoming_of, number_below, text_below};
+use crate::rpc::{Incoming, MessageReader, incoming_of, number_below, text_below};
 use crate::server::answers::{after, answer_told, no_json, no_message};
 use crate::server::changes::document_after;
 use crate::server::client::Client;
@@ -87,6 +89,8 @@ fn hear_request<V: Service>(
 ) -> Result<ServerReply, AllocError>
     requires { has_float (view request.now.id.now) ≡ false }
     ensures out { IfOk result (λ heard. heard.out.items ≡ sent (Some (answer_body V.meaning heard.reach server.old method (option_map (λ v. view v.now) request.now.params) (view request.now.id.now)))) }
+    ensures only { IfOk result (λ heard. heard.reach ≡ Reach.Cancelled → IsCancelled (view request.now.id.now) (waiting request.now.reader.now)) }
+    ensures cancelled { IfOk result (λ heard. IsCancelled (view request.now.id.now) (waiting request.now.reader.now) → heard.out.items ≡ sent (Some (answer_body V.meaning (undone heard.reach) server.old method (option_map (λ v. view v.now) request.now.params) (view request.now.id.now)))) }
     ensures over { IfOk result (λ heard. heard.over ≡ None) }
     ensures server { OnOk result (server.new ≡ with_phase server.old (after server.old.phase method (option_map (λ v. view v.now) request.now.params))) }
 {
@@ -210,25 +214,24 @@ fn hear_notification<V: Service>(
     })
 }
 
-/// Handles a message, which is cancelled or isn't.
+/// Handles a message, which the next ones in the reader may cancel.
 #[tactic(auto, unfolding(crate::specs::Replies::sent))]
 pub(crate) fn hear<V: Service>(
     alloc: Global,
     service: &mut V,
     server: &mut Server<V::Kept>,
+    reader: &MessageReader,
     message: &Value,
-    is_cancelled: bool,
 ) -> Result<ServerReply, AllocError>
     ensures out { IfOk result (λ heard. heard.out.items ≡ told_of V.meaning heard.reach server.old (said (view message.now))) }
     ensures turned { IfOk result (λ heard. turned_of heard.over server.new ≡ turned_by server.old (said (view message.now))) }
+    // A request is answered as cancelled only if one of the next messages cancels it, and then it isn't done.
+    ensures only { IfOk result (λ heard. MayReach (Some (said (view message.now))) heard.reach (waiting reader.now)) }
+    ensures cancelled { IfOk result (λ heard. Heeds V.meaning server.old (said (view message.now)) (waiting reader.now) heard.reach heard.out.items) }
 {
     match incoming_of(message) {
         Incoming::Request(id, method, params) => {
-            let request = ClientRequest {
-                id,
-                params,
-                is_cancelled,
-            };
+            let request = ClientRequest { id, params, reader };
             hear_request(alloc, service, server, method_of(method), &request)
         }
         Incoming::Notification(method, params) => {

@@ -1,28 +1,23 @@
 //! A server over a source and a sink.
 
-ghost use Rattle.std.specs.Prelude.{◌≡◌, ◌≢◌, ◌↔◌, Err, None, Some, IsTrue, IfOk, OnErr, OnOk};
+ghost use Rattle.std.specs.Prelude.{◌≡◌, ◌≢◌, Err, None, Some, IfOk, OnErr, OnOk};
 ghost use Rattle.std.specs.Io.KnownBytes.{Appends};
 ghost use Rattle.serde_json.specs.View.{view};
 ghost use Rattle.rb_script.specs.Writes.{AppendsFront};
 ghost use Rattle.rb_text.specs.Asked.{Fails};
-ghost use Rattle.rb_lsp.specs.Cancels.{IsCancelled};
 ghost use Rattle.rb_lsp.specs.Reading.{calls_of, left_of, waiting};
 ghost use Rattle.rb_lsp.specs.Said.{said};
 ghost use Rattle.rb_lsp.specs.Talk.{goes};
 ghost use Rattle.rb_lsp.specs.Serves.{BreaksOff, Responds, Served, StartsAnswer, StartsTelling, Tells, TurnBreaks, TurnsOut, turned_of};
 
-use crate::rpc::{
-    Incoming, MAX_CALLS, MessageReader, NextMessage, ReadError, ServeFault, incoming_of, read,
-    text_of,
-};
-use crate::server::method::{is_question, method_of};
+use crate::rpc::{MAX_CALLS, MessageReader, NextMessage, ReadError, ServeFault, read};
 use crate::server::phase::ExitStatus;
 use crate::server::server::{Server, hear, refused};
 use crate::server::service::Service;
 use rb_script::Sink;
 use rb_text::Source;
 use serde_json::Value;
-use std::alloc::{AllocError, Global};
+use std::alloc::Global;
 
 /// Serves an editor until the end of the conversation. Each message is answered in one write before the next is read.
 ///
@@ -88,29 +83,15 @@ fn respond<V: Service, W: Sink>(
     body: &[u8],
     sink: &mut W,
 ) -> Result<Option<ExitStatus>, ServeFault>
-    ensures ok { IfOk result (λ over. Responds V.meaning server.old body.now (turned_of over server.new) (W.held sink.old) (W.held sink.new)) }
-    ensures failed { OnErr result (StartsAnswer V.meaning server.old body.now (W.held sink.old) (W.held sink.new)) }
+    ensures ok { IfOk result (λ over. Responds V.meaning server.old body.now (waiting reader.now) (turned_of over server.new) (W.held sink.old) (W.held sink.new)) }
+    ensures failed { OnErr result (StartsAnswer V.meaning server.old body.now (waiting reader.now) (W.held sink.old) (W.held sink.new)) }
     ensures io { W.takes_all sink.old → (result ≢ Err ServeFault.Io) × W.takes_all sink.new }
 {
     match read(alloc, body) {
         Ok(message) => respond_to(alloc, service, server, reader, &message, sink),
-        Err(ReadError::NotJson) => refuse::<V, W>(alloc, server, sink),
+        Err(ReadError::NotJson) => refuse::<V, W>(alloc, server, reader, sink),
         Err(ReadError::OutOfMemory) => Err(ServeFault::OutOfMemory),
     }
-}
-
-// Says whether a message asks something of a document and is cancelled by one of those that wait after it.
-fn is_cancelled(alloc: Global, reader: &MessageReader, message: &Value) -> Result<bool, AllocError>
-    ensures { IfOk result (λ is. IsTrue is ↔ IsCancelled (said (view message.now)) (waiting reader.now)) }
-{
-    let Incoming::Request(id, method, _) = incoming_of(message) else {
-        return Ok(false);
-    };
-    if !is_question(method_of(method)) {
-        return Ok(false);
-    }
-    let text = text_of(alloc, id)?;
-    reader.has_cancel(alloc, text.as_bytes())
 }
 
 // Answers a message.
@@ -123,13 +104,11 @@ fn respond_to<V: Service, W: Sink>(
     sink: &mut W,
 ) -> Result<Option<ExitStatus>, ServeFault>
     ensures turned { IfOk result (λ over. turned_of over server.new ≡ goes server.old (Some (said (view message.now)))) }
-    ensures tells { OnOk result (Tells V.meaning server.old (Some (said (view message.now))) (W.held sink.old) (W.held sink.new)) }
-    ensures failed { OnErr result (StartsTelling V.meaning server.old (Some (said (view message.now))) (W.held sink.old) (W.held sink.new)) }
+    ensures tells { OnOk result (Tells V.meaning server.old (Some (said (view message.now))) (waiting reader.now) (W.held sink.old) (W.held sink.new)) }
+    ensures failed { OnErr result (StartsTelling V.meaning server.old (Some (said (view message.now))) (waiting reader.now) (W.held sink.old) (W.held sink.new)) }
     ensures io { W.takes_all sink.old → (result ≢ Err ServeFault.Io) × W.takes_all sink.new }
 {
-    // If memory is refused for that, the request is done.
-    let is_cancelled = is_cancelled(alloc, reader, message).unwrap_or(false);
-    let heard = hear(alloc, service, server, message, is_cancelled)?;
+    let heard = hear(alloc, service, server, reader, message)?;
     sink.put(heard.out.as_slice())?;
     Ok(heard.over)
 }
@@ -138,11 +117,12 @@ fn respond_to<V: Service, W: Sink>(
 fn refuse<V: Service, W: Sink>(
     alloc: Global,
     server: &mut Server<V::Kept>,
+    reader: &MessageReader,
     sink: &mut W,
 ) -> Result<Option<ExitStatus>, ServeFault>
     ensures turned { IfOk result (λ over. turned_of over server.new ≡ goes server.old None) }
-    ensures tells { OnOk result (Tells V.meaning server.old None (W.held sink.old) (W.held sink.new)) }
-    ensures failed { OnErr result (StartsTelling V.meaning server.old None (W.held sink.old) (W.held sink.new)) }
+    ensures tells { OnOk result (Tells V.meaning server.old None (waiting reader.now) (W.held sink.old) (W.held sink.new)) }
+    ensures failed { OnErr result (StartsTelling V.meaning server.old None (waiting reader.now) (W.held sink.old) (W.held sink.new)) }
     ensures io { W.takes_all sink.old → (result ≢ Err ServeFault.Io) × W.takes_all sink.new }
 {
     let out = refused(alloc)?;

@@ -1,4 +1,5 @@
-use Rattle.rb_lsp.specs.Reading.{body_of, left_of}
+use Rattle.rb_lsp.specs.Reading.{body_of, left_of, waiting}
+use Rattle.rb_lsp.proofs.ReadingLaws.{left_follows}
 use Rattle.rb_lsp.proofs.TalkLaws.{breaks_by, breaks_err, closed_by, cut_by, stray_by, turns_by}
 use Rattle.rb_lsp.proofs.server.serving.turn.Goals as goal
 
@@ -12,7 +13,7 @@ returns-in-Message-clause-ok g c =
     let old = g.W.Sink.held c.args.sink.now in
     let new = g.W.Sink.held c.respond.new.sink in
     let loses = rw c.in-Message.is at c.in_ok-next.ensures.given in
-    turns_by g.V.Service.meaning c.args.server.now c.respond.new.server c.respond.result before left old new (body_of c.next.new.self) c.body.result.now c.body.ensures loses c.respond.ensures.ok
+    turns_by g.V.Service.meaning c.args.server.now c.respond.new.server c.respond.result before left old new (body_of c.next.new.self) c.body.result.now (waiting c.next.new.self) c.body.ensures (left_follows (g.S.Source.left c.next.new.source) c.next.new.self.has_ended (waiting c.next.new.self)) loses c.respond.ensures.ok
 
 pub returns-in-Message-clause-failed : goal.returns-in-Message-clause-failed
 returns-in-Message-clause-failed g c =
@@ -21,7 +22,7 @@ returns-in-Message-clause-failed g c =
     let old = g.W.Sink.held c.args.sink.now in
     let new = g.W.Sink.held c.respond.new.sink in
     let loses = rw c.in-Message.is at c.in_ok-next.ensures.given in
-    breaks_by g.V.Service.meaning c.args.server.now c.respond.result before left old new (body_of c.next.new.self) c.body.result.now c.body.ensures loses c.respond.ensures.failed
+    breaks_by g.V.Service.meaning c.args.server.now c.respond.result before left old new (body_of c.next.new.self) c.body.result.now (waiting c.next.new.self) c.body.ensures (left_follows (g.S.Source.left c.next.new.source) c.next.new.self.has_ended (waiting c.next.new.self)) loses c.respond.ensures.failed
 
 pub returns-in-End-clause-ok : goal.returns-in-End-clause-ok
 returns-in-End-clause-ok g c =
