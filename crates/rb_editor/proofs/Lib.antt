@@ -13,6 +13,7 @@ pub mod CutLaws
 pub mod AppliedLaws
 pub mod RunLaws
 pub mod WorkLaws
+pub mod StopLaws
 pub mod FixLaws
 pub mod FrontLaws
 pub mod CompletingLaws

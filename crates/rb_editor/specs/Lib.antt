@@ -4,6 +4,7 @@ pub mod Findings
 pub mod Comparisons
 pub mod Published
 pub mod Work
+pub mod Stops
 pub mod Layouts
 pub mod Extents
 pub mod Hovers

@@ -34,6 +34,6 @@ mod work_meter;
 pub use bench::lsp;
 pub use laws::{
     accepts_as_check_does, comparing_is_bounded, edited_lines_read, edited_texts_read,
-    edits_replace_lines, ids_are_those_of_the_cluster, matching_texts_have_none,
+    edits_replace_lines, ids_are_those_of_the_cluster, limits_are, matching_texts_have_none,
     texts_have_one_run,
 };

@@ -1,9 +1,11 @@
 //! The language server of scripts.
 
-ghost use Rattle.std.specs.Prelude.{◌≡◌, ◌≤◌, ◌++◌, IfOk, OnErr, OnOk, length};
+ghost use Rattle.std.specs.Prelude.{◌≡◌, ◌≢◌, ◌≤◌, ◌++◌, Err, None, IfOk, OnErr, OnOk, length};
 ghost use Rattle.rb_lsp.specs.declared.document.limits.TheConstants.{MAX_TEXT};
 ghost use Rattle.rb_lsp.specs.Serves.{BreaksOff, Served};
+ghost use Rattle.rb_text.specs.Asked.{Fails};
 ghost use Rattle.rb_editor.specs.Meanings.{answer, meaning};
+ghost use Rattle.rb_editor.specs.Stops.{needs_run, refused_by};
 
 use crate::actions::action::add_actions;
 use crate::actions::bounded::BoundedCluster;
@@ -71,7 +73,12 @@ impl Service for Bench {
         asked: DocumentQuery<'_, '_>,
         kept: &KeptRun<BoundedCluster>,
         out: &mut Vec<u8>,
-    ) -> Result<Option<Stop>, AllocError> {
+    ) -> Result<Option<Stop>, AllocError>
+        requires { length asked.text.now ≤ MAX_TEXT }
+        ensures added { IfOk result (λ stop. stop ≡ None → out.new.items ≡ out.old.items ++ answer asked.entry.encoding asked.entry.query asked.entry.uri.now asked.entry.text.now) }
+        // It isn't done exactly if it needs a run that stopped.
+        ensures stopped { IfOk result (λ stop. stop ≡ refused_by asked.entry.query kept.now.stopped asked.entry.text.now) }
+    {
         if needs_run(asked.query)
             && let Some(stop) = kept.stop_of(asked.text)
         {
@@ -83,7 +90,9 @@ impl Service for Bench {
 }
 
 // Says whether the run of the text is needed for what is asked.
-fn needs_run(asked: Query) -> bool {
+fn needs_run(asked: Query) -> bool
+    ensures { result ≡ needs_run asked }
+{
     matches!(asked, Query::CodeAction(_) | Query::Hover(_))
 }
 
@@ -137,6 +146,8 @@ pub fn lsp<S: Source, W: Sink>(
     ensures ok { IfOk result (λ status. Served meaning (S.left source.old) status (W.held sink.old) (W.held sink.new)) }
     // If a call fails, a beginning of it was written.
     ensures failed { OnErr result (BreaksOff meaning (S.left source.old) (W.held sink.old) (W.held sink.new)) }
+    // A failed call of the source is reported as `Io`.
+    ensures unfailed { result ≢ Err ServeFault.Io → Fails (S.asked source.old) (S.asked source.new) 0 }
 {
     let mut bench = Bench::new(alloc)?;
     serve(alloc, &mut bench, source, sink)

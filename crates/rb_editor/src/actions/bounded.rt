@@ -143,7 +143,11 @@ impl Machine for BoundedCluster {
 }
 
 impl Bounded for BoundedCluster {
-    fn refused_at(meter: &WorkMeter) -> Option<EnoughWork> {
+    ghost use Rattle.std.specs.Prelude.{◌≡◌};
+
+    fn refused_at(meter: &WorkMeter) -> Option<EnoughWork>
+        ensures { result ≡ meter.now.refused }
+    {
         meter.refused()
     }
 }

@@ -8,6 +8,9 @@ ghost use Rattle.rb_lsp.specs.declared.server.client.Client.{Client};
 ghost use Rattle.rb_editor.specs.ActionLaws.{AcceptsAsCheckDoes, EditedLinesRead, EditedTextsRead, EditsReplaceLines, IdsAreOfTheCluster, IsQuietText, MakesWhatCheckWrites, TextsHaveOneRun};
 ghost use Rattle.rb_editor.specs.Findings.{cells_for};
 ghost use Rattle.rb_editor.specs.Published.{diagnose};
+ghost use Rattle.rb_editor.specs.declared.actions.actual_output.TheConstants.{MAX_SHOWN};
+ghost use Rattle.rb_editor.specs.declared.actions.bounded.TheConstants.{DIRECTIVE_WORK};
+ghost use Rattle.rb_editor.specs.declared.offers.symbols.TheConstants.{MAX_NAME};
 
 /// A script has no diagnostics if all outputs are expected, none is an error, and there is no warning.
 #[tactic(auto, using(crate::proofs::QuietLaws::quiet_text))]
@@ -28,6 +31,14 @@ pub fn texts_have_one_run()
 #[tactic(auto, using(crate::proofs::EachFindingLaws::cells_bounded))]
 pub fn comparing_is_bounded()
     ensures { (s : PlainScript) → cells_for MAX_SCRIPT_CELLS s.blocks (outputs s) ≤ MAX_SCRIPT_CELLS }
+{}
+
+/// The numbers that definitions name: how many lines of an output are shown at its expectation, the work of a directive, and how many characters
+/// of a head are in an outline.
+pub fn limits_are()
+    ensures shown { MAX_SHOWN ≡ 20 }
+    ensures work { DIRECTIVE_WORK ≡ 100 }
+    ensures name { MAX_NAME ≡ 80 }
 {}
 
 /// The ids that completion offers are those of the nodes of the cluster after the directives above, by one fresh run of these.

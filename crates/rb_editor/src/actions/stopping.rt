@@ -3,9 +3,10 @@
 //! If a run stops, the diagnostics are those of the text above the directive where it stopped. After an edit it stops at the same directive
 //! without a run, if no directive above has changed, and the directive itself hasn't.
 
-ghost use Rattle.std.specs.Prelude.{◌≡◌, ◌≤◌, ◌^◌, ◌++◌, IfOk, IfSome, length};
+ghost use Rattle.std.specs.Prelude.{◌≡◌, ◌-◌, ◌≤◌, ◌^◌, ◌++◌, None, Some, IfOk, IfSome, IsTrue, length};
 ghost use Rattle.rb_lsp.specs.declared.document.limits.TheConstants.{MAX_TEXT};
 ghost use Rattle.rb_editor.specs.Findings.{diagnosed, stopped};
+ghost use Rattle.rb_editor.specs.Stops.{head_line};
 
 use crate::actions::above::{above, behind};
 use crate::actions::bounded::Bounded;
@@ -45,8 +46,13 @@ pub(crate) struct BoundedFindings {
 }
 
 impl<M: Machine> KeptRun<M> {
+    ghost use Rattle.std.specs.Prelude.{◌≡◌, None};
+    ghost use Rattle.rb_editor.specs.Stops.{stop_of};
+
     /// Keeps nothing.
-    pub(crate) fn none() -> KeptRun<M> {
+    pub(crate) fn none() -> KeptRun<M>
+        ensures { result.stopped ≡ None }
+    {
         KeptRun {
             run: None,
             stopped: None,
@@ -54,7 +60,9 @@ impl<M: Machine> KeptRun<M> {
     }
 
     /// Finds where the run of this text stopped, if it is the last one that did.
-    pub(crate) fn stop_of(&self, text: &[u8]) -> Option<Stop> {
+    pub(crate) fn stop_of(&self, text: &[u8]) -> Option<Stop>
+        ensures { result ≡ stop_of self.now.stopped text.now }
+    {
         match &self.stopped {
             Some(stopped) if stopped.text.as_slice() == text => Some(stopped.stop),
             _ => None,
@@ -78,7 +86,10 @@ fn stopped(alloc: Global, line: usize) -> Result<Diagnostic, AllocError>
 }
 
 // Finds the line of the head of the directive at an index, if the text is a script that has it.
-fn head_line(alloc: Global, text: &[u8], index: usize) -> Result<Option<usize>, AllocError> {
+#[tactic(auto, using(crate::proofs::StopLaws::head_of_none))]
+fn head_line(alloc: Global, text: &[u8], index: usize) -> Result<Option<usize>, AllocError>
+    ensures { IfOk result (λ line. line ≡ head_line text.now index) }
+{
     match ScriptWithLines::read(alloc, text) {
         Ok(read) => Ok(read.heads.get(index).copied()),
         Err(ScriptFault::OutOfMemory) => Err(AllocError),
@@ -160,6 +171,7 @@ fn runs_nothing<M: Bounded>(
     stop: Stop,
 ) -> Result<bool, AllocError>
     requires { length document.text.now ≤ MAX_TEXT }
+    ensures { IfOk result (λ nothing. IsTrue nothing → M.Meter.count_of meter.new ≡ M.Meter.count_of meter.old) }
 {
     let count = meter.count();
     if count > MAX_COUNT {
@@ -235,6 +247,18 @@ fn of_whole<M: Bounded>(
     }
 }
 
+// Finds where the run of a text stopped that has run this many directives: the last of them was refused.
+fn stop_after(alloc: Global, text: &[u8], ran: u64, enough: EnoughWork) -> Result<Stop, AllocError>
+    ensures line { IfOk result (λ stop. head_line text.now (ran - 1) ≡ Some stop.line) }
+    ensures work { IfOk result (λ stop. stop.work ≡ enough.work) }
+{
+    let EnoughWork { work } = enough;
+    match head_line(alloc, text, ran.saturating_sub(1) as usize)? {
+        Some(line) => Ok(Stop { line, work }),
+        None => Err(AllocError),
+    }
+}
+
 // Makes the diagnostics of a text whose run begins with the empty cluster.
 fn of_fresh<M: Bounded>(
     alloc: Global,
@@ -248,16 +272,13 @@ fn of_fresh<M: Bounded>(
 {
     kept.run = None;
     let count = meter.count();
-    let EnoughWork { work } = match of_whole(alloc, document, table, kept, meter)? {
+    let enough = match of_whole(alloc, document, table, kept, meter)? {
         Ok(found) => return Ok(found),
-        Err(work) => work,
+        Err(enough) => enough,
     };
-    // The last directive of these was refused.
-    let index = meter.count().saturating_sub(count).saturating_sub(1);
-    let Some(line) = head_line(alloc, document.text, index as usize)? else {
-        return Err(AllocError);
-    };
-    of_front(alloc, document, table, kept, meter, Stop { line, work })
+    let ran = meter.count().saturating_sub(count);
+    let stop = stop_after(alloc, document.text, ran, enough)?;
+    of_front(alloc, document, table, kept, meter, stop)
 }
 
 /// Makes the diagnostics of the text of a document, as far as one fresh run of it goes.
