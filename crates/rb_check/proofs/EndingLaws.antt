@@ -22,8 +22,3 @@ same_ending asked w v (m ∷ ms) h = ap (λ (t : Bool). ending_of asked t (lengt
 pub left_so : (o : Option Failure) (left a b c d : ℕ) → MatchOption o (left ≡ a) (λ _. left ≡ b) → a ≡ c → b ≡ d → MatchOption o (left ≡ c) (λ _. left ≡ d)
 left_so None left a b c d h one other = h ∙ one
 left_so (Some failure) left a b c d h one other = h ∙ other
-
--- all are left, where something failed
-pub left_failed : (o : Option Failure) (left b c d : ℕ) → o ≢ None → left ≡ b → b ≡ d → MatchOption o (left ≡ c) (λ _. left ≡ d)
-left_failed None left b c d failed h other = absurd (failed refl)
-left_failed (Some failure) left b c d failed h other = h ∙ other

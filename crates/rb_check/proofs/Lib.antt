@@ -1,3 +1,5 @@
+pub mod AcceptLaws
+pub mod AskingLaws
 pub mod CommentLaws
 pub mod CountLaws
 pub mod EndingLaws
@@ -11,5 +13,6 @@ pub mod ReasonLaws
 pub mod ReviewLaws
 pub mod ShownLaws
 pub mod SuiteLaws
+pub mod TargetLaws
 pub mod VisibleLaws
 pub mod XmlLaws

@@ -1,7 +1,7 @@
 -- What goes out on a report's streams, one text after another.
-use Rattle.std.proofs.Common.{◌≡◌, ◌∙◌, ℕ, ◌+◌, ◌-◌, ◌^◌, Bool, true, false, List, [], ◌++◌, length, Option, Some, None, Result, Ok, Err, refl, ap, sym, subst, append_assoc, append-nil, arith}
+use Rattle.std.proofs.Common.{◌≡◌, ◌∙◌, ℕ, suc, ◌+◌, ◌-◌, ◌^◌, Bool, true, false, List, [], ◌∷◌, ◌++◌, length, Option, Some, None, Result, Ok, Err, refl, ap, sym, subst, append_assoc, append-nil, arith}
 use Rattle.std.specs.Io.KnownBytes.{Appends, Keeps}
-use Rattle.std.specs.Prelude.{IfErr, IfOk, IsOk, min, not, ◌==◌, if◌then◌else◌, is_some, codes}
+use Rattle.std.specs.Prelude.{◌≢◌, IfErr, IfOk, IsOk, min, not, ◌==◌, if◌then◌else◌, is_some, codes}
 use Rattle.std.proofs.KnownBytes.{Appends-nil, Appends-trans, Appends-kept}
 use Rattle.rb_report.specs.declared.check.failure.Failure.TheVariants.{NotShown}
 use Rattle.rb_report.specs.declared.check.outcome.Outcome.TheVariants as outcomes
@@ -18,7 +18,7 @@ use Rattle.rb_check.specs.declared.differing.Differing.{Differing}
 use Rattle.rb_check.specs.declared.remark.Remark.{Remark}
 use Rattle.rb_check.specs.declared.report_state.ReportForm.{ReportForm}
 use Rattle.rb_check.specs.declared.report_state.ReportState.{ReportState}
-use Rattle.rb_check.specs.Shown.{HeldAfter, GoesOut, GoesOutIf, GoesOutInPart, Told, beginning, begun_text, cleared, clearing, closed, closing_text, differing_text, ending, in_form, lacking, lacks_memory, list_text, listed_text, noticed_text, own_after, people_text, programs_text, remark_text}
+use Rattle.rb_check.specs.Shown.{HeldAfter, GoesOut, GoesOutIf, GoesOutInPart, LosesNothing, Told, beginning, begun_text, cleared, clearing, closed, closing_text, differing_text, ending, in_form, lacking, lacks_memory, list_text, listed_text, noticed_text, own_after, people_text, programs_text, remark_text}
 
 -- ---- held bytes
 
@@ -108,6 +108,24 @@ module _ {one two three : ReportState} {a b c : Option (List ℕ)} {t : List ℕ
   pub goes_on : (text : ReportForm → List ℕ) → GoesOut one two a b t → GoesOut two three b c (text two.form) → GoesOut one three a c (t ++ text one.form)
   goes_on text first second = goes_then (λ f own. text f) first second
 
+-- ---- nothing of the report fails
+
+closed_same : (x y z : Bool) (a b c : Option (List ℕ)) (t u : List ℕ) → HeldAfter x y a b t → HeldAfter y z b c u → z ≡ x → y ≡ x
+closed_same false false z a b c t u h k e = refl
+closed_same false true false a b c t u h k e = absurd k
+closed_same false true true a b c t u h k e = absurd cc
+closed_same true false z a b c t u h k e = absurd h
+closed_same true true z a b c t u h k e = refl
+
+module _ {one two three : ReportState} {a b c : Option (List ℕ)} {t u : List ℕ} where
+  pub loses_first : GoesOut one two a b t → GoesOut two three b c u → LosesNothing one three → LosesNothing one two
+  loses_first first second none =
+      let later = second.out none.memory in
+      record { memory = later.memory; output = closed_same one.is_closed two.is_closed three.is_closed a b c t u (first.out later.memory).held later.held none.output }
+
+  pub loses_second : GoesOut one two a b t → GoesOut two three b c u → LosesNothing one three → LosesNothing two three
+  loses_second first second none = record { memory = none.memory; output = none.output ∙ sym (loses_first first second none).output }
+
 -- ---- nothing
 
 held_none : (x : Bool) (a : Option (List ℕ)) → HeldAfter x x a a []
@@ -181,6 +199,18 @@ goes_kept s {a} {b} k = record { form = refl; out = λ memory. record { memory =
     held_kept false a b k = Appends-kept a a b [] (Appends-nil a) k
     held_kept true a b k = Appends-kept a a b [] (Appends-nil a) k
 
+-- something was put before it, and handed on with it
+held_before : (x y : Bool) (a b c : Option (List ℕ)) (t v : List ℕ) → x ≡ false → Appends a b t → HeldAfter x y b c v → HeldAfter x y a c (t ++ v)
+held_before false false a b c t v is h k = Appends-trans a b c t v h k
+held_before false true a b c t v is h k = front_after t h k
+held_before true y a b c t v is h k = absurd cc
+
+pub goes_before : {s u : ReportState} {b c : Option (List ℕ)} {v : List ℕ} (a : Option (List ℕ)) (t : List ℕ) → s.is_closed ≡ false → Appends a b t → GoesOut s u b c v → GoesOut s u a c (t ++ v)
+goes_before {s} {u} {b} {c} {v} a t unclosed h out = record {
+  form = out.form;
+  out = λ memory. let went = out.out memory in record { memory = went.memory; held = held_before s.is_closed u.is_closed a b c t v unclosed h went.held; own = went.own };
+}
+
 -- ---- by equations
 
 pub goes_from : {s u n : ReportState} {a b : Option (List ℕ)} {t : List ℕ} → u ≡ s → GoesOut u n a b t → GoesOut s n a b t
@@ -223,6 +253,9 @@ part_whole t out = record { text = t; out = out }
 pub part_then : {one two three : ReportState} {a b c : Option (List ℕ)} {t : List ℕ} → GoesOut one two a b t → GoesOutInPart two three b c → GoesOutInPart one three a c
 part_then {t = t} first part = record { text = t ++ part.text; out = goes_on (λ (f : ReportForm). part.text) first part.out }
 
+pub parts_then : {one two three : ReportState} {a b c : Option (List ℕ)} → GoesOutInPart one two a b → GoesOutInPart two three b c → GoesOutInPart one three a c
+parts_then first second = part_then first.out second
+
 pub if_along : {X E : Type 0} (r : Result X E) (s u : ReportState) (a b : Option (List ℕ)) (t v : List ℕ) → t ≡ v → GoesOutIf r s u a b t → GoesOutIf r s u a b v
 if_along r s u a b t v e h = subst (λ (l : List ℕ). GoesOutIf r s u a b l) e h
 
@@ -246,11 +279,30 @@ pub on_err : {X E : Type 0} {P : Type 0} (r : Result X E) → P → IfErr r (λ 
 on_err (Ok x) p = tt
 on_err (Err e) p = p
 
+pub if_before : {X E : Type 0} (r : Result X E) (s u : ReportState) (a b c : Option (List ℕ)) (t v : List ℕ) → s.is_closed ≡ false → Appends a b t → GoesOutIf r s u b c v → GoesOutIf r s u a c (t ++ v)
+if_before (Ok x) s u a b c t v unclosed h out = goes_before a t unclosed h out
+if_before (Err e) s u a b c t v unclosed h part = record { text = t ++ part.text; out = goes_before a t unclosed h part.out }
+
 -- the output was found open, and a script was shown
 pub goes_showed : {X Y E : Type 0} (s u n : ReportState) (a b c d : Option (List ℕ)) (t : List ℕ) (r : Result X ShowFault) (done : Result Y E) (found : Bool) → u ≡ s → b ≡ a → found ≡ not s.is_closed → found ≡ true
     → Shows r b c t → ((before : Option (List ℕ)) (text : List ℕ) → u.is_closed ≡ false → Shows r before c text → GoesOutIf done u n before d text) → GoesOutIf done s n a d t
 goes_showed s u n a b c d t r done found e f is open_is put shows =
     if_from done s u n a d t e (shows a t (ap (λ (v : ReportState). v.is_closed) e ∙ not_closed_true s.is_closed (sym is ∙ open_is)) (subst (λ (h : Option (List ℕ)). Shows r h c t) f put))
+
+-- a text is put, and then a script is shown
+module _ {Y E : Type 0} (s u n : ReportState) (a b c d : Option (List ℕ)) (t v : List ℕ) (done : Result Y E) (found : Bool) where
+  pub goes_both : {X : Type 0} (e : Option (List ℕ)) (r : Result X ShowFault) → u ≡ s → b ≡ a → found ≡ not s.is_closed → found ≡ true → Appends b c t → Shows r c d v
+      → ((before : Option (List ℕ)) (text : List ℕ) → u.is_closed ≡ false → Shows r before d text → GoesOutIf done u n before e text) → GoesOutIf done s n a e (t ++ v)
+  goes_both e r same held is open_is put shown shows =
+      let unclosed : u.is_closed ≡ false = ap (λ (x : ReportState). x.is_closed) same ∙ not_closed_true s.is_closed (sym is ∙ open_is) in
+      if_from done s u n a e (t ++ v) same (subst (λ (h : Option (List ℕ)). GoesOutIf done u n h e (t ++ v)) held (if_before done u n b c e t v unclosed put (shows c v unclosed shown)))
+
+  -- the text is cut off
+  pub goes_cut : {X : Type 0} (r : Result X WriteFault) → u ≡ s → b ≡ a → found ≡ not s.is_closed → found ≡ true → Writes r b c t
+      → ((before : Option (List ℕ)) (text : List ℕ) → u.is_closed ≡ false → AppendsFront before c text → GoesOutIf done u n before d text) → GoesOutIf done s n a d (t ++ v)
+  goes_cut r same held is open_is put shows =
+      let unclosed : u.is_closed ≡ false = ap (λ (x : ReportState). x.is_closed) same ∙ not_closed_true s.is_closed (sym is ∙ open_is) in
+      if_from done s u n a d (t ++ v) same (shows a (t ++ v) unclosed (front_more v (written_front r (subst (λ (h : Option (List ℕ)). Writes r h c t) held put))))
 
 -- ---- what is said of a script
 
@@ -307,6 +359,17 @@ list_none ds is = ap (λ (b : Bool). if b then [] else differing_text ds ++ code
 
 pub list_some : (ds : List Differing) → (length ds == 0) ≡ false → list_text ds ≡ differing_text ds ++ codes "\n"
 list_some ds is = ap (λ (b : Bool). if b then [] else differing_text ds ++ codes "\n") is
+
+pub none_there : {X : Type 0} (xs : List X) → (length xs == 0) ≡ true → xs ≡ []
+none_there [] is = refl
+none_there (x ∷ xs) is = let no : true ≡ false = sym is ∙ never (length xs) in absurd cc
+  where
+    never : (n : ℕ) → (suc n == 0) ≡ false
+    never n = grind arith
+
+pub some_there : {X : Type 0} (xs : List X) → (length xs == 0) ≡ false → xs ≢ []
+some_there [] is = absurd cc
+some_there (x ∷ xs) is = λ e. absurd cc
 
 -- ---- several texts
 

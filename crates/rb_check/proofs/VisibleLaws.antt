@@ -1,27 +1,19 @@
 -- Which bytes go out by numbers.
 use Rattle.std.proofs.Common.{◌≡◌, ◌∙◌, ℕ, ◌+◌, ◌/◌, ◌%◌, ◌<◌, ◌≤◌, Bool, true, false, List, [], ◌∷◌, refl, arith, inl, inr}
-use Rattle.std.specs.Prelude.{◌==◌, ◌&&◌, ◌||◌, not, nat_le, nat_lt, if◌then◌else◌, IfOk, Result, Ok, Err, Option, None}
-use Rattle.std.specs.List.{flat_map, list_all, list_any}
+use Rattle.std.specs.Prelude.{◌==◌, ◌&&◌, ◌||◌, not, nat_le, nat_lt, if◌then◌else◌, Result, Ok, Err, Option, None}
+use Rattle.std.specs.List.{flat_map, list_all}
 use Rattle.std.proofs.lemmas.Bool.{and_from, and_parts, leb-true, le-ltb, eqb-true}
 use Rattle.std.proofs.lemmas.Bool.Decides.{eqb_tells}
 use Rattle.rb_script.specs.declared.sink.WriteFault.{WriteFault}
 use Rattle.rb_script.specs.Writes.{Writes, AppendsFront}
 use Rattle.rb_text.specs.Json.{hex_digit}
 use Rattle.rb_text.proofs.JsonLaws.{flat_of}
-use Rattle.rb_check.specs.declared.visible.Showing.{Showing}
-use Rattle.rb_check.specs.declared.visible.Showing.TheVariants.{AsIs}
-use Rattle.rb_check.specs.Visible.{acts, stays, by_number, visible_byte, text_shown}
+use Rattle.rb_check.specs.Visible.{acts, stays, by_number, visible_byte}
 
 -- nothing is known of what goes out
 pub unknown : {X : Type 0} (r : Result X WriteFault) (text : List ℕ) → Writes r None None text
 unknown (Ok x) text = tt
 unknown (Err e) text = record { front = []; rest = text; parts = refl; appended = tt }
-
--- bytes that are shown as they are if none of them acts
-pub shown_safely : {X E : Type 0} (r : Result X E) (items : X → List ℕ) (s : Showing) (name : List ℕ) → IfOk r (λ v. items v ≡ text_shown s name) → (s ≡ AsIs → list_any acts name ≡ false)
-    → IfOk r (λ v. (showing : Showing) × (items v ≡ text_shown showing name) × (showing ≡ AsIs → list_any acts name ≡ false))
-shown_safely (Ok v) items s name is safe = (s, is, safe)
-shown_safely (Err e) items s name is safe = tt
 
 abbrev pub is_quiet : ℕ → Bool
 is_quiet b = (b == 10) || not (acts b)

@@ -1,3 +1,5 @@
+pub mod AcceptTexts
+pub mod Asking
 pub mod Escapes
 pub mod Replaced
 pub mod Objects
@@ -8,6 +10,7 @@ pub mod Xml
 pub mod Junit
 pub mod Formats
 pub mod Endings
+pub mod Listed
 pub mod Lost
 pub mod Place
 pub mod Reasons
@@ -15,4 +18,5 @@ pub mod Reported
 pub mod Reviews
 pub mod ScriptTexts
 pub mod Shown
+pub mod Targets
 pub mod Visible

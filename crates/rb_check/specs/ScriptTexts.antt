@@ -23,6 +23,17 @@ use Rattle.rb_check.specs.Formats.{script_text}
 use Rattle.rb_check.specs.Place.{ArePartedAt}
 use Rattle.rb_check.specs.Shown.{GoesOut, in_form, remark_text, warnings_text}
 
+-- a script that ran, with the reasons and the colours of what is shown of it
+pub record PlainChecked : Type 0 where
+  pub path : List ℕ
+  pub layout : Layout
+  pub whys : List (List Line)
+  pub script : PlainScript
+  pub colors : Colors
+
+abbrev pub checked : List ℕ → Layout → List (List Line) → PlainScript → Colors → PlainChecked
+checked path layout whys s colors = record { path = path; layout = layout; whys = whys; script = s; colors = colors }
+
 -- ---- its warnings and its report
 
 abbrev pub shows_warnings : Detail → Bool

@@ -2,6 +2,10 @@
 use Rattle.std.specs.Prelude.{◌≡◌, ℕ, Bool, true, false, not, if◌then◌else◌, ◌==◌, ◌&&◌, ◌||◌, nat_lt, List, [], ◌∷◌, ◌++◌, Option, None, Some, is_some, Result, Ok, Err, codes, decimal, string_bytes, length}
 use Rattle.std.specs.List.{flat_map}
 use Rattle.std.specs.Io.KnownBytes.{Appends}
+use Rattle.std.specs.IoError.{error_kind}
+use Rattle.std.specs.declared.io.Error.{Error}
+use Rattle.std.specs.declared.io.ErrorKind.{ErrorKind}
+use Rattle.std.specs.declared.io.ErrorKind.TheVariants as errors
 use Rattle.rb_files.specs.declared.path_error.PathError.{PathError}
 use Rattle.rb_script.specs.Writes.{AppendsFront}
 use Rattle.rb_report.specs.declared.check.colors.Colors.{Colors}
@@ -101,6 +105,11 @@ GoesOutIf (Err e) old new before after text = GoesOutInPart old new before after
 -- the text was written, if the stream takes all
 abbrev pub Told : Type 0 → Type 0 → Option (List ℕ) → Option (List ℕ) → List ℕ → Type 0
 Told takes_before takes_after before after text = takes_before → takes_after × Appends before after text
+
+-- neither memory nor standard output failed
+pub record LosesNothing (old new : ReportState) : Type 0 where
+  pub memory : lacks_memory new ≡ false
+  pub output : new.is_closed ≡ old.is_closed
 
 -- how bytes go out in a format
 abbrev pub shown_in : Option Format → Showing → Showing
@@ -247,6 +256,19 @@ cleared shows_progress = if shows_progress then clearing else []
 
 abbrev pub progress_text : ℕ → ℕ → List ℕ
 progress_text done all = clearing ++ (decimal done ++ (codes " of " ++ (decimal all ++ codes " scripts")))
+
+-- whether the reader has closed the pipe
+abbrev pub is_broken_pipe : ErrorKind → Bool
+is_broken_pipe errors.BrokenPipe = true
+is_broken_pipe _ = false
+
+abbrev pub is_reader_gone : {X : Type 0} → Result X Error → Bool
+is_reader_gone (Ok x) = false
+is_reader_gone (Err error) = is_broken_pipe (error_kind error)
+
+-- standard output failed: it is said, unless its reader has gone
+abbrev pub lost_output_text : {X : Type 0} → Bool → Result X Error → List ℕ
+lost_output_text shows handed_on = if is_reader_gone handed_on then [] else cleared shows ++ failure_text (codes "raftbench") NotShown
 
 -- whether the failure alone says too little
 abbrev pub says_little : Failure → Bool

@@ -11,7 +11,7 @@ use crate::report::Report;
 use crate::report_sink::ReportSink;
 use rb_files::PathError;
 use rb_machine::Machine;
-use rb_report::check::{Colors, Failure};
+use rb_report::check::Failure;
 use rb_script_report::{Detail, ShownScript, View, number_at, put_alone};
 use std::alloc::Global;
 
@@ -22,14 +22,14 @@ use std::alloc::Global;
 /// If there is no directive at a line or above it, or memory was refused.
 pub(crate) fn show_alone<M: Machine, W: ReportSink, E: ReportSink>(
     alloc: Global,
-    colors: Colors,
     subject: &CheckedScript<'_, M>,
     lines: &[usize],
     report: &mut Report<W, E>,
 ) -> Result<(), PathError>
     requires { IsLayout subject.now.text.now.bytes.items subject.now.session.now.script subject.now.layout.now }
     ensures counts { report.new.counts ≡ report.old.counts }
-    ensures shown { IfOk result (λ _. AreShown (alone_text colors subject.now.path.now subject.now.layout.now subject.now.whys.now subject.now.session.now.script) subject.now.layout.now.heads.items lines.now report.old.state report.new.state (W.held report.old.output) (W.held report.new.output)) }
+    ensures listed { report.new.differing.items ≡ report.old.differing.items }
+    ensures shown { IfOk result (λ _. AreShown (alone_text subject.now.colors subject.now.path.now subject.now.layout.now subject.now.whys.now subject.now.session.now.script) subject.now.layout.now.heads.items lines.now report.old.state report.new.state (W.held report.old.output) (W.held report.new.output)) }
     ensures part { IfErr result (λ _. GoesOutInPart report.old.state report.new.state (W.held report.old.output) (W.held report.new.output)) }
 {
     for i in 0..lines.len() {
@@ -37,7 +37,7 @@ pub(crate) fn show_alone<M: Machine, W: ReportSink, E: ReportSink>(
         let Some((place, _)) = place_at(subject.layout.heads.as_slice(), line) else {
             return Err(PathError::alone(Failure::NoDirective));
         };
-        show_directive(alloc, colors, subject, place - 1, report)?;
+        show_directive(alloc, subject, place - 1, report)?;
     }
     Ok(())
 }
@@ -45,7 +45,6 @@ pub(crate) fn show_alone<M: Machine, W: ReportSink, E: ReportSink>(
 // Shows the directive at an index.
 fn show_directive<M: Machine, W: ReportSink, E: ReportSink>(
     alloc: Global,
-    colors: Colors,
     subject: &CheckedScript<'_, M>,
     index: usize,
     report: &mut Report<W, E>,
@@ -53,14 +52,15 @@ fn show_directive<M: Machine, W: ReportSink, E: ReportSink>(
     requires layout { IsLayout subject.now.text.now.bytes.items subject.now.session.now.script subject.now.layout.now }
     requires within { index < length subject.now.layout.now.heads.items }
     ensures counts { report.new.counts ≡ report.old.counts }
-    ensures shown { GoesOutIf result report.old.state report.new.state (W.held report.old.output) (W.held report.new.output) (alone_text colors subject.now.path.now subject.now.layout.now subject.now.whys.now subject.now.session.now.script (index + 1)) }
+    ensures listed { report.new.differing.items ≡ report.old.differing.items }
+    ensures shown { GoesOutIf result report.old.state report.new.state (W.held report.old.output) (W.held report.new.output) (alone_text subject.now.colors subject.now.path.now subject.now.layout.now subject.now.whys.now subject.now.session.now.script (index + 1)) }
 {
     if !report.is_open() {
         return Ok(());
     }
     let view = View {
         path: subject.path.as_bytes(),
-        colors,
+        colors: subject.colors,
         shown: Detail::All,
     };
     let run = ShownScript {

@@ -4,6 +4,7 @@ use crate::ran::Ran;
 use crate::system::Text;
 use rb_machine::Machine;
 use rb_replay::Session;
+use rb_report::check::Colors;
 use rb_script::Lines;
 use rb_script_report::{Layout, Warning};
 
@@ -15,6 +16,8 @@ pub(crate) struct CheckedScript<'a, M: Machine> {
     pub(crate) session: &'a Session<M>,
     pub(crate) layout: &'a Layout,
     pub(crate) whys: &'a [Lines],
+    /// The colours that it is shown in.
+    pub(crate) colors: Colors,
     pub(crate) warnings: &'a [Warning],
     pub(crate) ran: Ran<'a>,
 }

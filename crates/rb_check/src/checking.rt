@@ -65,6 +65,7 @@ pub(crate) fn check_script<T: Runner, S: System, P: Person, W: ReportSink, E: Re
         session: &run.session,
         layout: &run.layout,
         whys: &run.whys,
+        colors: report.colors(asked.colors),
         warnings,
         ran: ran_of(path, &text, &run.session, &run.layout, warnings),
     };

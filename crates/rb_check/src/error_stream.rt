@@ -54,6 +54,7 @@ impl<E: ReportSink> ErrorStream<E> {
     pub(crate) fn tell<T: WrittenPiece>(&mut self, text: &T)
         ensures shown { self.new.shows_progress ≡ false }
         ensures told { Told (E.takes_all self.old.sink) (E.takes_all self.new.sink) (E.held self.old.sink) (E.held self.new.sink) (cleared self.old.shows_progress ++ T.text text.now) }
+        ensures flushed { E.takes_all self.old.sink → E.is_flushed self.new.sink }
     {
         self.clear();
         let _ = text.put(&mut self.sink);
@@ -64,6 +65,7 @@ impl<E: ReportSink> ErrorStream<E> {
     pub(crate) fn tell_failure(&mut self, path: &[u8], error: PathError)
         ensures shown { self.new.shows_progress ≡ false }
         ensures told { (words : List ℕ) × Told (E.takes_all self.old.sink) (E.takes_all self.new.sink) (E.held self.old.sink) (E.held self.new.sink) (cleared self.old.shows_progress ++ failure_lines path.now error words) }
+        ensures flushed { E.takes_all self.old.sink → E.is_flushed self.new.sink }
     {
         let failure = error.failure;
         self.tell(&Note::Failure(path, failure));
@@ -76,6 +78,7 @@ impl<E: ReportSink> ErrorStream<E> {
     fn tell_cause(&mut self, path: &[u8], cause: io::Error)
         ensures shown { self.new.shows_progress ≡ self.old.shows_progress }
         ensures told { (words : List ℕ) × Told (E.takes_all self.old.sink) (E.takes_all self.new.sink) (E.held self.old.sink) (E.held self.new.sink) (cause_line path.now words) }
+        ensures flushed { E.takes_all self.old.sink → E.is_flushed self.new.sink }
     {
         let _ = put_cause(&mut self.sink, path, cause);
         let _ = self.sink.flush();
@@ -84,6 +87,7 @@ impl<E: ReportSink> ErrorStream<E> {
     /// Shows how far the work is.
     pub(crate) fn show_progress(&mut self, done: usize, all: usize)
         ensures told { Told (E.takes_all self.old.sink) (E.takes_all self.new.sink) (E.held self.old.sink) (E.held self.new.sink) (progress_text done all) }
+        ensures flushed { E.takes_all self.old.sink → E.is_flushed self.new.sink }
     {
         let _ = put_progress(&mut self.sink, done, all);
         let _ = self.sink.flush();

@@ -1,7 +1,9 @@
 //! Who answers the questions of a review.
 
-ghost use Rattle.std.specs.Prelude.{◌≡◌, ◌<◌, ◌≤◌, ◌^◌, [], List, length};
+ghost use Rattle.std.specs.Prelude.{◌≡◌, ◌<◌, ◌≤◌, ◌^◌, ◌++◌, ℕ, [], List, Option, length};
+ghost use Rattle.rb_check.specs.Asking.{IsAsked, echo_of, help_text};
 ghost use Rattle.rb_check.specs.Reviews.{after_answer, answered, first_heard, rest_heard};
+ghost use Rattle.rb_check.specs.Shown.{GoesOut};
 
 use crate::answer::{Answer, HeardAnswer, heard_by_key, heard_in, visible_key};
 use crate::report::Report;
@@ -13,9 +15,6 @@ use std::time::{Clock, Duration, Instant};
 const MOST_KEYS: usize = 4_096;
 
 const MILLISECONDS_APART: u64 = 200;
-
-const HELP: &[u8] =
-    b"y  accepts this output\nn  leaves what is expected\na  accepts this one and all that follow in this script, but new errors; with --accept-errors these too\ns  leaves this one and all that follow in this script\nq  leaves this one and all that follow, and ends\n?  shows this\n";
 
 /// Who answers the questions of a review.
 pub(crate) trait Person: Drop {
@@ -33,6 +32,9 @@ pub(crate) trait Person: Drop {
         report: &mut Report<W, E>,
     ) -> HeardAnswer
         ensures counts { report.new.counts ≡ report.old.counts }
+        ensures listed { report.new.differing.items ≡ report.old.differing.items }
+        // The question goes out, and of the answer what the terminal doesn't show itself.
+        ensures shown { (keys : Option (List ℕ)) × GoesOut report.old.state report.new.state (W.held report.old.output) (W.held report.new.output) (question.now ++ echo_of keys) }
         ensures known { is_known self.old → is_known self.new }
         ensures next { is_known self.old → result ≡ first_heard (left self.old) }
         ensures rest { is_known self.old → left self.new ≡ rest_heard (left self.old) };
@@ -65,19 +67,18 @@ impl<'a, R: Input + Clock + AllocGlobal> TerminalPerson<'a, R> {
         }
     }
 
-    // Reads what is there, at least a byte. Such a terminal shows neither a key nor an end of the line, so they are written.
+    // Reads what is there, at least a byte. Such a terminal shows nothing of it.
     fn hear_key<W: ReportSink, E: ReportSink>(&mut self, report: &mut Report<W, E>) -> HeardAnswer
-        ensures { report.new.counts ≡ report.old.counts }
+        ensures counts { report.new.counts ≡ report.old.counts }
+        ensures listed { report.new.differing.items ≡ report.old.differing.items }
+        ensures shown { (keys : Option (List ℕ)) × GoesOut report.old.state report.new.state (W.held report.old.output) (W.held report.new.output) (echo_of keys) }
     {
         let mut keys = [0u8; MOST_KEYS];
         let Ok(count) = self.rt.reader().read(&mut keys) else {
             return HeardAnswer::End;
         };
         let keys = &keys[..count];
-        if count > 0 {
-            report.put(visible_key(keys));
-            report.put(b"\n");
-        }
+        echo(keys, report);
         let heard = heard_by_key(keys, self.is_soon());
         if matches!(heard, HeardAnswer::Else) {
             self.missed = Instant::now(self.rt).ok();
@@ -95,6 +96,19 @@ impl<'a, R: Input + Clock + AllocGlobal> TerminalPerson<'a, R> {
             Err(_) => false,
         }
     }
+}
+
+// Writes what was keyed, and the end of its line.
+fn echo<W: ReportSink, E: ReportSink>(keys: &[u8], report: &mut Report<W, E>)
+    ensures counts { report.new.counts ≡ report.old.counts }
+    ensures listed { report.new.differing.items ≡ report.old.differing.items }
+    ensures shown { (keyed : Option (List ℕ)) × GoesOut report.old.state report.new.state (W.held report.old.output) (W.held report.new.output) (echo_of keyed) }
+{
+    if keys.is_empty() {
+        return;
+    }
+    report.put(visible_key(keys));
+    report.put(b"\n");
 }
 
 // What comes from a terminal is not known.
@@ -126,6 +140,8 @@ pub(crate) fn ask<P: Person, W: ReportSink, E: ReportSink>(
     report: &mut Report<W, E>,
 ) -> Answer
     ensures counts { report.new.counts ≡ report.old.counts }
+    ensures listed { report.new.differing.items ≡ report.old.differing.items }
+    ensures shown { (text : List ℕ) × IsAsked question.now text × GoesOut report.old.state report.new.state (W.held report.old.output) (W.held report.new.output) text }
     ensures known { P.is_known person.old → P.is_known person.new }
     ensures few { P.is_known person.old → length (P.left person.old) < 2 ^ 64 → length (P.left person.new) ≤ length (P.left person.old) }
     ensures answered { P.is_known person.old → length (P.left person.old) < 2 ^ 64 → result ≡ answered (P.left person.old) }
@@ -135,12 +151,17 @@ pub(crate) fn ask<P: Person, W: ReportSink, E: ReportSink>(
     while turns < u64::MAX {
         match person.ask(question, report) {
             HeardAnswer::Answer(answer) => return answer,
-            HeardAnswer::Else => {
-                report.say(HELP);
-            }
+            HeardAnswer::Else => report.put(help()),
             HeardAnswer::End => return Answer::Quit,
         }
         turns += 1;
     }
     Answer::Quit
+}
+
+// What the answers mean.
+fn help() -> &'static [u8]
+    ensures { result.now ≡ help_text }
+{
+    b"y  accepts this output\nn  leaves what is expected\na  accepts this one and all that follow in this script, but new errors; with --accept-errors these too\ns  leaves this one and all that follow in this script\nq  leaves this one and all that follow, and ends\n?  shows this\n"
 }

@@ -1,10 +1,14 @@
 //! The directives that are to be accepted, if lines are named.
 
-ghost use Rattle.std.specs.Prelude.{◌≡◌, ◌++◌, ◌∷◌, [], false, IfErr, IfNone, IfOk, IfSome, None};
+ghost use Rattle.std.specs.Prelude.{◌≡◌, ◌==◌, ◌++◌, ◌∷◌, [], ℕ, false, IfErr, IfNone, IfOk, IfSome, None, Some, option_map};
+ghost use Rattle.std.specs.List.{list_any};
+ghost use Rattle.rb_report.specs.declared.check.failure.Failure.TheVariants.{NotWritten};
+ghost use Rattle.rb_script_report.specs.Accepting.{is_picked};
 ghost use Rattle.rb_script_report.specs.Layouts.{IsLayout};
 ghost use Rattle.rb_check.specs.Endings.{unnamed};
 ghost use Rattle.rb_check.specs.ScriptTexts.{ArePicked, matched_at, matched_text};
 ghost use Rattle.rb_check.specs.Shown.{GoesOut, GoesOutInPart};
+ghost use Rattle.rb_check.specs.Targets.{AreNamedHeads, AreNamedLines, AreNotPicked, IsOfScript};
 
 use crate::check_request::CheckRequest;
 use crate::checked_script::CheckedScript;
@@ -27,7 +31,11 @@ pub(crate) fn named_heads<M: Machine, S: System, W: ReportSink, E: ReportSink>(
     subject: &CheckedScript<'_, M>,
     report: &mut Report<W, E>,
 ) -> Result<Option<Vec<usize>>, PathError>
-    ensures { report.new.counts ≡ report.old.counts }
+    ensures counts { report.new.counts ≡ report.old.counts }
+    ensures listed { report.new.differing.items ≡ report.old.differing.items }
+    ensures named { IfOk result (λ heads. AreNamedHeads (S.tells_one system.now) subject.now.path.now asked.now (matched_text report.old.state.form subject.now.path.now subject.now.layout.now.heads.items subject.now.session.now.script) subject.now.layout.now.heads.items (option_map (λ some. some.items) heads) report.old.state report.new.state (W.held report.old.output) (W.held report.new.output)) }
+    ensures part { IfErr result (λ _. GoesOutInPart report.old.state report.new.state (W.held report.old.output) (W.held report.new.output)) }
+    ensures failed { IfErr result (λ error. AreNotPicked (λ lines. AreNamedLines (S.tells_one system.now) subject.now.path.now asked.now.targets.now (Some lines)) subject.now.layout.now.heads.items error) }
 {
     if !asked.accepts {
         return Ok(None);
@@ -36,7 +44,10 @@ pub(crate) fn named_heads<M: Machine, S: System, W: ReportSink, E: ReportSink>(
     let Some(lines) = named_lines(system, asked.targets, subject.path)? else {
         return Ok(None);
     };
-    Ok(Some(heads_at(alloc, &lines, subject, report)?))
+    match heads_at(alloc, &lines, subject, report) {
+        Ok(heads) => Ok(Some(heads)),
+        Err(error) => Err(error),
+    }
 }
 
 /// Which directives may be accepted: those of the named heads, or, if none is named, those that are accepted then.
@@ -47,7 +58,8 @@ pub(crate) fn picked_of<'a, M: Machine>(
     heads: &'a Option<Vec<usize>>,
 ) -> Result<AcceptFilter<'a>, AllocError>
     requires { IsLayout subject.now.text.now.bytes.items subject.now.session.now.script subject.now.layout.now }
-    ensures { IfNone heads.now (IfOk result (λ picked. picked ≡ unnamed asked.now subject.now.layout.now.text subject.now.layout.now.heads.items subject.now.session.now.script)) }
+    ensures heads { IfSome heads.now (λ heads. IfOk result (λ picked. (line : ℕ) → is_picked picked line ≡ list_any (λ head. head == line) heads.items)) }
+    ensures unnamed { IfNone heads.now (IfOk result (λ picked. picked ≡ unnamed asked.now subject.now.layout.now.text subject.now.layout.now.heads.items subject.now.session.now.script)) }
 {
     match heads {
         Some(heads) => Ok(AcceptFilter::Heads(heads.as_slice())),
@@ -77,7 +89,8 @@ pub(crate) fn lines_alone<S: System>(
     asked: &CheckRequest<'_>,
     path: &str,
 ) -> Result<Option<Vec<usize>>, AllocError>
-    ensures { IfOk result (λ lines. IfSome lines (λ _. (asked.now.accepts ≡ false) × (asked.now.format ≡ None))) }
+    ensures asked { IfOk result (λ lines. IfSome lines (λ _. (asked.now.accepts ≡ false) × (asked.now.format ≡ None))) }
+    ensures named { asked.now.accepts ≡ false → asked.now.format ≡ None → IfOk result (λ lines. AreNamedLines (S.tells_one system.now) path.now asked.now.targets.now (option_map (λ some. some.items) lines)) }
 {
     if asked.accepts || asked.format.is_some() {
         return Ok(None);
@@ -90,7 +103,9 @@ fn named_lines<S: System>(
     system: &S,
     targets: &[Target],
     path: &str,
-) -> Result<Option<Vec<usize>>, AllocError> {
+) -> Result<Option<Vec<usize>>, AllocError>
+    ensures { IfOk result (λ lines. AreNamedLines (S.tells_one system.now) path.now targets.now (option_map (λ some. some.items) lines)) }
+{
     let mut lines = Vec::new(system.alloc());
     for target in targets {
         if !names(system, target, path) {
@@ -109,8 +124,14 @@ fn named_lines<S: System>(
 }
 
 // Whether the target is the script at the path.
-fn names<S: System>(system: &S, target: &Target, path: &str) -> bool {
-    target.path.as_str() == path || system.is_one_script(target.path.as_str(), path)
+fn names<S: System>(system: &S, target: &Target, path: &str) -> bool
+    ensures { IsOfScript (S.tells_one system.now) path.now target.now result }
+{
+    let own = target.path.as_str();
+    if own == path {
+        return true;
+    }
+    system.is_one_script(own, path)
 }
 
 // The last of the heads at each of the lines or above it.
@@ -121,8 +142,10 @@ fn heads_at<M: Machine, W: ReportSink, E: ReportSink>(
     report: &mut Report<W, E>,
 ) -> Result<Vec<usize>, PathError>
     ensures counts { report.new.counts ≡ report.old.counts }
+    ensures listed { report.new.differing.items ≡ report.old.differing.items }
     ensures picked { IfOk result (λ picked. ArePicked (matched_text report.old.state.form subject.now.path.now subject.now.layout.now.heads.items subject.now.session.now.script) subject.now.layout.now.heads.items lines.now picked.items report.old.state report.new.state (W.held report.old.output) (W.held report.new.output)) }
     ensures part { IfErr result (λ _. GoesOutInPart report.old.state report.new.state (W.held report.old.output) (W.held report.new.output)) }
+    ensures failed { IfErr result (λ error. AreNotPicked (λ these. these ≡ lines.now) subject.now.layout.now.heads.items error) }
 {
     let mut picked = Vec::new(alloc);
     for i in 0..lines.len() {
@@ -144,6 +167,7 @@ fn tell_matched<M: Machine, W: ReportSink, E: ReportSink>(
     report: &mut Report<W, E>,
 )
     ensures counts { report.new.counts ≡ report.old.counts }
+    ensures listed { report.new.differing.items ≡ report.old.differing.items }
     ensures shown { GoesOut report.old.state report.new.state (W.held report.old.output) (W.held report.new.output) (matched_at report.old.state.form subject.now.path.now subject.now.session.now.script head place) }
 {
     if !subject.session.mismatches().contains(&place) {
@@ -158,6 +182,8 @@ fn push(picked: &mut Vec<usize>, head: usize) -> Result<(), AllocError>
     Ok(())
 }
 
-fn no_directive() -> PathError {
+fn no_directive() -> PathError
+    ensures { result.failure ≡ NotWritten }
+{
     PathError::of_writing(io::Error::other("no directive stands at the line or above it"))
 }

@@ -3,15 +3,15 @@
 //! Results go to standard output, failures and the progress line to standard error. If standard output fails,
 //! that is reported once, and the check continues without it. `GoesOut` says what each call writes on standard output.
 
-ghost use Rattle.std.specs.Prelude.{◌≡◌, ◌≢◌, ℕ, true, false, not, List, Option, is_some};
-ghost use Rattle.std.specs.List.{list_any};
+ghost use Rattle.std.specs.Prelude.{◌≡◌, ◌≢◌, ℕ, true, false, not, List, [], Option, MatchOption, is_some, ◌++◌, IfOk};
 ghost use Rattle.std.specs.Io.KnownBytes.{Keeps};
 ghost use Rattle.rb_script.specs.Writes.{AppendsFront, Writes};
+ghost use Rattle.rb_report.specs.declared.check.failure.Failure.TheVariants.{OutOfMemory};
+ghost use Rattle.rb_report.specs.Failures.{failure_text};
 ghost use Rattle.rb_report.specs.Counts.{nothing, status_of, together};
 ghost use Rattle.rb_script_report.specs.Shows.{Shows};
-ghost use Rattle.rb_check.specs.declared.visible.Showing.TheVariants.{AsIs};
-ghost use Rattle.rb_check.specs.Shown.{GoesOut, GoesOutIf, closed, colors_in, lacking, lacks_memory, noticed_text, programs_text, remark_text, shown_in, started};
-ghost use Rattle.rb_check.specs.Visible.{acts};
+ghost use Rattle.rb_check.specs.Shown.{GoesOut, GoesOutIf, closed, colors_in, lacking, lacks_memory, noticed_text, programs_text, remark_text, shown_in, started, LosesNothing, Told, cleared, is_broken_pipe, is_reader_gone, lost_output_text};
+ghost use Rattle.rb_check.specs.Visible.{showing_of, showing_of_script};
 
 use crate::check_request::CheckRequest;
 use crate::differing::Differing;
@@ -51,6 +51,7 @@ impl<W: ReportSink, E: ReportSink> Report<W, E> {
         ensures empty { result.counts ≡ nothing }
         ensures state { result.state ≡ started asked.now }
         ensures output { result.output ≡ output }
+        ensures listed { result.differing.items ≡ [] }
     {
         Report {
             alloc,
@@ -66,11 +67,12 @@ impl<W: ReportSink, E: ReportSink> Report<W, E> {
     /// From here on the report is about the script at the path, with these lines if they are known. None of it acts in a terminal.
     pub(crate) fn heed(&mut self, path: &[u8], lines: Option<&Lines>)
         ensures counts { self.new.counts ≡ self.old.counts }
+        ensures listed { self.new.differing.items ≡ self.old.differing.items }
         ensures state { self.new.state ≡ self.old.state }
         ensures held { Keeps (W.held self.old.output) (W.held self.new.output) }
         ensures output { W.shown_as self.new.output ≡ self.new.showing }
-        // If a byte of the path acts, bytes go out by their numbers.
-        ensures harmless { (showing : Showing) × (self.new.showing ≡ shown_in self.old.state.form.format showing) × (E.shown_as self.new.errors.sink ≡ showing) × (showing ≡ AsIs → list_any acts path.now ≡ false) }
+        // If something of the path or of the lines acts, bytes go out by their numbers.
+        ensures harmless { (showing : Showing) × (self.new.showing ≡ shown_in self.old.state.form.format showing) × (E.shown_as self.new.errors.sink ≡ showing) × MatchOption lines.entry (showing ≡ showing_of path.now) (λ ls. showing ≡ showing_of_script path.now ls.now) }
     {
         let showing = showing_for(path, lines);
         self.errors.sink.show_as(showing);
@@ -121,7 +123,8 @@ impl<W: ReportSink, E: ReportSink> Report<W, E> {
         ensures state { self.new.state ≡ self.old.state }
         ensures output { self.new.output ≡ self.old.output }
         ensures showing { self.new.showing ≡ self.old.showing }
-        ensures differing { self.new.differing.items ≡ self.old.differing.items }
+        ensures listed { self.new.differing.items ≡ self.old.differing.items }
+        ensures errors { self.old.errors.shows_progress ≡ false → self.new.errors ≡ self.old.errors }
     {
         if self.state.is_closed {
             return false;
@@ -133,6 +136,10 @@ impl<W: ReportSink, E: ReportSink> Report<W, E> {
     /// Flushes what was written, and records whether that failed.
     pub(crate) fn wrote(&mut self, written: Result<(), WriteFault>)
         ensures counts { self.new.counts ≡ self.old.counts }
+        ensures listed { self.new.differing.items ≡ self.old.differing.items }
+        ensures errors { LosesNothing self.old.state self.new.state → self.new.errors ≡ self.old.errors }
+        // What was written is handed on, unless that failed.
+        ensures flushed { self.new.state.is_closed ≡ false → W.is_flushed self.new.output }
         ensures shown { (before : Option (List ℕ)) (text : List ℕ) → self.old.state.is_closed ≡ false → Writes written before (W.held self.old.output) text
             → GoesOut self.old.state self.new.state before (W.held self.new.output) text }
     {
@@ -150,6 +157,8 @@ impl<W: ReportSink, E: ReportSink> Report<W, E> {
     /// If memory was refused for it.
     pub(crate) fn showed(&mut self, shown: Result<(), ShowFault>) -> Result<(), PathError>
         ensures counts { self.new.counts ≡ self.old.counts }
+        ensures listed { self.new.differing.items ≡ self.old.differing.items }
+        ensures flushed { IfOk result (λ _. self.new.state.is_closed ≡ false → W.is_flushed self.new.output) }
         ensures shown { (before : Option (List ℕ)) (text : List ℕ) → self.old.state.is_closed ≡ false → Shows shown before (W.held self.old.output) text
             → GoesOutIf result self.old.state self.new.state before (W.held self.new.output) text }
     {
@@ -165,6 +174,8 @@ impl<W: ReportSink, E: ReportSink> Report<W, E> {
     // What was shown is cut off; or nothing was shown, since memory was refused.
     fn showed_in_part(&mut self, fault: ShowFault) -> Result<(), PathError>
         ensures counts { self.new.counts ≡ self.old.counts }
+        ensures listed { self.new.differing.items ≡ self.old.differing.items }
+        ensures flushed { IfOk result (λ _. self.new.state.is_closed ≡ false → W.is_flushed self.new.output) }
         ensures shown { (before : Option (List ℕ)) (text : List ℕ) → self.old.state.is_closed ≡ false → AppendsFront before (W.held self.old.output) text
             → GoesOutIf result self.old.state self.new.state before (W.held self.new.output) text }
     {
@@ -180,7 +191,11 @@ impl<W: ReportSink, E: ReportSink> Report<W, E> {
     // Nothing more goes to standard output.
     fn lose_output(&mut self, handed_on: &io::Result<()>)
         ensures counts { self.new.counts ≡ self.old.counts }
+        ensures listed { self.new.differing.items ≡ self.old.differing.items }
         ensures output { self.new.output ≡ self.old.output }
+        ensures closed { self.new.state.is_closed ≡ true }
+        ensures kept { self.old.state.is_closed ≡ true → self.new ≡ self.old }
+        ensures told { self.old.state.is_closed ≡ false → Told (E.takes_all self.old.errors.sink) (E.takes_all self.new.errors.sink) (E.held self.old.errors.sink) (E.held self.new.errors.sink) (lost_output_text self.old.errors.shows_progress handed_on.now) }
         ensures state { self.old.state.is_closed ≡ false → self.new.state ≡ closed self.old.state }
     {
         if self.state.is_closed {
@@ -196,7 +211,9 @@ impl<W: ReportSink, E: ReportSink> Report<W, E> {
     // Records that memory was refused for the report.
     pub(crate) fn fail_for_memory(&mut self, path: &[u8])
         ensures counts { self.new.counts ≡ self.old.counts }
+        ensures listed { self.new.differing.items ≡ self.old.differing.items }
         ensures output { self.new.output ≡ self.old.output }
+        ensures told { Told (E.takes_all self.old.errors.sink) (E.takes_all self.new.errors.sink) (E.held self.old.errors.sink) (E.held self.new.errors.sink) (cleared self.old.errors.shows_progress ++ failure_text path.now OutOfMemory) }
         ensures state { self.new.state ≡ lacking self.old.state }
     {
         self.state.lack_memory();
@@ -206,6 +223,9 @@ impl<W: ReportSink, E: ReportSink> Report<W, E> {
     /// Writes the text on standard output.
     pub(crate) fn show<T: WrittenPiece>(&mut self, text: &T)
         ensures counts { self.new.counts ≡ self.old.counts }
+        ensures listed { self.new.differing.items ≡ self.old.differing.items }
+        ensures errors { self.old.errors.shows_progress ≡ false → LosesNothing self.old.state self.new.state → self.new.errors ≡ self.old.errors }
+        ensures flushed { self.new.state.is_closed ≡ false → W.is_flushed self.new.output }
         ensures shown { GoesOut self.old.state self.new.state (W.held self.old.output) (W.held self.new.output) (T.text text.now) }
     {
         if !self.is_open() {
@@ -218,6 +238,8 @@ impl<W: ReportSink, E: ReportSink> Report<W, E> {
     /// Writes the bytes on standard output; returns whether that worked.
     pub(crate) fn say(&mut self, text: &[u8]) -> bool
         ensures counts { self.new.counts ≡ self.old.counts }
+        ensures listed { self.new.differing.items ≡ self.old.differing.items }
+        ensures flushed { self.new.state.is_closed ≡ false → W.is_flushed self.new.output }
         ensures shown { GoesOut self.old.state self.new.state (W.held self.old.output) (W.held self.new.output) text.now }
         ensures said { result ≡ not self.new.state.is_closed }
     {
@@ -228,6 +250,9 @@ impl<W: ReportSink, E: ReportSink> Report<W, E> {
     /// Writes the bytes on standard output.
     pub(crate) fn put(&mut self, text: &[u8])
         ensures counts { self.new.counts ≡ self.old.counts }
+        ensures listed { self.new.differing.items ≡ self.old.differing.items }
+        ensures errors { self.old.errors.shows_progress ≡ false → LosesNothing self.old.state self.new.state → self.new.errors ≡ self.old.errors }
+        ensures flushed { self.new.state.is_closed ≡ false → W.is_flushed self.new.output }
         ensures shown { GoesOut self.old.state self.new.state (W.held self.old.output) (W.held self.new.output) text.now }
     {
         self.show(&text);
@@ -236,6 +261,8 @@ impl<W: ReportSink, E: ReportSink> Report<W, E> {
     // Writes a notice to programs.
     fn notify_in(&mut self, format: Format, path: &[u8], remark: Remark)
         ensures counts { self.new.counts ≡ self.old.counts }
+        ensures listed { self.new.differing.items ≡ self.old.differing.items }
+        ensures errors { self.old.errors.shows_progress ≡ false → LosesNothing self.old.state self.new.state → self.new.errors ≡ self.old.errors }
         ensures shown { GoesOut self.old.state self.new.state (W.held self.old.output) (W.held self.new.output) (programs_text format self.old.state.form.is_strict path.now remark) }
     {
         match programs_text(self.alloc, format, self.state.form.is_strict, path, remark) {
@@ -247,6 +274,8 @@ impl<W: ReportSink, E: ReportSink> Report<W, E> {
     /// Writes a notice, if it is for programs.
     pub(crate) fn notify(&mut self, path: &[u8], remark: Remark)
         ensures counts { self.new.counts ≡ self.old.counts }
+        ensures listed { self.new.differing.items ≡ self.old.differing.items }
+        ensures errors { self.old.errors.shows_progress ≡ false → LosesNothing self.old.state self.new.state → self.new.errors ≡ self.old.errors }
         ensures shown { GoesOut self.old.state self.new.state (W.held self.old.output) (W.held self.new.output) (noticed_text self.old.state.form path.now remark) }
     {
         match self.state.form.format {
@@ -258,6 +287,7 @@ impl<W: ReportSink, E: ReportSink> Report<W, E> {
     /// Says something of the script: a line to people, or a notice to programs.
     pub(crate) fn remark(&mut self, path: &[u8], remark: Remark)
         ensures counts { self.new.counts ≡ self.old.counts }
+        ensures listed { self.new.differing.items ≡ self.old.differing.items }
         ensures shown { GoesOut self.old.state self.new.state (W.held self.old.output) (W.held self.new.output) (remark_text self.old.state.form path.now remark) }
     {
         match self.state.form.format {
@@ -269,7 +299,7 @@ impl<W: ReportSink, E: ReportSink> Report<W, E> {
 
 // How what is about a script at a path goes out, with these lines if they are known.
 fn showing_for(path: &[u8], lines: Option<&Lines>) -> Showing
-    ensures { result ≡ AsIs → list_any acts path.now ≡ false }
+    ensures { MatchOption lines.entry (result ≡ showing_of path.now) (λ ls. result ≡ showing_of_script path.now ls.now) }
 {
     match lines {
         Some(lines) => showing_of_script(path, lines),
@@ -290,9 +320,20 @@ fn shown_in(format: Option<Format>, showing: Showing) -> Showing
 }
 
 // Whether the reader closed the pipe, which is no failure to report.
-fn is_reader_gone(handed_on: &io::Result<()>) -> bool {
+fn is_reader_gone(handed_on: &io::Result<()>) -> bool
+    ensures { result ≡ is_reader_gone handed_on.now }
+{
     match handed_on {
         Ok(()) => false,
-        Err(error) => error.kind() == io::ErrorKind::BrokenPipe,
+        Err(error) => is_broken_pipe(error.kind()),
+    }
+}
+
+fn is_broken_pipe(kind: io::ErrorKind) -> bool
+    ensures { result ≡ is_broken_pipe kind }
+{
+    match kind {
+        io::ErrorKind::BrokenPipe => true,
+        _ => false,
     }
 }

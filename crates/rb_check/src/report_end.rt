@@ -19,6 +19,7 @@ impl<W: ReportSink, E: ReportSink> Report<W, E> {
     /// Writes the beginning of a report for programs.
     pub(crate) fn begin(&mut self)
         ensures counts { self.new.counts ≡ self.old.counts }
+        ensures listed { self.new.differing.items ≡ self.old.differing.items }
         ensures shown { GoesOut self.old.state self.new.state (W.held self.old.output) (W.held self.new.output) (begun_text self.old.state.form) }
     {
         match self.state.form.format {
@@ -30,6 +31,7 @@ impl<W: ReportSink, E: ReportSink> Report<W, E> {
     // Lists the scripts with mismatches, if they are to be listed and there are any, and ends the list with an empty line.
     fn list_differing(&mut self, lists_differing: bool)
         ensures counts { self.new.counts ≡ self.old.counts }
+        ensures listed { self.new.differing.items ≡ self.old.differing.items }
         ensures shown { GoesOut self.old.state self.new.state (W.held self.old.output) (W.held self.new.output) (listed_text lists_differing self.old.state.form self.old.differing.items) }
     {
         if !lists_differing {
@@ -50,6 +52,7 @@ impl<W: ReportSink, E: ReportSink> Report<W, E> {
 
     fn put_differing(&mut self) -> Result<(), WriteFault>
         ensures counts { self.new.counts ≡ self.old.counts }
+        ensures listed { self.new.differing.items ≡ self.old.differing.items }
         ensures state { self.new.state ≡ self.old.state }
         ensures wrote { Writes result (W.held self.old.output) (W.held self.new.output) (differing_text self.old.differing.items ++ codes "\n") }
     {
@@ -60,6 +63,7 @@ impl<W: ReportSink, E: ReportSink> Report<W, E> {
     // Writes the last line, or the end of a report for programs.
     fn close(&mut self, milliseconds: u64)
         ensures counts { self.new.counts ≡ self.old.counts }
+        ensures listed { self.new.differing.items ≡ self.old.differing.items }
         ensures shown { GoesOut self.old.state self.new.state (W.held self.old.output) (W.held self.new.output) (closing_text self.old.state.form (together self.old.counts self.old.state.own) milliseconds) }
     {
         let totals = self.totals();
@@ -75,6 +79,7 @@ impl<W: ReportSink, E: ReportSink> Report<W, E> {
     /// The end: the scripts that differ, where they are to be listed, and the last line.
     pub(crate) fn end(&mut self, lists_differing: bool, milliseconds: u64)
         ensures counts { self.new.counts ≡ self.old.counts }
+        ensures listed { self.new.differing.items ≡ self.old.differing.items }
         ensures shown { GoesOut self.old.state self.new.state (W.held self.old.output) (W.held self.new.output) (end_text lists_differing self.old.state.form self.old.differing.items (together self.old.counts self.old.state.own) milliseconds) }
     {
         self.list_differing(lists_differing);
@@ -85,6 +90,7 @@ impl<W: ReportSink, E: ReportSink> Report<W, E> {
     /// Shows how far the work is.
     pub(crate) fn show_progress(&mut self, done: usize, all: usize)
         ensures counts { self.new.counts ≡ self.old.counts }
+        ensures listed { self.new.differing.items ≡ self.old.differing.items }
         ensures state { self.new.state ≡ self.old.state }
         ensures output { self.new.output ≡ self.old.output }
         ensures told { Told (E.takes_all self.old.errors.sink) (E.takes_all self.new.errors.sink) (E.held self.old.errors.sink) (E.held self.new.errors.sink) (progress_text done all) }

@@ -2,7 +2,8 @@
 //!
 //! Code over a report is proved of this trait alone: where it's known what a stream holds, it's known what the report writes.
 
-ghost use Rattle.std.specs.Prelude.{◌≡◌, ℕ, List, IfErr, IsOk};
+ghost use Rattle.std.specs.Prelude.{◌≡◌, ℕ, List, [], IfErr, IsOk};
+ghost use Rattle.std.specs.Io.Buffered.{writer_buffer};
 ghost use Rattle.std.specs.Io.KnownBytes.{Keeps};
 ghost use Rattle.std.specs.IoError.{error_kind};
 ghost use Rattle.rb_script.specs.Writes.{Writes};
@@ -18,6 +19,9 @@ use std::io::{BufWriter, ErrorKind, Write};
 pub(crate) trait ReportSink: Sink + Drop {
     // how bytes go out
     ghost shown_as: { Self → Showing };
+
+    // nothing that was written is kept back
+    ghost is_flushed: { Self → Type 0 };
 
     /// From here on bytes go out so.
     fn show_as(&mut self, showing: Showing)
@@ -38,11 +42,14 @@ pub(crate) trait ReportSink: Sink + Drop {
     /// Hands on what was written.
     fn flush(&mut self) -> io::Result<()>
         ensures held { Keeps (Self.held self.old) (Self.held self.new) }
+        ensures flushed { IsOk result → is_flushed self.new }
         ensures all { Self.takes_all self.old → IsOk result × Self.takes_all self.new };
 }
 
 impl<W: Write + Drop> ReportSink for VisibleSink<Through<BufWriter<W>>> {
     ghost shown_as = { λ stream. stream.showing };
+
+    ghost is_flushed = { λ stream. writer_buffer stream.sink.0 ≡ [] };
 
     fn show_as(&mut self, showing: Showing) {
         self.showing = showing;

@@ -3,10 +3,15 @@
 //! A review of a script is one definition, `Reviews.review_of`, of what was asked before, of its questions and of the lines that are read: it says what is
 //! accepted and what is still to be asked. Each function here does a part of it.
 
-ghost use Rattle.std.specs.Prelude.{◌≡◌, ◌++◌, ◌∷◌, [], ◌<◌, ◌≤◌, ◌^◌, ◌+◌, ℕ, IfOk, drop, length};
+ghost use Rattle.std.specs.Prelude.{◌≡◌, ◌++◌, ◌∷◌, [], ◌<◌, ◌≤◌, ◌^◌, ◌+◌, ◌-◌, ℕ, List, IfErr, IfOk, IfSome, drop, length, min};
+ghost use Rattle.rb_replay.specs.Report.{differing, mismatches};
 ghost use Rattle.rb_replay.specs.Run.{outputs};
+ghost use Rattle.rb_script_report.specs.Checked.{head_line};
 ghost use Rattle.rb_script_report.specs.Layouts.{IsLayout};
-ghost use Rattle.rb_check.specs.Reviews.{answered_one, as_list, next_review, questions_of, review_behind, review_of, reviewed_all, reviewing, said_by, said_unasked};
+ghost use Rattle.rb_check.specs.Asking.{AreAsked, AreReviewed, IsAsked, IsAskedAt, asked_places, place_if, places_of, subject_text};
+ghost use Rattle.rb_check.specs.Reviews.{answered_one, as_list, next_review, question_text, questions_of, review_behind, review_of, reviewed_all, reviewing, said_by, said_unasked};
+ghost use Rattle.rb_check.specs.ScriptTexts.{checked};
+ghost use Rattle.rb_check.specs.Shown.{GoesOut, GoesOutIf, GoesOutInPart};
 
 use crate::answer::Answer;
 use crate::check_request::CheckRequest;
@@ -70,6 +75,8 @@ impl<P: Person> Reviewer<P> {
         ensures said { self.new.said.items ≡ [] }
         ensures review { self.new.review ≡ review_behind self.old.review }
         ensures person { self.new.person ≡ self.old.person }
+        ensures number { self.new.number ≡ 0 }
+        ensures count { self.new.count ≡ n }
     {
         self.said = Vec::new(self.alloc);
         self.review = review_behind(self.review);
@@ -79,6 +86,9 @@ impl<P: Person> Reviewer<P> {
 
     // The question, in words.
     fn next_question(&mut self) -> Result<Vec<u8>, AllocError>
+        ensures text { IfOk result (λ text. text.items ≡ question_text self.new.number self.old.count) }
+        ensures number { self.new.number ≡ min (self.old.number + 1) (2 ^ 64 - 1) }
+        ensures count { self.new.count ≡ self.old.count }
         ensures said { self.new.said ≡ self.old.said }
         ensures review { self.new.review ≡ self.old.review }
         ensures person { self.new.person ≡ self.old.person }
@@ -94,6 +104,12 @@ impl<P: Person> Reviewer<P> {
         report: &mut Report<W, E>,
     ) -> Result<(), AllocError>
         ensures counts { report.new.counts ≡ report.old.counts }
+        ensures listed { report.new.differing.items ≡ report.old.differing.items }
+        // It has the next number.
+        ensures number { IfOk result (λ _. self.new.number ≡ min (self.old.number + 1) (2 ^ 64 - 1)) }
+        ensures count { self.new.count ≡ self.old.count }
+        ensures shown { IfOk result (λ _. (text : List ℕ) × IsAsked (question_text self.new.number self.old.count) text × GoesOut report.old.state report.new.state (W.held report.old.output) (W.held report.new.output) text) }
+        ensures part { IfErr result (λ _. GoesOutInPart report.old.state report.new.state (W.held report.old.output) (W.held report.new.output)) }
         ensures known { P.is_known self.old.person → P.is_known self.new.person }
         ensures few { P.is_known self.old.person → length (P.left self.old.person) < 2 ^ 64 → length (P.left self.new.person) ≤ length (P.left self.old.person) }
         ensures asked { P.is_known self.old.person → length (P.left self.old.person) < 2 ^ 64
@@ -110,6 +126,8 @@ impl<P: Person> Reviewer<P> {
         ensures said { IfOk result (λ _. self.new.said.items ≡ self.old.said.items ++ said_unasked question) }
         ensures review { self.new.review ≡ self.old.review }
         ensures person { self.new.person ≡ self.old.person }
+        ensures number { self.new.number ≡ self.old.number }
+        ensures count { self.new.count ≡ self.old.count }
     {
         if question.is_taken {
             push(&mut self.said, question.head)?;
@@ -138,8 +156,12 @@ pub(crate) fn reviewed<M: Machine, P: Person, W: ReportSink, E: ReportSink>(
 ) -> Result<Vec<usize>, PathError>
     requires { IsLayout subject.now.text.now.bytes.items subject.now.session.now.script subject.now.layout.now }
     ensures counts { report.new.counts ≡ report.old.counts }
+    ensures listed { report.new.differing.items ≡ report.old.differing.items }
     ensures known { P.is_known reviewer.old.person → P.is_known reviewer.new.person }
     ensures few { P.is_known reviewer.old.person → length (P.left reviewer.old.person) < 2 ^ 64 → length (P.left reviewer.new.person) ≤ length (P.left reviewer.old.person) }
+    // What goes out are the questions, one after another, as far as they are asked.
+    ensures shown { IfOk result (λ _. (text : List ℕ) × AreReviewed (checked subject.now.path.now subject.now.layout.now subject.now.whys.now subject.now.session.now.script subject.now.colors) picked.entry reviewer.old.review reviewer.new.review text × GoesOut report.old.state report.new.state (W.held report.old.output) (W.held report.new.output) text) }
+    ensures part { IfErr result (λ _. GoesOutInPart report.old.state report.new.state (W.held report.old.output) (W.held report.new.output)) }
     // If the person's lines are known, what is accepted is the review of the questions by them.
     ensures reviewed { P.is_known reviewer.old.person → length (P.left reviewer.old.person) < 2 ^ 64
         → IfOk result (λ said. reviewing said.items reviewer.new.review (P.left reviewer.new.person)
@@ -158,7 +180,8 @@ fn count_questions<M: Machine>(
     picked: AcceptFilter<'_>,
 ) -> usize
     requires { IsLayout subject.now.text.now.bytes.items subject.now.session.now.script subject.now.layout.now }
-    ensures { result ≡ length (questions_of asked.now.accepts_errors picked.entry subject.now.layout.now.text subject.now.layout.now.heads.items subject.now.session.now.script.blocks (outputs subject.now.session.now.script)) }
+    ensures questions { result ≡ length (questions_of asked.now.accepts_errors picked.entry subject.now.layout.now.text subject.now.layout.now.heads.items subject.now.session.now.script.blocks (outputs subject.now.session.now.script)) }
+    ensures places { result ≡ length (places_of picked.entry subject.now.layout.now.heads.items (mismatches subject.now.session.now.script)) }
 {
     let mut count = 0;
     for index in 0..subject.session.len() {
@@ -186,8 +209,13 @@ fn question_at<M: Machine>(
 ) -> Option<ReviewQuestion>
     requires layout { IsLayout subject.now.text.now.bytes.items subject.now.session.now.script subject.now.layout.now }
     requires within { index < length subject.now.session.now.script.blocks }
-    // It is the next of those that are left.
-    ensures { let left = λ (n : ℕ). questions_of asked.now.accepts_errors picked.entry subject.now.layout.now.text (drop n subject.now.layout.now.heads.items) (drop n subject.now.session.now.script.blocks) (drop n (outputs subject.now.session.now.script)) in
+    // It is about the directive's head.
+    ensures head { IfSome result (λ question. question.head ≡ head_line subject.now.layout.now.heads.items (index + 1)) }
+    // Its place is the next of those that are left.
+    ensures place { let left = λ (n : ℕ). places_of picked.entry subject.now.layout.now.heads.items (differing (n + 1) (drop n subject.now.session.now.script.blocks) (drop n (outputs subject.now.session.now.script))) in
+        left index ≡ place_if result (index + 1) ++ left (index + 1) }
+    // So is it itself.
+    ensures question { let left = λ (n : ℕ). questions_of asked.now.accepts_errors picked.entry subject.now.layout.now.text (drop n subject.now.layout.now.heads.items) (drop n subject.now.session.now.script.blocks) (drop n (outputs subject.now.session.now.script)) in
         left index ≡ as_list result ++ left (index + 1) }
 {
     let ran = directive_at(subject, index);
@@ -211,6 +239,10 @@ fn go_over<M: Machine, P: Person, W: ReportSink, E: ReportSink>(
 ) -> Result<(), PathError>
     requires { IsLayout subject.now.text.now.bytes.items subject.now.session.now.script subject.now.layout.now }
     ensures counts { report.new.counts ≡ report.old.counts }
+    ensures listed { report.new.differing.items ≡ report.old.differing.items }
+    ensures shown { reviewer.old.number ≡ 0 → reviewer.old.count ≡ length (places_of picked.entry subject.now.layout.now.heads.items (mismatches subject.now.session.now.script))
+        → IfOk result (λ _. (text : List ℕ) × AreReviewed (checked subject.now.path.now subject.now.layout.now subject.now.whys.now subject.now.session.now.script subject.now.colors) picked.entry reviewer.old.review reviewer.new.review text × GoesOut report.old.state report.new.state (W.held report.old.output) (W.held report.new.output) text) }
+    ensures part { IfErr result (λ _. GoesOutInPart report.old.state report.new.state (W.held report.old.output) (W.held report.new.output)) }
     ensures known { P.is_known reviewer.old.person → P.is_known reviewer.new.person }
     ensures few { P.is_known reviewer.old.person → length (P.left reviewer.old.person) < 2 ^ 64 → length (P.left reviewer.new.person) ≤ length (P.left reviewer.old.person) }
     ensures reviewed { P.is_known reviewer.old.person → length (P.left reviewer.old.person) < 2 ^ 64
@@ -219,14 +251,13 @@ fn go_over<M: Machine, P: Person, W: ReportSink, E: ReportSink>(
 {
     for index in 0..subject.session.len() {
         let question = question_at(asked, subject, picked, index);
-        review_one(asked, subject, index, question, reviewer, report)?;
+        review_one(subject, index, question, reviewer, report)?;
     }
     Ok(())
 }
 
 // Asks about the directive at an index, where there is something to ask and it is still to be asked.
 fn review_one<M: Machine, P: Person, W: ReportSink, E: ReportSink>(
-    asked: &CheckRequest<'_>,
     subject: &CheckedScript<'_, M>,
     index: usize,
     question: Option<ReviewQuestion>,
@@ -236,23 +267,57 @@ fn review_one<M: Machine, P: Person, W: ReportSink, E: ReportSink>(
     requires layout { IsLayout subject.now.text.now.bytes.items subject.now.session.now.script subject.now.layout.now }
     requires within { index < length subject.now.session.now.script.blocks }
     ensures counts { report.new.counts ≡ report.old.counts }
+    ensures listed { report.new.differing.items ≡ report.old.differing.items }
+    // It goes out as its next question, if it has one that is still to be asked.
+    ensures shown { reviewer.old.number < 2 ^ 64 - 1 → IfSome question (λ asks. asks.head ≡ head_line subject.now.layout.now.heads.items (index + 1))
+        → IfOk result (λ _. (text : List ℕ) × AreAsked (checked subject.now.path.now subject.now.layout.now subject.now.whys.now subject.now.session.now.script subject.now.colors) reviewer.old.count (reviewer.old.number + 1) (asked_places reviewer.old.review question (index + 1)) text × GoesOut report.old.state report.new.state (W.held report.old.output) (W.held report.new.output) text) }
+    ensures part { GoesOutInPart report.old.state report.new.state (W.held report.old.output) (W.held report.new.output) }
+    ensures number { reviewer.old.number < 2 ^ 64 - 1 → IfOk result (λ _. reviewer.new.number ≡ reviewer.old.number + length (asked_places reviewer.old.review question (index + 1))) }
+    ensures count { reviewer.new.count ≡ reviewer.old.count }
+    // Nothing begins a review again.
+    ensures each { reviewer.new.review ≡ Review.Each → reviewer.old.review ≡ Review.Each }
+    ensures over { reviewer.old.review ≡ Review.Over → reviewer.new.review ≡ Review.Over }
     ensures known { P.is_known reviewer.old.person → P.is_known reviewer.new.person }
     ensures few { P.is_known reviewer.old.person → length (P.left reviewer.old.person) < 2 ^ 64 → length (P.left reviewer.new.person) ≤ length (P.left reviewer.old.person) }
     ensures reviewed { P.is_known reviewer.old.person → length (P.left reviewer.old.person) < 2 ^ 64
         → IfOk result (λ _. reviewing reviewer.new.said.items reviewer.new.review (P.left reviewer.new.person)
         ≡ reviewed_all (reviewing reviewer.old.said.items reviewer.old.review (P.left reviewer.old.person)) (as_list question)) }
 {
-    let Some(question) = question else {
-        return Ok(());
-    };
-    match reviewer.review {
-        Review::Each => {
-            show(reviewer.alloc, asked, subject, index, question, report)?;
-            Ok(reviewer.ask(question, report)?)
-        }
-        Review::Rest => Ok(reviewer.take_rest(question)?),
-        Review::Skipped | Review::Over => Ok(()),
+    match question {
+        Some(question) => match reviewer.review {
+            Review::Each => ask_about(subject, index, question, reviewer, report),
+            Review::Rest => Ok(reviewer.take_rest(question)?),
+            Review::Skipped => Ok(()),
+            Review::Over => Ok(()),
+        },
+        None => Ok(()),
     }
+}
+
+// Shows what the question is about, and asks it.
+fn ask_about<M: Machine, P: Person, W: ReportSink, E: ReportSink>(
+    subject: &CheckedScript<'_, M>,
+    index: usize,
+    question: ReviewQuestion,
+    reviewer: &mut Reviewer<P>,
+    report: &mut Report<W, E>,
+) -> Result<(), PathError>
+    requires layout { IsLayout subject.now.text.now.bytes.items subject.now.session.now.script subject.now.layout.now }
+    requires within { index < length subject.now.session.now.script.blocks }
+    ensures counts { report.new.counts ≡ report.old.counts }
+    ensures listed { report.new.differing.items ≡ report.old.differing.items }
+    ensures shown { reviewer.old.number < 2 ^ 64 - 1 → question.head ≡ head_line subject.now.layout.now.heads.items (index + 1)
+        → IfOk result (λ _. (text : List ℕ) × IsAskedAt (checked subject.now.path.now subject.now.layout.now subject.now.whys.now subject.now.session.now.script subject.now.colors) reviewer.old.count (reviewer.old.number + 1) (index + 1) text × GoesOut report.old.state report.new.state (W.held report.old.output) (W.held report.new.output) text) }
+    ensures part { GoesOutInPart report.old.state report.new.state (W.held report.old.output) (W.held report.new.output) }
+    ensures number { IfOk result (λ _. reviewer.new.number ≡ min (reviewer.old.number + 1) (2 ^ 64 - 1)) }
+    ensures count { reviewer.new.count ≡ reviewer.old.count }
+    ensures known { P.is_known reviewer.old.person → P.is_known reviewer.new.person }
+    ensures few { P.is_known reviewer.old.person → length (P.left reviewer.old.person) < 2 ^ 64 → length (P.left reviewer.new.person) ≤ length (P.left reviewer.old.person) }
+    ensures asked { P.is_known reviewer.old.person → length (P.left reviewer.old.person) < 2 ^ 64
+        → IfOk result (λ _. reviewing reviewer.new.said.items reviewer.new.review (P.left reviewer.new.person) ≡ answered_one (reviewing reviewer.old.said.items reviewer.old.review (P.left reviewer.old.person)) question) }
+{
+    show(reviewer.alloc, subject, index, question, report)?;
+    Ok(reviewer.ask(question, report)?)
 }
 
 fn push(said: &mut Vec<usize>, head: usize) -> Result<(), AllocError>
@@ -285,7 +350,6 @@ fn take(said: &mut Vec<usize>, head: usize, answer: Answer) -> Result<Review, Al
 // Shows what is asked about, and the comment above it.
 fn show<M: Machine, W: ReportSink, E: ReportSink>(
     alloc: Global,
-    asked: &CheckRequest<'_>,
     subject: &CheckedScript<'_, M>,
     index: usize,
     question: ReviewQuestion,
@@ -293,20 +357,22 @@ fn show<M: Machine, W: ReportSink, E: ReportSink>(
 ) -> Result<(), PathError>
     requires layout { IsLayout subject.now.text.now.bytes.items subject.now.session.now.script subject.now.layout.now }
     requires within { index < length subject.now.session.now.script.blocks }
-    ensures { report.new.counts ≡ report.old.counts }
+    ensures counts { report.new.counts ≡ report.old.counts }
+    ensures listed { report.new.differing.items ≡ report.old.differing.items }
+    ensures shown { GoesOutIf result report.old.state report.new.state (W.held report.old.output) (W.held report.new.output) (subject_text (checked subject.now.path.now subject.now.layout.now subject.now.whys.now subject.now.session.now.script subject.now.colors) question.head (index + 1)) }
 {
     if !report.is_open() {
         return Ok(());
     }
     let view = View {
         path: subject.path.as_bytes(),
-        colors: report.colors(asked.colors),
+        colors: subject.colors,
         shown: Detail::Differing,
     };
     let sink = &mut report.output;
-    if put_comment(sink, &subject.layout.text, question.head).is_err() {
+    let Ok(()) = put_comment(sink, &subject.layout.text, question.head) else {
         return report.showed(Err(ShowFault::Writing));
-    }
+    };
     let run = ShownScript {
         session: subject.session,
         layout: subject.layout,

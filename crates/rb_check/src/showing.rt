@@ -6,7 +6,7 @@ ghost use Rattle.rb_script_report.specs.Whys.{told_text};
 ghost use Rattle.rb_check.specs.Findings.{AreFindings};
 ghost use Rattle.rb_check.specs.Formats.{script_text};
 ghost use Rattle.rb_check.specs.ScriptTexts.{IsTold, may_be_empty, report_text, shown_warnings, shows_warnings, warns};
-ghost use Rattle.rb_check.specs.Shown.{GoesOut, GoesOutIf, GoesOutInPart, colors_in};
+ghost use Rattle.rb_check.specs.Shown.{GoesOut, GoesOutIf, GoesOutInPart};
 
 use crate::alone::show_alone;
 use crate::check_request::CheckRequest;
@@ -20,7 +20,6 @@ use crate::system::System;
 use rb_files::PathError;
 use rb_machine::Machine;
 use rb_replay::Session;
-use rb_report::check::Colors;
 use rb_script_report::{Detail, View, is_quiet, put_checked};
 use std::alloc::{AllocError, Global};
 
@@ -37,17 +36,17 @@ pub(crate) fn tell<M: Machine, S: System, W: ReportSink, E: ReportSink>(
 ) -> Result<(), PathError>
     requires { AreFindings subject.now.text.now.bytes.items subject.now.session.now.script subject.now.layout.now subject.now.warnings.now subject.now.ran }
     ensures counts { report.new.counts ≡ report.old.counts }
-    ensures shown { IfOk result (λ _. (text : List ℕ) × (IsTold asked.now (colors_in report.old.showing asked.now.colors) report.old.state.form subject.now.path.now subject.now.layout.now subject.now.whys.now subject.now.session.now.script text)
+    ensures listed { report.new.differing.items ≡ report.old.differing.items }
+    ensures shown { IfOk result (λ _. (text : List ℕ) × (IsTold asked.now subject.now.colors report.old.state.form subject.now.path.now subject.now.layout.now subject.now.whys.now subject.now.session.now.script text)
         × GoesOut report.old.state report.new.state (W.held report.old.output) (W.held report.new.output) text) }
     ensures part { IfErr result (λ _. GoesOutInPart report.old.state report.new.state (W.held report.old.output) (W.held report.new.output)) }
 {
     let alloc = system.alloc();
-    let colors = report.colors(asked.colors);
     if let Some(lines) = lines_alone(system, asked, subject.path)? {
-        return show_alone(alloc, colors, subject, &lines, report);
+        return show_alone(alloc, subject, &lines, report);
     }
     warn(asked, subject, report);
-    show(alloc, asked, colors, subject, report)
+    show(alloc, asked, subject, report)
 }
 
 // Shows the warnings, if they are to be shown.
@@ -58,6 +57,7 @@ fn warn<M: Machine, W: ReportSink, E: ReportSink>(
 )
     requires { AreFindings subject.now.text.now.bytes.items subject.now.session.now.script subject.now.layout.now subject.now.warnings.now subject.now.ran }
     ensures counts { report.new.counts ≡ report.old.counts }
+    ensures listed { report.new.differing.items ≡ report.old.differing.items }
     ensures shown { GoesOut report.old.state report.new.state (W.held report.old.output) (W.held report.new.output) (shown_warnings asked.now report.old.state.form subject.now.path.now subject.now.layout.now subject.now.session.now.script) }
 {
     if warns(asked, subject.session) {
@@ -87,20 +87,20 @@ fn shows_warnings(shown: Detail) -> bool
 fn show<M: Machine, W: ReportSink, E: ReportSink>(
     alloc: Global,
     asked: &CheckRequest<'_>,
-    colors: Colors,
     subject: &CheckedScript<'_, M>,
     report: &mut Report<W, E>,
 ) -> Result<(), PathError>
     requires { AreFindings subject.now.text.now.bytes.items subject.now.session.now.script subject.now.layout.now subject.now.warnings.now subject.now.ran }
     ensures counts { report.new.counts ≡ report.old.counts }
-    ensures shown { GoesOutIf result report.old.state report.new.state (W.held report.old.output) (W.held report.new.output) (report_text asked.now colors subject.now.path.now subject.now.layout.now subject.now.whys.now subject.now.session.now.script) }
+    ensures listed { report.new.differing.items ≡ report.old.differing.items }
+    ensures shown { GoesOutIf result report.old.state report.new.state (W.held report.old.output) (W.held report.new.output) (report_text asked.now subject.now.colors subject.now.path.now subject.now.layout.now subject.now.whys.now subject.now.session.now.script) }
 {
     if may_be_empty(asked.format) && is_quiet(subject.session, asked.shown) {
         return Ok(());
     }
     match asked.format {
         Some(format) => show_programs(alloc, format, asked.is_strict, subject, report),
-        None => show_people(alloc, asked.shown, colors, subject, report),
+        None => show_people(alloc, asked.shown, subject, report),
     }
 }
 
@@ -120,21 +120,21 @@ fn may_be_empty(format: Option<Format>) -> bool
 fn show_people<M: Machine, W: ReportSink, E: ReportSink>(
     alloc: Global,
     shown: Detail,
-    colors: Colors,
     subject: &CheckedScript<'_, M>,
     report: &mut Report<W, E>,
 ) -> Result<(), PathError>
     requires { IsLayout subject.now.text.now.bytes.items subject.now.session.now.script subject.now.layout.now }
     ensures counts { report.new.counts ≡ report.old.counts }
+    ensures listed { report.new.differing.items ≡ report.old.differing.items }
     ensures shown { GoesOutIf result report.old.state report.new.state (W.held report.old.output) (W.held report.new.output)
-        (told_text shown colors subject.now.layout.now.text subject.now.path.now subject.now.whys.now subject.now.layout.now.heads.items subject.now.session.now.script) }
+        (told_text shown subject.now.colors subject.now.layout.now.text subject.now.path.now subject.now.whys.now subject.now.layout.now.heads.items subject.now.session.now.script) }
 {
     if !report.is_open() {
         return Ok(());
     }
     let view = View {
         path: subject.path.as_bytes(),
-        colors,
+        colors: subject.colors,
         shown,
     };
     let sink = &mut report.output;
@@ -159,6 +159,7 @@ fn show_programs<M: Machine, W: ReportSink, E: ReportSink>(
 ) -> Result<(), PathError>
     requires { AreFindings subject.now.text.now.bytes.items subject.now.session.now.script subject.now.layout.now subject.now.warnings.now subject.now.ran }
     ensures counts { report.new.counts ≡ report.old.counts }
+    ensures listed { report.new.differing.items ≡ report.old.differing.items }
     ensures shown { GoesOutIf result report.old.state report.new.state (W.held report.old.output) (W.held report.new.output)
         (script_text format is_strict subject.now.layout.now.text subject.now.path.now subject.now.whys.now subject.now.layout.now.heads.items subject.now.session.now.script) }
 {

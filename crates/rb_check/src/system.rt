@@ -1,8 +1,10 @@
 //! The system calls of a check.
 
-ghost use Rattle.std.specs.Prelude.{◌≡◌};
+ghost use Rattle.std.specs.Prelude.{◌≡◌, ◌≢◌, ℕ, ⊤, Bool, IfOk, List, [], length};
 ghost use Rattle.rb_script.specs.Reads.{Reads};
 ghost use Rattle.rb_script_report.specs.Accepting.{accepted};
+ghost use Rattle.rb_check.specs.AcceptTexts.{left_in};
+ghost use Rattle.rb_check.specs.Shown.{GoesOut};
 
 use crate::checked_script::CheckedScript;
 use crate::report::Report;
@@ -27,6 +29,12 @@ pub(crate) struct Text {
 /// The system calls for the check of a script, except the streams of the report. Code over it is proved of this trait alone, and not
 /// of each trait of a runtime.
 pub(crate) trait System {
+    // the text was written in the place of the script's file at the path
+    ghost has_written: { Self → List ℕ → List ℕ → Type 0 };
+
+    // whether both paths lead to one script, as the system tells
+    ghost tells_one: { Self → List ℕ → List ℕ → Bool → Type 0 };
+
     /// Memory.
     fn alloc(&self) -> Global;
 
@@ -41,18 +49,29 @@ pub(crate) trait System {
         text: &[u8],
         report: &mut Report<W, E>,
     ) -> Result<(), PathError>
-        requires { Reads text.now (accepted wanted subject.now.layout.now.text subject.now.layout.now.heads.items subject.now.session.now.script) }
-        ensures { report.new.counts ≡ report.old.counts };
+        requires reads { Reads text.now (accepted wanted subject.now.layout.now.text subject.now.layout.now.heads.items subject.now.session.now.script) }
+        // Some output is accepted.
+        requires changes { length (left_in wanted subject.now.layout.now subject.now.session.now.script) ≢ subject.now.ran.mismatches }
+        ensures counts { report.new.counts ≡ report.old.counts }
+        ensures listed { report.new.differing.items ≡ report.old.differing.items }
+        ensures shown { GoesOut report.old.state report.new.state (W.held report.old.output) (W.held report.new.output) [] }
+        ensures written { IfOk result (λ _. has_written self.now subject.now.path.now text.now) };
 
     /// Whether both paths lead to one script.
-    fn is_one_script(&self, path: &str, other: &str) -> bool;
+    fn is_one_script(&self, path: &str, other: &str) -> bool
+        ensures { tells_one self.now path.now other.now result };
 }
 
 /// The calls of a runtime.
 #[derive(Drop)]
 pub(crate) struct RuntimeSystem<'a, R>(pub(crate) &'a R);
 
+// What files hold, and where paths lead, is not known.
 impl<'a, R: Files + AllocGlobal> System for RuntimeSystem<'a, R> {
+    ghost has_written = { λ _ _ _. ⊤ };
+
+    ghost tells_one = { λ _ _ _ _. ⊤ };
+
     fn alloc(&self) -> Global {
         self.0.alloc()
     }
@@ -92,7 +111,9 @@ fn put<R: Files + AllocGlobal, W: ReportSink, E: ReportSink>(
     text: &[u8],
     report: &mut Report<W, E>,
 ) -> Result<(), PathError>
-    ensures { report.new.counts ≡ report.old.counts }
+    ensures counts { report.new.counts ≡ report.old.counts }
+    ensures listed { report.new.differing.items ≡ report.old.differing.items }
+    ensures shown { GoesOut report.old.state report.new.state (W.held report.old.output) (W.held report.new.output) [] }
 {
     match replace(place, text) {
         Ok(()) => Ok(()),

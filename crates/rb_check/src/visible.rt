@@ -4,12 +4,10 @@
 //! UTF-8, all of it but printable ASCII is shown by numbers, as `\x1b`, and without colours: then the only bytes that act are line ends, which the
 //! program itself writes, and tabs.
 
-ghost use Rattle.std.specs.Prelude.{◌≡◌, false, if◌then◌else◌, not, None, IfOk, IsOk, IsTrue};
+ghost use Rattle.std.specs.Prelude.{◌≡◌, ◌||◌, [], if◌then◌else◌, None, IfOk, IsOk};
 ghost use Rattle.std.specs.List.{list_any};
 ghost use Rattle.rb_script.specs.Writes.{Writes};
-ghost use Rattle.rb_check.specs.declared.visible.Showing.{Showing};
-ghost use Rattle.rb_check.specs.declared.visible.Showing.TheVariants.{AsIs};
-ghost use Rattle.rb_check.specs.Visible.{acts, by_number, stays, visible_byte, json_byte, byte_shown, text_shown};
+ghost use Rattle.rb_check.specs.Visible.{acts, acts_past_ascii, by_number, stays, visible_byte, json_byte, byte_shown, has_acting_char, is_harmful, showing_of, showing_of_script, text_shown};
 
 use rb_script::{Lines, Sink, Through, WriteFault};
 use rb_text::{Escape, hex_digit, put_escaped};
@@ -96,13 +94,11 @@ pub struct VisibleSink<S> {
 
 impl<S> VisibleSink<S> {
     ghost use Rattle.std.specs.Prelude.{◌≡◌};
-    ghost use Rattle.std.specs.List.{list_any};
-    ghost use Rattle.rb_check.specs.declared.visible.Showing.TheVariants.{AsIs};
-    ghost use Rattle.rb_check.specs.Visible.{acts};
+    ghost use Rattle.rb_check.specs.Visible.{showing_of_script};
 
-    /// A screen for what is shown of a script at a path, which has these lines. If a byte of the path acts, bytes are put by their numbers.
+    /// A screen for what is shown of a script at a path, which has these lines. If a byte of it acts, bytes are put by their numbers.
     pub fn of_script(sink: S, path: &[u8], lines: &Lines) -> VisibleSink<S>
-        ensures { result.showing ≡ AsIs → list_any acts path.now ≡ false }
+        ensures { result.showing ≡ showing_of_script path.now lines.now }
     {
         let showing = showing_of_script(path, lines);
         VisibleSink { sink, showing }
@@ -136,7 +132,9 @@ fn has_control(line: &[u8]) -> bool
 
 // Whether a character past ASCII acts: a control character, an end of a line, or a mark that turns the direction of what is read (Unicode Standard
 // Annex 9, table 3).
-fn acts_past_ascii(c: char) -> bool {
+fn acts_past_ascii(c: char) -> bool
+    ensures { result ≡ acts_past_ascii c }
+{
     let code = c as u32;
     (0x80 <= code && code < 0xa0)
         || code == 0x61c
@@ -147,29 +145,27 @@ fn acts_past_ascii(c: char) -> bool {
         || code == 0xfeff
 }
 
-fn has_acting_char(line: &[u8]) -> bool {
+// Whether a character of the line does, or the line is no text.
+fn has_acting_char(line: &[u8]) -> bool
+    ensures { result ≡ has_acting_char line.now }
+{
     match str::from_utf8(line) {
-        Ok(text) => {
-            for c in text.chars() {
-                if acts_past_ascii(c) {
-                    return true;
-                }
-            }
-            false
-        }
+        Ok(text) => text.chars().any(|c| acts_past_ascii(c)),
         Err(_) => true,
     }
 }
 
 // Whether a line has something that would act, or is no text.
 fn is_harmful(line: &[u8]) -> bool
-    ensures { IsTrue (not result) → list_any acts line.now ≡ false }
+    ensures { result ≡ is_harmful line.now }
 {
     has_control(line) || has_acting_char(line)
 }
 
 // Whether one of the lines has.
-fn are_harmful(lines: &Lines) -> bool {
+fn are_harmful(lines: &Lines) -> bool
+    ensures { result ≡ list_any is_harmful lines.now }
+{
     for i in 0..lines.len() {
         if is_harmful(lines.line(i)) {
             return true;
@@ -180,7 +176,7 @@ fn are_harmful(lines: &Lines) -> bool {
 
 /// How a path goes out.
 pub(crate) fn showing_of(path: &[u8]) -> Showing
-    ensures { result ≡ AsIs → list_any acts path.now ≡ false }
+    ensures { result ≡ showing_of path.now }
 {
     if is_harmful(path) {
         Showing::Visible
@@ -191,7 +187,7 @@ pub(crate) fn showing_of(path: &[u8]) -> Showing
 
 /// How what is shown of a script at a path goes out, which has these lines.
 pub(crate) fn showing_of_script(path: &[u8], lines: &Lines) -> Showing
-    ensures { result ≡ AsIs → list_any acts path.now ≡ false }
+    ensures { result ≡ showing_of_script path.now lines.now }
 {
     if are_harmful(lines) {
         Showing::Visible
@@ -211,9 +207,9 @@ fn shown_as(alloc: Global, showing: Showing, bytes: &[u8]) -> Result<Vec<u8>, Al
     }
 }
 
-/// Copies a name for a terminal: if a byte of it acts, bytes by their numbers.
+/// Copies a name for a terminal: if something of it acts, bytes by their numbers.
 pub fn visible_name(alloc: Global, name: &[u8]) -> Result<Vec<u8>, AllocError>
-    ensures { IfOk result (λ shown. (showing : Showing) × (shown.items ≡ text_shown showing name.now) × (showing ≡ AsIs → list_any acts name.now ≡ false)) }
+    ensures { IfOk result (λ shown. shown.items ≡ text_shown (showing_of name.now) name.now) }
 {
     shown_as(alloc, showing_of(name), name)
 }

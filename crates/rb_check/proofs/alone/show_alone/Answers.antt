@@ -7,18 +7,19 @@ use Rattle.rb_check.proofs.ShownLaws.{along, on_err, part_then}
 use Rattle.rb_check.proofs.alone.show_alone.Goals as goal
 
 pub loop-i-init : goal.loop-i-init
-loop-i-init g c = record { counts = refl; shown = none_shown _ _ _ _ }
+loop-i-init g c = record { counts = refl; listed = refl; shown = none_shown _ _ _ _ }
 
 pub loop-i-preserved : goal.loop-i-preserved
 loop-i-preserved g c =
     let subject = c.args.subject.now in
     let line = c.number_at-line.result in
     let place = c.in-Some.place in
-    let text = alone_text c.args.colors subject.path.now subject.layout.now subject.whys.now subject.session.now.script in
+    let text = alone_text subject.colors subject.path.now subject.layout.now subject.whys.now subject.session.now.script in
     let named : IsNamed c.as_slice.result.now line place = record { from_1 = c.in-Some.ensures.head.0; last = c.in-Some.ensures.last } in
     let same : place - 1 + 1 ≡ place = omega (arith, c.in-Some.ensures.head.0) in
     record {
       counts = c.in_ok-show_directive.ensures.counts ∙ c.loop-i.invariant.counts;
+      listed = c.in_ok-show_directive.ensures.listed ∙ c.loop-i.invariant.listed;
       shown = shown_more (λ (f : ReportForm). text) subject.layout.now.heads.items c.args.lines.now c.loop-i.i line place c.number_at-line.ensures
           (subst (λ (hs : List ℕ). IsNamed hs line place) c.as_slice.ensures.value named) c.loop-i.invariant.shown (along (ap text same) c.in_ok-show_directive.ensures.shown);
     }
@@ -33,4 +34,4 @@ pub returns-clause-shown : goal.returns-clause-shown
 returns-clause-shown g c =
     let subject = c.args.subject.now in
     let lines = c.args.lines.now in
-    subst (λ (ls : List ℕ). AreShown (alone_text c.args.colors subject.path.now subject.layout.now subject.whys.now subject.session.now.script) subject.layout.now.heads.items ls c.args.report.now.state c.loop-i.report.state (g.W.Sink.held c.args.report.now.output) (g.W.Sink.held c.loop-i.report.output)) (take_all c.loop-i.i lines (omega (arith, c.loop-i-test.false))) c.loop-i.invariant.shown
+    subst (λ (ls : List ℕ). AreShown (alone_text subject.colors subject.path.now subject.layout.now subject.whys.now subject.session.now.script) subject.layout.now.heads.items ls c.args.report.now.state c.loop-i.report.state (g.W.Sink.held c.args.report.now.output) (g.W.Sink.held c.loop-i.report.output)) (take_all c.loop-i.i lines (omega (arith, c.loop-i-test.false))) c.loop-i.invariant.shown

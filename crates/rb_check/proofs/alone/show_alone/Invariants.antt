@@ -1,4 +1,4 @@
--- The report has the same outcomes, and shows the directives so far.
+-- The report has the same outcomes and list, and shows the directives so far.
 use Rattle.std.proofs.Common.{◌≡◌, take}
 use Rattle.rb_check.specs.ScriptTexts.{AreShown, alone_text}
 use Rattle.rb_check.proofs.alone.show_alone.Given as goal
@@ -9,5 +9,6 @@ invariant-loop-i g l =
     let subject = l.subject in
     record {
       counts : l.report.counts ≡ l.fn.report.counts;
-      shown : AreShown (alone_text l.colors subject.path.now subject.layout.now subject.whys.now subject.session.now.script) subject.layout.now.heads.items (take l.i l.lines) l.fn.report.state l.report.state (held l.fn.report.output) (held l.report.output);
+      listed : l.report.differing.items ≡ l.fn.report.differing.items;
+      shown : AreShown (alone_text subject.colors subject.path.now subject.layout.now subject.whys.now subject.session.now.script) subject.layout.now.heads.items (take l.i l.lines) l.fn.report.state l.report.state (held l.fn.report.output) (held l.report.output);
     }

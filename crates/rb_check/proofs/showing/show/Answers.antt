@@ -8,5 +8,5 @@ returns-then-is_quiet-clause-shown g c =
     let asked = c.args.asked.now in
     let subject = c.args.subject.now in
     let l = subject.layout.now in
-    along (sym (report_none asked.shown asked.format asked.is_strict c.args.colors l.text subject.path.now subject.whys.now l.heads.items subject.session.now.script
+    along (sym (report_none asked.shown asked.format asked.is_strict subject.colors l.text subject.path.now subject.whys.now l.heads.items subject.session.now.script
     (sym c.may_be_empty.ensures ∙ c.if-may_be_empty.true) (c.is_quiet.ensures c.if-is_quiet.true))) (goes_nothing _ _)

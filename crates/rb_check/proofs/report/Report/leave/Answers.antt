@@ -7,7 +7,7 @@ use Rattle.rb_check.proofs.ShownLaws.{gone_all, gone_more, gone_none}
 use Rattle.rb_check.proofs.report.Report.leave.Goals as goal
 
 pub loop-i-init : goal.loop-i-init
-loop-i-init g c = record { counts = refl; gone = gone_none _ _ _ }
+loop-i-init g c = record { counts = refl; listed = refl; gone = gone_none _ _ _ }
 
 pub loop-i-preserved : goal.loop-i-preserved
 loop-i-preserved g c =
@@ -16,6 +16,7 @@ loop-i-preserved g c =
     let line = c.number_at.result in
     record {
       counts = c.leave_one.ensures.counts ∙ c.loop-i.invariant.counts;
+      listed = c.leave_one.ensures.listed ∙ c.loop-i.invariant.listed;
       gone = gone_more (λ (f : ReportForm). left_one f path c.args.picked line) c.loop-i.invariant.gone
           (ap (left_text form path c.args.picked) (drop-get c.args.left.now c.loop-i.i line c.number_at.ensures)) c.leave_one.ensures.shown;
     }

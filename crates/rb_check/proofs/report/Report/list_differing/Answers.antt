@@ -33,4 +33,4 @@ returns-clause-shown g c =
     let some : (length ds == 0) ≡ false = ap (λ (l : List Differing). length l == 0) (sym c.as_slice.ensures.value) ∙ sym c.is_empty.ensures ∙ c.if-is_empty.false in
     along (sym (listed_people c.args.lists_differing self.state.form ds c.if-not-lists_differing.false (sym c.is_for_programs.ensures ∙ c.if-is_for_programs.false) ∙ list_some ds some))
     (goes_shown _ _ _ _ _ _ _ _ c.put_differing-written.result c.is_open.result (c.put_differing-written.ensures.state ∙ c.is_open.ensures.state) (ap g.W.Sink.held c.is_open.ensures.output) c.is_open.ensures.value
-    c.if-not-is_open.false (writes_along c.put_differing-written.result _ _ _ _ (ap (λ (l : List Differing). differing_text l ++ codes "\n") c.is_open.ensures.differing) c.put_differing-written.ensures.wrote) c.wrote.ensures.shown)
+    c.if-not-is_open.false (writes_along c.put_differing-written.result _ _ _ _ (ap (λ (l : List Differing). differing_text l ++ codes "\n") c.is_open.ensures.listed) c.put_differing-written.ensures.wrote) c.wrote.ensures.shown)

@@ -8,7 +8,7 @@ use Rattle.rb_check.proofs.ShownLaws.{along, gone_all, gone_more, gone_none}
 use Rattle.rb_check.proofs.report.Report.warn.Goals as goal
 
 pub loop-i-init : goal.loop-i-init
-loop-i-init g c = record { counts = refl; gone = gone_none _ _ _ }
+loop-i-init g c = record { counts = refl; listed = refl; gone = gone_none _ _ _ }
 
 pub loop-i-preserved : goal.loop-i-preserved
 loop-i-preserved g c =
@@ -17,6 +17,7 @@ loop-i-preserved g c =
     let warning = c.warning_at-warning.result in
     record {
       counts = c.remark.ensures.counts ∙ c.loop-i.invariant.counts;
+      listed = c.remark.ensures.listed ∙ c.loop-i.invariant.listed;
       gone = gone_more (λ (f : ReportForm). remark_text f path (remarks.Warning warning)) c.loop-i.invariant.gone
           (ap (warnings_text form path) (drop-get c.args.warnings.now c.loop-i.i warning c.warning_at-warning.ensures))
           (along (ap (λ (p : List ℕ). remark_text c.loop-i.self.state.form p (remarks.Warning warning)) c.as_bytes.ensures.value) c.remark.ensures.shown);
