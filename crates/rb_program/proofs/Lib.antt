@@ -1,2 +1,5 @@
 pub mod WrittenLaws
 pub mod ColonLaws
+pub mod ShownLaws
+pub mod EndLaws
+pub mod LookLaws

@@ -1,5 +1,7 @@
 -- What the words of the command line ask for. (This project's.)
-use Rattle.std.specs.Prelude.{ℕ, ◌≡◌, ◌||◌, ◌&&◌, not, Bool, true, false, if◌then◌else◌, List, Option, Some, None, IfSome, codes, option_map, string_bytes, unwrap_or}
+use Rattle.std.specs.Prelude.{ℕ, ◌≡◌, ◌==◌, ◌||◌, ◌&&◌, ◌⊎◌, not, Bool, true, false, if◌then◌else◌, List, length, Option, Some, None, String, IsUtf8, codes, option_map, string_bytes, unwrap_or}
+use Rattle.std.specs.List.{AllZip}
+use Rattle.std.specs.declared.alloc.Global.{Global}
 use Rattle.std.specs.Path.{path_file_name, rsplit_once}
 use Rattle.std.specs.Str.{bytes_eq}
 use Rattle.rb_text.specs.Numbers.{number_of}
@@ -10,6 +12,7 @@ use Rattle.rb_report.specs.declared.check.colors.Colors.TheVariants as shades
 use Rattle.rb_script_report.specs.declared.view.Detail.{Detail}
 use Rattle.rb_script_report.specs.declared.view.Detail.TheVariants as shown
 use Rattle.rb_check.specs.declared.check_request.CheckRequest.{CheckRequest}
+use Rattle.rb_check.specs.declared.target.Target.{Target}
 use Rattle.rb_check.specs.Reported.{IsCheckStatus}
 use Rattle.rb_check.specs.declared.format.Format.{Format}
 use Rattle.rb_check.specs.declared.format.Format.TheVariants as formats
@@ -34,11 +37,16 @@ color_choice_of (Some word) =
     else (if bytes_eq word (codes "never") then Some colors.Never
     else None))
 
--- whether colours are shown, on a terminal or not, where the environment refuses them or doesn't
-abbrev pub colors_of : ColorChoice → Bool → Bool → Colors
-colors_of colors.Always is_terminal refuses = shades.On
-colors_of colors.Never is_terminal refuses = shades.Off
-colors_of colors.Auto is_terminal refuses = if is_terminal && not refuses then shades.On else shades.Off
+-- whether a setting has a text
+abbrev pub has_text : Option (List ℕ) → Bool
+has_text None = false
+has_text (Some text) = not (length text == 0)
+
+-- whether colours are shown, on a terminal or not, under this setting of NO_COLOR
+abbrev pub colors_of : ColorChoice → Bool → Option (List ℕ) → Colors
+colors_of colors.Always is_terminal no_color = shades.On
+colors_of colors.Never is_terminal no_color = shades.Off
+colors_of colors.Auto is_terminal no_color = if is_terminal && not (has_text no_color) then shades.On else shades.Off
 
 -- what `--format` asks for
 abbrev pub style_of : Option (List ℕ) → Option Style
@@ -101,6 +109,10 @@ abbrev pub Names : List ℕ → List ℕ → Option ℕ → Type 0
 Names word path None = path ≡ word
 Names word path (Some line) = path_and_line word ≡ Some (path, line)
 
+-- what the words of a command line name, in their order
+abbrev pub AreNamed : List (String Global) → List Target → Type 0
+AreNamed words targets = AllZip (λ word target. Names (string_bytes word) (string_bytes target.path) target.line) words targets
+
 -- the usage error quotes the word, which names no directive of a file
 abbrev pub IsPlace : List ℕ → UsageError → Type 0
 IsPlace word (misuses.Place text) = string_bytes text ≡ word
@@ -114,9 +126,14 @@ IsMisplaced word refusal = refusal ≡ refusals.OutOfMemory
 abbrev pub shown_name : List ℕ → List ℕ
 shown_name file = if bytes_eq file (codes "-") then codes "standard input" else unwrap_or (path_file_name file) file
 
--- the usage error quotes the name, and suggests at most the nearest one
+-- the name that is suggested is the nearest one, unless that is no text
+abbrev pub IsMeant : Option (List ℕ) → Option (List ℕ) → Type 0
+IsMeant None meant = meant ≡ None
+IsMeant (Some near) meant = (meant ≡ Some near) ⊎ ((IsUtf8 near → ⊥) × (meant ≡ None))
+
+-- the usage error quotes the name, and suggests the nearest one
 abbrev pub IsMisspelled : List ℕ → UsageError → Type 0
-IsMisspelled name (misuses.Directive word meant) = (string_bytes word ≡ name) × IfSome meant (λ m. nearest name (names_of pages) ≡ Some m.now)
+IsMisspelled name (misuses.Directive word meant) = (string_bytes word ≡ name) × IsMeant (nearest name (names_of pages)) (option_map (λ m. m.now) meant)
 IsMisspelled name misuse = ⊥
 
 -- no directive has the name; the refusal quotes it, or memory was refused
@@ -151,10 +168,12 @@ IsWrongUntil until refusal = (line_asked until ≡ None) × (refusal ≡ refusal
 pub record IsCheckOf (choice : CheckChoice) (terminals : Terminals) (status : Status) : Type 0 where
   pub color : ColorChoice
   pub style : Style
-  pub refuses : Bool
+  pub no_color : Option (List ℕ)
   pub asked : CheckRequest
   pub color_is : color_choice_of (option_map string_bytes choice.color) ≡ Some color
   pub style_is : style_of (option_map string_bytes choice.format) ≡ Some style
   pub reviews : review_fault choice style terminals ≡ None
-  pub is_asked : IsAskedBy choice style (colors_of color terminals.output refuses) terminals asked
+  pub is_asked : IsAskedBy choice style (colors_of color terminals.output no_color) terminals asked
+  pub targets_are : AreNamed choice.paths.items asked.targets.now
+  pub filters_are : asked.filters.now ≡ choice.filters.items
   pub status_is : IsCheckStatus asked status

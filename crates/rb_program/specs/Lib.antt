@@ -7,3 +7,6 @@ pub mod Sentences
 pub mod Notes
 pub mod Work
 pub mod Choices
+pub mod Scripts
+pub mod Looks
+pub mod Done

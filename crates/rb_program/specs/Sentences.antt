@@ -1,21 +1,44 @@
 -- What the program says on standard error when it ends early. (This project's; help and wrong arguments are told by clap.)
-use Rattle.std.specs.Prelude.{◌≡◌, ℕ, ◌⊎◌, false, List, [], ◌++◌, Option, Some, None, codes, decimal, option_map, string_bytes}
-use Rattle.std.specs.List.{list_any}
+use Rattle.std.specs.Prelude.{◌≡◌, ◌≢◌, ℕ, ◌==◌, false, String, List, [], ◌++◌, Option, Some, None, codes, decimal, option_map, string_bytes}
+use Rattle.std.specs.List.{AllZip, list_any}
+use Rattle.std.specs.declared.alloc.Global.{Global}
+use Rattle.clap.specs.declared.error.kind.ErrorKind.{ErrorKind}
+use Rattle.clap.specs.declared.error.kind.ErrorKind.TheVariants as kinds
+use Rattle.rb_script.specs.Bytes.{line_feed}
+use Rattle.rb_script.specs.Lines.{Line, text_of}
 use Rattle.rb_report.specs.Refusals.{fault_line}
 use Rattle.rb_view.specs.declared.chart.draw.TheConstants.{MAX_EVENTS}
 use Rattle.rb_view.specs.declared.steps.room.TheConstants.{MAX_PAGE}
 use Rattle.rb_bench.specs.Names.{script_name}
-use Rattle.rb_check.specs.declared.visible.Showing.{Showing}
-use Rattle.rb_check.specs.declared.visible.Showing.TheVariants.{AsIs}
-use Rattle.rb_check.specs.Visible.{acts, text_shown}
+use Rattle.rb_check.specs.Visible.{showing_of, text_shown}
 use Rattle.rb_program.specs.declared.program_error.ProgramError.{ProgramError}
 use Rattle.rb_program.specs.declared.program_error.ProgramError.TheVariants as refusals
 use Rattle.rb_program.specs.declared.usage_error.UsageError.{UsageError}
 use Rattle.rb_program.specs.declared.usage_error.UsageError.TheVariants as misuses
 
--- a word as it is shown on a terminal, where no byte of it acts; or nothing, if memory was refused
+-- a word as it is shown on a terminal
 abbrev pub IsShown : List ℕ → List ℕ → Type 0
-IsShown word shown = ((showing : Showing) × (shown ≡ text_shown showing word) × (showing ≡ AsIs → list_any acts word ≡ false)) ⊎ (shown ≡ [])
+IsShown word shown = shown ≡ text_shown (showing_of word) word
+
+-- a line as it is shown there
+abbrev pub IsLineShown : Line → List ℕ → Type 0
+IsLineShown line shown = (list_any (λ b. b == line_feed) line ≡ false) × IsShown line shown
+
+-- a text as it is shown there: its lines, and what is after the last end of a line
+pub record IsTextShown (text shown : List ℕ) : Type 0 where
+  pub ls : List Line
+  pub last : Line
+  pub ls_shown : List Line
+  pub last_shown : Line
+  pub parts : text ≡ text_of ls ++ last
+  pub each : AllZip IsLineShown ls ls_shown
+  pub rest : IsLineShown last last_shown
+  pub shown_is : shown ≡ text_of ls_shown ++ last_shown
+
+-- what is shown of clap's text: of help nothing, since that goes out as it is
+abbrev pub IsClapShown : ErrorKind → Option (String Global) → Type 0
+IsClapShown kind None = (kind ≢ kinds.DisplayHelp) × (kind ≢ kinds.DisplayVersion) → ⊥
+IsClapShown kind (Some shown) = (text : List ℕ) × IsTextShown text (string_bytes shown)
 
 -- the word that a usage error is about
 abbrev pub misused_word : UsageError → List ℕ

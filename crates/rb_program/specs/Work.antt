@@ -49,8 +49,8 @@ task_for notes None = Err misuses.Spacing
 task_for notes (Some work) = Ok (noted notes work)
 
 -- what is done with the script in the file: a session's commands come from standard input, so its script doesn't
-abbrev pub task_of : ScriptCommand → List ℕ → Option (List ℕ) → Bool → Result Work UsageError
-task_of command file every notes =
+unfoldable pub task_asked : ScriptCommand → List ℕ → Option (List ℕ) → Bool → Result Work UsageError
+task_asked command file every notes =
     if bytes_eq file (codes "-") && is_session command then Err misuses.Input else task_for notes (work_of command every)
 
 -- a session takes the number, where there is one

@@ -1,9 +1,10 @@
 //! `raftbench chart FILE [--from LINE] [--until LINE]`: the picture of a script.
 
-ghost use Rattle.std.specs.Prelude.{◌≡◌, ◌≢◌, IfErr, IfOk, Some, option_map};
+ghost use Rattle.std.specs.Prelude.{◌≡◌, IfErr, IfOk, Some, option_map};
 ghost use Rattle.rb_program.specs.Choices.{IsWrongFrom, IsWrongUntil, line_asked};
+ghost use Rattle.rb_program.specs.Done.{IsCharted};
 
-use crate::document::{DocumentKind, write_document};
+use crate::document::{DocumentKind, unless_refused, write_document};
 use crate::program_error::ProgramError;
 use crate::usage_error::{UsageError, misused};
 use rb_report::check::Status;
@@ -19,17 +20,16 @@ pub(crate) fn chart<R: Files + Input + Print + AllocGlobal>(
     from: Option<&str>,
     until: Option<&str>,
 ) -> Result<Status, ProgramError>
-    ensures { IfOk result (λ status. status ≢ Status.Refused) }
+    ensures { IsCharted R.Reader R.File R.Reader.remaining R.File.remaining file.now (option_map (λ word. word.now) from.entry) (option_map (λ word. word.now) until.entry) result }
 {
+    let first = first_line(rt.alloc(), from)?;
+    let last = last_line(rt.alloc(), until)?;
     let part = ChartPart {
-        from: first_line(rt.alloc(), from)?,
-        until: last_line(rt.alloc(), until)?,
+        from: first,
+        until: last,
     };
-    let status = write_document(rt, file, DocumentKind::Chart(part))?;
-    if status == Status::Refused {
-        return Err(ProgramError::ChartTooLarge);
-    }
-    Ok(status)
+    let drawn = write_document(rt, file, DocumentKind::Chart(part));
+    unless_refused(drawn, ProgramError::ChartTooLarge)
 }
 
 // The line after `--from`, if it is given.

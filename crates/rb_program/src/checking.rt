@@ -45,9 +45,11 @@ pub fn check_all<R: Files + Input + Print + Eprint + Env + Clock + AllocGlobal, 
     ensures asked { IfOk result (λ status. IsCheckOf choice.now terminals status) }
 {
     let (color, style) = colors_and_style(rt.alloc(), choice, terminals)?;
-    let targets = targets(rt, &choice.paths)?;
+    let words = choice.paths.as_slice();
+    let targets = targets(rt, words)?;
+    let named = targets.as_slice();
     let colors = colors(rt, color, terminals.output);
-    let asked = request(choice, &targets, style, colors, terminals, gives_keys(rt));
+    let asked = request(choice, named, style, colors, terminals, gives_keys(rt));
     let progress = TerminalProgress::new(rt, asked.wants_progress);
     let mut clusters = Clusters {
         alloc: rt.alloc(),

@@ -1,9 +1,9 @@
 //! Whether colours are shown.
 
-ghost use Rattle.std.specs.Prelude.{◌≡◌, Bool, option_map};
+ghost use Rattle.std.specs.Prelude.{◌≡◌, ℕ, List, Option, option_map};
 ghost use Rattle.rb_program.specs.Choices.{color_choice_of, colors_of};
 
-use crate::environment::has_text;
+use crate::environment::{has_text, setting};
 use rb_report::check::Colors;
 use std::rt::Env;
 
@@ -31,19 +31,20 @@ pub(crate) fn color_choice_of(word: Option<&str>) -> Option<ColorChoice>
 /// Whether colours are shown, where the report goes to a terminal or not. By itself it shows them on a terminal, where the environment's
 /// NO_COLOR has no text (no-color.org).
 pub(crate) fn colors<R: Env + AllocGlobal>(rt: &R, color: ColorChoice, is_terminal: bool) -> Colors
-    ensures { (refuses : Bool) × (result ≡ colors_of color is_terminal refuses) }
+    ensures { (no_color : Option (List ℕ)) × (result ≡ colors_of color is_terminal no_color) }
 {
-    colors_of(color, is_terminal, has_text(rt, "NO_COLOR"))
+    let no_color = setting(rt, "NO_COLOR");
+    colors_of(color, is_terminal, no_color.as_deref())
 }
 
-fn colors_of(color: ColorChoice, is_terminal: bool, refuses: bool) -> Colors
-    ensures { result ≡ colors_of color is_terminal refuses }
+fn colors_of(color: ColorChoice, is_terminal: bool, no_color: Option<&str>) -> Colors
+    ensures { result ≡ colors_of color is_terminal (option_map (λ text. text.now) no_color.entry) }
 {
     match color {
         ColorChoice::Always => Colors::On,
         ColorChoice::Never => Colors::Off,
         ColorChoice::Auto => {
-            if is_terminal && !refuses {
+            if is_terminal && !has_text(no_color) {
                 Colors::On
             } else {
                 Colors::Off

@@ -1,9 +1,9 @@
 //! `raftbench directives`: the list of directives, or one of them.
 
-ghost use Rattle.std.specs.Prelude.{◌≡◌, IfErr, IfOk, IfSome, IsSome, IsUtf8};
+ghost use Rattle.std.specs.Prelude.{◌≡◌, IfErr, IfOk, Some, option_map};
 ghost use Rattle.rb_report.specs.Manual.{page_in, pages};
 ghost use Rattle.rb_report.specs.Nearest.{names_of, nearest};
-ghost use Rattle.rb_program.specs.Choices.{IsUnknown};
+ghost use Rattle.rb_program.specs.Choices.{IsMeant, IsUnknown};
 
 use crate::program_error::ProgramError;
 use crate::usage_error::UsageError;
@@ -53,8 +53,7 @@ fn page_named(alloc: Global, name: &str) -> Result<&'static [u8], ProgramError>
 
 // The name of a directive that is near this one.
 fn name_near(name: &str) -> Option<&'static str>
-    ensures near { IfSome result (λ near. nearest name.now (names_of pages) ≡ Some near.now) }
-    ensures found { IfSome (nearest name.now (names_of pages)) (λ near. IsUtf8 near → IsSome result) }
+    ensures { IsMeant (nearest name.now (names_of pages)) (option_map (λ near. near.now) result) }
 {
     match nearest_name(name.as_bytes()) {
         Some(near) => match str::from_utf8(near) {
@@ -67,7 +66,8 @@ fn name_near(name: &str) -> Option<&'static str>
 
 /// The status after writing, or after writing failed.
 pub(crate) fn status_of(written: Result<(), WriteFault>) -> Result<Status, ProgramError>
-    ensures { IfOk result (λ status. status ≡ Status.Matched) }
+    ensures matched { IfOk result (λ status. status ≡ Status.Matched) }
+    ensures failed { IfErr result (λ refusal. refusal ≡ ProgramError.Io) }
 {
     match written {
         Ok(()) => Ok(Status::Matched),

@@ -1,8 +1,9 @@
 //! `raftbench page|trace FILE`, and the picture of `raftbench chart`: a document of a script, under the script's name.
 
-ghost use Rattle.std.specs.Prelude.{◌≡◌, ◌≢◌, true, IfOk};
+ghost use Rattle.std.specs.Prelude.{◌≡◌, true};
 ghost use Rattle.rb_program.specs.Choices.{shown_name};
 ghost use Rattle.rb_program.specs.Documents.{DocumentsOver};
+ghost use Rattle.rb_program.specs.Done.{IsDocumented, IsPaged, unless_refused};
 
 use crate::chart_over::chart_over;
 use crate::job::{Job, run_job};
@@ -33,13 +34,23 @@ pub(crate) fn page<R: Files + Input + Print + AllocGlobal>(
     rt: &R,
     file: &str,
 ) -> Result<Status, ProgramError>
-    ensures { IfOk result (λ status. status ≢ Status.Refused) }
+    ensures { IsPaged R.Reader R.File R.Reader.remaining R.File.remaining file.now result }
 {
-    let status = write_document(rt, file, DocumentKind::Page)?;
-    if status == Status::Refused {
-        return Err(ProgramError::PageTooLarge);
+    let page = write_document(rt, file, DocumentKind::Page);
+    unless_refused(page, ProgramError::PageTooLarge)
+}
+
+/// What came of a document; if it has too little room, this refusal.
+pub(crate) fn unless_refused(
+    ended: Result<Status, ProgramError>,
+    refusal: ProgramError,
+) -> Result<Status, ProgramError>
+    ensures { result ≡ unless_refused refusal ended }
+{
+    match ended {
+        Ok(Status::Refused) => Err(refusal),
+        ended => ended,
     }
-    Ok(status)
 }
 
 /// Writes a document of the script in the file, or on standard input.
@@ -47,8 +58,11 @@ pub(crate) fn write_document<R: Files + Input + Print + AllocGlobal>(
     rt: &R,
     file: &str,
     kind: DocumentKind,
-) -> Result<Status, ProgramError> {
-    let name = name_of(file).as_bytes();
+) -> Result<Status, ProgramError>
+    ensures { IsDocumented R.Reader R.File R.Reader.remaining R.File.remaining file.now kind result }
+{
+    let text = name_of(file);
+    let name = text.as_bytes();
     run_job(rt, file, &Documenting { name, kind })
 }
 

@@ -4,6 +4,7 @@ ghost use Rattle.std.specs.Prelude.{◌≡◌, ℕ, Bool, true, List, Option, Re
 ghost use Rattle.rb_report.specs.declared.check.status.Status.{Status};
 ghost use Rattle.rb_bench.specs.declared.fault.BenchFault.{BenchFault};
 ghost use Rattle.rb_program.specs.Refusals.{EndsAs};
+ghost use Rattle.rb_program.specs.Scripts.{IsOfFile, IsOfScript};
 
 use crate::program_error::ProgramError;
 use crate::running::{ended, explained, opened};
@@ -41,7 +42,8 @@ pub(crate) fn run_job<R: Files + Input + Print + AllocGlobal, J: Job>(
     file: &str,
     job: &J,
 ) -> Result<Status, ProgramError>
-    ensures { IfOk result (λ _. J.is_right job.now ≡ true) }
+    ensures right { IfOk result (λ _. J.is_right job.now ≡ true) }
+    ensures answered { J.is_right job.now ≡ true → IsOfScript R.Reader R.File R.Reader.remaining R.File.remaining file.now (λ all left ended. EndsAs (J.answers job.now all left) ended) result }
 {
     if file == "-" {
         run_from(rt, &mut ReadSource(rt.reader()), job)
@@ -55,9 +57,11 @@ fn run_opened<R: Files + Print + AllocGlobal, J: Job>(
     file: &str,
     job: &J,
 ) -> Result<Status, ProgramError>
-    ensures { IfOk result (λ _. J.is_right job.now ≡ true) }
+    ensures right { IfOk result (λ _. J.is_right job.now ≡ true) }
+    ensures answered { J.is_right job.now ≡ true → IsOfFile R.File R.File.remaining file.now (λ all left ended. EndsAs (J.answers job.now all left) ended) result }
 {
-    let ended = run_from(rt, &mut ReadSource(opened(rt, file)?), job);
+    let opened = opened(rt, file)?;
+    let ended = run_from(rt, &mut ReadSource(opened), job);
     match ended {
         Ok(status) => Ok(status),
         Err(refusal) => Err(explained(rt, file, refusal)),

@@ -28,6 +28,7 @@ mod rewriting;
 mod running;
 mod script_chart;
 mod script_steps;
+mod shown;
 mod spacing;
 mod style;
 mod subcommands;

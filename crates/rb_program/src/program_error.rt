@@ -1,15 +1,16 @@
 //! Why the program could not do its work.
 
-ghost use Rattle.std.specs.Prelude.{◌≡◌};
+ghost use Rattle.std.specs.Prelude.{◌≡◌, ◌||◌, IfOk};
 ghost use Rattle.std.specs.IoError.{error_kind};
 ghost use Rattle.clap.specs.Values.{kind_of};
 ghost use Rattle.rb_program.specs.declared.program_error.ProgramError.TheVariants.{OutOfMemory};
 ghost use Rattle.rb_program.specs.Refusals.{EndsByKind, EndsWith, of_bench, of_choice, of_kind, of_reading, of_script, status_by_kind};
-ghost use Rattle.rb_program.specs.Sentences.{refused_word};
+ghost use Rattle.rb_program.specs.Sentences.{IsClapShown, refused_word};
 
 use crate::environment::asks_for_explanations;
 use crate::error_lines::{FirstLine, SecondLine};
-use crate::usage_error::{UsageError, shown_name, shown_text, tell_help};
+use crate::shown::{shown_text, shown_word, text_of};
+use crate::usage_error::{UsageError, tell_help};
 use clap::error::ErrorKind;
 use rb_args::ChoiceFault;
 use rb_bench::BenchFault;
@@ -63,10 +64,10 @@ impl ProgramError {
     pub fn tell<R: Eprint + Print + Env + AllocGlobal>(&self, rt: &R, is_read: bool) -> Status
         ensures { EndsWith self.now result }
     {
-        let shown = shown_name(rt.alloc(), self.word());
-        let word = shown_text(&shown);
+        let shown = shown_word(rt.alloc(), self.word());
+        let word = text_of(&shown);
         let status = self.tell_why(rt, word);
-        if is_read || asks_for_explanations(rt) {
+        if is_explained(is_read, asks_for_explanations(rt)) {
             self.explain(rt, word);
         }
         status
@@ -128,6 +129,13 @@ impl ProgramError {
     }
 }
 
+// Whether there is a second line: standard error is read by a person, or the environment asks for it.
+fn is_explained(is_read: bool, is_asked: bool) -> bool
+    ensures { result ≡ is_read || is_asked }
+{
+    is_read || is_asked
+}
+
 fn say<R: Eprint>(rt: &R, refusal: &ProgramError, word: &str) {
     let line = FirstLine { refusal, word };
     let _ = eprint!(rt; "{line}");
@@ -147,23 +155,22 @@ fn tell_clap<R: Eprint + Print + AllocGlobal>(rt: &R, error: &clap::Error) -> St
 
 // Writes clap's text, and returns whether it went out. No byte of an argument in it acts, unless memory was refused.
 fn put_clap<R: Eprint + Print + AllocGlobal>(rt: &R, error: &clap::Error) -> bool {
-    let shown = shown_clap(rt.alloc(), error);
-    let text = shown_text(&shown);
-    if text.is_empty() {
-        error.print(rt).is_ok()
-    } else {
-        eprint!(rt; "{text}").is_ok()
+    match shown_clap(rt.alloc(), error) {
+        Ok(Some(text)) => eprint!(rt; "{text}").is_ok(),
+        _ => error.print(rt).is_ok(),
     }
 }
 
-// What is wrong with arguments, for a terminal; empty if memory was refused, or if help was asked for.
-fn shown_clap(alloc: Global, error: &clap::Error) -> Vec<u8> {
+// What is wrong with arguments, for a terminal; none, if help was asked for.
+fn shown_clap(alloc: Global, error: &clap::Error) -> Result<Option<String>, AllocError>
+    ensures { IfOk result (λ shown. IsClapShown (kind_of error.now) shown) }
+{
     if !error.use_stderr() {
-        return Vec::new(alloc);
+        return Ok(None);
     }
     match format!(in alloc; "{error}") {
-        Ok(text) => shown_name(alloc, text.as_str()),
-        Err(_) => Vec::new(alloc),
+        Ok(text) => Ok(Some(shown_text(alloc, text.as_str())?)),
+        Err(_) => Err(AllocError),
     }
 }
 

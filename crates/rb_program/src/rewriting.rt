@@ -1,6 +1,6 @@
 //! `raftbench rewrite FILE` with notes for a reader.
 
-ghost use Rattle.std.specs.Prelude.{◌≡◌, ◌≢◌, Err, IfErr, IfOk, OnOk};
+ghost use Rattle.std.specs.Prelude.{◌≡◌, ◌≢◌, ℕ, Err, IfErr, IfOk, OnOk};
 ghost use Rattle.rb_script.specs.Script.{PlainScript};
 ghost use Rattle.rb_script.specs.Reads.{Reads};
 ghost use Rattle.rb_script.specs.Reading.{read_of};
@@ -8,13 +8,17 @@ ghost use Rattle.rb_bench.specs.declared.running.Mode.TheVariants as modes;
 ghost use Rattle.rb_bench.specs.Faults.{TellsFault};
 ghost use Rattle.rb_bench.specs.Handed.{IsHandedOn};
 ghost use Rattle.rb_bench.specs.Runs.{Answers};
+ghost use Rattle.rb_text.specs.declared.reading.ReadFault.{ReadFault};
+ghost use Rattle.rb_program.specs.Done.{IsNoted};
 ghost use Rattle.rb_program.specs.Notes.{status_of_rewriting};
+ghost use Rattle.rb_program.specs.Refusals.{EndsAs, of_reading};
+ghost use Rattle.rb_program.specs.Scripts.{AreRead, IsOfBytes, IsOfInput};
 ghost use Rattle.rb_script_report.specs.Layouts.{IsLayout};
 
 use crate::clusters::Clusters;
 use crate::noting::notes_of;
 use crate::program_error::ProgramError;
-use crate::running::script;
+use crate::running::{ended, script};
 use rb_bench::{BenchFault, Mode, Outlet, RunProgress, write_run};
 use rb_check::{ScriptRun, run_script};
 use rb_cluster::Cluster;
@@ -34,21 +38,65 @@ pub(crate) fn rewrite<R: Files + Input + Print + AllocGlobal, E: Write + Drop, P
     file: &str,
     errors: E,
     progress: &P,
-) -> Result<Status, ProgramError> {
-    let alloc = rt.alloc();
-    let (path, bytes) = if file == "-" {
-        ("standard input", input(rt)?)
+) -> Result<Status, ProgramError>
+    ensures { IsNoted R.Reader R.File R.Reader.remaining R.File.remaining file.now result }
+{
+    if file == "-" {
+        rewrite_input(rt, errors, progress)
     } else {
-        (file, script(rt, file)?)
-    };
+        rewrite_file(rt, file, errors, progress)
+    }
+}
+
+fn rewrite_input<R: Input + Print + AllocGlobal, E: Write + Drop, P: RunProgress>(
+    rt: &R,
+    errors: E,
+    progress: &P,
+) -> Result<Status, ProgramError>
+    ensures { IsOfInput R.Reader R.Reader.remaining (λ bytes ended. EndsAs (Answers modes.Rewrite bytes) ended) result }
+{
+    let script = input(rt)?;
+    let bytes = script.as_slice();
+    rewrite_noted(rt, "standard input", bytes, errors, progress)
+}
+
+fn rewrite_file<R: Files + Print + AllocGlobal, E: Write + Drop, P: RunProgress>(
+    rt: &R,
+    file: &str,
+    errors: E,
+    progress: &P,
+) -> Result<Status, ProgramError>
+    ensures { IsOfBytes R.File R.File.remaining file.now (λ bytes ended. EndsAs (Answers modes.Rewrite bytes) ended) result }
+{
+    let script = script(rt, file)?;
+    let bytes = script.as_slice();
+    rewrite_noted(rt, file, bytes, errors, progress)
+}
+
+// Writes the script of the bytes with its outputs, and its notes, in which it has this name.
+fn rewrite_noted<R: Print + AllocGlobal, E: Write + Drop, P: RunProgress>(
+    rt: &R,
+    name: &str,
+    bytes: &[u8],
+    errors: E,
+    progress: &P,
+) -> Result<Status, ProgramError>
+    ensures { EndsAs (Answers modes.Rewrite bytes.now) result }
+{
+    let alloc = rt.alloc();
     let mut writer = Through(BufWriter::new(alloc, FailFast(io::writer(rt)))?);
-    let Rewritten { status, notes } = rewrite_bytes(
-        alloc,
-        path.as_bytes(),
-        &bytes,
-        &mut writer,
-        progress,
-    )?;
+    let rewritten = rewrite_bytes(alloc, name.as_bytes(), bytes, &mut writer, progress);
+    ended(put_notes(rewritten, errors))
+}
+
+// Writes the notes, if there are any, and gives the status.
+fn put_notes<E: Write + Drop>(
+    rewritten: Result<Rewritten, BenchFault>,
+    errors: E,
+) -> Result<Status, BenchFault>
+    ensures { result ≡ status_of_rewriting rewritten }
+{
+    let Rewritten { status, notes } = rewritten?;
     if let Some(notes) = notes {
         let mut errors = errors;
         let _ = errors.write_all(&notes);
@@ -98,7 +146,10 @@ fn run_once<P: RunProgress>(
     Ok(run)
 }
 
-fn input<R: Input + AllocGlobal>(rt: &R) -> Result<Vec<u8>, ProgramError> {
+fn input<R: Input + AllocGlobal>(rt: &R) -> Result<Vec<u8>, ProgramError>
+    ensures read { IfOk result (λ bytes. AreRead R.Reader R.Reader.remaining bytes.items) }
+    ensures failed { IfErr result (λ refusal. (fault : ReadFault) × (refusal ≡ of_reading fault)) }
+{
     match read_up_to(rt.alloc(), &mut ReadSource(rt.reader()), MAX_SCRIPT + 1) {
         Ok(bytes) => Ok(bytes),
         Err(fault) => Err(ProgramError::from(fault)),

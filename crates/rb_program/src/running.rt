@@ -4,7 +4,9 @@ ghost use Rattle.std.specs.Prelude.{◌≡◌, ◌⊎◌, true, IfErr, IfOk, Som
 ghost use Rattle.rb_replay.specs.Start.{is_checkpoint_interval};
 ghost use Rattle.rb_bench.specs.Runs.{RunsOver};
 ghost use Rattle.rb_bench.specs.Serves.{ServesOut};
+ghost use Rattle.rb_program.specs.Done.{IsRun, IsServed};
 ghost use Rattle.rb_program.specs.Refusals.{Explains, IsFolder, IsUnopened, of_run};
+ghost use Rattle.rb_program.specs.Scripts.{AreRead, IsUnreadFile};
 
 use crate::job::{Job, run_from, run_job};
 use crate::program_error::ProgramError;
@@ -25,7 +27,8 @@ pub(crate) fn run<R: Files + Input + Print + AllocGlobal, P: RunProgress>(
     every: u64,
     progress: &P,
 ) -> Result<Status, ProgramError>
-    ensures { IfOk result (λ _. is_checkpoint_interval every ≡ true) }
+    ensures right { IfOk result (λ _. is_checkpoint_interval every ≡ true) }
+    ensures answered { IsRun R.Reader R.File R.Reader.remaining R.File.remaining file.now mode every result }
 {
     run_job(
         rt,
@@ -74,11 +77,13 @@ pub(crate) fn session<R: Files + Input + Print + AllocGlobal>(
     file: &str,
     every: u64,
 ) -> Result<Status, ProgramError>
-    ensures { IfOk result (λ _. is_checkpoint_interval every ≡ true) }
+    ensures right { IfOk result (λ _. is_checkpoint_interval every ≡ true) }
+    ensures answered { IsServed R.Reader R.File R.Reader.remaining R.File.remaining file.now every result }
 {
     let script = script(rt, file)?;
+    let bytes = script.as_slice();
     let serving = Serving {
-        script: &script,
+        script: bytes,
         every,
     };
     run_from(rt, &mut ReadSource(rt.reader()), &serving)
@@ -108,8 +113,12 @@ impl<'a> Job for Serving<'a> {
 
 /// The first bytes of the file, which is closed again. Where standard input was closed, the file took its place: what is
 /// left of it must not be read for commands.
-pub(crate) fn script<R: Files + AllocGlobal>(rt: &R, file: &str) -> Result<Vec<u8>, ProgramError> {
-    let mut source = ReadSource(opened(rt, file)?);
+pub(crate) fn script<R: Files + AllocGlobal>(rt: &R, file: &str) -> Result<Vec<u8>, ProgramError>
+    ensures read { IfOk result (λ bytes. AreRead R.File R.File.remaining bytes.items) }
+    ensures unread { IfErr result (λ refusal. IsUnreadFile file.now refusal) }
+{
+    let opened = opened(rt, file)?;
+    let mut source = ReadSource(opened);
     match read_up_to(rt.alloc(), &mut source, MAX_SCRIPT + 1) {
         Ok(bytes) => Ok(bytes),
         Err(fault) => Err(explained(rt, file, ProgramError::from(fault))),

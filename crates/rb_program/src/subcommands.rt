@@ -1,7 +1,8 @@
 //! Subcommands for one script.
 
-ghost use Rattle.std.specs.Prelude.{◌≡◌, true, Err, IfErr, IfOk, None, option_map, string_bytes};
-ghost use Rattle.rb_program.specs.Work.{IsRefused, NamesEvery, has_interval, task_of};
+ghost use Rattle.std.specs.Prelude.{◌≡◌, ◌||◌, true, Err, IfOk, IfSome, None, option_map, string_bytes};
+ghost use Rattle.rb_program.specs.Done.{IsCarriedOut, IsDone, IsWithEvery, IsWorked};
+ghost use Rattle.rb_program.specs.Work.{NamesEvery, has_interval, task_asked};
 
 use crate::chart::chart;
 use crate::checking::Terminals;
@@ -34,14 +35,24 @@ pub fn carry_out<R: Files + Input + Print + Eprint + Clock + AllocGlobal, E: Wri
     errors: E,
     terminals: Terminals,
 ) -> Result<Status, ProgramError>
-    ensures { choice.now.file ≡ None → result ≡ Err (ProgramError.Usage UsageError.NoFile) }
+    ensures missing { choice.now.file ≡ None → result ≡ Err (ProgramError.Usage UsageError.NoFile) }
+    // What comes of it is what comes of the task that is asked for.
+    ensures done { IfSome (option_map string_bytes choice.now.file) (λ file. IsCarriedOut R.Reader R.File R.Reader.remaining R.File.remaining choice.now file (task_asked command file (option_map string_bytes choice.now.every) (terminals.errors || choice.now.warns)) result) }
 {
     let Some(file) = choice.file.as_deref() else {
         return Err(ProgramError::Usage(UsageError::NoFile));
     };
-    let notes = terminals.errors || choice.warns;
-    let task = task_of(command, file, choice.every.as_deref(), notes);
+    let notes = wants_notes(choice, terminals);
+    let every = choice.every.as_deref();
+    let task = task_of(command, file, every, notes);
     carried(rt, task, file, choice, errors, terminals)
+}
+
+// Whether a person is to read notes.
+fn wants_notes(choice: &CommandChoice, terminals: Terminals) -> bool
+    ensures { result ≡ terminals.errors || choice.now.warns }
+{
+    terminals.errors || choice.warns
 }
 
 // Does the work, or says why there is none.
@@ -54,20 +65,47 @@ fn carried<R: Files + Input + Print + Eprint + Clock + AllocGlobal, E: Write + D
     terminals: Terminals,
 ) -> Result<Status, ProgramError>
     // What can't be done is refused, and named.
-    ensures refused { IfErr task (λ misuse. IsRefused (option_map string_bytes choice.now.every) misuse result) }
+    ensures done { IsCarriedOut R.Reader R.File R.Reader.remaining R.File.remaining choice.now file.now task result }
     // What is done has an interval that a session takes.
     ensures taken { IfOk task (λ work. IfOk result (λ _. has_interval work ≡ true)) }
 {
-    let every = choice.every.as_deref();
     match task {
-        Ok(work) => {
-            let progress = TerminalProgress::new(rt, terminals.errors);
-            match done(rt, work, file, choice, errors, &progress) {
-                Ok(status) => Ok(status),
-                Err(refusal) => Err(with_every(rt.alloc(), every, refusal)),
-            }
+        Ok(work) => worked(rt, work, file, choice, errors, terminals),
+        Err(misuse) => {
+            let every = choice.every.as_deref();
+            Err(with_every(rt.alloc(), every, ProgramError::Usage(misuse)))
         }
-        Err(misuse) => Err(with_every(rt.alloc(), every, ProgramError::Usage(misuse))),
+    }
+}
+
+// Does the work, and names what is wrong with `--every`.
+fn worked<R: Files + Input + Print + Eprint + Clock + AllocGlobal, E: Write + Drop>(
+    rt: &R,
+    work: Work,
+    file: &str,
+    choice: &CommandChoice,
+    errors: E,
+    terminals: Terminals,
+) -> Result<Status, ProgramError>
+    ensures done { IsWorked R.Reader R.File R.Reader.remaining R.File.remaining choice.now file.now work result }
+    ensures taken { IfOk result (λ _. has_interval work ≡ true) }
+{
+    let progress = TerminalProgress::new(rt, terminals.errors);
+    let ended = done(rt, work, file, choice, errors, &progress);
+    let every = choice.every.as_deref();
+    ended_with_every(rt.alloc(), every, ended)
+}
+
+fn ended_with_every(
+    alloc: Global,
+    every: Option<&str>,
+    ended: Result<Status, ProgramError>,
+) -> Result<Status, ProgramError>
+    ensures { IsWithEvery (option_map (λ word. word.now) every.entry) ended result }
+{
+    match ended {
+        Ok(status) => Ok(status),
+        Err(refusal) => Err(with_every(alloc, every, refusal)),
     }
 }
 
@@ -83,6 +121,7 @@ fn with_every(alloc: Global, every: Option<&str>, refusal: ProgramError) -> Prog
     }
 }
 
+#[tactic(auto, unfolding(crate::specs::Done::IsDone))]
 fn done<R: Files + Input + Print + AllocGlobal, E: Write + Drop, P: RunProgress>(
     rt: &R,
     work: Work,
@@ -91,7 +130,8 @@ fn done<R: Files + Input + Print + AllocGlobal, E: Write + Drop, P: RunProgress>
     errors: E,
     progress: &P,
 ) -> Result<Status, ProgramError>
-    ensures { IfOk result (λ _. has_interval work ≡ true) }
+    ensures right { IfOk result (λ _. has_interval work ≡ true) }
+    ensures done { IsDone R.Reader R.File R.Reader.remaining R.File.remaining file.now (option_map string_bytes choice.now.from) (option_map string_bytes choice.now.until) work result }
 {
     match work {
         Work::Report(every) => run(rt, file, Mode::Run, every, progress),

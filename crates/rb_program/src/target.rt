@@ -1,7 +1,7 @@
 //! The PATHs of `check`, and FILE:LINE.
 
 ghost use Rattle.std.specs.Prelude.{◌≡◌, IfOk, option_map, string_bytes};
-ghost use Rattle.rb_program.specs.Choices.{Names, path_and_line};
+ghost use Rattle.rb_program.specs.Choices.{AreNamed, Names, path_and_line};
 
 use rb_check::Target;
 use rb_text::number_of;
@@ -26,12 +26,15 @@ pub(crate) fn path_and_line(word: &str) -> Option<(&str, usize)>
 pub(crate) fn targets<R: Files + AllocGlobal>(
     rt: &R,
     words: &[String],
-) -> Result<Vec<Target>, AllocError> {
+) -> Result<Vec<Target>, AllocError>
+    ensures { IfOk result (λ targets. AreNamed words.now targets.items) }
+{
     let alloc = rt.alloc();
     let mut all = Vec::new(alloc);
     for word in words {
         let (path, line) = named(rt, word.as_str());
-        all.push(target(alloc, path, line)?)?;
+        let target = target(alloc, path, line)?;
+        all.push(target)?;
     }
     Ok(all)
 }

@@ -1,15 +1,14 @@
 //! Usage errors, each with a sentence.
 
-ghost use Rattle.std.specs.Prelude.{◌≡◌, ◌⊎◌, [], IfSome, Some, option_map, string_bytes};
+ghost use Rattle.std.specs.Prelude.{◌≡◌, IfSome, Some, option_map, string_bytes};
 ghost use Rattle.std.specs.Fmt.{WritesOnOk};
-ghost use Rattle.rb_program.specs.Sentences.{IsShown, misused_word, unknown_line, usage_line};
+ghost use Rattle.rb_program.specs.Sentences.{misused_word, unknown_line, usage_line};
 ghost use Rattle.rb_program.specs.Work.{IsOfEvery};
 
 use rb_args::{ChoiceFault, chosen};
-use rb_check::visible_name;
 use std::alloc::Global;
+use std::fmt;
 use std::fmt::Display;
-use std::{fmt, str};
 
 /// A usage error.
 pub enum UsageError {
@@ -163,26 +162,6 @@ pub(crate) fn misused(alloc: Global, word: Option<&str>) -> Option<String>
     match String::from_str(alloc, word?) {
         Ok(text) => Some(text),
         Err(_) => None,
-    }
-}
-
-/// Copies a word for a terminal, in which no byte of it acts; empty if memory is refused.
-pub(crate) fn shown_name(alloc: Global, name: &str) -> Vec<u8>
-    ensures { IsShown name.now result.items }
-{
-    match visible_name(alloc, name.as_bytes()) {
-        Ok(shown) => shown,
-        Err(_) => Vec::new(alloc),
-    }
-}
-
-/// The text of such a word.
-pub(crate) fn shown_text(shown: &Vec<u8>) -> &str
-    ensures { (result.now ≡ shown.now.items) ⊎ (result.now ≡ []) }
-{
-    match str::from_utf8(shown.as_slice()) {
-        Ok(text) => text,
-        Err(_) => "",
     }
 }
 

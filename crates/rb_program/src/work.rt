@@ -1,7 +1,7 @@
 //! The job for one script, and its checkpoint interval.
 
 ghost use Rattle.std.specs.Prelude.{◌≡◌, option_map};
-ghost use Rattle.rb_program.specs.Work.{noted, task_of, work_of};
+ghost use Rattle.rb_program.specs.Work.{noted, task_asked, work_of};
 
 use crate::spacing::spacing;
 use crate::usage_error::UsageError;
@@ -38,13 +38,14 @@ pub(crate) fn work_of(command: ScriptCommand, every: Option<&str>) -> Option<Wor
 }
 
 /// What is done with the script in the file; `notes`, if a person is to read notes on it.
+#[tactic(auto, unfolding(crate::specs::Work::task_asked))]
 pub(crate) fn task_of(
     command: ScriptCommand,
     file: &str,
     every: Option<&str>,
     notes: bool,
 ) -> Result<Work, UsageError>
-    ensures { result ≡ task_of command file.now (option_map (λ word. word.now) every.entry) notes }
+    ensures { result ≡ task_asked command file.now (option_map (λ word. word.now) every.entry) notes }
 {
     if file == "-" && command == ScriptCommand::Session {
         return Err(UsageError::Input);

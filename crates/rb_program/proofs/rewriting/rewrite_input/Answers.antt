@@ -1,0 +1,8 @@
+use Rattle.std.proofs.Common.{List, ℕ, inr, subst, sym}
+use Rattle.rb_program.specs.Scripts.{AreRead}
+use Rattle.rb_program.proofs.rewriting.rewrite_input.Goals as goal
+
+pub returns : goal.returns
+returns g c =
+    let read = subst (λ (bytes : List ℕ). AreRead g.row.R-Reader.Denot g.R.Reader.Read.remaining bytes) (sym c.as_slice-bytes.ensures.value) c.in_ok-script.ensures.read in
+    inr (c.as_slice-bytes.result.now, read, c.rewrite_noted.ensures)
