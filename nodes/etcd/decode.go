@@ -9,6 +9,7 @@ import (
 // read is a call from its line. One whose parts are words, numbers, truths and lists of numbers is read here; encoding/json reads others,
 // and takes several times as long.
 func (c *call) read(text []byte) error {
+	*c = call{Numbers: c.Numbers[:0]}
 	if c.readPlain(bytes.TrimRight(text, "\r\n")) {
 		return nil
 	}

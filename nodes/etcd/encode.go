@@ -149,8 +149,27 @@ func (l line) log(base stamp, durable uint64, entries []entry) line {
 }
 
 func (l line) events(all []event) line {
-	if len(all) == 0 {
-		return append(l.name("events"), '[', ']')
+	l = append(l.name("events"), '[')
+	for at, event := range all {
+		if at > 0 {
+			l = append(l, ',')
+		}
+		l = append(append(l, `["`...), event[0]...)
+		l = append(append(l, `",`...).quoted(event[1]), ']')
 	}
-	return l.any("events", all)
+	return append(l, ']')
+}
+
+// quoted is a text as a string of JSON. Few need encoding/json, which escapes.
+func (l line) quoted(text string) line {
+	for at := 0; at < len(text); at++ {
+		if c := text[at]; c < ' ' || c > '~' || c == '"' || c == '\\' {
+			escaped, err := json.Marshal(text)
+			if err != nil {
+				panic(err)
+			}
+			return append(l, escaped...)
+		}
+	}
+	return append(append(append(l, '"'), text...), '"')
 }

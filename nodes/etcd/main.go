@@ -47,7 +47,7 @@ func main() {
 	debug.SetGCPercent(1000)
 	in := bufio.NewReaderSize(os.Stdin, 1<<16)
 	out := bufio.NewWriterSize(os.Stdout, 1<<16)
-	b, put := &bench{digest: sha256.New()}, line{}
+	b, put, c := &bench{digest: sha256.New()}, line{}, &call{}
 	for {
 		asked, err := in.ReadSlice('\n')
 		if errors.Is(err, bufio.ErrBufferFull) {
@@ -60,7 +60,6 @@ func main() {
 		} else if err != nil {
 			fail(err)
 		}
-		var c call
 		if err := c.read(asked); err != nil {
 			fail(err)
 		}
@@ -78,7 +77,7 @@ func main() {
 
 // shownOrHidden is what is written after a call: its answer; or nothing, and after the last call that `digest` counts, a digest of their
 // answers.
-func (b *bench) shownOrHidden(c call, put *line) []byte {
+func (b *bench) shownOrHidden(c *call, put *line) []byte {
 	if c.Call == "digest" {
 		b.hidden = c.Calls
 		b.digest.Reset()
@@ -101,7 +100,7 @@ func fail(err error) {
 }
 
 // answered adds the answer to a call; a panic of etcd's is told as its error.
-func (b *bench) answered(c call, put line) (told line) {
+func (b *bench) answered(c *call, put line) (told line) {
 	defer func() {
 		if broken := recover(); broken != nil {
 			told = put.any("error", fmt.Sprint("panic: ", broken)).any("at", placeOfPanic())
@@ -129,13 +128,13 @@ func placeOfPanic() string {
 	}
 }
 
-func (b *bench) carriedOut(c call, put line) (line, error) {
+func (b *bench) carriedOut(c *call, put line) (line, error) {
 	switch c.Call {
 	case "hello":
 		put = put.word("name", "etcd raft "+version).number("protocol", protocol).any("without", without).any("calls", calls).any("limits", limits)
 		return put.truth("open", true).truth("apart", true).truth("batch", true).truth("digest", true), nil
 	case "reset":
-		b.nodes, b.given = map[uint64]*node{}, nil
+		b.nodes, b.given = map[uint64]*node{}, b.given[:0]
 		return put, nil
 	case "start":
 		n, err := start(c)
@@ -169,7 +168,7 @@ func (b *bench) carriedOut(c call, put line) (line, error) {
 }
 
 // stepped takes in one message, which the bench may have cut, or several, by the numbers that they have among those that were given.
-func (b *bench) stepped(n *node, c call, put line) (line, error) {
+func (b *bench) stepped(n *node, c *call, put line) (line, error) {
 	numbers, most := c.Numbers, math.MaxInt
 	if c.Message != nil {
 		numbers, most = []int{c.Message.Own}, len(c.Message.Entries)
@@ -201,7 +200,7 @@ func (b *bench) stepped(n *node, c call, put line) (line, error) {
 }
 
 // changed carries a call out that changes the node. What the node itself declines is no fault: it is among the events.
-func (n *node) changed(c call, put line) (line, error) {
+func (n *node) changed(c *call, put line) (line, error) {
 	var declined error
 	switch c.Call {
 	case "campaign":

@@ -20,21 +20,15 @@ type private struct {
 }
 
 func (n *node) findPrivate() {
+	inner := reflect.ValueOf(n.raw).Elem().FieldByName("raft").Elem()
+	unstable := inner.FieldByName("raftLog").Elem().FieldByName("unstable")
 	n.private = private{
-		(*int)(n.part("randomizedElectionTimeout")), (*tracker.ProgressTracker)(n.part("prs")), (*uint64)(n.part("raftLog", "unstable", "offset")),
-		(*[]pb.Entry)(n.part("raftLog", "unstable", "entries")), (**pb.Snapshot)(n.part("raftLog", "unstable", "snapshot")),
+		(*int)(part(inner, "randomizedElectionTimeout")), (*tracker.ProgressTracker)(part(inner, "prs")), (*uint64)(part(unstable, "offset")),
+		(*[]pb.Entry)(part(unstable, "entries")), (**pb.Snapshot)(part(unstable, "snapshot")),
 	}
 }
 
-// part is where a part of the node's raft is, by the names of the fields that lead there.
-func (n *node) part(names ...string) unsafe.Pointer {
-	at := reflect.ValueOf(n.raw)
-	for _, name := range append([]string{"raft"}, names...) {
-		if at.Kind() == reflect.Ptr {
-			at = at.Elem()
-		}
-		field := at.FieldByName(name)
-		at = reflect.NewAt(field.Type(), unsafe.Pointer(field.UnsafeAddr())).Elem()
-	}
-	return unsafe.Pointer(at.UnsafeAddr())
+// part is where a field of a struct is.
+func part(of reflect.Value, name string) unsafe.Pointer {
+	return unsafe.Pointer(of.FieldByName(name).UnsafeAddr())
 }

@@ -35,7 +35,7 @@ func (n *node) shownState() state {
 	now := n.raw.BasicStatus()
 	return state{
 		Role: roles[now.RaftState], Term: now.Term, Vote: now.Vote, Lead: now.Lead, Commit: now.Commit, Applied: now.Applied,
-		Content: append([]byte{}, n.store.applied.Data...), Config: shownConfig(&n.private.tracker.Config), Ready: n.raw.HasReady(),
+		Content: n.store.applied.Data, Config: shownConfig(&n.private.tracker.Config), Ready: n.raw.HasReady(),
 	}
 }
 
@@ -132,6 +132,9 @@ func shownConfig(c *tracker.Config) config {
 }
 
 func ascending(set map[uint64]struct{}) []uint64 {
+	if len(set) == 0 {
+		return nil
+	}
 	ids := make([]uint64, 0, len(set))
 	for id := range set {
 		at := len(ids)

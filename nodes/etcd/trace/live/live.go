@@ -19,6 +19,9 @@ import (
 
 const liveNodes = 3
 
+// answer is an object of the protocol, by its parts.
+type answer map[string]interface{}
+
 // member is a node with the trace that it writes.
 type member struct {
 	*node
@@ -58,12 +61,13 @@ func begin(folder string, id uint64, ids []uint64) *member {
 	m := &member{out: out, inbox: make(chan pb.Message, 1000), propose: make(chan []byte, 1000)}
 	c := call{Call: "start", Node: id, Base: base{Index: 10, Term: 1, Config: config{Voters: ids}}}
 	c.Options.Inflight = 256
-	if m.node, err = start(c); err != nil {
+	if m.node, err = start(&c); err != nil {
 		fail(err)
 	}
 	m.write(answer{"call": "hello", "protocol": protocol}, answer{"name": "live cluster", "protocol": protocol, "without": []string{"status", "sync"}})
 	options := answer{"inflight": 256}
-	m.write(answer{"call": "start", "node": id, "at": seconds(), "base": c.Base, "options": options}, m.settled())
+	m.settle()
+	m.write(answer{"call": "start", "node": id, "at": seconds(), "base": c.Base, "options": options}, m.said())
 	return m
 }
 
@@ -79,7 +83,7 @@ func (m *member) run(members map[uint64]*member, done chan struct{}) {
 		case data := <-m.propose:
 			m.call("propose", answer{"data": data}, func() { m.declined(m.raw.Propose(data)) })
 		case message := <-m.inbox:
-			m.call("step", answer{"message": shownMessage(message)}, func() { m.declined(m.raw.Step(message)) })
+			m.call("step", answer{"message": shownMessage(message, 0)}, func() { m.declined(m.raw.Step(message)) })
 		}
 		for m.raw.HasReady() {
 			m.handleReady(members)
@@ -96,26 +100,26 @@ func (m *member) tick() {
 		name = "campaign"
 	}
 	m.draw()
-	m.write(answer{"call": name, "node": m.id, "at": at}, answer{"state": m.shownState(), "events": m.log.taken()})
+	m.write(answer{"call": name, "node": m.id, "at": at}, m.said())
 }
 
 func (m *member) call(name string, parts answer, carryOut func()) {
 	parts["call"], parts["node"], parts["at"] = name, m.id, seconds()
 	carryOut()
 	m.draw()
-	m.write(parts, answer{"state": m.shownState(), "events": m.log.taken()})
-	log, err := m.shownLog()
+	m.write(parts, m.said())
+	log, err := m.shownLog(line{'{'})
 	if err != nil {
 		fail(err)
 	}
-	m.write(answer{"call": "log", "node": m.id, "at": seconds()}, log)
+	m.write(answer{"call": "log", "node": m.id, "at": seconds()}, json.RawMessage(append(log, '}')))
 }
 
 // draw draws a timeout where a role begins. The log of etcd tells where.
 func (m *member) draw() {
 	if m.log.drewTimeout {
 		m.log.drewTimeout = false
-		m.setTimeout(electionTicks + rand.Int63n(electionTicks))
+		*m.private.timeout = electionTicks + rand.Intn(electionTicks)
 	}
 }
 
@@ -128,7 +132,7 @@ func (m *member) declined(err error) {
 // handleReady saves and applies, and then sends: a tenth of the messages is lost, and all are late.
 func (m *member) handleReady(members map[uint64]*member) {
 	at := seconds()
-	shown := m.whatIsReady()
+	shown := m.whatIsReady(0)
 	messages := m.ready.Messages
 	m.write(answer{"call": "ready", "node": m.id, "at": at}, answer{"ready": shown})
 	m.call("advance", answer{}, func() {
@@ -149,7 +153,16 @@ var begun = time.Now()
 // seconds is the time since the cluster began. All nodes are on one machine, so their clocks agree.
 func seconds() float64 { return time.Since(begun).Seconds() }
 
-func (m *member) write(asked, said answer) {
+// said is the answer of a call that may have changed the node.
+func (m *member) said() answer {
+	events := m.log.taken()
+	if events == nil {
+		events = []event{}
+	}
+	return answer{"state": m.shownState(), "events": events}
+}
+
+func (m *member) write(asked answer, said interface{}) {
 	one, err := json.Marshal(asked)
 	if err != nil {
 		fail(err)
