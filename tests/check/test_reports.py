@@ -412,3 +412,8 @@ def test_names_that_act_in_a_terminal(room: pathlib.Path) -> Iterator[str]:
     status, output, told = run(room, "--a\x1b[2J.txt")
     if status != 2 or output or not told.startswith(b"error: unexpected argument '--a\\x1b[2J.txt' found\n") or b"\x1b" in told:
         yield f"as an option: {status} {output!r} {told!r}"
+    # Only the lines of its text that act have numbers.
+    for word, line in ("--\u00e9", "'--\u00e9'"), ("--\u00e9\n\u00e9\x1b", "'--\u00e9\n\\xc3\\xa9\\x1b'"):
+        status, output, told = run(room, word)
+        if status != 2 or output or not told.startswith(f"error: unexpected argument {line} found\n".encode()):
+            yield f"{word!r}: {status} {output!r} {told!r}"
