@@ -40,7 +40,7 @@ pub(crate) fn page<R: Files + Input + Print + AllocGlobal>(
     unless_refused(page, ProgramError::PageTooLarge)
 }
 
-/// What came of a document; if it has too little room, this refusal.
+/// Returns the refusal if the document has too little room, and the result as it is if not.
 pub(crate) fn unless_refused(
     ended: Result<Status, ProgramError>,
     refusal: ProgramError,
