@@ -1,5 +1,6 @@
 -- A file with a text, and a new file next to it. (This project's.)
 use Rattle.std.specs.Prelude.{◌≡◌, ℕ, Bool, true, false, List, [], ◌++◌, Option, Some, None, Result, Ok, Err, IfSome, MatchBool, is_some, option_map, unwrap_or}
+use Rattle.std.specs.Io.KnownBytes.{Appends}
 use Rattle.rb_files.specs.declared.file_place.Unreplaced.{Unreplaced}
 use Rattle.rb_files.specs.declared.path_error.PathError.{PathError}
 
@@ -110,3 +111,11 @@ Replaces text (Err why) old new = IfSome old (λ s. LeavesOld why s new)
 -- no new file, and none that couldn't be removed, where it is known
 abbrev pub IsFresh : Option Standing → Type 0
 IsFresh old = IfSome old (λ s. (s.new ≡ None) × (s.is_stuck ≡ false))
+
+-- a new file was given a text after what it had, and was settled, and the file was the one that was read
+pub record WasPut {P : Type 0} (contents : P → Option (List ℕ)) (is_unchanged is_settled : P → Type 0) (text : List ℕ) : Type 0 where
+  pub before : P
+  pub after : P
+  pub appended : Appends (contents before) (contents after) text
+  pub same : is_unchanged after
+  pub settled : is_settled after

@@ -20,7 +20,7 @@ use std::rt::Files;
 use std::{fs, io};
 
 // How many names are tried for a new file. Those that are taken belong to other programs, or to a run that was killed.
-const MOST_NAMES: usize = 1_000;
+pub(crate) const MOST_NAMES: usize = 1_000;
 
 /// A script's file, and the new file next to it.
 #[derive(Drop)]

@@ -3,13 +3,14 @@
 //! A script is known by the folder that it is in and its name there, and a folder by its number in the file system: so each is found
 //! once, whatever paths and links lead to it. Two names of one file by hard links are two scripts, since each may be given a text of its own.
 
-ghost use Rattle.std.specs.Prelude.{◌≡◌, IfErr, IfOk, IfSome, Ok, Some, string_bytes};
+ghost use Rattle.std.specs.Prelude.{◌≡◌, ◌≢◌, ◌+◌, ℕ, IfErr, IfOk, IfSome, IsSome, List, Ok, Some, string_bytes};
 ghost use Rattle.std.specs.Path.{path_join};
 ghost use Rattle.rb_report.specs.declared.check.failure.Failure.TheVariants as failures;
+ghost use Rattle.rb_report.specs.declared.check.failure.Failure.TheVariants.{LinkLoop};
 ghost use Rattle.rb_files.specs.declared.kind.Kind.{Kind};
-ghost use Rattle.rb_files.specs.Entries.{IsFileNamed, IsLinked, LeadsTo, file_of, special};
+ghost use Rattle.rb_files.specs.Entries.{IsFileNamed, IsLinked, LeadsBy, LeadsTo, file_of, special};
 ghost use Rattle.rb_files.specs.Names.{folder_id, folder_of, name_of};
-ghost use Rattle.rb_files.specs.PathErrors.{IsOfReading};
+ghost use Rattle.rb_files.specs.PathErrors.{IsOfReading, without_cause};
 
 use crate::file_look::FileLook;
 use crate::kind::Kind;
@@ -22,7 +23,7 @@ use std::path::Path;
 use std::rt::Files;
 
 /// How many links in a row are followed; the system follows as many (path_resolution of Linux).
-const MOST_LINKS: usize = 40;
+pub(crate) const MOST_LINKS: usize = 40;
 
 /// A folder, by its identity.
 #[derive(Clone, Copy, PartialEq, Eq, PartialOrd, Ord)]
@@ -117,7 +118,8 @@ fn file_id<R: Files + AllocGlobal>(rt: &R, target: &str) -> Result<FileId, PathE
 
 // The system's answer for the path itself, even if it is a link.
 fn looked_at<R: Files>(rt: &R, path: &str) -> Result<Metadata, PathError>
-    ensures { IfErr result IsOfReading }
+    ensures why { IfErr result IsOfReading }
+    ensures said { IfErr result (λ error. IsSome error.cause) }
 {
     match fs::symlink_metadata(rt, path) {
         Ok(metadata) => Ok(metadata),
@@ -128,6 +130,8 @@ fn looked_at<R: Files>(rt: &R, path: &str) -> Result<Metadata, PathError>
 /// The path that the links at the end of this one lead to.
 pub(crate) fn followed<R: Files + AllocGlobal>(rt: &R, path: &str) -> Result<String, PathError>
     ensures links { IfOk result (λ target. LeadsTo MOST_LINKS path.now (string_bytes target)) }
+    // What the system didn't call a loop is one only if more links follow one another.
+    ensures loops { IfErr result (λ error. error ≡ without_cause LinkLoop → (target : List ℕ) × LeadsBy (MOST_LINKS + 1) path.now target) }
     ensures why { IfErr result IsOfReading }
 {
     let mut target = String::from_str(rt.alloc(), path)?;
@@ -143,6 +147,7 @@ pub(crate) fn followed<R: Files + AllocGlobal>(rt: &R, path: &str) -> Result<Str
 fn next_link<R: Files + AllocGlobal>(rt: &R, link: &str) -> Result<String, PathError>
     ensures link { IfOk result (λ target. IsLinked link.now (string_bytes target)) }
     ensures why { IfErr result IsOfReading }
+    ensures other { IfErr result (λ error. error ≢ without_cause LinkLoop) }
 {
     match fs::read_link(rt, link) {
         Ok(target) => Ok(linked(rt.alloc(), link, target.as_str())?),

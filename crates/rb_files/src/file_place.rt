@@ -8,7 +8,7 @@
 
 ghost use Rattle.std.specs.Prelude.{◌≡◌, ⊤, None, Option, IfOk, List, OnOk, ℕ};
 ghost use Rattle.std.specs.Io.KnownBytes.{Appends};
-ghost use Rattle.rb_files.specs.Places.{Standing, Turns, Prepares, Puts, Looks, Fills, Removes, Replaces, IsFresh, created, settled, renamed};
+ghost use Rattle.rb_files.specs.Places.{Standing, Turns, Prepares, Puts, Looks, Fills, Removes, Replaces, IsFresh, WasPut, created, settled, renamed};
 
 use crate::path_error::PathError;
 
@@ -75,7 +75,9 @@ pub struct Unreplaced {
 /// What failed first. The place has its old text then, and the new file is removed again, unless that fails too: then `is_removed` is
 /// false. Nothing is said of a place that had a new file before.
 pub fn replace<P: FilePlace>(place: &mut P, text: &[u8]) -> Result<(), Unreplaced>
-    ensures { IsFresh (P.stands place.old) → Replaces text.now result (P.stands place.old) (P.stands place.new) }
+    ensures told { IsFresh (P.stands place.old) → Replaces text.now result (P.stands place.old) (P.stands place.new) }
+    // Whatever is known of the place, its new file had the text.
+    ensures put { IfOk result (λ _. WasPut P.contents P.is_unchanged P.is_settled text.now) }
 {
     if let Err(error) = place.create() {
         return Err(Unreplaced {
@@ -94,7 +96,8 @@ pub fn replace<P: FilePlace>(place: &mut P, text: &[u8]) -> Result<(), Unreplace
 
 // Writes the text into the new file, and puts that in the old one's place if the file hasn't changed.
 fn fill<P: FilePlace>(place: &mut P, text: &[u8]) -> Result<(), PathError>
-    ensures { Fills text.now result (P.stands place.old) (P.stands place.new) }
+    ensures told { Fills text.now result (P.stands place.old) (P.stands place.new) }
+    ensures put { IfOk result (λ _. WasPut P.contents P.is_unchanged P.is_settled text.now) }
 {
     prepare(place, text)?;
     place.rename()
