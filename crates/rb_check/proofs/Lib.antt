@@ -1,7 +1,7 @@
 pub mod AcceptLaws
+pub mod AnswerLaws
 pub mod AskingLaws
 pub mod CommentLaws
-pub mod CountLaws
 pub mod EndingLaws
 pub mod FormatLaws
 pub mod LineLaws
@@ -10,6 +10,7 @@ pub mod NamedLaws
 pub mod PlaceLaws
 pub mod QuietLaws
 pub mod ReasonLaws
+pub mod ReportLaws
 pub mod ReviewLaws
 pub mod ShownLaws
 pub mod SuiteLaws

@@ -279,6 +279,18 @@ pub on_err : {X E : Type 0} {P : Type 0} (r : Result X E) → P → IfErr r (λ 
 on_err (Ok x) p = tt
 on_err (Err e) p = p
 
+pub ok_with : {X E : Type 0} {P Q : X → Type 0} (r : Result X E) → ((x : X) → P x → Q x) → IfOk r P → IfOk r Q
+ok_with (Ok x) so p = so x p
+ok_with (Err e) so p = tt
+
+pub err_with : {X E : Type 0} {P Q : E → Type 0} (r : Result X E) → ((e : E) → P e → Q e) → IfErr r P → IfErr r Q
+err_with (Ok x) so p = tt
+err_with (Err e) so p = so e p
+
+pub err_so : {X E : Type 0} {P Q : Type 0} (r : Result X E) → (P → Q) → IfErr r (λ _. P) → IfErr r (λ _. Q)
+err_so (Ok x) so p = tt
+err_so (Err e) so p = so p
+
 pub if_before : {X E : Type 0} (r : Result X E) (s u : ReportState) (a b c : Option (List ℕ)) (t v : List ℕ) → s.is_closed ≡ false → Appends a b t → GoesOutIf r s u b c v → GoesOutIf r s u a c (t ++ v)
 if_before (Ok x) s u a b c t v unclosed h out = goes_before a t unclosed h out
 if_before (Err e) s u a b c t v unclosed h part = record { text = t ++ part.text; out = goes_before a t unclosed h part.out }

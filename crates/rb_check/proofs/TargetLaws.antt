@@ -3,9 +3,10 @@ use Rattle.std.proofs.Common.{◌≡◌, ◌∙◌, ℕ, ◌+◌, ◌<◌, Bool,
 use Rattle.std.specs.Prelude.{slice_get}
 use Rattle.std.proofs.lemmas.Option.{slice_get_read}
 use Rattle.rb_files.specs.declared.path_error.PathError.{PathError}
+use Rattle.rb_report.specs.declared.check.failure.Failure.{Failure}
 use Rattle.rb_script.proofs.ListLaws.{take_there}
 use Rattle.rb_check.specs.declared.target.Target.{Target}
-use Rattle.rb_check.specs.Targets.{AddsLine, AreLines, AreNotPicked, IsOfScript, another, memory, missing, one}
+use Rattle.rb_check.specs.Targets.{AddsLine, AreLines, AreNotFound, IsOfScript, another, memory, missing, one}
 
 pub target_at : (targets : List Target) (i : ℕ) (target : Target) → i < length targets → target ≡ get_or targets i target → slice_get targets i ≡ Some target
 target_at targets i target within is = slice_get_read targets (length targets) i target refl within is
@@ -30,7 +31,7 @@ module _ (tells : List ℕ → List ℕ → Bool → Type 0) (path : List ℕ) w
       → AreLines tells path (take (i + 1) targets) lines
   more_no_line targets lines i target got are isnt = subst (AreLines tells path (take (i + 1) targets)) (append-nil lines) (more_lines targets lines [] i target got are (another isnt refl))
 
--- why no heads are picked, by the lines that are named
-pub not_picked : (named : List ℕ → Type 0) (lines heads : List ℕ) (error : PathError) → named lines → AreNotPicked (λ these. these ≡ lines) heads error → AreNotPicked named heads error
-not_picked named lines heads error is (memory e) = memory e
-not_picked named lines heads error is (missing these k line same got above e) = missing these k line (subst named (sym same) is) got above e
+-- why no directives are found, by the lines that are named
+pub not_found : (named : List ℕ → Type 0) (lines heads : List ℕ) (missed failure : Failure) (error : PathError) → named lines → missed ≡ failure → AreNotFound (λ these. these ≡ lines) heads missed error → AreNotFound named heads failure error
+not_found named lines heads missed failure error is so (memory e) = memory e
+not_found named lines heads missed failure error is so (missing these k line same got above e) = missing these k line (subst named (sym same) is) got above (e ∙ so)

@@ -77,6 +77,12 @@ heard_as (Some answer) = heard.Answer answer
 abbrev pub heard_in : List ℕ → HeardAnswer
 heard_in line = heard_as (answer_to (trim line))
 
+-- what a read of a line says: an empty line is the end, and so is a read that failed
+abbrev pub heard_by_line : Option (List ℕ) → HeardAnswer
+heard_by_line None = heard.End
+heard_by_line (Some []) = heard.End
+heard_by_line (Some (b ∷ line)) = heard_in (b ∷ line)
+
 -- what the bytes of one read say, if the terminal gives each key at once: of several none is an answer, nor is one soon after what is none; nothing,
 -- and Ctrl-D alone, are the end
 abbrev pub heard_by_key : Bool → List ℕ → HeardAnswer

@@ -22,6 +22,7 @@ use Rattle.rb_check.specs.Counts.{warnings_in}
 use Rattle.rb_check.specs.Formats.{script_text}
 use Rattle.rb_check.specs.Place.{ArePartedAt}
 use Rattle.rb_check.specs.Shown.{GoesOut, in_form, remark_text, warnings_text}
+use Rattle.rb_check.specs.Targets.{AreNamedLines}
 
 -- a script that ran, with the reasons and the colours of what is shown of it
 pub record PlainChecked : Type 0 where
@@ -99,7 +100,16 @@ pub record ArePicked (text : ℕ → List ℕ) (heads lines picked : List ℕ) (
   pub picked_are : picked ≡ map (head_line heads) places
   pub out : GoesOut old new before after (flat_map text places)
 
--- what is shown of a script: the directives that are named, alone; or its warnings and its report
-pub data IsTold (asked : CheckRequest) (colors : Colors) (form : ReportForm) (path : List ℕ) (l : Layout) (whys : List (List Line)) (s : PlainScript) (text : List ℕ) : Type 0 where
-  alone : (lines places : List ℕ) → AreNamed l.heads.items lines places → asked.accepts ≡ false → asked.format ≡ None → text ≡ flat_map (alone_text colors path l whys s) places → IsTold asked colors form path l whys s text
-  whole : text ≡ shown_warnings asked form path l s ++ report_text asked colors path l whys s → IsTold asked colors form path l whys s text
+-- what is shown of a script: the directives that are named, alone; or its warnings and its report, if none is named, outputs are accepted, or programs read it
+pub data IsTold (tells : List ℕ → List ℕ → Bool → Type 0) (asked : CheckRequest) (form : ReportForm) (c : PlainChecked) (text : List ℕ) : Type 0 where
+  alone : (lines places : List ℕ) → asked.accepts ≡ false → asked.format ≡ None → AreNamedLines tells c.path asked.targets.now (Some lines) → AreNamed c.layout.heads.items lines places
+      → text ≡ flat_map (alone_text c.colors c.path c.layout c.whys c.script) places → IsTold tells asked form c text
+  whole : (asked.accepts ≡ false → asked.format ≡ None → AreNamedLines tells c.path asked.targets.now None)
+      → text ≡ shown_warnings asked form c.path c.layout c.script ++ report_text asked c.colors c.path c.layout c.whys c.script → IsTold tells asked form c text
+
+-- the heads of the directives that are named to be accepted: none if nothing is accepted, or no line is named; of those that match it is said
+pub data AreNamedHeads (tells : List ℕ → List ℕ → Bool → Type 0) (asked : CheckRequest) (form : ReportForm) (c : PlainChecked) (heads : Option (List ℕ)) (text : List ℕ) : Type 0 where
+  unasked : asked.accepts ≡ false → heads ≡ None → text ≡ [] → AreNamedHeads tells asked form c heads text
+  by_none : asked.accepts ≡ true → AreNamedLines tells c.path asked.targets.now None → heads ≡ None → text ≡ [] → AreNamedHeads tells asked form c heads text
+  by_lines : (lines places : List ℕ) → asked.accepts ≡ true → AreNamedLines tells c.path asked.targets.now (Some lines) → AreNamed c.layout.heads.items lines places
+      → heads ≡ Some (map (head_line c.layout.heads.items) places) → text ≡ flat_map (matched_text form c.path c.layout.heads.items c.script) places → AreNamedHeads tells asked form c heads text

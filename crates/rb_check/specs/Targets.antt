@@ -1,14 +1,11 @@
 -- Which directives of a script the targets of a check name. (This project's.)
-use Rattle.std.specs.Prelude.{◌≡◌, ◌≢◌, ℕ, Bool, true, false, List, [], ◌∷◌, ◌++◌, Option, None, Some, slice_get, string_bytes}
+use Rattle.std.specs.Prelude.{◌≡◌, ◌≢◌, ℕ, Bool, true, false, if◌then◌else◌, List, [], ◌∷◌, ◌++◌, Option, None, Some, slice_get, string_bytes}
 use Rattle.std.specs.List.Sorted.{IsNonDecreasing}
 use Rattle.rb_files.specs.declared.path_error.PathError.{PathError}
-use Rattle.rb_report.specs.declared.check.failure.Failure.TheVariants.{NotWritten, OutOfMemory}
-use Rattle.rb_check.specs.declared.check_request.CheckRequest.{CheckRequest}
-use Rattle.rb_check.specs.declared.report_state.ReportState.{ReportState}
+use Rattle.rb_report.specs.declared.check.failure.Failure.{Failure}
+use Rattle.rb_report.specs.declared.check.failure.Failure.TheVariants.{NoDirective, NotWritten, OutOfMemory}
 use Rattle.rb_check.specs.declared.target.Target.{Target}
 use Rattle.rb_check.specs.Place.{ArePartedAt}
-use Rattle.rb_check.specs.Shown.{GoesOut}
-use Rattle.rb_check.specs.ScriptTexts.{ArePicked}
 
 -- whether the target is the script at the path: it is if it is spelled so, and else as the system tells of both paths
 pub record IsOfScript (tells : List ℕ → List ℕ → Bool → Type 0) (path : List ℕ) (target : Target) (is : Bool) : Type 0 where
@@ -31,14 +28,11 @@ pub data AreNamedLines (tells : List ℕ → List ℕ → Bool → Type 0) (path
   unnamed : AreLines tells path targets [] → lines ≡ None → AreNamedLines tells path targets lines
   named : (some : List ℕ) → AreLines tells path targets some → some ≢ [] → lines ≡ Some some → AreNamedLines tells path targets lines
 
--- the heads of the directives that are named to be accepted: none if nothing is accepted, or no line is named; of those that match it is said
-pub data AreNamedHeads (tells : List ℕ → List ℕ → Bool → Type 0) (path : List ℕ) (asked : CheckRequest) (text : ℕ → List ℕ) (heads : List ℕ) (picked : Option (List ℕ)) (old new : ReportState) (before after : Option (List ℕ)) : Type 0 where
-  unasked : asked.accepts ≡ false → picked ≡ None → GoesOut old new before after [] → AreNamedHeads tells path asked text heads picked old new before after
-  whole : asked.accepts ≡ true → AreNamedLines tells path asked.targets.now None → picked ≡ None → GoesOut old new before after [] → AreNamedHeads tells path asked text heads picked old new before after
-  some : (lines : List ℕ) → (these : List ℕ) → asked.accepts ≡ true → AreNamedLines tells path asked.targets.now (Some lines) → picked ≡ Some these
-      → ArePicked text heads lines these old new before after → AreNamedHeads tells path asked text heads picked old new before after
+-- why no directives are found by the lines that are named: memory was refused, or no head is at one of them or above it
+pub data AreNotFound (are_named : List ℕ → Type 0) (heads : List ℕ) (missed : Failure) (error : PathError) : Type 0 where
+  memory : error.failure ≡ OutOfMemory → AreNotFound are_named heads missed error
+  missing : (lines : List ℕ) → (k : ℕ) → (line : ℕ) → are_named lines → slice_get lines k ≡ Some line → (IsNonDecreasing heads → ArePartedAt heads line 0) → error.failure ≡ missed → AreNotFound are_named heads missed error
 
--- why no heads are picked by the lines that are named: memory was refused, or no head is at one of them or above it
-pub data AreNotPicked (are_named : List ℕ → Type 0) (heads : List ℕ) (error : PathError) : Type 0 where
-  memory : error.failure ≡ OutOfMemory → AreNotPicked are_named heads error
-  missing : (lines : List ℕ) → (k : ℕ) → (line : ℕ) → are_named lines → slice_get lines k ≡ Some line → (IsNonDecreasing heads → ArePartedAt heads line 0) → error.failure ≡ NotWritten → AreNotPicked are_named heads error
+-- the failure, if there is no directive: where outputs are accepted, none is written
+abbrev pub no_directive_failure : Bool → Failure
+no_directive_failure accepts = if accepts then NotWritten else NoDirective

@@ -6,6 +6,7 @@ ghost use Rattle.rb_script.specs.Reads.{Reads};
 ghost use Rattle.rb_replay.specs.Report.{mismatches};
 ghost use Rattle.rb_script_report.specs.Accepting.{accepted};
 ghost use Rattle.rb_script_report.specs.Layouts.{IsLayout};
+ghost use Rattle.rb_files.specs.Places.{WasPut};
 ghost use Rattle.rb_check.specs.declared.remark.Remark.TheVariants as remarks;
 ghost use Rattle.rb_check.specs.AcceptTexts.{SaysAccepted, TellsRefusal, WritesAccepted, echoes_text, ended_text, leaving_text, left_in, left_shown, refusal_failure, refusal_says};
 ghost use Rattle.rb_check.specs.Counts.{counted_as, counts_after};
@@ -41,7 +42,7 @@ pub(crate) fn accept<M: Machine, S: System, W: ReportSink, E: ReportSink>(
     ensures said { (text : List ℕ)
         × SaysAccepted (TellsRefusal report.old.state report.new.state (E.takes_all report.old.errors.sink) (E.takes_all report.new.errors.sink) (E.held report.old.errors.sink) (E.held report.new.errors.sink) report.old.errors.shows_progress subject.now.ran.path.now) report.old.state.form wanted.entry subject.now.ran.path.now subject.now.layout.now subject.now.session.now.script subject.now.ran.mismatches result text
         × GoesOut report.old.state report.new.state (W.held report.old.output) (W.held report.new.output) text }
-    ensures written { WritesAccepted (S.has_written system.now subject.now.path.now) wanted.entry subject.now.layout.now subject.now.session.now.script subject.now.ran.mismatches result }
+    ensures written { WritesAccepted (λ bytes. S.has_written system.now subject.now.path.now bytes × WasPut S.Place.contents S.Place.is_unchanged S.Place.is_settled bytes) wanted.entry subject.now.layout.now subject.now.session.now.script subject.now.ran.mismatches result }
 {
     let alloc = system.alloc();
     match accepted(
@@ -146,7 +147,7 @@ fn keep<M: Machine, S: System, W: ReportSink, E: ReportSink>(
     ensures left { MatchOption result.failure (result.left ≡ length made.now.left.items) (λ _. result.left ≡ subject.now.ran.mismatches) }
     ensures listed { Lists report.new.state report.old.differing.items report.new.differing.items (listed_after subject.now.ran made.now.left.items result.failure) }
     ensures shown { GoesOut report.old.state report.new.state (W.held report.old.output) (W.held report.new.output) (ended_text report.old.state.form subject.now.ran.path.now subject.now.ran.mismatches result.left result.failure) }
-    ensures written { WritesAccepted (S.has_written system.now subject.now.path.now) wanted.entry subject.now.layout.now subject.now.session.now.script subject.now.ran.mismatches result }
+    ensures written { WritesAccepted (λ bytes. S.has_written system.now subject.now.path.now bytes × WasPut S.Place.contents S.Place.is_unchanged S.Place.is_settled bytes) wanted.entry subject.now.layout.now subject.now.session.now.script subject.now.ran.mismatches result }
 {
     let ran = subject.ran;
     if made.left.len() == ran.mismatches {

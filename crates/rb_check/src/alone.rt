@@ -1,9 +1,11 @@
 //! Showing the directives that are named, and nothing else of their script.
 
 ghost use Rattle.std.specs.Prelude.{◌≡◌, ◌+◌, ◌<◌, IfErr, IfOk, length};
+ghost use Rattle.rb_report.specs.declared.check.failure.Failure.TheVariants.{NoDirective, OutOfMemory};
 ghost use Rattle.rb_script_report.specs.Layouts.{IsLayout};
 ghost use Rattle.rb_check.specs.ScriptTexts.{AreShown, alone_text};
 ghost use Rattle.rb_check.specs.Shown.{GoesOutIf, GoesOutInPart};
+ghost use Rattle.rb_check.specs.Targets.{AreNotFound};
 
 use crate::checked_script::CheckedScript;
 use crate::place::place_at;
@@ -29,6 +31,7 @@ pub(crate) fn show_alone<M: Machine, W: ReportSink, E: ReportSink>(
     requires { IsLayout subject.now.text.now.bytes.items subject.now.session.now.script subject.now.layout.now }
     ensures counts { report.new.counts ≡ report.old.counts }
     ensures listed { report.new.differing.items ≡ report.old.differing.items }
+    ensures failed { IfErr result (λ error. AreNotFound (λ these. these ≡ lines.now) subject.now.layout.now.heads.items NoDirective error) }
     ensures shown { IfOk result (λ _. AreShown (alone_text subject.now.colors subject.now.path.now subject.now.layout.now subject.now.whys.now subject.now.session.now.script) subject.now.layout.now.heads.items lines.now report.old.state report.new.state (W.held report.old.output) (W.held report.new.output)) }
     ensures part { IfErr result (λ _. GoesOutInPart report.old.state report.new.state (W.held report.old.output) (W.held report.new.output)) }
 {
@@ -53,6 +56,7 @@ fn show_directive<M: Machine, W: ReportSink, E: ReportSink>(
     requires within { index < length subject.now.layout.now.heads.items }
     ensures counts { report.new.counts ≡ report.old.counts }
     ensures listed { report.new.differing.items ≡ report.old.differing.items }
+    ensures memory { IfErr result (λ error. error.failure ≡ OutOfMemory) }
     ensures shown { GoesOutIf result report.old.state report.new.state (W.held report.old.output) (W.held report.new.output) (alone_text subject.now.colors subject.now.path.now subject.now.layout.now subject.now.whys.now subject.now.session.now.script (index + 1)) }
 {
     if !report.is_open() {

@@ -1,7 +1,7 @@
 //! Answers to the questions of a review.
 
-ghost use Rattle.std.specs.Prelude.{◌≡◌};
-ghost use Rattle.rb_check.specs.Reviews.{answer_of, answer_to, heard_as, heard_by_key, heard_in, visible_key};
+ghost use Rattle.std.specs.Prelude.{◌≡◌, option_map};
+ghost use Rattle.rb_check.specs.Reviews.{answer_of, answer_to, heard_as, heard_by_key, heard_by_line, heard_in, visible_key};
 
 // What Ctrl-D is, where the terminal gives each key at once.
 const CTRL_D: u8 = 4;
@@ -31,8 +31,18 @@ pub(crate) enum HeardAnswer {
     End,
 }
 
-/// What the line means.
-pub(crate) fn heard_in(line: &str) -> HeardAnswer
+/// What a read of a line means. An empty line is the end of the input, and a read that failed ends it too.
+pub(crate) fn heard_by_line(line: Option<&str>) -> HeardAnswer
+    ensures { result ≡ heard_by_line (option_map (λ line. line.now) line.entry) }
+{
+    match line {
+        Some(line) if !line.is_empty() => heard_in(line),
+        _ => HeardAnswer::End,
+    }
+}
+
+// What the line means.
+fn heard_in(line: &str) -> HeardAnswer
     ensures { result ≡ heard_in line.now }
 {
     heard_as(answer_to(line.trim().as_bytes()))

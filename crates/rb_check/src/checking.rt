@@ -1,12 +1,17 @@
 //! Checking one script. Nothing is held longer than its script.
 
-ghost use Rattle.std.specs.Prelude.{◌≡◌, ◌≢◌, ℕ, [], IfOk, IfErr, length};
+ghost use Rattle.std.specs.Prelude.{◌≡◌, ◌≢◌, ℕ, List, [], false, IfOk, IfErr, Some};
 ghost use Rattle.rb_replay.specs.Report.{mismatches};
+ghost use Rattle.rb_report.specs.declared.check.failure.Failure.TheVariants.{OutOfMemory};
 ghost use Rattle.rb_script_report.specs.Layouts.{IsLayout};
-ghost use Rattle.rb_check.specs.Findings.{AreFindings};
+ghost use Rattle.rb_check.specs.Findings.{AreFindings, IsOutcome};
 ghost use Rattle.rb_check.specs.Counts.{counted_as, ran_as, counts_after, warnings_in};
-ghost use Rattle.rb_check.specs.Reported.{Reported};
-ghost use Rattle.rb_check.specs.Endings.{AcceptsSaid, AreWanted, EndsAs, ending_at, has_warnings};
+ghost use Rattle.rb_check.specs.Reported.{Fails, Reported, Reports, check_point};
+ghost use Rattle.rb_check.specs.Endings.{AcceptsSaid, AreWanted, IsAnswered, ending_at, has_warnings};
+ghost use Rattle.rb_check.specs.Listed.{ListedScript, Lists};
+ghost use Rattle.rb_check.specs.ScriptTexts.{checked};
+ghost use Rattle.rb_check.specs.Shown.{GoesOut, GoesOutInPart};
+ghost use Rattle.rb_check.specs.Targets.{AreNamedLines, AreNotFound, no_directive_failure};
 
 use crate::accepting::accept;
 use crate::check_request::CheckRequest;
@@ -41,10 +46,16 @@ pub(crate) fn check_script<T: Runner, S: System, P: Person, W: ReportSink, E: Re
     reviewer: &mut Reviewer<P>,
     report: &mut Report<W, E>,
 ) -> Result<(), PathError>
-    // The report counts the script's run, or why the bytes are not a script.
-    ensures reported { IfOk result (λ _. Reported asked.now (P.is_known reviewer.old.person) reviewer.old.review (P.left reviewer.old.person) report.old.counts report.new.counts) }
+    // The report shows and counts the script's run, or why the bytes are not a script.
+    ensures reported { IfOk result (λ _.
+        Reports (Reported (S.has_read system.now) (S.tells_one system.now) asked.now (P.is_known reviewer.old.person) (P.left reviewer.old.person) report.old.state.form path.now (check_point report.old.counts reviewer.old.review) (check_point report.new.counts reviewer.new.review))
+        report.old.state report.new.state report.old.differing.items report.new.differing.items (W.held report.old.output) (W.held report.new.output)) }
     // A failure is not counted yet.
     ensures failed { IfErr result (λ _. report.new.counts ≡ report.old.counts) }
+    ensures unlisted { IfErr result (λ _. report.new.differing.items ≡ report.old.differing.items) }
+    ensures fails { IfErr result (λ error. Fails (S.has_read system.now) (S.tells_one system.now) asked.now path.now error) }
+    ensures part { IfErr result (λ _. GoesOutInPart report.old.state report.new.state (W.held report.old.output) (W.held report.new.output)) }
+    ensures unasked { asked.now.reviews ≡ false → reviewer.new.review ≡ reviewer.old.review }
 {
     report.heed(path.as_bytes(), None);
     let text = system.read(path)?;
@@ -84,7 +95,7 @@ fn ran_of<'a, M: Machine>(
     requires layout { IsLayout text.now.bytes.items session.now.script layout.now }
     requires warnings { warnings.now ≡ warnings_in layout.now.text layout.now.heads.items session.now.script }
     ensures counts { (left : ℕ) → counted_as result left ≡ ran_as layout.now.text layout.now.heads.items session.now.script left }
-    ensures mismatches { result.mismatches ≡ length (mismatches session.now.script) }
+    ensures outcome { IsOutcome path.now session.now.script layout.now result }
     ensures findings { AreFindings text.now.bytes.items session.now.script layout.now warnings.now result }
 {
     Ran {
@@ -105,10 +116,19 @@ fn answer<M: Machine, S: System, P: Person, W: ReportSink, E: ReportSink>(
     report: &mut Report<W, E>,
 ) -> Result<ScriptEnd, PathError>
     requires findings { AreFindings subject.now.text.now.bytes.items subject.now.session.now.script subject.now.layout.now subject.now.warnings.now subject.now.ran }
-    requires mismatches { subject.now.ran.mismatches ≡ length (mismatches subject.now.session.now.script) }
+    requires outcome { IsOutcome subject.now.path.now subject.now.session.now.script subject.now.layout.now subject.now.ran }
     ensures counts { IfOk result (λ end. report.new.counts ≡ counts_after report.old.counts (counted_as subject.now.ran end.left) end.failure) }
-    ensures ended { IfOk result (λ end. EndsAs (ending_at asked.now subject.now.layout.now subject.now.session.now.script) asked.now (P.is_known reviewer.old.person) reviewer.old.review (P.left reviewer.old.person) subject.now.layout.now subject.now.session.now.script end) }
+    ensures answered { IfOk result (λ end. (text : List ℕ) × (listed : List ListedScript)
+        × IsAnswered (S.tells_one system.now) asked.now (P.is_known reviewer.old.person) (P.left reviewer.old.person) report.old.state.form (checked subject.now.path.now subject.now.layout.now subject.now.whys.now subject.now.session.now.script subject.now.colors) reviewer.old.review reviewer.new.review end listed text
+        × Lists report.new.state report.old.differing.items report.new.differing.items listed
+        × GoesOut report.old.state report.new.state (W.held report.old.output) (W.held report.new.output) text) }
+    ensures part { IfErr result (λ _. GoesOutInPart report.old.state report.new.state (W.held report.old.output) (W.held report.new.output)) }
+    ensures listed { IfErr result (λ _. report.new.differing.items ≡ report.old.differing.items) }
     ensures failed { IfErr result (λ _. report.new.counts ≡ report.old.counts) }
+    // It fails only if memory was refused, or a line is named with no directive at it or above it.
+    ensures missed { IfErr result (λ error. AreNotFound (λ lines. AreNamedLines (S.tells_one system.now) subject.now.path.now asked.now.targets.now (Some lines)) subject.now.layout.now.heads.items (no_directive_failure asked.now.accepts) error) }
+    // Without a review nothing is asked.
+    ensures unasked { asked.now.reviews ≡ false → reviewer.new.review ≡ reviewer.old.review }
 {
     let alloc = system.alloc();
     tell(system, asked, subject, report)?;
@@ -155,7 +175,14 @@ fn accept_reviewed<M: Machine, S: System, P: Person, W: ReportSink, E: ReportSin
 ) -> Result<ScriptEnd, PathError>
     requires { IsLayout subject.now.text.now.bytes.items subject.now.session.now.script subject.now.layout.now }
     ensures counts { IfOk result (λ end. report.new.counts ≡ counts_after report.old.counts (counted_as subject.now.ran end.left) end.failure) }
-    ensures ended { subject.now.ran.mismatches ≡ length (mismatches subject.now.session.now.script) → IfOk result (λ end. AcceptsSaid asked.now (P.is_known reviewer.old.person) reviewer.old.review (P.left reviewer.old.person) subject.now.layout.now subject.now.session.now.script end) }
+    ensures accepted { IsOutcome subject.now.path.now subject.now.session.now.script subject.now.layout.now subject.now.ran
+        → IfOk result (λ end. (text : List ℕ) × (listed : List ListedScript)
+        × AcceptsSaid asked.now (P.is_known reviewer.old.person) (P.left reviewer.old.person) report.old.state.form (checked subject.now.path.now subject.now.layout.now subject.now.whys.now subject.now.session.now.script subject.now.colors) picked.entry reviewer.old.review reviewer.new.review end listed text
+        × Lists report.new.state report.old.differing.items report.new.differing.items listed
+        × GoesOut report.old.state report.new.state (W.held report.old.output) (W.held report.new.output) text) }
+    ensures part { IfErr result (λ _. GoesOutInPart report.old.state report.new.state (W.held report.old.output) (W.held report.new.output)) }
+    ensures listed { IfErr result (λ _. report.new.differing.items ≡ report.old.differing.items) }
+    ensures memory { IfErr result (λ error. error.failure ≡ OutOfMemory) }
     ensures failed { IfErr result (λ _. report.new.counts ≡ report.old.counts) }
 {
     let said = reviewed(asked, subject, picked, reviewer, report)?;

@@ -16,7 +16,7 @@ use rb_text::{Piece, add_pieces};
 use std::alloc::{AllocError, Global};
 
 // How many bytes a diff may have in a command: GitHub shows the first lines of a message, and takes 64 KiB.
-const MAX_DIFF: usize = 4_096;
+pub(crate) const MAX_DIFF: usize = 4_096;
 
 /// Adds a command with the file, the line and the title that it is shown with, and then the pieces of its message.
 pub(crate) fn add_command<'a>(

@@ -25,6 +25,7 @@ mod formatted;
 mod junit;
 mod kind;
 mod laws;
+mod limits;
 mod notes;
 mod notices;
 mod object;
@@ -59,6 +60,7 @@ pub use format::Format;
 pub use laws::{
     commands_are_lines, objects_are_ascii, suites_hold_texts, visible_texts_act_in_nothing,
 };
+pub use limits::limits_are;
 pub use paths::check;
 pub use place::place_at;
 pub use progress::ProgressClock;

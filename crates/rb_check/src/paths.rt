@@ -1,16 +1,18 @@
 //! `raftbench check`: scripts, and folders of scripts.
 
-ghost use Rattle.std.specs.Prelude.{◌≡◌, ◌≢◌, ◌≤◌, IfOk, IfErr, length, map};
+ghost use Rattle.std.specs.Prelude.{◌≡◌, ◌≢◌, ◌<◌, ◌≤◌, ℕ, false, List, IfErr, IfOk, IsTrue, map};
 ghost use Rattle.std.specs.IoError.{error_kind};
 ghost use Rattle.rb_report.specs.declared.check.outcome.Outcome.TheVariants.{Failed};
 ghost use Rattle.rb_report.specs.Counts.{of_outcome, together};
 ghost use Rattle.rb_check.specs.Lost.{counted_failures, lost_failures, lost_text, path_failure, path_text, paths_text, whole_failure, whole_text};
-ghost use Rattle.rb_check.specs.Reported.{AreCounted, IsCheckStatus, IsCounted};
+ghost use Rattle.rb_check.specs.Reported.{AreChecked, IsCheckStatus, IsCounted, IsReport, Reports, check_point};
 ghost use Rattle.rb_check.specs.Reviews.{review_end};
-ghost use Rattle.rb_check.specs.Shown.{GoesOut, last_text, lists};
+ghost use Rattle.rb_check.specs.Shown.{GoesOut, last_text, lists, shown_in, started};
+ghost use Rattle.rb_check.specs.Visible.{showing_of};
 
 use crate::check_request::CheckRequest;
 use crate::checking::check_script;
+use crate::error_stream::ErrorStream;
 use crate::person::{Person, TerminalPerson};
 use crate::progress::ProgressClock;
 use crate::report::Report;
@@ -44,25 +46,35 @@ pub fn check<T: Runner, R: Files + Input + Print + Clock + AllocGlobal, E: Write
     // It is the status of what is counted: each script as its run says, or its failure.
     ensures counted { IfOk result (λ status. IsCheckStatus asked.entry status) }
 {
-    let mut progress = ProgressClock::from_now(rt, asked.wants_progress);
     let output = stream_over(rt.alloc(), FailFast(io::writer(rt)))?;
-    let errors = stream_over(rt.alloc(), errors)?;
-    let mut report = Report::new(rt.alloc(), output, errors, &asked);
+    let errors = ErrorStream::new(stream_over(rt.alloc(), errors)?);
+    let report = report_on(rt, runner, &asked, output, errors);
+    Ok(report.status(asked.is_strict))
+}
+
+// Reports on the scripts of the paths, on these streams.
+fn report_on<T: Runner, R: Files + Input + Clock + AllocGlobal, W: ReportSink, E: ReportSink>(
+    rt: &R,
+    runner: &mut T,
+    asked: &CheckRequest<'_>,
+    output: W,
+    errors: ErrorStream<E>,
+) -> Report<W, E>
+    ensures { (text : List ℕ) × IsReport asked.now result.state result.counts text × GoesOut (started asked.now) result.state (W.held output) (W.held result.output) text }
+{
+    let mut progress = ProgressClock::from_now(rt, asked.wants_progress);
+    let mut report = Report::new(rt.alloc(), output, errors, asked);
     let found = find(rt, asked.targets, asked.filters);
     report.begin();
     tell_lost(&found, &mut report);
     let scripts = found.scripts.as_slice();
-    check_each(rt, runner, &asked, scripts, &mut progress, &mut report);
-    end(
-        &asked,
-        scripts.len(),
-        milliseconds(&progress, rt),
-        &mut report,
-    );
-    Ok(report.status(asked.is_strict))
+    check_each(rt, runner, asked, scripts, &mut progress, &mut report);
+    let milliseconds = milliseconds(&progress, rt);
+    end(asked, scripts.len(), milliseconds, &mut report);
+    report
 }
 
-// Checks the scripts one after another, until a review ends. Returns how many were checked.
+// Checks the scripts one after another, until a review ends.
 fn check_each<T: Runner, R: Files + Input + Clock + AllocGlobal, W: ReportSink, E: ReportSink>(
     rt: &R,
     runner: &mut T,
@@ -70,22 +82,33 @@ fn check_each<T: Runner, R: Files + Input + Clock + AllocGlobal, W: ReportSink, 
     scripts: &[String],
     progress: &mut ProgressClock,
     report: &mut Report<W, E>,
-) -> usize
-    ensures counted { AreCounted asked.now result report.old.counts report.new.counts }
-    ensures within { result ≤ length scripts.now }
+)
+    ensures { Reports (AreChecked asked.now report.old.state.form scripts.now report.old.counts report.new.counts)
+        report.old.state report.new.state report.old.differing.items report.new.differing.items (W.held report.old.output) (W.held report.new.output) }
 {
     let system = RuntimeSystem(rt);
     let person = TerminalPerson::new(rt, asked.gives_keys);
     let mut reviewer = Reviewer::new(rt.alloc(), person);
     let mut done = 0;
-    while done < scripts.len() && reviewer.review != Review::Over {
+    'reports: while goes_on(reviewer.review, done, scripts.len()) {
         tell_progress(rt, progress, done, scripts.len(), report);
         let path = scripts[done].as_str();
         check_one(&system, runner, asked, path, &mut reviewer, report);
         done += 1;
     }
     end_review(reviewer.review, scripts.len() - done, report);
-    done
+}
+
+// Whether a script is still to be checked, unless a review is over.
+fn goes_on(review: Review, done: usize, all: usize) -> bool
+    ensures within { IsTrue result → done < all }
+    ensures ongoing { IsTrue result → review ≢ Review.Over }
+    ensures last { result ≡ false → review ≢ Review.Over → all ≤ done }
+{
+    match review {
+        Review::Each | Review::Rest | Review::Skipped => done < all,
+        Review::Over => false,
+    }
 }
 
 // Shows how far the work is, if it is time to.
@@ -97,6 +120,7 @@ fn tell_progress<C: Clock, W: ReportSink, E: ReportSink>(
     report: &mut Report<W, E>,
 )
     ensures counts { report.new.counts ≡ report.old.counts }
+    ensures listed { report.new.differing.items ≡ report.old.differing.items }
     ensures state { report.new.state ≡ report.old.state }
     ensures output { report.new.output ≡ report.old.output }
 {
@@ -108,6 +132,7 @@ fn tell_progress<C: Clock, W: ReportSink, E: ReportSink>(
 // If the review ended, says how many scripts are left.
 fn end_review<W: ReportSink, E: ReportSink>(review: Review, left: usize, report: &mut Report<W, E>)
     ensures counts { report.new.counts ≡ report.old.counts }
+    ensures listed { report.new.differing.items ≡ report.old.differing.items }
     ensures shown { GoesOut report.old.state report.new.state (W.held report.old.output) (W.held report.new.output) (review_end review report.old.counts.accepted left) }
 {
     if review == Review::Over {
@@ -124,7 +149,9 @@ fn check_one<T: Runner, S: System, P: Person, W: ReportSink, E: ReportSink>(
     reviewer: &mut Reviewer<P>,
     report: &mut Report<W, E>,
 )
-    ensures { IsCounted asked.now (P.is_known reviewer.old.person) reviewer.old.review (P.left reviewer.old.person) report.old.counts report.new.counts }
+    ensures counted { Reports (IsCounted (S.has_read system.now) (S.tells_one system.now) asked.now (P.is_known reviewer.old.person) (P.left reviewer.old.person) report.old.state.form path.now (check_point report.old.counts reviewer.old.review) (check_point report.new.counts reviewer.new.review))
+        report.old.state report.new.state report.old.differing.items report.new.differing.items (W.held report.old.output) (W.held report.new.output) }
+    ensures unasked { asked.now.reviews ≡ false → reviewer.new.review ≡ reviewer.old.review }
 {
     if let Err(error) = check_script(system, runner, asked, path, reviewer, report) {
         report.fail(path.as_bytes(), error);
@@ -139,6 +166,7 @@ fn end<W: ReportSink, E: ReportSink>(
     report: &mut Report<W, E>,
 )
     ensures counts { report.new.counts ≡ report.old.counts }
+    ensures listed { report.new.differing.items ≡ report.old.differing.items }
     ensures shown { GoesOut report.old.state report.new.state (W.held report.old.output) (W.held report.new.output)
         (last_text asked.now n report.old.state.form report.old.differing.items (together report.old.counts report.old.state.own) milliseconds) }
 {
@@ -160,6 +188,7 @@ fn lists(shown: Detail, n: usize) -> bool
 // Reports the paths that could not be read.
 fn tell_lost<W: ReportSink, E: ReportSink>(found: &Found, report: &mut Report<W, E>)
     ensures counts { report.new.counts ≡ counted_failures report.old.counts (lost_failures found.now) }
+    ensures listed { report.new.differing.items ≡ report.old.differing.items }
     ensures shown { GoesOut report.old.state report.new.state (W.held report.old.output) (W.held report.new.output) (lost_text report.old.state.form found.now) }
 {
     tell_each_lost(found.lost.as_slice(), report);
@@ -174,6 +203,7 @@ fn tell_lost<W: ReportSink, E: ReportSink>(found: &Found, report: &mut Report<W,
 // Reports the paths that failed.
 fn tell_each_lost<W: ReportSink, E: ReportSink>(lost: &[FailedPath], report: &mut Report<W, E>)
     ensures counts { report.new.counts ≡ counted_failures report.old.counts (map path_failure lost.now) }
+    ensures listed { report.new.differing.items ≡ report.old.differing.items }
     ensures shown { GoesOut report.old.state report.new.state (W.held report.old.output) (W.held report.new.output) (paths_text report.old.state.form lost.now) }
 {
     for i in 0..lost.len() {
@@ -183,6 +213,9 @@ fn tell_each_lost<W: ReportSink, E: ReportSink>(lost: &[FailedPath], report: &mu
 
 fn tell_one_lost<W: ReportSink, E: ReportSink>(lost: &FailedPath, report: &mut Report<W, E>)
     ensures counts { report.new.counts ≡ together report.old.counts (of_outcome (Failed (path_failure lost.now))) }
+    ensures listed { report.new.differing.items ≡ report.old.differing.items }
+    // If something of the path acts, it goes out by numbers.
+    ensures heeded { report.new.showing ≡ shown_in report.old.state.form.format (showing_of lost.now.path.items) }
     ensures shown { GoesOut report.old.state report.new.state (W.held report.old.output) (W.held report.new.output) (path_text report.old.state.form lost.now) }
 {
     report.heed(&lost.path, None);
@@ -196,6 +229,7 @@ fn tell_if<W: ReportSink, E: ReportSink>(
     report: &mut Report<W, E>,
 )
     ensures counts { report.new.counts ≡ counted_failures report.old.counts (whole_failure has_failed failure) }
+    ensures listed { report.new.differing.items ≡ report.old.differing.items }
     ensures shown { GoesOut report.old.state report.new.state (W.held report.old.output) (W.held report.new.output) (whole_text report.old.state.form has_failed failure) }
 {
     if has_failed {

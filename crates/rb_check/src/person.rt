@@ -1,20 +1,20 @@
 //! Who answers the questions of a review.
 
-ghost use Rattle.std.specs.Prelude.{◌≡◌, ◌<◌, ◌≤◌, ◌^◌, ◌++◌, ℕ, [], List, Option, length};
+ghost use Rattle.std.specs.Prelude.{◌≡◌, ◌<◌, ◌≤◌, ◌^◌, ◌++◌, ℕ, [], List, Option, ⊤, true, length, option_map, string_bytes};
 ghost use Rattle.rb_check.specs.Asking.{IsAsked, echo_of, help_text};
-ghost use Rattle.rb_check.specs.Reviews.{after_answer, answered, first_heard, rest_heard};
+ghost use Rattle.rb_check.specs.Reviews.{after_answer, answered, first_heard, heard_by_line, rest_heard};
 ghost use Rattle.rb_check.specs.Shown.{GoesOut};
 
-use crate::answer::{Answer, HeardAnswer, heard_by_key, heard_in, visible_key};
+use crate::answer::{Answer, HeardAnswer, heard_by_key, heard_by_line, visible_key};
 use crate::report::Report;
 use crate::report_sink::ReportSink;
 use std::io::Read;
 use std::time::{Clock, Duration, Instant};
 
 // A terminal has no more bytes at once.
-const MOST_KEYS: usize = 4_096;
+pub(crate) const MOST_KEYS: usize = 4_096;
 
-const MILLISECONDS_APART: u64 = 200;
+const KEYS_APART: u64 = 200;
 
 /// Who answers the questions of a review.
 pub(crate) trait Person: Drop {
@@ -35,6 +35,8 @@ pub(crate) trait Person: Drop {
         ensures listed { report.new.differing.items ≡ report.old.differing.items }
         // The question goes out, and of the answer what the terminal doesn't show itself.
         ensures shown { (keys : Option (List ℕ)) × GoesOut report.old.state report.new.state (W.held report.old.output) (W.held report.new.output) (question.now ++ echo_of keys) }
+        // What nobody was asked isn't answered.
+        ensures unasked { report.old.state.is_closed ≡ true → result ≡ HeardAnswer.End }
         ensures known { is_known self.old → is_known self.new }
         ensures next { is_known self.old → result ≡ first_heard (left self.old) }
         ensures rest { is_known self.old → left self.new ≡ rest_heard (left self.old) };
@@ -56,14 +58,6 @@ impl<'a, R: Input + Clock + AllocGlobal> TerminalPerson<'a, R> {
             rt,
             gives_keys,
             missed: None,
-        }
-    }
-
-    fn hear_line(&self) -> HeardAnswer {
-        let mut line = String::new(self.rt.alloc());
-        match self.rt.read_line(&mut line) {
-            Ok(count) if count > 0 => heard_in(line.as_str()),
-            _ => HeardAnswer::End,
         }
     }
 
@@ -92,10 +86,40 @@ impl<'a, R: Input + Clock + AllocGlobal> TerminalPerson<'a, R> {
             return false;
         };
         match missed.elapsed(self.rt) {
-            Ok(elapsed) => elapsed < Duration::from_millis(MILLISECONDS_APART),
+            Ok(elapsed) => elapsed < Duration::from_millis(KEYS_APART),
             Err(_) => false,
         }
     }
+}
+
+/// Reads lines. Code over it is proved of whatever is read.
+pub(crate) trait LineInput {
+    // a read gives this line, which is empty at the end, or it fails
+    ghost reads: { Self → Option (List ℕ) → Type 0 };
+
+    /// The next line; none, if the read failed.
+    fn line(&self) -> Option<String>
+        ensures { reads self.now (option_map string_bytes result) };
+}
+
+// What comes from a terminal is not known.
+impl<R: Input + AllocGlobal> LineInput for R {
+    ghost reads = { λ _ _. ⊤ };
+
+    fn line(&self) -> Option<String> {
+        let mut line = String::new(self.alloc());
+        match self.read_line(&mut line) {
+            Ok(_) => Some(line),
+            Err(_) => None,
+        }
+    }
+}
+
+// Reads a line.
+fn hear_line<I: LineInput>(input: &I) -> HeardAnswer
+    ensures { (line : Option (List ℕ)) × I.reads input.now line × (result ≡ heard_by_line line) }
+{
+    heard_by_line(input.line().as_deref())
 }
 
 // Writes what was keyed, and the end of its line.
@@ -128,7 +152,7 @@ impl<'a, R: Input + Clock + AllocGlobal> Person for TerminalPerson<'a, R> {
         if self.gives_keys {
             self.hear_key(report)
         } else {
-            self.hear_line()
+            hear_line(self.rt)
         }
     }
 }

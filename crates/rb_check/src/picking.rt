@@ -1,14 +1,12 @@
 //! The directives that are to be accepted, if lines are named.
 
-ghost use Rattle.std.specs.Prelude.{◌≡◌, ◌==◌, ◌++◌, ◌∷◌, [], ℕ, false, IfErr, IfNone, IfOk, IfSome, None, Some, option_map};
-ghost use Rattle.std.specs.List.{list_any};
+ghost use Rattle.std.specs.Prelude.{◌≡◌, ◌++◌, ◌∷◌, [], ℕ, List, false, IfErr, IfOk, IfSome, None, Some, option_map};
 ghost use Rattle.rb_report.specs.declared.check.failure.Failure.TheVariants.{NotWritten};
-ghost use Rattle.rb_script_report.specs.Accepting.{is_picked};
 ghost use Rattle.rb_script_report.specs.Layouts.{IsLayout};
-ghost use Rattle.rb_check.specs.Endings.{unnamed};
-ghost use Rattle.rb_check.specs.ScriptTexts.{ArePicked, matched_at, matched_text};
+ghost use Rattle.rb_check.specs.Endings.{IsPicked, unnamed};
+ghost use Rattle.rb_check.specs.ScriptTexts.{AreNamedHeads, ArePicked, checked, matched_at, matched_text};
 ghost use Rattle.rb_check.specs.Shown.{GoesOut, GoesOutInPart};
-ghost use Rattle.rb_check.specs.Targets.{AreNamedHeads, AreNamedLines, AreNotPicked, IsOfScript};
+ghost use Rattle.rb_check.specs.Targets.{AreNamedLines, AreNotFound, IsOfScript, no_directive_failure};
 
 use crate::check_request::CheckRequest;
 use crate::checked_script::CheckedScript;
@@ -33,9 +31,9 @@ pub(crate) fn named_heads<M: Machine, S: System, W: ReportSink, E: ReportSink>(
 ) -> Result<Option<Vec<usize>>, PathError>
     ensures counts { report.new.counts ≡ report.old.counts }
     ensures listed { report.new.differing.items ≡ report.old.differing.items }
-    ensures named { IfOk result (λ heads. AreNamedHeads (S.tells_one system.now) subject.now.path.now asked.now (matched_text report.old.state.form subject.now.path.now subject.now.layout.now.heads.items subject.now.session.now.script) subject.now.layout.now.heads.items (option_map (λ some. some.items) heads) report.old.state report.new.state (W.held report.old.output) (W.held report.new.output)) }
+    ensures named { IfOk result (λ heads. (text : List ℕ) × AreNamedHeads (S.tells_one system.now) asked.now report.old.state.form (checked subject.now.path.now subject.now.layout.now subject.now.whys.now subject.now.session.now.script subject.now.colors) (option_map (λ some. some.items) heads) text × GoesOut report.old.state report.new.state (W.held report.old.output) (W.held report.new.output) text) }
     ensures part { IfErr result (λ _. GoesOutInPart report.old.state report.new.state (W.held report.old.output) (W.held report.new.output)) }
-    ensures failed { IfErr result (λ error. AreNotPicked (λ lines. AreNamedLines (S.tells_one system.now) subject.now.path.now asked.now.targets.now (Some lines)) subject.now.layout.now.heads.items error) }
+    ensures failed { IfErr result (λ error. AreNotFound (λ lines. AreNamedLines (S.tells_one system.now) subject.now.path.now asked.now.targets.now (Some lines)) subject.now.layout.now.heads.items (no_directive_failure asked.now.accepts) error) }
 {
     if !asked.accepts {
         return Ok(None);
@@ -58,8 +56,7 @@ pub(crate) fn picked_of<'a, M: Machine>(
     heads: &'a Option<Vec<usize>>,
 ) -> Result<AcceptFilter<'a>, AllocError>
     requires { IsLayout subject.now.text.now.bytes.items subject.now.session.now.script subject.now.layout.now }
-    ensures heads { IfSome heads.now (λ heads. IfOk result (λ picked. (line : ℕ) → is_picked picked line ≡ list_any (λ head. head == line) heads.items)) }
-    ensures unnamed { IfNone heads.now (IfOk result (λ picked. picked ≡ unnamed asked.now subject.now.layout.now.text subject.now.layout.now.heads.items subject.now.session.now.script)) }
+    ensures { IfOk result (λ picked. IsPicked asked.now (checked subject.now.path.now subject.now.layout.now subject.now.whys.now subject.now.session.now.script subject.now.colors) (option_map (λ some. some.items) heads.now) picked) }
 {
     match heads {
         Some(heads) => Ok(AcceptFilter::Heads(heads.as_slice())),
@@ -145,7 +142,7 @@ fn heads_at<M: Machine, W: ReportSink, E: ReportSink>(
     ensures listed { report.new.differing.items ≡ report.old.differing.items }
     ensures picked { IfOk result (λ picked. ArePicked (matched_text report.old.state.form subject.now.path.now subject.now.layout.now.heads.items subject.now.session.now.script) subject.now.layout.now.heads.items lines.now picked.items report.old.state report.new.state (W.held report.old.output) (W.held report.new.output)) }
     ensures part { IfErr result (λ _. GoesOutInPart report.old.state report.new.state (W.held report.old.output) (W.held report.new.output)) }
-    ensures failed { IfErr result (λ error. AreNotPicked (λ these. these ≡ lines.now) subject.now.layout.now.heads.items error) }
+    ensures failed { IfErr result (λ error. AreNotFound (λ these. these ≡ lines.now) subject.now.layout.now.heads.items NotWritten error) }
 {
     let mut picked = Vec::new(alloc);
     for i in 0..lines.len() {

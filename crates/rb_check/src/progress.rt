@@ -3,9 +3,9 @@
 use std::time::{Clock, Duration, Instant};
 
 // Work of a second or less shows nothing, and the progress line changes at most ten times a second.
-const FIRST_MILLISECONDS: u64 = 1_000;
+pub(crate) const FIRST_MILLISECONDS: u64 = 1_000;
 
-const MILLISECONDS_APART: u64 = 100;
+pub(crate) const MILLISECONDS_APART: u64 = 100;
 
 /// When it is time to show how far the work is.
 #[derive(Clone, Copy)]

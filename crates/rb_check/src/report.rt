@@ -3,7 +3,7 @@
 //! Results go to standard output, failures and the progress line to standard error. If standard output fails,
 //! that is reported once, and the check continues without it. `GoesOut` says what each call writes on standard output.
 
-ghost use Rattle.std.specs.Prelude.{◌≡◌, ◌≢◌, ℕ, true, false, not, List, [], Option, MatchOption, is_some, ◌++◌, IfOk};
+ghost use Rattle.std.specs.Prelude.{◌≡◌, ◌≢◌, ℕ, true, false, not, List, [], Option, MatchOption, is_some, ◌++◌, IfErr, IfOk};
 ghost use Rattle.std.specs.Io.KnownBytes.{Keeps};
 ghost use Rattle.rb_script.specs.Writes.{AppendsFront, Writes};
 ghost use Rattle.rb_report.specs.declared.check.failure.Failure.TheVariants.{OutOfMemory};
@@ -47,16 +47,22 @@ pub(crate) struct Report<W: ReportSink, E: ReportSink> {
 
 impl<W: ReportSink, E: ReportSink> Report<W, E> {
     /// It has no outcomes yet.
-    pub(crate) fn new(alloc: Global, output: W, errors: E, asked: &CheckRequest<'_>) -> Report<W, E>
+    pub(crate) fn new(
+        alloc: Global,
+        output: W,
+        errors: ErrorStream<E>,
+        asked: &CheckRequest<'_>,
+    ) -> Report<W, E>
         ensures empty { result.counts ≡ nothing }
         ensures state { result.state ≡ started asked.now }
         ensures output { result.output ≡ output }
+        ensures errors { result.errors ≡ errors }
         ensures listed { result.differing.items ≡ [] }
     {
         Report {
             alloc,
             output,
-            errors: ErrorStream::new(errors),
+            errors,
             showing: Showing::AsIs,
             state: ReportState::new(asked),
             counts: Totals::new(),
@@ -125,6 +131,8 @@ impl<W: ReportSink, E: ReportSink> Report<W, E> {
         ensures showing { self.new.showing ≡ self.old.showing }
         ensures listed { self.new.differing.items ≡ self.old.differing.items }
         ensures errors { self.old.errors.shows_progress ≡ false → self.new.errors ≡ self.old.errors }
+        ensures progress { self.old.state.is_closed ≡ false → self.new.errors.shows_progress ≡ false }
+        ensures cleared { self.old.state.is_closed ≡ false → Told (E.takes_all self.old.errors.sink) (E.takes_all self.new.errors.sink) (E.held self.old.errors.sink) (E.held self.new.errors.sink) (cleared self.old.errors.shows_progress) }
     {
         if self.state.is_closed {
             return false;
@@ -137,6 +145,7 @@ impl<W: ReportSink, E: ReportSink> Report<W, E> {
     pub(crate) fn wrote(&mut self, written: Result<(), WriteFault>)
         ensures counts { self.new.counts ≡ self.old.counts }
         ensures listed { self.new.differing.items ≡ self.old.differing.items }
+        ensures showing { self.new.showing ≡ self.old.showing }
         ensures errors { LosesNothing self.old.state self.new.state → self.new.errors ≡ self.old.errors }
         // What was written is handed on, unless that failed.
         ensures flushed { self.new.state.is_closed ≡ false → W.is_flushed self.new.output }
@@ -158,6 +167,7 @@ impl<W: ReportSink, E: ReportSink> Report<W, E> {
     pub(crate) fn showed(&mut self, shown: Result<(), ShowFault>) -> Result<(), PathError>
         ensures counts { self.new.counts ≡ self.old.counts }
         ensures listed { self.new.differing.items ≡ self.old.differing.items }
+        ensures memory { IfErr result (λ error. error.failure ≡ OutOfMemory) }
         ensures flushed { IfOk result (λ _. self.new.state.is_closed ≡ false → W.is_flushed self.new.output) }
         ensures shown { (before : Option (List ℕ)) (text : List ℕ) → self.old.state.is_closed ≡ false → Shows shown before (W.held self.old.output) text
             → GoesOutIf result self.old.state self.new.state before (W.held self.new.output) text }
@@ -175,6 +185,7 @@ impl<W: ReportSink, E: ReportSink> Report<W, E> {
     fn showed_in_part(&mut self, fault: ShowFault) -> Result<(), PathError>
         ensures counts { self.new.counts ≡ self.old.counts }
         ensures listed { self.new.differing.items ≡ self.old.differing.items }
+        ensures memory { IfErr result (λ error. error.failure ≡ OutOfMemory) }
         ensures flushed { IfOk result (λ _. self.new.state.is_closed ≡ false → W.is_flushed self.new.output) }
         ensures shown { (before : Option (List ℕ)) (text : List ℕ) → self.old.state.is_closed ≡ false → AppendsFront before (W.held self.old.output) text
             → GoesOutIf result self.old.state self.new.state before (W.held self.new.output) text }
@@ -192,6 +203,7 @@ impl<W: ReportSink, E: ReportSink> Report<W, E> {
     fn lose_output(&mut self, handed_on: &io::Result<()>)
         ensures counts { self.new.counts ≡ self.old.counts }
         ensures listed { self.new.differing.items ≡ self.old.differing.items }
+        ensures showing { self.new.showing ≡ self.old.showing }
         ensures output { self.new.output ≡ self.old.output }
         ensures closed { self.new.state.is_closed ≡ true }
         ensures kept { self.old.state.is_closed ≡ true → self.new ≡ self.old }
@@ -212,6 +224,7 @@ impl<W: ReportSink, E: ReportSink> Report<W, E> {
     pub(crate) fn fail_for_memory(&mut self, path: &[u8])
         ensures counts { self.new.counts ≡ self.old.counts }
         ensures listed { self.new.differing.items ≡ self.old.differing.items }
+        ensures showing { self.new.showing ≡ self.old.showing }
         ensures output { self.new.output ≡ self.old.output }
         ensures told { Told (E.takes_all self.old.errors.sink) (E.takes_all self.new.errors.sink) (E.held self.old.errors.sink) (E.held self.new.errors.sink) (cleared self.old.errors.shows_progress ++ failure_text path.now OutOfMemory) }
         ensures state { self.new.state ≡ lacking self.old.state }
@@ -224,9 +237,11 @@ impl<W: ReportSink, E: ReportSink> Report<W, E> {
     pub(crate) fn show<T: WrittenPiece>(&mut self, text: &T)
         ensures counts { self.new.counts ≡ self.old.counts }
         ensures listed { self.new.differing.items ≡ self.old.differing.items }
+        ensures showing { self.new.showing ≡ self.old.showing }
         ensures errors { self.old.errors.shows_progress ≡ false → LosesNothing self.old.state self.new.state → self.new.errors ≡ self.old.errors }
         ensures flushed { self.new.state.is_closed ≡ false → W.is_flushed self.new.output }
         ensures shown { GoesOut self.old.state self.new.state (W.held self.old.output) (W.held self.new.output) (T.text text.now) }
+        ensures closed { self.old.state.is_closed ≡ true → self.new.state.is_closed ≡ true }
     {
         if !self.is_open() {
             return;
@@ -242,6 +257,7 @@ impl<W: ReportSink, E: ReportSink> Report<W, E> {
         ensures flushed { self.new.state.is_closed ≡ false → W.is_flushed self.new.output }
         ensures shown { GoesOut self.old.state self.new.state (W.held self.old.output) (W.held self.new.output) text.now }
         ensures said { result ≡ not self.new.state.is_closed }
+        ensures closed { self.old.state.is_closed ≡ true → result ≡ false }
     {
         self.show(&text);
         !self.state.is_closed
@@ -251,6 +267,7 @@ impl<W: ReportSink, E: ReportSink> Report<W, E> {
     pub(crate) fn put(&mut self, text: &[u8])
         ensures counts { self.new.counts ≡ self.old.counts }
         ensures listed { self.new.differing.items ≡ self.old.differing.items }
+        ensures showing { self.new.showing ≡ self.old.showing }
         ensures errors { self.old.errors.shows_progress ≡ false → LosesNothing self.old.state self.new.state → self.new.errors ≡ self.old.errors }
         ensures flushed { self.new.state.is_closed ≡ false → W.is_flushed self.new.output }
         ensures shown { GoesOut self.old.state self.new.state (W.held self.old.output) (W.held self.new.output) text.now }
@@ -262,6 +279,7 @@ impl<W: ReportSink, E: ReportSink> Report<W, E> {
     fn notify_in(&mut self, format: Format, path: &[u8], remark: Remark)
         ensures counts { self.new.counts ≡ self.old.counts }
         ensures listed { self.new.differing.items ≡ self.old.differing.items }
+        ensures showing { self.new.showing ≡ self.old.showing }
         ensures errors { self.old.errors.shows_progress ≡ false → LosesNothing self.old.state self.new.state → self.new.errors ≡ self.old.errors }
         ensures shown { GoesOut self.old.state self.new.state (W.held self.old.output) (W.held self.new.output) (programs_text format self.old.state.form.is_strict path.now remark) }
     {
@@ -275,6 +293,7 @@ impl<W: ReportSink, E: ReportSink> Report<W, E> {
     pub(crate) fn notify(&mut self, path: &[u8], remark: Remark)
         ensures counts { self.new.counts ≡ self.old.counts }
         ensures listed { self.new.differing.items ≡ self.old.differing.items }
+        ensures showing { self.new.showing ≡ self.old.showing }
         ensures errors { self.old.errors.shows_progress ≡ false → LosesNothing self.old.state self.new.state → self.new.errors ≡ self.old.errors }
         ensures shown { GoesOut self.old.state self.new.state (W.held self.old.output) (W.held self.new.output) (noticed_text self.old.state.form path.now remark) }
     {

@@ -51,7 +51,7 @@ impl<W: ReportSink, E: ReportSink> Report<W, E> {
 
     fn push_differing(&mut self, alloc: Global, ran: Ran<'_>, line: usize) -> Result<(), AllocError>
         ensures counts { self.new.counts ≡ self.old.counts }
-        ensures listed { IfOk result (λ _. listing self.new.differing.items ≡ listing self.old.differing.items ++ listed_if ran.entry ran.entry.mismatches (Some line)) }
+        ensures listed { IfOk result (λ _. listing self.new.differing.items ≡ listing self.old.differing.items ++ listed_if ran.entry.path.now ran.entry.directives ran.entry.mismatches (Some line)) }
         ensures errors { self.new.errors ≡ self.old.errors }
         ensures state { self.new.state ≡ self.old.state }
         ensures output { self.new.output ≡ self.old.output }
@@ -173,6 +173,7 @@ impl<W: ReportSink, E: ReportSink> Report<W, E> {
     pub(crate) fn fail(&mut self, path: &[u8], error: PathError)
         ensures counts { self.new.counts ≡ together self.old.counts (of_outcome (Failed error.failure)) }
         ensures listed { self.new.differing.items ≡ self.old.differing.items }
+        ensures showing { self.new.showing ≡ self.old.showing }
         // If nothing of the report itself fails, this is all that the stream of errors has.
         ensures told { LosesNothing self.old.state self.new.state → (words : List ℕ) × Told (E.takes_all self.old.errors.sink) (E.takes_all self.new.errors.sink) (E.held self.old.errors.sink) (E.held self.new.errors.sink) (cleared self.old.errors.shows_progress ++ failure_lines path.now error words) }
         ensures progress { LosesNothing self.old.state self.new.state → self.new.errors.shows_progress ≡ false }

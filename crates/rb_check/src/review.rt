@@ -6,6 +6,7 @@
 ghost use Rattle.std.specs.Prelude.{◌≡◌, ◌++◌, ◌∷◌, [], ◌<◌, ◌≤◌, ◌^◌, ◌+◌, ◌-◌, ℕ, List, IfErr, IfOk, IfSome, drop, length, min};
 ghost use Rattle.rb_replay.specs.Report.{differing, mismatches};
 ghost use Rattle.rb_replay.specs.Run.{outputs};
+ghost use Rattle.rb_report.specs.declared.check.failure.Failure.TheVariants.{OutOfMemory};
 ghost use Rattle.rb_script_report.specs.Checked.{head_line};
 ghost use Rattle.rb_script_report.specs.Layouts.{IsLayout};
 ghost use Rattle.rb_check.specs.Asking.{AreAsked, AreReviewed, IsAsked, IsAskedAt, asked_places, place_if, places_of, subject_text};
@@ -157,6 +158,7 @@ pub(crate) fn reviewed<M: Machine, P: Person, W: ReportSink, E: ReportSink>(
     requires { IsLayout subject.now.text.now.bytes.items subject.now.session.now.script subject.now.layout.now }
     ensures counts { report.new.counts ≡ report.old.counts }
     ensures listed { report.new.differing.items ≡ report.old.differing.items }
+    ensures memory { IfErr result (λ error. error.failure ≡ OutOfMemory) }
     ensures known { P.is_known reviewer.old.person → P.is_known reviewer.new.person }
     ensures few { P.is_known reviewer.old.person → length (P.left reviewer.old.person) < 2 ^ 64 → length (P.left reviewer.new.person) ≤ length (P.left reviewer.old.person) }
     // What goes out are the questions, one after another, as far as they are asked.
@@ -240,6 +242,7 @@ fn go_over<M: Machine, P: Person, W: ReportSink, E: ReportSink>(
     requires { IsLayout subject.now.text.now.bytes.items subject.now.session.now.script subject.now.layout.now }
     ensures counts { report.new.counts ≡ report.old.counts }
     ensures listed { report.new.differing.items ≡ report.old.differing.items }
+    ensures memory { IfErr result (λ error. error.failure ≡ OutOfMemory) }
     ensures shown { reviewer.old.number ≡ 0 → reviewer.old.count ≡ length (places_of picked.entry subject.now.layout.now.heads.items (mismatches subject.now.session.now.script))
         → IfOk result (λ _. (text : List ℕ) × AreReviewed (checked subject.now.path.now subject.now.layout.now subject.now.whys.now subject.now.session.now.script subject.now.colors) picked.entry reviewer.old.review reviewer.new.review text × GoesOut report.old.state report.new.state (W.held report.old.output) (W.held report.new.output) text) }
     ensures part { IfErr result (λ _. GoesOutInPart report.old.state report.new.state (W.held report.old.output) (W.held report.new.output)) }
@@ -268,6 +271,7 @@ fn review_one<M: Machine, P: Person, W: ReportSink, E: ReportSink>(
     requires within { index < length subject.now.session.now.script.blocks }
     ensures counts { report.new.counts ≡ report.old.counts }
     ensures listed { report.new.differing.items ≡ report.old.differing.items }
+    ensures memory { IfErr result (λ error. error.failure ≡ OutOfMemory) }
     // It goes out as its next question, if it has one that is still to be asked.
     ensures shown { reviewer.old.number < 2 ^ 64 - 1 → IfSome question (λ asks. asks.head ≡ head_line subject.now.layout.now.heads.items (index + 1))
         → IfOk result (λ _. (text : List ℕ) × AreAsked (checked subject.now.path.now subject.now.layout.now subject.now.whys.now subject.now.session.now.script subject.now.colors) reviewer.old.count (reviewer.old.number + 1) (asked_places reviewer.old.review question (index + 1)) text × GoesOut report.old.state report.new.state (W.held report.old.output) (W.held report.new.output) text) }
@@ -306,6 +310,7 @@ fn ask_about<M: Machine, P: Person, W: ReportSink, E: ReportSink>(
     requires within { index < length subject.now.session.now.script.blocks }
     ensures counts { report.new.counts ≡ report.old.counts }
     ensures listed { report.new.differing.items ≡ report.old.differing.items }
+    ensures memory { IfErr result (λ error. error.failure ≡ OutOfMemory) }
     ensures shown { reviewer.old.number < 2 ^ 64 - 1 → question.head ≡ head_line subject.now.layout.now.heads.items (index + 1)
         → IfOk result (λ _. (text : List ℕ) × IsAskedAt (checked subject.now.path.now subject.now.layout.now subject.now.whys.now subject.now.session.now.script subject.now.colors) reviewer.old.count (reviewer.old.number + 1) (index + 1) text × GoesOut report.old.state report.new.state (W.held report.old.output) (W.held report.new.output) text) }
     ensures part { GoesOutInPart report.old.state report.new.state (W.held report.old.output) (W.held report.new.output) }
@@ -359,6 +364,7 @@ fn show<M: Machine, W: ReportSink, E: ReportSink>(
     requires within { index < length subject.now.session.now.script.blocks }
     ensures counts { report.new.counts ≡ report.old.counts }
     ensures listed { report.new.differing.items ≡ report.old.differing.items }
+    ensures memory { IfErr result (λ error. error.failure ≡ OutOfMemory) }
     ensures shown { GoesOutIf result report.old.state report.new.state (W.held report.old.output) (W.held report.new.output) (subject_text (checked subject.now.path.now subject.now.layout.now subject.now.whys.now subject.now.session.now.script subject.now.colors) question.head (index + 1)) }
 {
     if !report.is_open() {

@@ -1,12 +1,14 @@
 //! Showing a script that ran: its warnings and its report, or the directives that are named alone.
 
-ghost use Rattle.std.specs.Prelude.{◌≡◌, ℕ, List, IfErr, IfOk};
+ghost use Rattle.std.specs.Prelude.{◌≡◌, ℕ, List, IfErr, IfOk, Some};
+ghost use Rattle.rb_report.specs.declared.check.failure.Failure.TheVariants.{OutOfMemory};
 ghost use Rattle.rb_script_report.specs.Layouts.{IsLayout};
 ghost use Rattle.rb_script_report.specs.Whys.{told_text};
 ghost use Rattle.rb_check.specs.Findings.{AreFindings};
 ghost use Rattle.rb_check.specs.Formats.{script_text};
-ghost use Rattle.rb_check.specs.ScriptTexts.{IsTold, may_be_empty, report_text, shown_warnings, shows_warnings, warns};
+ghost use Rattle.rb_check.specs.ScriptTexts.{IsTold, checked, may_be_empty, report_text, shown_warnings, shows_warnings, warns};
 ghost use Rattle.rb_check.specs.Shown.{GoesOut, GoesOutIf, GoesOutInPart};
+ghost use Rattle.rb_check.specs.Targets.{AreNamedLines, AreNotFound, no_directive_failure};
 
 use crate::alone::show_alone;
 use crate::check_request::CheckRequest;
@@ -37,7 +39,8 @@ pub(crate) fn tell<M: Machine, S: System, W: ReportSink, E: ReportSink>(
     requires { AreFindings subject.now.text.now.bytes.items subject.now.session.now.script subject.now.layout.now subject.now.warnings.now subject.now.ran }
     ensures counts { report.new.counts ≡ report.old.counts }
     ensures listed { report.new.differing.items ≡ report.old.differing.items }
-    ensures shown { IfOk result (λ _. (text : List ℕ) × (IsTold asked.now subject.now.colors report.old.state.form subject.now.path.now subject.now.layout.now subject.now.whys.now subject.now.session.now.script text)
+    ensures failed { IfErr result (λ error. AreNotFound (λ lines. AreNamedLines (S.tells_one system.now) subject.now.path.now asked.now.targets.now (Some lines)) subject.now.layout.now.heads.items (no_directive_failure asked.now.accepts) error) }
+    ensures shown { IfOk result (λ _. (text : List ℕ) × IsTold (S.tells_one system.now) asked.now report.old.state.form (checked subject.now.path.now subject.now.layout.now subject.now.whys.now subject.now.session.now.script subject.now.colors) text
         × GoesOut report.old.state report.new.state (W.held report.old.output) (W.held report.new.output) text) }
     ensures part { IfErr result (λ _. GoesOutInPart report.old.state report.new.state (W.held report.old.output) (W.held report.new.output)) }
 {
@@ -93,6 +96,7 @@ fn show<M: Machine, W: ReportSink, E: ReportSink>(
     requires { AreFindings subject.now.text.now.bytes.items subject.now.session.now.script subject.now.layout.now subject.now.warnings.now subject.now.ran }
     ensures counts { report.new.counts ≡ report.old.counts }
     ensures listed { report.new.differing.items ≡ report.old.differing.items }
+    ensures memory { IfErr result (λ error. error.failure ≡ OutOfMemory) }
     ensures shown { GoesOutIf result report.old.state report.new.state (W.held report.old.output) (W.held report.new.output) (report_text asked.now subject.now.colors subject.now.path.now subject.now.layout.now subject.now.whys.now subject.now.session.now.script) }
 {
     if may_be_empty(asked.format) && is_quiet(subject.session, asked.shown) {
@@ -126,6 +130,7 @@ fn show_people<M: Machine, W: ReportSink, E: ReportSink>(
     requires { IsLayout subject.now.text.now.bytes.items subject.now.session.now.script subject.now.layout.now }
     ensures counts { report.new.counts ≡ report.old.counts }
     ensures listed { report.new.differing.items ≡ report.old.differing.items }
+    ensures memory { IfErr result (λ error. error.failure ≡ OutOfMemory) }
     ensures shown { GoesOutIf result report.old.state report.new.state (W.held report.old.output) (W.held report.new.output)
         (told_text shown subject.now.colors subject.now.layout.now.text subject.now.path.now subject.now.whys.now subject.now.layout.now.heads.items subject.now.session.now.script) }
 {
@@ -160,6 +165,7 @@ fn show_programs<M: Machine, W: ReportSink, E: ReportSink>(
     requires { AreFindings subject.now.text.now.bytes.items subject.now.session.now.script subject.now.layout.now subject.now.warnings.now subject.now.ran }
     ensures counts { report.new.counts ≡ report.old.counts }
     ensures listed { report.new.differing.items ≡ report.old.differing.items }
+    ensures memory { IfErr result (λ error. error.failure ≡ OutOfMemory) }
     ensures shown { GoesOutIf result report.old.state report.new.state (W.held report.old.output) (W.held report.new.output)
         (script_text format is_strict subject.now.layout.now.text subject.now.path.now subject.now.whys.now subject.now.layout.now.heads.items subject.now.session.now.script) }
 {

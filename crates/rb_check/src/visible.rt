@@ -9,6 +9,7 @@ ghost use Rattle.std.specs.List.{list_any};
 ghost use Rattle.rb_script.specs.Writes.{Writes};
 ghost use Rattle.rb_check.specs.Visible.{acts, acts_past_ascii, by_number, stays, visible_byte, json_byte, byte_shown, has_acting_char, is_harmful, showing_of, showing_of_script, text_shown};
 
+use rb_bench::Outlet;
 use rb_script::{Lines, Sink, Through, WriteFault};
 use rb_text::{Escape, hex_digit, put_escaped};
 use std::alloc::{AllocError, Global};
@@ -113,6 +114,14 @@ impl<S: Sink> Sink for VisibleSink<S> {
 
     fn put(&mut self, bytes: &[u8]) -> Result<(), WriteFault> {
         put_shown(&mut self.sink, self.showing, bytes)
+    }
+}
+
+impl<S: Outlet> Outlet for VisibleSink<S> {
+    ghost handed = { λ _. None };
+
+    fn flush(&mut self) -> Result<(), WriteFault> {
+        self.sink.flush()
     }
 }
 

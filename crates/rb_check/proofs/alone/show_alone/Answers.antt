@@ -1,5 +1,9 @@
 use Rattle.std.proofs.Common.{◌≡◌, ◌∙◌, ◌+◌, ◌-◌, ℕ, List, refl, ap, subst, arith}
 use Rattle.std.proofs.lemmas.List.{take_all}
+use Rattle.std.specs.List.Sorted.{IsNonDecreasing}
+use Rattle.rb_files.specs.declared.path_error.PathError.{PathError}
+use Rattle.rb_check.specs.Place.{ArePartedAt}
+use Rattle.rb_check.specs.Targets.{missing}
 use Rattle.rb_check.specs.declared.report_state.ReportForm.{ReportForm}
 use Rattle.rb_check.specs.ScriptTexts.{AreShown, IsNamed, alone_text}
 use Rattle.rb_check.proofs.NamedLaws.{none_shown, shown_more, shown_part}
@@ -35,3 +39,8 @@ returns-clause-shown g c =
     let subject = c.args.subject.now in
     let lines = c.args.lines.now in
     subst (λ (ls : List ℕ). AreShown (alone_text subject.colors subject.path.now subject.layout.now subject.whys.now subject.session.now.script) subject.layout.now.heads.items ls c.args.report.now.state c.loop-i.report.state (g.W.Sink.held c.args.report.now.output) (g.W.Sink.held c.loop-i.report.output)) (take_all c.loop-i.i lines (omega (arith, c.loop-i-test.false))) c.loop-i.invariant.shown
+
+pub returns-in_default-clause-failed : goal.returns-in_default-clause-failed
+returns-in_default-clause-failed g c =
+    let line = c.number_at-line.result in
+    missing c.args.lines.now c.loop-i.i line refl c.number_at-line.ensures (subst (λ (hs : List ℕ). IsNonDecreasing hs → ArePartedAt hs line 0) c.as_slice.ensures.value c.in_default.ensures.last) (ap (λ (e : PathError). e.failure) c.alone.ensures)

@@ -19,5 +19,6 @@ loop-i-preserved g c =
     let got : slice_get lost i ≡ Some x = slice_get_read lost (length lost) i x refl (omega (arith, c.loop-i-test.true)) c.index-lost-i.is in
     record {
       counts = c.tell_one_lost.ensures.counts ∙ ap (λ (t : Totals). together t (of_outcome (outcomes.Failed (path_failure x)))) c.loop-i.invariant.counts ∙ counted_more c.args.report.now.counts lost i x got;
+      listed = c.tell_one_lost.ensures.listed ∙ c.loop-i.invariant.listed;
       shown = along (text_more (path_text form) lost i x got) (goes_on (λ (f : ReportForm). path_text f x) c.loop-i.invariant.shown c.tell_one_lost.ensures.shown);
     }

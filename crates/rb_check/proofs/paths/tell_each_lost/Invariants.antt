@@ -10,5 +10,6 @@ invariant-loop-i g l =
     let held = g.W.Sink.held in
     record {
       counts : l.report.counts ≡ counted_failures l.fn.report.counts (map path_failure (take l.i l.lost));
+      listed : l.report.differing.items ≡ l.fn.report.differing.items;
       shown : GoesOut l.fn.report.state l.report.state (held l.fn.report.output) (held l.report.output) (paths_text l.fn.report.state.form (take l.i l.lost));
     }

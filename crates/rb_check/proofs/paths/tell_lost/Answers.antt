@@ -1,7 +1,6 @@
 use Rattle.std.proofs.Common.{◌≡◌, ◌∙◌, Bool, List, ◌++◌, Global, String, ap, length}
 use Rattle.std.specs.Prelude.{◌==◌, map}
 use Rattle.rb_files.specs.declared.finding.FailedPath.{FailedPath}
-use Rattle.rb_report.specs.declared.check.failure.Failure.{Failure}
 use Rattle.rb_report.specs.declared.check.failure.Failure.TheVariants.{NoScripts, OutOfMemory}
 use Rattle.rb_report.specs.declared.check.totals.Totals.{Totals}
 use Rattle.rb_check.specs.declared.report_state.ReportForm.{ReportForm}
