@@ -1,5 +1,7 @@
 //! `raftbench lsp`: an editor over standard input and output.
 
+ghost use Rattle.std.specs.Prelude.{◌≡◌, ◌⊎◌, Err, Ok};
+
 use rb_editor::actions::lsp;
 use rb_lsp::server::{ExitStatus, ServeFault};
 use rb_program::ProgramError;
@@ -11,7 +13,17 @@ use std::io;
 pub(crate) fn serve_editor<R: Input + Print + AllocGlobal>(rt: &R) -> Result<u8, ProgramError> {
     let mut source = ReadSource(rt.reader());
     let mut sink = Through(io::writer(rt));
-    match lsp(rt.alloc(), &mut source, &mut sink) {
+    ended(lsp(rt.alloc(), &mut source, &mut sink))
+}
+
+// The status of a conversation: 0 only if it ended as the protocol says.
+fn ended(served: Result<ExitStatus, ServeFault>) -> Result<u8, ProgramError>
+    ensures done { served ≡ Ok ExitStatus.Done → result ≡ Ok 0 }
+    ensures exited { (served ≡ Ok ExitStatus.Exited) ⊎ (served ≡ Ok ExitStatus.Closed) → result ≡ Ok 1 }
+    ensures cut_off { (served ≡ Ok ExitStatus.CutOff) ⊎ (served ≡ Ok ExitStatus.NoMessage) ⊎ (served ≡ Err ServeFault.Io) → result ≡ Err ProgramError.Io }
+    ensures memory { served ≡ Err ServeFault.OutOfMemory → result ≡ Err ProgramError.OutOfMemory }
+{
+    match served {
         Ok(ExitStatus::Done) => Ok(0),
         Ok(ExitStatus::Exited | ExitStatus::Closed) => Ok(1),
         Ok(ExitStatus::CutOff | ExitStatus::NoMessage) | Err(ServeFault::Io) => Err(

@@ -5,7 +5,9 @@ mod editing;
 
 use crate::editing::serve_editor;
 use rb_args::{CommandChoice, Subcommand, chosen};
-use rb_program::{ProgramError, Terminals, UsageError, carry_out, check_all, show_directives};
+use rb_program::{
+    ProgramError, RuntimeConsole, Terminals, UsageError, carry_out, check_all, show_directives,
+};
 use rb_report::check::Status;
 use std::io::{IsTerminal, Write};
 use std::process::ExitCode;
@@ -22,7 +24,10 @@ fn main(rt: HostRuntime) -> ExitCode {
     };
     let code = match answered(&rt, errors, terminals) {
         Ok(code) => code,
-        Err(refusal) => u8::from(refusal.tell(&rt, terminals.errors)),
+        Err(refusal) => {
+            let mut console = RuntimeConsole::new(&rt);
+            u8::from(refusal.tell(rt.alloc(), &mut console, &rt, terminals.errors))
+        }
     };
     ExitCode::from(code)
 }

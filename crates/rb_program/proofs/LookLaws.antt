@@ -1,11 +1,12 @@
 -- What is seen at a line, and why nothing is.
-use Rattle.std.proofs.Common.{◌≡◌, ℕ, ◌-◌, ◌<◌, ◌≤◌, ◌≢◌, List, Some, length, get_or, Result, Ok, Err, IfOk, IfErr, inl, inr, refl, subst, arith}
+use Rattle.std.proofs.Common.{◌≡◌, ℕ, ◌-◌, ◌≤◌, ◌≢◌, List, Some, length, get_or, Result, Ok, Err, IfOk, IfErr, inl, inr, refl, subst, arith}
 use Rattle.std.specs.Prelude.{slice_get}
 use Rattle.std.specs.declared.io.ErrorKind.TheVariants as io_kinds
 use Rattle.std.specs.List.Sorted.{IsNonDecreasing}
 use Rattle.std.proofs.lemmas.Bool.{cases_lt}
 use Rattle.std.proofs.lemmas.List.{get_or_default}
 use Rattle.std.proofs.lemmas.Option.{slice_get_within}
+use Rattle.rb_script.specs.declared.sink.WriteFault.{WriteFault}
 use Rattle.rb_script.specs.Lines.{Line}
 use Rattle.rb_script.specs.Script.{PlainBlock}
 use Rattle.rb_script.specs.Reading.{read_of}
@@ -20,7 +21,7 @@ use Rattle.rb_program.specs.declared.look.LookedAt.{LookedAt}
 use Rattle.rb_program.specs.declared.program_error.ProgramError.{ProgramError}
 use Rattle.rb_program.specs.declared.program_error.ProgramError.TheVariants as refusals
 use Rattle.rb_program.specs.Choices.{IsMisplaced}
-use Rattle.rb_program.specs.Refusals.{of_bench}
+use Rattle.rb_program.specs.Refusals.{of_bench, of_writing}
 use Rattle.rb_program.specs.Looks.{AreAllBelow, IsLooked, IsOfSystem, IsSeenIn, IsUnseen}
 
 pub in_order : (ls : List Line) (bs : List PlainBlock) (ns : List ℕ) → AreHeadLines 1 ls bs ns → IsNonDecreasing ns
@@ -64,6 +65,10 @@ written bytes word line seen (Ok status) is matched failed = (matched, (seen, is
 written bytes word line seen (Err refusal) is matched failed = inl failed
 
 -- output that failed is the system's
-pub of_output : (result : Result Status ProgramError) → IfErr result (λ refusal. refusal ≡ refusals.Io) → IfErr result (λ refusal. IsOfSystem refusal)
-of_output (Ok status) failed = tt
-of_output (Err refusal) failed = (io_kinds.Other, failed)
+pub of_output : {X : Type 0} (written : Result X WriteFault) → IfErr (of_writing written) (λ refusal. IsOfSystem refusal)
+of_output (Ok x) = tt
+of_output (Err fault) = (io_kinds.Other, refl)
+
+pub matched_output : {X : Type 0} (written : Result X WriteFault) → IfOk (of_writing written) (λ status. status ≡ statuses.Matched)
+matched_output (Ok x) = refl
+matched_output (Err fault) = tt

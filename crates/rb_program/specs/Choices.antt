@@ -1,19 +1,13 @@
 -- What the words of the command line ask for. (This project's.)
-use Rattle.std.specs.Prelude.{ℕ, ◌≡◌, ◌==◌, ◌||◌, ◌&&◌, ◌⊎◌, not, Bool, true, false, if◌then◌else◌, List, length, Option, Some, None, String, IsUtf8, codes, option_map, string_bytes, unwrap_or}
-use Rattle.std.specs.List.{AllZip}
-use Rattle.std.specs.declared.alloc.Global.{Global}
+use Rattle.std.specs.Prelude.{ℕ, ◌≡◌, ◌==◌, ◌||◌, ◌&&◌, ◌⊎◌, not, Bool, true, false, if◌then◌else◌, List, length, Option, Some, None, IsUtf8, codes, option_map, string_bytes, unwrap_or}
 use Rattle.std.specs.Path.{path_file_name, rsplit_once}
 use Rattle.std.specs.Str.{bytes_eq}
 use Rattle.rb_text.specs.Numbers.{number_of}
 use Rattle.rb_args.specs.declared.choice.CheckChoice.{CheckChoice}
 use Rattle.rb_report.specs.declared.check.colors.Colors.{Colors}
-use Rattle.rb_report.specs.declared.check.status.Status.{Status}
 use Rattle.rb_report.specs.declared.check.colors.Colors.TheVariants as shades
 use Rattle.rb_script_report.specs.declared.view.Detail.{Detail}
 use Rattle.rb_script_report.specs.declared.view.Detail.TheVariants as shown
-use Rattle.rb_check.specs.declared.check_request.CheckRequest.{CheckRequest}
-use Rattle.rb_check.specs.declared.target.Target.{Target}
-use Rattle.rb_check.specs.Reported.{IsCheckStatus}
 use Rattle.rb_check.specs.declared.format.Format.{Format}
 use Rattle.rb_check.specs.declared.format.Format.TheVariants as formats
 use Rattle.rb_report.specs.Manual.{page_in, pages}
@@ -42,11 +36,19 @@ abbrev pub has_text : Option (List ℕ) → Bool
 has_text None = false
 has_text (Some text) = not (length text == 0)
 
--- whether colours are shown, on a terminal or not, under this setting of NO_COLOR
-abbrev pub colors_of : ColorChoice → Bool → Option (List ℕ) → Colors
-colors_of colors.Always is_terminal no_color = shades.On
-colors_of colors.Never is_terminal no_color = shades.Off
-colors_of colors.Auto is_terminal no_color = if is_terminal && not (has_text no_color) then shades.On else shades.Off
+-- the setting of this name has a text or not, as the environment tells
+abbrev pub IsSetting : (List ℕ → Option (List ℕ) → Type 0) → List ℕ → Bool → Type 0
+IsSetting tells name is_set = (text : Option (List ℕ)) × tells name text × (is_set ≡ has_text text)
+
+-- whether colours are shown, on a terminal or not, if NO_COLOR has a text or not
+abbrev pub colors_of : ColorChoice → Bool → Bool → Colors
+colors_of colors.Always is_terminal is_refused = shades.On
+colors_of colors.Never is_terminal is_refused = shades.Off
+colors_of colors.Auto is_terminal is_refused = if is_terminal && not is_refused then shades.On else shades.Off
+
+-- the same, by what the environment tells of NO_COLOR
+abbrev pub AreColors : (List ℕ → Option (List ℕ) → Type 0) → ColorChoice → Bool → Colors → Type 0
+AreColors tells choice is_terminal shade = (is_refused : Bool) × IsSetting tells (codes "NO_COLOR") is_refused × (shade ≡ colors_of choice is_terminal is_refused)
 
 -- what `--format` asks for
 abbrev pub style_of : Option (List ℕ) → Option Style
@@ -80,14 +82,6 @@ abbrev pub format_of : Style → Option Format
 format_of styles.Text = None
 format_of (styles.Program format) = Some format
 
--- A check does what the options say. A quiet one gives no reasons, and a review shows no line of progress.
-abbrev pub IsAskedBy : CheckChoice → Style → Colors → Terminals → CheckRequest → Type 0
-IsAskedBy choice style shade terminals asked =
-    (asked.accepts ≡ accepts choice) × (asked.accepts_errors ≡ choice.accepts_errors) × (asked.is_forced ≡ choice.is_forced) × (asked.reviews ≡ choice.reviews)
-    × (asked.is_quiet ≡ choice.is_quiet) × (asked.explains ≡ choice.explains && not choice.is_quiet) × (asked.is_strict ≡ choice.is_strict)
-    × (asked.shown ≡ shown_of choice style) × (asked.format ≡ format_of style) × (asked.colors ≡ shade)
-    × (asked.wants_progress ≡ terminals.errors && not choice.reviews)
-
 -- what is wrong with a review: what it asks about isn't shown, or it can't ask
 abbrev pub review_fault : CheckChoice → Style → Terminals → Option UsageError
 review_fault choice style terminals =
@@ -103,15 +97,6 @@ with_line (Some parts) = option_map (λ line. (parts.0, line)) (number_of parts.
 -- FILE, and the number after the word's last colon
 abbrev pub path_and_line : List ℕ → Option (List ℕ × ℕ)
 path_and_line word = with_line (rsplit_once 58 word)
-
--- the word is a path; or it names a line of a file
-abbrev pub Names : List ℕ → List ℕ → Option ℕ → Type 0
-Names word path None = path ≡ word
-Names word path (Some line) = path_and_line word ≡ Some (path, line)
-
--- what the words of a command line name, in their order
-abbrev pub AreNamed : List (String Global) → List Target → Type 0
-AreNamed words targets = AllZip (λ word target. Names (string_bytes word) (string_bytes target.path) target.line) words targets
 
 -- the usage error quotes the word, which names no directive of a file
 abbrev pub IsPlace : List ℕ → UsageError → Type 0
@@ -163,17 +148,3 @@ IsUntil until misuse = ⊥
 abbrev pub IsWrongUntil : Option (List ℕ) → ProgramError → Type 0
 IsWrongUntil until (refusals.OwnUsage misuse) = (line_asked until ≡ None) × IsUntil until misuse
 IsWrongUntil until refusal = (line_asked until ≡ None) × (refusal ≡ refusals.OutOfMemory)
-
--- the status of a check whose options are right, and which does what they say
-pub record IsCheckOf (choice : CheckChoice) (terminals : Terminals) (status : Status) : Type 0 where
-  pub color : ColorChoice
-  pub style : Style
-  pub no_color : Option (List ℕ)
-  pub asked : CheckRequest
-  pub color_is : color_choice_of (option_map string_bytes choice.color) ≡ Some color
-  pub style_is : style_of (option_map string_bytes choice.format) ≡ Some style
-  pub reviews : review_fault choice style terminals ≡ None
-  pub is_asked : IsAskedBy choice style (colors_of color terminals.output no_color) terminals asked
-  pub targets_are : AreNamed choice.paths.items asked.targets.now
-  pub filters_are : asked.filters.now ≡ choice.filters.items
-  pub status_is : IsCheckStatus asked status

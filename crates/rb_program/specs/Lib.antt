@@ -10,3 +10,7 @@ pub mod Choices
 pub mod Scripts
 pub mod Looks
 pub mod Done
+pub mod Manuals
+pub mod Targets
+pub mod Checks
+pub mod Told

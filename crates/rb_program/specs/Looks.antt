@@ -24,21 +24,18 @@ pub record IsSeenAt (heads : List ℕ) (s : PlainScript) (line : ℕ) (seen : Lo
   pub head_is : slice_get heads (seen.place - 1) ≡ Some seen.head
   pub lines_are : seen.lines ≡ looked s seen.place
 
--- this is seen at the line of the script that the bytes are
-pub record IsSeenIn (bytes : List ℕ) (line : ℕ) (seen : LookedAt) : Type 0 where
-  pub script : PlainScript
+-- the bytes are this script, and its heads begin on these lines
+pub record IsWithHeads (bytes : List ℕ) (script : PlainScript) (heads : List ℕ) : Type 0 where
   pub reads : Reads bytes script
-  pub heads : List ℕ
   pub heads_are : AreHeadLines 1 (lines bytes) script.blocks heads
-  pub is_seen : IsSeenAt heads script line seen
+
+-- this is seen at the line of the script that the bytes are
+abbrev pub IsSeenIn : List ℕ → ℕ → LookedAt → Type 0
+IsSeenIn bytes line seen = (script : PlainScript) × (heads : List ℕ) × IsWithHeads bytes script heads × IsSeenAt heads script line seen
 
 -- the bytes are a script, all of whose heads are below the line
-pub record AreAllBelow (bytes : List ℕ) (line : ℕ) : Type 0 where
-  pub script : PlainScript
-  pub reads : Reads bytes script
-  pub heads : List ℕ
-  pub heads_are : AreHeadLines 1 (lines bytes) script.blocks heads
-  pub none : ArePartedAt heads line 0
+abbrev pub AreAllBelow : List ℕ → ℕ → Type 0
+AreAllBelow bytes line = (script : PlainScript) × (heads : List ℕ) × IsWithHeads bytes script heads × ArePartedAt heads line 0
 
 -- the refusal of an error of the system
 abbrev pub IsOfSystem : ProgramError → Type 0

@@ -3,11 +3,11 @@ use Rattle.std.specs.Prelude.{◌≡◌, ℕ, ◌⊎◌, Bool, if◌then◌else�
 use Rattle.std.specs.declared.io.ErrorKind.{ErrorKind as IoKind}
 use Rattle.std.specs.declared.io.ErrorKind.TheVariants as io_kinds
 use Rattle.clap.specs.Values.{kind_of}
-use Rattle.clap.specs.declared.error.Error.{Error}
 use Rattle.clap.specs.declared.error.kind.ErrorKind.{ErrorKind}
 use Rattle.clap.specs.declared.error.kind.ErrorKind.TheVariants as kinds
 use Rattle.rb_script.specs.declared.fault.ScriptFault.{ScriptFault}
 use Rattle.rb_script.specs.declared.fault.ScriptFault.TheVariants as scripts
+use Rattle.rb_script.specs.declared.sink.WriteFault.{WriteFault}
 use Rattle.rb_text.specs.declared.reading.ReadFault.{ReadFault}
 use Rattle.rb_text.specs.declared.reading.ReadFault.TheVariants as reads
 use Rattle.rb_args.specs.declared.choice.ChoiceFault.{ChoiceFault}
@@ -38,6 +38,11 @@ of_script fault = refusals.Script fault
 abbrev pub of_reading : ReadFault → ProgramError
 of_reading reads.Io = refusals.Io
 of_reading reads.OutOfMemory = refusals.OutOfMemory
+
+-- of writing; what was written is what was asked for
+abbrev pub of_writing : {X : Type 0} → Result X WriteFault → Result Status ProgramError
+of_writing (Ok x) = Ok statuses.Matched
+of_writing (Err fault) = Err refusals.Io
 
 -- of the arguments
 abbrev pub of_choice : ChoiceFault → ProgramError

@@ -21,11 +21,21 @@ abbrev pub IsOfFile : (F : Type 0) → (F → Option (List ℕ)) → List ℕ �
 IsOfFile F left file answers result =
     IsErrAnd result (λ refusal. IsUnopened file refusal) ⊎ ((ended : Result Status ProgramError) × IsOf F left answers ended × IsExplained file ended result)
 
+-- what standard input and the files of a runtime have left, if that is known
+pub record Sources : Type 1 where
+  pub Input : Type 0
+  pub File : Type 0
+  pub input : Input → Option (List ℕ)
+  pub files : File → Option (List ℕ)
+
+abbrev pub sources_of : (I F : Type 0) → (I → Option (List ℕ)) → (F → Option (List ℕ)) → Sources
+sources_of I F input files = record { Input = I; File = F; input = input; files = files }
+
 -- the result is answered of standard input where the file is `-`, and else of the file
-pub record IsOfScript (I F : Type 0) (input : I → Option (List ℕ)) (files : F → Option (List ℕ)) (file : List ℕ) (answers : List ℕ → Option (List ℕ) → Result Status ProgramError → Type 0)
+pub record IsOfScript (sources : Sources) (file : List ℕ) (answers : List ℕ → Option (List ℕ) → Result Status ProgramError → Type 0)
     (result : Result Status ProgramError) : Type 0 where
-  pub of_input : bytes_eq file (codes "-") ≡ true → IsOf I input answers result
-  pub of_file : bytes_eq file (codes "-") ≡ false → IsOfFile F files file answers result
+  pub of_input : bytes_eq file (codes "-") ≡ true → IsOf sources.Input sources.input answers result
+  pub of_file : bytes_eq file (codes "-") ≡ false → IsOfFile sources.File sources.files file answers result
 
 -- these are the bytes of a source, up to one more than a script may have
 abbrev pub AreRead : (S : Type 0) → (S → Option (List ℕ)) → List ℕ → Type 0

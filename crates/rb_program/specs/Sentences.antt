@@ -1,9 +1,6 @@
 -- What the program says on standard error when it ends early. (This project's; help and wrong arguments are told by clap.)
-use Rattle.std.specs.Prelude.{◌≡◌, ◌≢◌, ℕ, ◌==◌, false, String, List, [], ◌++◌, Option, Some, None, codes, decimal, option_map, string_bytes}
+use Rattle.std.specs.Prelude.{◌≡◌, ℕ, ◌==◌, false, List, [], ◌++◌, Option, Some, None, codes, decimal, option_map, string_bytes}
 use Rattle.std.specs.List.{AllZip, list_any}
-use Rattle.std.specs.declared.alloc.Global.{Global}
-use Rattle.clap.specs.declared.error.kind.ErrorKind.{ErrorKind}
-use Rattle.clap.specs.declared.error.kind.ErrorKind.TheVariants as kinds
 use Rattle.rb_script.specs.Bytes.{line_feed}
 use Rattle.rb_script.specs.Lines.{Line, text_of}
 use Rattle.rb_report.specs.Refusals.{fault_line}
@@ -34,11 +31,6 @@ pub record IsTextShown (text shown : List ℕ) : Type 0 where
   pub each : AllZip IsLineShown ls ls_shown
   pub rest : IsLineShown last last_shown
   pub shown_is : shown ≡ text_of ls_shown ++ last_shown
-
--- what is shown of clap's text: of help nothing, since that goes out as it is
-abbrev pub IsClapShown : ErrorKind → Option (String Global) → Type 0
-IsClapShown kind None = (kind ≢ kinds.DisplayHelp) × (kind ≢ kinds.DisplayVersion) → ⊥
-IsClapShown kind (Some shown) = (text : List ℕ) × IsTextShown text (string_bytes shown)
 
 -- the word that a usage error is about
 abbrev pub misused_word : UsageError → List ℕ

@@ -3,6 +3,7 @@
 ghost use Rattle.std.specs.Prelude.{◌≡◌, IfErr, IfOk, Some, option_map};
 ghost use Rattle.rb_program.specs.Choices.{IsWrongFrom, IsWrongUntil, line_asked};
 ghost use Rattle.rb_program.specs.Done.{IsCharted};
+ghost use Rattle.rb_program.specs.Scripts.{sources_of};
 
 use crate::document::{DocumentKind, unless_refused, write_document};
 use crate::program_error::ProgramError;
@@ -20,7 +21,7 @@ pub(crate) fn chart<R: Files + Input + Print + AllocGlobal>(
     from: Option<&str>,
     until: Option<&str>,
 ) -> Result<Status, ProgramError>
-    ensures { IsCharted R.Reader R.File R.Reader.remaining R.File.remaining file.now (option_map (λ word. word.now) from.entry) (option_map (λ word. word.now) until.entry) result }
+    ensures { IsCharted (sources_of R.Reader R.File R.Reader.remaining R.File.remaining) file.now (option_map (λ word. word.now) from.entry) (option_map (λ word. word.now) until.entry) result }
 {
     let first = first_line(rt.alloc(), from)?;
     let last = last_line(rt.alloc(), until)?;

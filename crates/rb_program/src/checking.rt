@@ -1,11 +1,13 @@
 //! `raftbench check PATH..`: scripts and folders of scripts.
 
 ghost use Rattle.std.specs.Prelude.{◌≡◌, ◌≢◌, IfOk, IsOk, MatchOption, Err, None, Some, option_map, string_bytes};
-ghost use Rattle.rb_program.specs.Choices.{IsAskedBy, IsCheckOf, accepts, color_choice_of, review_fault, shown_of, style_of};
+ghost use Rattle.rb_program.specs.Checks.{IsAskedBy, IsCheckOf, wants_progress};
+ghost use Rattle.rb_program.specs.Choices.{accepts, color_choice_of, review_fault, shown_of, style_of};
 
 use crate::clusters::Clusters;
 use crate::colors::{ColorChoice, color_choice_of, colors};
-use crate::environment::gives_keys;
+use crate::environment::{Environment, gives_keys};
+use crate::path_kind::PathKinds;
 use crate::program_error::ProgramError;
 use crate::progress::TerminalProgress;
 use crate::style::{Style, style_of};
@@ -17,7 +19,7 @@ use rb_report::check::{Colors, Status};
 use rb_script_report::Detail;
 use std::alloc::Global;
 use std::io::Write;
-use std::rt::{Env, Files};
+use std::rt::Files;
 use std::time::Clock;
 
 /// Which of the streams are terminals.
@@ -33,24 +35,25 @@ pub struct Terminals {
 /// # Errors
 ///
 /// If the arguments are wrong, or memory was refused at the beginning.
-pub fn check_all<R: Files + Input + Print + Eprint + Env + Clock + AllocGlobal, E: Write + Drop>(
-    rt: &R,
-    choice: &CheckChoice,
-    errors: E,
-    terminals: Terminals,
-) -> Result<Status, ProgramError>
+pub fn check_all<
+    R: Files + Input + Print + Eprint + Clock + AllocGlobal + Environment + PathKinds,
+    E: Write + Drop,
+>(rt: &R, choice: &CheckChoice, errors: E, terminals: Terminals) -> Result<Status, ProgramError>
     // Wrong arguments are a usage error.
     ensures right { IfOk result (λ status. status ≢ Status.BadUsage) }
-    // The check is that of the options.
-    ensures asked { IfOk result (λ status. IsCheckOf choice.now terminals status) }
+    // The check is that of the options, and of what the system tells.
+    ensures asked { IfOk result (λ status. IsCheckOf (R.tells_kind rt.now) (R.tells_setting rt.now) choice.now terminals status) }
 {
     let (color, style) = colors_and_style(rt.alloc(), choice, terminals)?;
     let words = choice.paths.as_slice();
-    let targets = targets(rt, words)?;
+    let targets = targets(rt.alloc(), rt, words)?;
     let named = targets.as_slice();
     let colors = colors(rt, color, terminals.output);
-    let asked = request(choice, named, style, colors, terminals, gives_keys(rt));
-    let progress = TerminalProgress::new(rt, asked.wants_progress);
+    let wanted = wants_progress(choice, terminals);
+    let progress = TerminalProgress::new(rt, wanted);
+    let keys = gives_keys(rt);
+    let is_told = progress.is_wanted();
+    let asked = request(choice, named, style, colors, is_told, keys);
     let mut clusters = Clusters {
         alloc: rt.alloc(),
         progress: &progress,
@@ -64,10 +67,10 @@ fn request<'a>(
     targets: &'a [Target],
     style: Style,
     colors: Colors,
-    terminals: Terminals,
+    wants_progress: bool,
     gives_keys: bool,
 ) -> CheckRequest<'a>
-    ensures asked { IsAskedBy choice.now style colors terminals result }
+    ensures asked { IsAskedBy choice.now style colors wants_progress result }
     ensures keys { result.gives_keys ≡ gives_keys }
     ensures targets { result.targets.now ≡ targets.now }
     ensures filters { result.filters.now ≡ choice.now.filters.items }
@@ -86,8 +89,15 @@ fn request<'a>(
         shown: shown(choice, style),
         format: style.format(),
         colors,
-        wants_progress: terminals.errors && !choice.reviews,
+        wants_progress,
     }
+}
+
+// Whether it is shown how far the check is.
+fn wants_progress(choice: &CheckChoice, terminals: Terminals) -> bool
+    ensures { result ≡ wants_progress choice.now terminals }
+{
+    terminals.errors && !choice.reviews
 }
 
 fn accepts(choice: &CheckChoice) -> bool

@@ -1,11 +1,10 @@
 //! Whether colours are shown.
 
-ghost use Rattle.std.specs.Prelude.{◌≡◌, ℕ, List, Option, option_map};
-ghost use Rattle.rb_program.specs.Choices.{color_choice_of, colors_of};
+ghost use Rattle.std.specs.Prelude.{◌≡◌, option_map};
+ghost use Rattle.rb_program.specs.Choices.{AreColors, color_choice_of, colors_of};
 
-use crate::environment::{has_text, setting};
+use crate::environment::{Environment, is_set};
 use rb_report::check::Colors;
-use std::rt::Env;
 
 /// The values of `--color`.
 #[derive(Clone, Copy)]
@@ -30,21 +29,20 @@ pub(crate) fn color_choice_of(word: Option<&str>) -> Option<ColorChoice>
 
 /// Whether colours are shown, where the report goes to a terminal or not. By itself it shows them on a terminal, where the environment's
 /// NO_COLOR has no text (no-color.org).
-pub(crate) fn colors<R: Env + AllocGlobal>(rt: &R, color: ColorChoice, is_terminal: bool) -> Colors
-    ensures { (no_color : Option (List ℕ)) × (result ≡ colors_of color is_terminal no_color) }
+pub(crate) fn colors<S: Environment>(system: &S, color: ColorChoice, is_terminal: bool) -> Colors
+    ensures { AreColors (S.tells_setting system.now) color is_terminal result }
 {
-    let no_color = setting(rt, "NO_COLOR");
-    colors_of(color, is_terminal, no_color.as_deref())
+    colors_of(color, is_terminal, is_set(system, "NO_COLOR"))
 }
 
-fn colors_of(color: ColorChoice, is_terminal: bool, no_color: Option<&str>) -> Colors
-    ensures { result ≡ colors_of color is_terminal (option_map (λ text. text.now) no_color.entry) }
+fn colors_of(color: ColorChoice, is_terminal: bool, is_refused: bool) -> Colors
+    ensures { result ≡ colors_of color is_terminal is_refused }
 {
     match color {
         ColorChoice::Always => Colors::On,
         ColorChoice::Never => Colors::Off,
         ColorChoice::Auto => {
-            if is_terminal && !has_text(no_color) {
+            if is_terminal && !is_refused {
                 Colors::On
             } else {
                 Colors::Off

@@ -1,18 +1,24 @@
 //! `raftbench directives`: the list of directives, or one of them.
 
-ghost use Rattle.std.specs.Prelude.{◌≡◌, IfErr, IfOk, Some, option_map};
+ghost use Rattle.std.specs.Prelude.{◌≡◌, ◌≢◌, Err, IfErr, IfOk, IsOk, Ok, OnOk, Some, option_map};
+ghost use Rattle.std.specs.Io.KnownBytes.{Keeps};
 ghost use Rattle.rb_report.specs.Manual.{page_in, pages};
 ghost use Rattle.rb_report.specs.Nearest.{names_of, nearest};
+ghost use Rattle.rb_script.specs.Writes.{Writes};
+ghost use Rattle.rb_bench.specs.Handed.{IsHandedOn};
 ghost use Rattle.rb_program.specs.Choices.{IsMeant, IsUnknown};
+ghost use Rattle.rb_program.specs.Manuals.{AnswersName, ShowsDirectives, shown_pages};
+ghost use Rattle.rb_program.specs.Refusals.{of_writing};
 
 use crate::program_error::ProgramError;
 use crate::usage_error::UsageError;
+use rb_bench::Outlet;
 use rb_report::check::Status;
 use rb_report::help::{nearest_name, page_of, put_manual};
-use rb_script::{Sink, Through, WriteFault};
+use rb_script::{Through, WriteFault};
 use rb_text::FailFast;
 use std::alloc::Global;
-use std::io::{BufWriter, Write};
+use std::io::BufWriter;
 use std::{io, str};
 
 /// Shows the directive of this name, or an overview of all.
@@ -24,19 +30,41 @@ pub fn show_directives<R: Print + AllocGlobal>(
     rt: &R,
     name: Option<&str>,
 ) -> Result<Status, ProgramError>
-    ensures { IfOk result (λ status. status ≡ Status.Matched) }
+    ensures { ShowsDirectives (option_map (λ name. name.now) name.entry) result }
 {
     let alloc = rt.alloc();
+    let mut writer = Through(BufWriter::new(alloc, FailFast(io::writer(rt)))?);
+    write_directives(alloc, &mut writer, name)
+}
+
+// Writes the page of the directive with this name, or the overview.
+fn write_directives<W: Outlet>(
+    alloc: Global,
+    writer: &mut W,
+    name: Option<&str>,
+) -> Result<Status, ProgramError>
+    ensures answered { AnswersName (option_map (λ name. name.now) name.entry) result (W.held writer.old) (W.held writer.new) }
+    ensures handed { OnOk result (IsHandedOn (W.handed writer.new) (W.held writer.new)) }
+    ensures io { W.takes_all writer.old → result ≢ Err ProgramError.Io }
+{
     let page = match name {
         Some(name) => Some(page_named(alloc, name)?),
         None => None,
     };
-    let mut sink = Through(BufWriter::new(alloc, FailFast(io::writer(rt)))?);
+    status_of(put_pages(writer, page))
+}
+
+// Writes the page, or the overview if there is none.
+fn put_pages<W: Outlet>(writer: &mut W, page: Option<&[u8]>) -> Result<(), WriteFault>
+    ensures wrote { Writes result (W.held writer.old) (W.held writer.new) (shown_pages (option_map (λ page. page.now) page.entry)) }
+    ensures handed { OnOk result (IsHandedOn (W.handed writer.new) (W.held writer.new)) }
+    ensures all { W.takes_all writer.old → IsOk result × W.takes_all writer.new }
+{
     let written = match page {
-        Some(page) => sink.put(page),
-        None => put_manual(&mut sink),
+        Some(page) => writer.put(page),
+        None => put_manual(writer),
     };
-    status_of(handed_on(&mut sink, written))
+    handed_on(writer, written)
 }
 
 // The page of the directive with this name.
@@ -66,8 +94,7 @@ fn name_near(name: &str) -> Option<&'static str>
 
 /// The status after writing, or after writing failed.
 pub(crate) fn status_of(written: Result<(), WriteFault>) -> Result<Status, ProgramError>
-    ensures matched { IfOk result (λ status. status ≡ Status.Matched) }
-    ensures failed { IfErr result (λ refusal. refusal ≡ ProgramError.Io) }
+    ensures { result ≡ of_writing written }
 {
     match written {
         Ok(()) => Ok(Status::Matched),
@@ -75,14 +102,18 @@ pub(crate) fn status_of(written: Result<(), WriteFault>) -> Result<Status, Progr
     }
 }
 
-/// Flushes the output.
-pub(crate) fn handed_on<W: Write + Drop>(
-    sink: &mut Through<BufWriter<W>>,
+/// Flushes what was written. If writing failed, that is the result, and nothing is flushed.
+pub(crate) fn handed_on<W: Outlet>(
+    writer: &mut W,
     written: Result<(), WriteFault>,
-) -> Result<(), WriteFault> {
-    written?;
-    match sink.0.flush() {
-        Ok(()) => Ok(()),
-        Err(_) => Err(WriteFault),
+) -> Result<(), WriteFault>
+    ensures failed { IfErr written (λ fault. result ≡ Err fault) }
+    ensures kept { Keeps (W.held writer.old) (W.held writer.new) }
+    ensures handed { OnOk result (IsHandedOn (W.handed writer.new) (W.held writer.new)) }
+    ensures all { W.takes_all writer.old → IsOk written → IsOk result × W.takes_all writer.new }
+{
+    match written {
+        Ok(()) => writer.flush(),
+        Err(fault) => Err(fault),
     }
 }

@@ -4,6 +4,7 @@ ghost use Rattle.std.specs.Prelude.{◌≡◌, true};
 ghost use Rattle.rb_program.specs.Choices.{shown_name};
 ghost use Rattle.rb_program.specs.Documents.{DocumentsOver};
 ghost use Rattle.rb_program.specs.Done.{IsDocumented, IsPaged, unless_refused};
+ghost use Rattle.rb_program.specs.Scripts.{sources_of};
 
 use crate::chart_over::chart_over;
 use crate::job::{Job, run_job};
@@ -34,7 +35,7 @@ pub(crate) fn page<R: Files + Input + Print + AllocGlobal>(
     rt: &R,
     file: &str,
 ) -> Result<Status, ProgramError>
-    ensures { IsPaged R.Reader R.File R.Reader.remaining R.File.remaining file.now result }
+    ensures { IsPaged (sources_of R.Reader R.File R.Reader.remaining R.File.remaining) file.now result }
 {
     let page = write_document(rt, file, DocumentKind::Page);
     unless_refused(page, ProgramError::PageTooLarge)
@@ -59,7 +60,7 @@ pub(crate) fn write_document<R: Files + Input + Print + AllocGlobal>(
     file: &str,
     kind: DocumentKind,
 ) -> Result<Status, ProgramError>
-    ensures { IsDocumented R.Reader R.File R.Reader.remaining R.File.remaining file.now kind result }
+    ensures { IsDocumented (sources_of R.Reader R.File R.Reader.remaining R.File.remaining) file.now kind result }
 {
     let text = name_of(file);
     let name = text.as_bytes();

@@ -1,11 +1,13 @@
 //! The two lines on standard error of a program that ends early.
 
-ghost use Rattle.std.specs.Prelude.{◌≡◌};
+ghost use Rattle.std.specs.Prelude.{◌≡◌, IfSome};
 ghost use Rattle.std.specs.Fmt.{WritesOnOk};
+ghost use Rattle.std.specs.Io.KnownBytes.{Appends, Keeps};
 ghost use Rattle.rb_report.specs.Refusals.{fault_line};
 ghost use Rattle.rb_bench.specs.Names.{script_name};
 ghost use Rattle.rb_program.specs.Sentences.{first_line, script_line, second_line};
 
+use crate::console::Console;
 use crate::program_error::ProgramError;
 use crate::usage_error::UsageLine;
 use rb_bench::script_fault_name;
@@ -62,6 +64,15 @@ fn write_fault<W: fmt::Write>(f: &mut fmt::Formatter<W>, fault: ScriptFault) -> 
         Some(line) => write!(f, "raftbench: script refused: {name} at line {line}\n"),
         None => write!(f, "raftbench: script refused: {name}\n"),
     }
+}
+
+/// Writes the line with the reason, in which the word is shown so.
+pub(crate) fn say<C: Console>(console: &mut C, refusal: &ProgramError, word: &str)
+    ensures told { C.takes_all console.old → C.takes_all console.new × IfSome (first_line refusal.now word.now) (Appends (C.told console.old) (C.told console.new)) }
+    ensures printed { Keeps (C.printed console.old) (C.printed console.new) }
+    ensures lost { C.has_lost console.new ≡ C.has_lost console.old }
+{
+    console.tell(FirstLine { refusal, word });
 }
 
 /// The line that says more to a person, or nothing; a usage error's word, or a path, is shown so.

@@ -4,7 +4,7 @@ ghost use Rattle.std.specs.Prelude.{◌≡◌, ℕ, Bool, true, List, Option, Re
 ghost use Rattle.rb_report.specs.declared.check.status.Status.{Status};
 ghost use Rattle.rb_bench.specs.declared.fault.BenchFault.{BenchFault};
 ghost use Rattle.rb_program.specs.Refusals.{EndsAs};
-ghost use Rattle.rb_program.specs.Scripts.{IsOfFile, IsOfScript};
+ghost use Rattle.rb_program.specs.Scripts.{IsOfFile, IsOfScript, sources_of};
 
 use crate::program_error::ProgramError;
 use crate::running::{ended, explained, opened};
@@ -43,7 +43,7 @@ pub(crate) fn run_job<R: Files + Input + Print + AllocGlobal, J: Job>(
     job: &J,
 ) -> Result<Status, ProgramError>
     ensures right { IfOk result (λ _. J.is_right job.now ≡ true) }
-    ensures answered { J.is_right job.now ≡ true → IsOfScript R.Reader R.File R.Reader.remaining R.File.remaining file.now (λ all left ended. EndsAs (J.answers job.now all left) ended) result }
+    ensures answered { J.is_right job.now ≡ true → IsOfScript (sources_of R.Reader R.File R.Reader.remaining R.File.remaining) file.now (λ all left ended. EndsAs (J.answers job.now all left) ended) result }
 {
     if file == "-" {
         run_from(rt, &mut ReadSource(rt.reader()), job)

@@ -1,10 +1,15 @@
 //! `raftbench look FILE:LINE`: the cluster after a directive.
 
-ghost use Rattle.std.specs.Prelude.{◌≡◌, ◌≤◌, IfErr, IfOk, MatchOption, length};
+ghost use Rattle.std.specs.Prelude.{◌≡◌, ◌≤◌, IfErr, IfOk, IsOk, MatchOption, OnOk, [], length};
+ghost use Rattle.rb_script.specs.declared.limits.TheConstants.{MAX_DIRECTIVES};
 ghost use Rattle.rb_script.specs.HeadLines.{AreHeadLines};
-ghost use Rattle.rb_script.specs.Lines.{lines};
-ghost use Rattle.rb_script.specs.Reads.{Reads};
+ghost use Rattle.rb_script.specs.Tokens.{plain};
+ghost use Rattle.rb_script.specs.Writes.{Writes};
+ghost use Rattle.rb_report.specs.Heads.{head_text};
+ghost use Rattle.rb_report.specs.Headings.{directive_text};
+ghost use Rattle.rb_bench.specs.Handed.{IsHandedOn};
 ghost use Rattle.rb_check.specs.Place.{ArePartedAt};
+ghost use Rattle.rb_check.specs.Visible.{showing_of_script};
 ghost use Rattle.rb_program.specs.Choices.{IsMisplaced};
 ghost use Rattle.rb_program.specs.Looks.{IsLookAt, IsLooked, IsOfSystem, IsSeenAt};
 
@@ -14,11 +19,12 @@ use crate::reading::read_script;
 use crate::running::script;
 use crate::target::path_and_line;
 use crate::usage_error::UsageError;
+use rb_bench::Outlet;
 use rb_check::{VisibleSink, place_at};
 use rb_cluster::{Cluster, Meter};
 use rb_raftlog::SplitLog;
 use rb_report::check::{FileLine, Hint, Status, put_directive};
-use rb_script::{Lines, ScriptWithLines, Through};
+use rb_script::{DirectiveRef, Lines, ScriptWithLines, Through, WriteFault};
 use rb_text::FailFast;
 use rb_view::look::look;
 use std::alloc::{AllocError, Global};
@@ -75,22 +81,17 @@ fn show<R: Print + AllocGlobal>(
     ensures { IsLooked bytes.now at.entry.line word.now result }
 {
     let read = read_script(rt.alloc(), bytes)?;
-    let found = seen(rt.alloc(), bytes, &read, at.line)?;
+    let found = seen(rt.alloc(), &read, at.line)?;
     match found {
         Some(seen) => put(rt, at.path, &read, &seen),
         None => Err(no_place(rt.alloc(), word)),
     }
 }
 
-// Looks at the cluster after the last directive at the line or above it. The bytes are the script's.
-fn seen(
-    alloc: Global,
-    _bytes: &[u8],
-    read: &ScriptWithLines,
-    line: usize,
-) -> Result<Option<LookedAt>, AllocError>
-    requires reads { Reads _bytes.now read.now.script }
-    requires heads { AreHeadLines 1 (lines _bytes.now) read.now.script.blocks read.now.heads.items }
+// Looks at the cluster after the last directive at the line or above it.
+fn seen(alloc: Global, read: &ScriptWithLines, line: usize) -> Result<Option<LookedAt>, AllocError>
+    requires few { length read.now.script.blocks ≤ MAX_DIRECTIVES }
+    requires heads { AreHeadLines 1 read.now.lines read.now.script.blocks read.now.heads.items }
     ensures { IfOk result (λ found. MatchOption found (ArePartedAt read.now.heads.items line 0) (λ seen. IsSeenAt read.now.heads.items read.now.script line seen × (seen.place ≤ length read.now.script.blocks))) }
 {
     let heads = read.heads.as_slice();
@@ -115,18 +116,40 @@ fn put<R: Print + AllocGlobal>(
     ensures failed { IfErr result (λ refusal. IsOfSystem refusal) }
 {
     let block = read.script.block(seen.place).unwrap();
-    let at = FileLine {
+    let sink = Through(BufWriter::new(rt.alloc(), FailFast(io::writer(rt)))?);
+    let mut screen = screen_for(sink, path, read);
+    let at = head_at(path, seen);
+    status_of(put_seen(&mut screen, at, &block.directive(), &seen.lines))
+}
+
+// Where its head is.
+fn head_at<'a>(path: &'a [u8], seen: &LookedAt) -> FileLine<'a>
+    ensures { (result.path.now ≡ path.now) × (result.line ≡ seen.now.head) }
+{
+    FileLine {
         path,
         line: seen.head,
-    };
-    let sink = Through(BufWriter::new(rt.alloc(), FailFast(io::writer(rt)))?);
-    let mut screen = VisibleSink::of_script(sink, path, &read.lines);
-    let written = put_directive(
-        &mut screen,
-        at,
-        &block.directive(),
-        &seen.lines,
-        Hint::Unknown,
-    );
-    status_of(handed_on(&mut screen.sink, written))
+    }
+}
+
+// Where a byte of the script acts, bytes are put by their numbers.
+fn screen_for<S>(sink: S, path: &[u8], read: &ScriptWithLines) -> VisibleSink<S>
+    ensures { result.showing ≡ showing_of_script path.now read.now.lines }
+{
+    VisibleSink::of_script(sink, path, &read.lines)
+}
+
+// Writes the lines under the directive's head.
+fn put_seen<W: Outlet>(
+    writer: &mut W,
+    at: FileLine<'_>,
+    directive: &DirectiveRef<'_>,
+    lines: &Lines,
+) -> Result<(), WriteFault>
+    ensures wrote { Writes result (W.held writer.old) (W.held writer.new) (directive_text at.entry.path.now at.entry.line (head_text (plain directive.now)) lines.now []) }
+    ensures handed { OnOk result (IsHandedOn (W.handed writer.new) (W.held writer.new)) }
+    ensures all { W.takes_all writer.old → IsOk result × W.takes_all writer.new }
+{
+    let written = put_directive(writer, at, directive, lines, Hint::Unknown);
+    handed_on(writer, written)
 }

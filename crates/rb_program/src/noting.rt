@@ -1,10 +1,10 @@
 //! Notes on a script that was written with its outputs: probable mistakes, and new errors.
 
-ghost use Rattle.std.specs.Prelude.{◌≡◌, IsOk};
+ghost use Rattle.std.specs.Prelude.{◌≡◌, IfSome, IsOk};
 ghost use Rattle.rb_script.specs.Writes.{Writes};
 ghost use Rattle.rb_replay.specs.Run.{outputs};
 ghost use Rattle.rb_script_report.specs.Layouts.{IsLayout};
-ghost use Rattle.rb_program.specs.Notes.{error_noted, errors_noted, warnings_noted};
+ghost use Rattle.rb_program.specs.Notes.{error_noted, errors_noted, notes_text, warnings_noted};
 
 use rb_check::ScriptRun;
 use rb_machine::Machine;
@@ -25,6 +25,7 @@ pub(crate) fn notes_of<M: Machine>(
     run: &ScriptRun<M>,
 ) -> Option<Vec<u8>>
     requires { IsLayout bytes.now run.now.session.script run.now.layout }
+    ensures { IfSome result (λ notes. notes.items ≡ notes_text path.now run.now.layout run.now.session.script) }
 {
     let Ok(doubts) = warnings(alloc, &run.session, &run.layout) else {
         return None;

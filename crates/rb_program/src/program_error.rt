@@ -1,17 +1,19 @@
 //! Why the program could not do its work.
 
-ghost use Rattle.std.specs.Prelude.{◌≡◌, ◌||◌, IfOk};
+ghost use Rattle.std.specs.Prelude.{◌≡◌, Bool, IfSome, false};
+ghost use Rattle.std.specs.Io.KnownBytes.{Appends};
 ghost use Rattle.std.specs.IoError.{error_kind};
-ghost use Rattle.clap.specs.Values.{kind_of};
 ghost use Rattle.rb_program.specs.declared.program_error.ProgramError.TheVariants.{OutOfMemory};
-ghost use Rattle.rb_program.specs.Refusals.{EndsByKind, EndsWith, of_bench, of_choice, of_kind, of_reading, of_script, status_by_kind};
-ghost use Rattle.rb_program.specs.Sentences.{IsClapShown, refused_word};
+ghost use Rattle.rb_program.specs.Refusals.{EndsWith, of_bench, of_choice, of_kind, of_reading, of_script};
+ghost use Rattle.rb_program.specs.Sentences.{first_line, refused_word, second_line};
+ghost use Rattle.rb_program.specs.Told.{EndsByOutput, IsExplained, TellsWhy};
 
-use crate::environment::asks_for_explanations;
-use crate::error_lines::{FirstLine, SecondLine};
-use crate::shown::{shown_text, shown_word, text_of};
+use crate::clap_text::tell_clap;
+use crate::console::Console;
+use crate::environment::{Environment, asks_for_explanations};
+use crate::error_lines::{SecondLine, say};
+use crate::shown::{shown_word, text_of};
 use crate::usage_error::{UsageError, tell_help};
-use clap::error::ErrorKind;
 use rb_args::ChoiceFault;
 use rb_bench::BenchFault;
 use rb_report::check::Status;
@@ -19,7 +21,6 @@ use rb_script::ScriptFault;
 use rb_text::ReadFault;
 use std::alloc::{AllocError, Global};
 use std::io;
-use std::rt::Env;
 
 /// Why the program ends early.
 pub enum ProgramError {
@@ -60,16 +61,28 @@ impl Drop for ProgramError {
 }
 
 impl ProgramError {
-    /// Writes the one line with the reason, and returns the status. On a terminal, or if the environment asks for it, a second line says more.
-    pub fn tell<R: Eprint + Print + Env + AllocGlobal>(&self, rt: &R, is_read: bool) -> Status
-        ensures { EndsWith self.now result }
+    /// Writes the one line with the reason, and returns the status. If a person reads standard error, or the environment asks for it, a second
+    /// line says more.
+    pub fn tell<C: Console, S: Environment>(
+        &self,
+        alloc: Global,
+        console: &mut C,
+        system: &S,
+        is_read: bool,
+    ) -> Status
+        ensures ends { EndsWith self.now result }
+        ensures told { C.takes_all console.old → (explained : Bool) × IsExplained (S.tells_setting system.now) is_read explained × TellsWhy self.now explained (C.told console.old) (C.told console.new) }
+        // Help that isn't written is a failed output.
+        ensures lost { C.has_lost console.old ≡ false → EndsByOutput self.now (C.has_lost console.new) result }
     {
-        let shown = shown_word(rt.alloc(), self.word());
+        let explained = is_explained(system, is_read);
+        let shown = shown_word(alloc, self.word());
         let word = text_of(&shown);
-        let status = self.tell_why(rt, word);
-        if is_explained(is_read, asks_for_explanations(rt)) {
-            self.explain(rt, word);
+        let status = self.tell_why(alloc, console, word);
+        if !explained {
+            return status;
         }
+        self.explain(alloc, console, word);
         status
     }
 
@@ -92,97 +105,51 @@ impl ProgramError {
     }
 
     // Writes the line with the reason.
-    fn tell_why<R: Eprint + Print + AllocGlobal>(&self, rt: &R, word: &str) -> Status
-        ensures { EndsWith self.now result }
+    fn tell_why<C: Console>(&self, alloc: Global, console: &mut C, word: &str) -> Status
+        ensures ends { EndsWith self.now result }
+        ensures told { C.takes_all console.old → C.takes_all console.new × IfSome (first_line self.now word.now) (Appends (C.told console.old) (C.told console.new)) }
+        ensures lost { C.has_lost console.old ≡ false → EndsByOutput self.now (C.has_lost console.new) result }
     {
         match self {
-            ProgramError::Clap(error) => tell_clap(rt, error),
+            ProgramError::Clap(error) => tell_clap(alloc, console, error),
             ProgramError::Usage(_) | ProgramError::OwnUsage(_) => {
-                say(rt, self, word);
+                say(console, self, word);
                 Status::BadUsage
             }
             ProgramError::Script(_) | ProgramError::ChartTooLarge | ProgramError::PageTooLarge => {
-                say(rt, self, word);
+                say(console, self, word);
                 Status::Refused
             }
             ProgramError::Unopened(_, _) | ProgramError::Folder(_) | ProgramError::Io => {
-                say(rt, self, word);
+                say(console, self, word);
                 Status::Failed
             }
             ProgramError::OutOfMemory => {
-                say(rt, self, word);
+                say(console, self, word);
                 Status::OutOfMemory
             }
         }
     }
 
     // Writes the second line, if the first doesn't say enough to a person.
-    fn explain<R: Eprint + AllocGlobal>(&self, rt: &R, word: &str) {
+    fn explain<C: Console>(&self, alloc: Global, console: &mut C, word: &str)
+        ensures told { C.takes_all console.old → IfSome (second_line self.now word.now) (Appends (C.told console.old) (C.told console.new)) }
+        ensures lost { C.has_lost console.new ≡ C.has_lost console.old }
+    {
         if let ProgramError::Usage(UsageError::NoCommand) = self {
-            return tell_help(rt);
+            return tell_help(alloc, console);
         }
-        let line = SecondLine {
-            refusal: self,
-            word,
-        };
-        let _ = eprint!(rt; "{line}");
+        let refusal = self;
+        console.tell(SecondLine { refusal, word });
     }
 }
 
 // Whether there is a second line: standard error is read by a person, or the environment asks for it.
-fn is_explained(is_read: bool, is_asked: bool) -> bool
-    ensures { result ≡ is_read || is_asked }
+fn is_explained<S: Environment>(system: &S, is_read: bool) -> bool
+    ensures { IsExplained (S.tells_setting system.now) is_read result }
 {
+    let is_asked = asks_for_explanations(system);
     is_read || is_asked
-}
-
-fn say<R: Eprint>(rt: &R, refusal: &ProgramError, word: &str) {
-    let line = FirstLine { refusal, word };
-    let _ = eprint!(rt; "{line}");
-}
-
-// Help was asked for, and goes to standard output: where that fails, what was asked for wasn't done. What says that arguments
-// are wrong goes to standard error, and they are wrong whether or not it gets there.
-fn tell_clap<R: Eprint + Print + AllocGlobal>(rt: &R, error: &clap::Error) -> Status
-    ensures { EndsByKind (kind_of error.now) result }
-{
-    let status = status_by_kind(error.kind(), put_clap(rt, error));
-    if status == Status::Failed {
-        say(rt, &ProgramError::Io, "");
-    }
-    status
-}
-
-// Writes clap's text, and returns whether it went out. No byte of an argument in it acts, unless memory was refused.
-fn put_clap<R: Eprint + Print + AllocGlobal>(rt: &R, error: &clap::Error) -> bool {
-    match shown_clap(rt.alloc(), error) {
-        Ok(Some(text)) => eprint!(rt; "{text}").is_ok(),
-        _ => error.print(rt).is_ok(),
-    }
-}
-
-// What is wrong with arguments, for a terminal; none, if help was asked for.
-fn shown_clap(alloc: Global, error: &clap::Error) -> Result<Option<String>, AllocError>
-    ensures { IfOk result (λ shown. IsClapShown (kind_of error.now) shown) }
-{
-    if !error.use_stderr() {
-        return Ok(None);
-    }
-    match format!(in alloc; "{error}") {
-        Ok(text) => Ok(Some(shown_text(alloc, text.as_str())?)),
-        Err(_) => Err(AllocError),
-    }
-}
-
-// The status of a text of clap's that went out, or did not.
-fn status_by_kind(kind: ErrorKind, went_out: bool) -> Status
-    ensures { result ≡ status_by_kind kind went_out }
-{
-    match kind {
-        ErrorKind::DisplayHelp | ErrorKind::DisplayVersion if went_out => Status::Matched,
-        ErrorKind::DisplayHelp | ErrorKind::DisplayVersion => Status::Failed,
-        _ => Status::BadUsage,
-    }
 }
 
 impl From<ChoiceFault> for ProgramError {

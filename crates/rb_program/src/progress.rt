@@ -1,5 +1,7 @@
 //! The directive that runs, on a terminal.
 
+ghost use Rattle.std.specs.Prelude.{◌≡◌, true};
+
 use rb_bench::RunProgress;
 use rb_check::{ProgressClock, visible_name};
 use rb_report::check::put_head;
@@ -22,8 +24,8 @@ const MAX_HEAD: usize = 60;
 #[derive(Drop)]
 pub(crate) struct TerminalProgress<'r, R> {
     rt: &'r R,
-    // Standard error is a terminal.
-    is_wanted: bool,
+    // Whether a person sees it. If not, nothing is written.
+    pub(crate) is_wanted: bool,
     clock: Cell<ProgressClock>,
     calls_left: Cell<u32>,
     // how many directives the script has, and how many of them have begun
@@ -35,7 +37,9 @@ pub(crate) struct TerminalProgress<'r, R> {
 
 impl<'r, R: Eprint + Clock + AllocGlobal> TerminalProgress<'r, R> {
     /// Shows nothing if it isn't wanted.
-    pub(crate) fn new(rt: &'r R, is_wanted: bool) -> TerminalProgress<'r, R> {
+    pub(crate) fn new(rt: &'r R, is_wanted: bool) -> TerminalProgress<'r, R>
+        ensures { result.is_wanted ≡ is_wanted }
+    {
         TerminalProgress {
             rt,
             is_wanted,
@@ -47,6 +51,13 @@ impl<'r, R: Eprint + Clock + AllocGlobal> TerminalProgress<'r, R> {
         }
     }
 
+    /// Whether it is shown.
+    pub(crate) fn is_wanted(&self) -> bool
+        ensures { result ≡ self.now.is_wanted }
+    {
+        self.is_wanted
+    }
+
     // Whether it is time to show the directive.
     fn is_due(&self) -> bool {
         let mut clock = self.clock.get();
@@ -56,7 +67,9 @@ impl<'r, R: Eprint + Clock + AllocGlobal> TerminalProgress<'r, R> {
     }
 
     // Shows the directive. Without memory for its head there is no line.
-    fn show(&self, directive: &DirectiveRef<'_>) {
+    fn show(&self, directive: &DirectiveRef<'_>)
+        requires { self.now.is_wanted ≡ true }
+    {
         let Ok(head) = shown_head(self.rt.alloc(), directive) else {
             return;
         };
@@ -67,6 +80,14 @@ impl<'r, R: Eprint + Clock + AllocGlobal> TerminalProgress<'r, R> {
         let directives = self.directives.get();
         let _ = eprint!(self.rt; "{CLEARED}{place} of {directives}: {head}");
         self.is_shown.set(true);
+    }
+
+    // Removes the line.
+    fn clear(&self)
+        requires { self.now.is_wanted ≡ true }
+    {
+        let _ = eprint!(self.rt; "{CLEARED}");
+        self.is_shown.set(false);
     }
 }
 
@@ -104,15 +125,14 @@ impl<'r, R: Eprint + Clock + AllocGlobal> RunProgress for TerminalProgress<'r, R
             return;
         }
         self.calls_left.set(CALLS_APART);
-        if self.is_due() {
+        if self.is_wanted && self.is_due() {
             self.show(directive);
         }
     }
 
     fn end(&self) {
-        if self.is_shown.get() {
-            let _ = eprint!(self.rt; "{CLEARED}");
-            self.is_shown.set(false);
+        if self.is_wanted && self.is_shown.get() {
+            self.clear();
         }
     }
 }

@@ -1,6 +1,6 @@
 //! `raftbench rewrite FILE` with notes for a reader.
 
-ghost use Rattle.std.specs.Prelude.{◌≡◌, ◌≢◌, ℕ, Err, IfErr, IfOk, OnOk};
+ghost use Rattle.std.specs.Prelude.{◌≡◌, ◌≢◌, ℕ, Err, IfErr, IfOk, IfSome, OnOk};
 ghost use Rattle.rb_script.specs.Script.{PlainScript};
 ghost use Rattle.rb_script.specs.Reads.{Reads};
 ghost use Rattle.rb_script.specs.Reading.{read_of};
@@ -10,9 +10,9 @@ ghost use Rattle.rb_bench.specs.Handed.{IsHandedOn};
 ghost use Rattle.rb_bench.specs.Runs.{Answers};
 ghost use Rattle.rb_text.specs.declared.reading.ReadFault.{ReadFault};
 ghost use Rattle.rb_program.specs.Done.{IsNoted};
-ghost use Rattle.rb_program.specs.Notes.{status_of_rewriting};
+ghost use Rattle.rb_program.specs.Notes.{AreNotes, status_of_rewriting};
 ghost use Rattle.rb_program.specs.Refusals.{EndsAs, of_reading};
-ghost use Rattle.rb_program.specs.Scripts.{AreRead, IsOfBytes, IsOfInput};
+ghost use Rattle.rb_program.specs.Scripts.{AreRead, IsOfBytes, IsOfInput, sources_of};
 ghost use Rattle.rb_script_report.specs.Layouts.{IsLayout};
 
 use crate::clusters::Clusters;
@@ -39,7 +39,7 @@ pub(crate) fn rewrite<R: Files + Input + Print + AllocGlobal, E: Write + Drop, P
     errors: E,
     progress: &P,
 ) -> Result<Status, ProgramError>
-    ensures { IsNoted R.Reader R.File R.Reader.remaining R.File.remaining file.now result }
+    ensures { IsNoted (sources_of R.Reader R.File R.Reader.remaining R.File.remaining) file.now result }
 {
     if file == "-" {
         rewrite_input(rt, errors, progress)
@@ -121,6 +121,7 @@ fn rewrite_bytes<W: Outlet, P: RunProgress>(
     progress: &P,
 ) -> Result<Rewritten, BenchFault>
     ensures answered { Answers modes.Rewrite bytes.now (status_of_rewriting result) (W.held writer.old) (W.held writer.new) }
+    ensures noted { IfOk result (λ rewritten. IfSome rewritten.notes (λ notes. AreNotes path.now bytes.now notes.items)) }
     ensures handed { OnOk result (IsHandedOn (W.handed writer.new) (W.held writer.new)) }
     ensures io { W.takes_all writer.old → result ≢ Err BenchFault.Io }
 {

@@ -6,7 +6,7 @@ ghost use Rattle.rb_bench.specs.Runs.{RunsOver};
 ghost use Rattle.rb_bench.specs.Serves.{ServesOut};
 ghost use Rattle.rb_program.specs.Done.{IsRun, IsServed};
 ghost use Rattle.rb_program.specs.Refusals.{Explains, IsFolder, IsUnopened, of_run};
-ghost use Rattle.rb_program.specs.Scripts.{AreRead, IsUnreadFile};
+ghost use Rattle.rb_program.specs.Scripts.{AreRead, IsUnreadFile, sources_of};
 
 use crate::job::{Job, run_from, run_job};
 use crate::program_error::ProgramError;
@@ -28,7 +28,7 @@ pub(crate) fn run<R: Files + Input + Print + AllocGlobal, P: RunProgress>(
     progress: &P,
 ) -> Result<Status, ProgramError>
     ensures right { IfOk result (λ _. is_checkpoint_interval every ≡ true) }
-    ensures answered { IsRun R.Reader R.File R.Reader.remaining R.File.remaining file.now mode every result }
+    ensures answered { IsRun (sources_of R.Reader R.File R.Reader.remaining R.File.remaining) file.now mode every result }
 {
     run_job(
         rt,
@@ -78,7 +78,7 @@ pub(crate) fn session<R: Files + Input + Print + AllocGlobal>(
     every: u64,
 ) -> Result<Status, ProgramError>
     ensures right { IfOk result (λ _. is_checkpoint_interval every ≡ true) }
-    ensures answered { IsServed R.Reader R.File R.Reader.remaining R.File.remaining file.now every result }
+    ensures answered { IsServed (sources_of R.Reader R.File R.Reader.remaining R.File.remaining) file.now every result }
 {
     let script = script(rt, file)?;
     let bytes = script.as_slice();

@@ -3,6 +3,7 @@
 ghost use Rattle.std.specs.Prelude.{◌≡◌, ◌||◌, true, Err, IfOk, IfSome, None, option_map, string_bytes};
 ghost use Rattle.rb_program.specs.Done.{IsCarriedOut, IsDone, IsWithEvery, IsWorked};
 ghost use Rattle.rb_program.specs.Work.{NamesEvery, has_interval, task_asked};
+ghost use Rattle.rb_program.specs.Scripts.{sources_of};
 
 use crate::chart::chart;
 use crate::checking::Terminals;
@@ -37,40 +38,41 @@ pub fn carry_out<R: Files + Input + Print + Eprint + Clock + AllocGlobal, E: Wri
 ) -> Result<Status, ProgramError>
     ensures missing { choice.now.file ≡ None → result ≡ Err (ProgramError.Usage UsageError.NoFile) }
     // What comes of it is what comes of the task that is asked for.
-    ensures done { IfSome (option_map string_bytes choice.now.file) (λ file. IsCarriedOut R.Reader R.File R.Reader.remaining R.File.remaining choice.now file (task_asked command file (option_map string_bytes choice.now.every) (terminals.errors || choice.now.warns)) result) }
+    ensures done { IfSome (option_map string_bytes choice.now.file) (λ file. IsCarriedOut (sources_of R.Reader R.File R.Reader.remaining R.File.remaining) choice.now file (task_asked command file (option_map string_bytes choice.now.every) (terminals.errors || choice.now.warns)) result) }
 {
     let Some(file) = choice.file.as_deref() else {
         return Err(ProgramError::Usage(UsageError::NoFile));
     };
-    let notes = wants_notes(choice, terminals);
+    let progress = TerminalProgress::new(rt, terminals.errors);
+    let notes = wants_notes(choice, progress.is_wanted());
     let every = choice.every.as_deref();
     let task = task_of(command, file, every, notes);
-    carried(rt, task, file, choice, errors, terminals)
+    carried(rt, task, file, choice, errors, &progress)
 }
 
-// Whether a person is to read notes.
-fn wants_notes(choice: &CommandChoice, terminals: Terminals) -> bool
-    ensures { result ≡ terminals.errors || choice.now.warns }
+// Whether a person is to read notes: on a terminal, or asked for.
+fn wants_notes(choice: &CommandChoice, is_read: bool) -> bool
+    ensures { result ≡ is_read || choice.now.warns }
 {
-    terminals.errors || choice.warns
+    is_read || choice.warns
 }
 
 // Does the work, or says why there is none.
-fn carried<R: Files + Input + Print + Eprint + Clock + AllocGlobal, E: Write + Drop>(
+fn carried<R: Files + Input + Print + AllocGlobal, E: Write + Drop, P: RunProgress>(
     rt: &R,
     task: Result<Work, UsageError>,
     file: &str,
     choice: &CommandChoice,
     errors: E,
-    terminals: Terminals,
+    progress: &P,
 ) -> Result<Status, ProgramError>
     // What can't be done is refused, and named.
-    ensures done { IsCarriedOut R.Reader R.File R.Reader.remaining R.File.remaining choice.now file.now task result }
+    ensures done { IsCarriedOut (sources_of R.Reader R.File R.Reader.remaining R.File.remaining) choice.now file.now task result }
     // What is done has an interval that a session takes.
     ensures taken { IfOk task (λ work. IfOk result (λ _. has_interval work ≡ true)) }
 {
     match task {
-        Ok(work) => worked(rt, work, file, choice, errors, terminals),
+        Ok(work) => worked(rt, work, file, choice, errors, progress),
         Err(misuse) => {
             let every = choice.every.as_deref();
             Err(with_every(rt.alloc(), every, ProgramError::Usage(misuse)))
@@ -79,19 +81,18 @@ fn carried<R: Files + Input + Print + Eprint + Clock + AllocGlobal, E: Write + D
 }
 
 // Does the work, and names what is wrong with `--every`.
-fn worked<R: Files + Input + Print + Eprint + Clock + AllocGlobal, E: Write + Drop>(
+fn worked<R: Files + Input + Print + AllocGlobal, E: Write + Drop, P: RunProgress>(
     rt: &R,
     work: Work,
     file: &str,
     choice: &CommandChoice,
     errors: E,
-    terminals: Terminals,
+    progress: &P,
 ) -> Result<Status, ProgramError>
-    ensures done { IsWorked R.Reader R.File R.Reader.remaining R.File.remaining choice.now file.now work result }
+    ensures done { IsWorked (sources_of R.Reader R.File R.Reader.remaining R.File.remaining) choice.now file.now work result }
     ensures taken { IfOk result (λ _. has_interval work ≡ true) }
 {
-    let progress = TerminalProgress::new(rt, terminals.errors);
-    let ended = done(rt, work, file, choice, errors, &progress);
+    let ended = done(rt, work, file, choice, errors, progress);
     let every = choice.every.as_deref();
     ended_with_every(rt.alloc(), every, ended)
 }
@@ -131,7 +132,7 @@ fn done<R: Files + Input + Print + AllocGlobal, E: Write + Drop, P: RunProgress>
     progress: &P,
 ) -> Result<Status, ProgramError>
     ensures right { IfOk result (λ _. has_interval work ≡ true) }
-    ensures done { IsDone R.Reader R.File R.Reader.remaining R.File.remaining file.now (option_map string_bytes choice.now.from) (option_map string_bytes choice.now.until) work result }
+    ensures done { IsDone (sources_of R.Reader R.File R.Reader.remaining R.File.remaining) file.now (option_map string_bytes choice.now.from) (option_map string_bytes choice.now.until) work result }
 {
     match work {
         Work::Report(every) => run(rt, file, Mode::Run, every, progress),

@@ -1,13 +1,13 @@
 //! The PATHs of `check`, and FILE:LINE.
 
 ghost use Rattle.std.specs.Prelude.{◌≡◌, IfOk, option_map, string_bytes};
-ghost use Rattle.rb_program.specs.Choices.{AreNamed, Names, path_and_line};
+ghost use Rattle.rb_program.specs.Choices.{path_and_line};
+ghost use Rattle.rb_program.specs.Targets.{AreNamed, Names, NamesLine};
 
+use crate::path_kind::{PathKind, PathKinds};
 use rb_check::Target;
 use rb_text::number_of;
 use std::alloc::{AllocError, Global};
-use std::fs;
-use std::rt::Files;
 
 /// FILE, and the number after the argument's last colon.
 pub(crate) fn path_and_line(word: &str) -> Option<(&str, usize)>
@@ -23,16 +23,16 @@ pub(crate) fn path_and_line(word: &str) -> Option<(&str, usize)>
 }
 
 /// What the arguments name. One that ends in a colon and a number names a directive of a file, unless it is itself the name of something.
-pub(crate) fn targets<R: Files + AllocGlobal>(
-    rt: &R,
+pub(crate) fn targets<S: PathKinds>(
+    alloc: Global,
+    system: &S,
     words: &[String],
 ) -> Result<Vec<Target>, AllocError>
-    ensures { IfOk result (λ targets. AreNamed words.now targets.items) }
+    ensures { IfOk result (λ targets. AreNamed (S.tells_kind system.now) words.now targets.items) }
 {
-    let alloc = rt.alloc();
     let mut all = Vec::new(alloc);
     for word in words {
-        let (path, line) = named(rt, word.as_str());
+        let (path, line) = named(system, word.as_str());
         let target = target(alloc, path, line)?;
         all.push(target)?;
     }
@@ -46,22 +46,25 @@ fn target(alloc: Global, path: &str, line: Option<usize>) -> Result<Target, Allo
     Ok(Target { path, line })
 }
 
-// A path, and a line of its file; whether the word is the name of something is the system's to say.
-fn named<'a, R: Files>(rt: &R, word: &'a str) -> (&'a str, Option<usize>)
-    ensures { Names word.now result.0.now result.1 }
+// The path that a word names, and the line of its file. A word is a path if something is there.
+fn named<'a, S: PathKinds>(system: &S, word: &'a str) -> (&'a str, Option<usize>)
+    ensures { Names (S.tells_kind system.now) word.now result.0.now result.1 }
 {
-    if fs::metadata(rt, word).is_ok() {
-        return (word, None);
-    }
-    match path_and_line(word) {
-        Some((path, line)) if is_file(rt, path) => (path, Some(line)),
-        _ => (word, None),
+    match system.kind_at(word) {
+        PathKind::File | PathKind::Other => (word, None),
+        PathKind::Nothing => line_named(system, word),
     }
 }
 
-fn is_file<R: Files>(rt: &R, path: &str) -> bool {
-    match fs::metadata(rt, path) {
-        Ok(metadata) => metadata.is_file(),
-        Err(_) => false,
+// The same, if nothing is at the word's path: FILE and the line, if FILE is a file.
+fn line_named<'a, S: PathKinds>(system: &S, word: &'a str) -> (&'a str, Option<usize>)
+    ensures { NamesLine (S.tells_kind system.now) word.now result.0.now result.1 }
+{
+    let Some((path, line)) = path_and_line(word) else {
+        return (word, None);
+    };
+    match system.kind_at(path) {
+        PathKind::File => (path, Some(line)),
+        PathKind::Other | PathKind::Nothing => (word, None),
     }
 }

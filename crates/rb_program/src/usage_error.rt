@@ -5,6 +5,7 @@ ghost use Rattle.std.specs.Fmt.{WritesOnOk};
 ghost use Rattle.rb_program.specs.Sentences.{misused_word, unknown_line, usage_line};
 ghost use Rattle.rb_program.specs.Work.{IsOfEvery};
 
+use crate::console::Console;
 use rb_args::{ChoiceFault, chosen};
 use std::alloc::Global;
 use std::fmt;
@@ -165,10 +166,13 @@ pub(crate) fn misused(alloc: Global, word: Option<&str>) -> Option<String>
     }
 }
 
-/// Writes the help of the whole program.
-pub(crate) fn tell_help<R: Eprint + AllocGlobal>(rt: &R) {
-    if let Some(help) = help(rt.alloc()) {
-        let _ = eprint!(rt; "{help}");
+/// Writes the help of the whole program on standard error.
+pub(crate) fn tell_help<C: Console>(alloc: Global, console: &mut C)
+    ensures takes { C.takes_all console.old → C.takes_all console.new }
+    ensures lost { C.has_lost console.new ≡ C.has_lost console.old }
+{
+    if let Some(help) = help(alloc) {
+        console.tell(help);
     }
 }
 

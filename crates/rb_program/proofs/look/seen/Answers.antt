@@ -1,4 +1,4 @@
-use Rattle.std.proofs.Common.{◌≡◌, ◌-◌, ◌≤◌, ℕ, List, Some, length, subst, sym, arith}
+use Rattle.std.proofs.Common.{◌≡◌, ◌-◌, ℕ, List, Some, subst, sym, arith}
 use Rattle.std.specs.Prelude.{slice_get}
 use Rattle.std.specs.List.Sorted.{IsNonDecreasing}
 use Rattle.rb_check.specs.Place.{ArePartedAt}
@@ -14,7 +14,7 @@ pub look-requires-clause-few : goal.look-requires-clause-few
 look-requires-clause-few c =
     let at = subst (λ (heads : List ℕ). slice_get heads (c.in-Some.place - 1) ≡ Some c.in-Some.head) c.as_slice-heads.ensures.value c.in-Some.ensures.head.1 in
     let inside = within _ _ _ c.in-Some.place c.in-Some.head c.requires.heads c.in-Some.ensures.head.0 at in
-    omega (arith, inside, c.requires.reads.few)
+    omega (arith, inside, c.requires.few)
 
 pub returns : goal.returns
 returns c =

@@ -24,12 +24,12 @@ pub returns-in-Some : goal.returns-in-Some
 returns-in-Some g c =
     let seen = rw c.in-Some.is at c.in_ok-found.ensures in
     written c.args.bytes.now c.args.word.now _ c.in-Some.seen c.put.result
-    (record { script = c.in_ok-read.read.script; reads = c.in_ok-read.ensures.read; heads = c.in_ok-read.read.heads.items; heads_are = c.in_ok-read.ensures.heads; is_seen = seen.0 })
+    (c.in_ok-read.read.script, c.in_ok-read.read.heads.items, record { reads = c.in_ok-read.ensures.read; heads_are = c.in_ok-read.ensures.heads }, seen.0)
     c.put.ensures.matched c.put.ensures.failed
 
 pub returns : goal.returns
 returns g c =
     let none = rw c.in-None.is at c.in_ok-found.ensures in
     none_there c.args.bytes.now c.args.word.now _ c.no_place.result
-    (record { script = c.in_ok-read.read.script; reads = c.in_ok-read.ensures.read; heads = c.in_ok-read.read.heads.items; heads_are = c.in_ok-read.ensures.heads; none = none })
+    (c.in_ok-read.read.script, c.in_ok-read.read.heads.items, record { reads = c.in_ok-read.ensures.read; heads_are = c.in_ok-read.ensures.heads }, none)
     c.no_place.ensures

@@ -1,4 +1,4 @@
-use Rattle.std.proofs.Common.{◌≡◌, ◌∙◌, ◌++◌, List, [], ◌∷◌, ℕ, ap, rules, string_bytes, lit<}
+use Rattle.std.proofs.Common.{◌∙◌, ◌++◌, List, [], ◌∷◌, ℕ, ap, rules, string_bytes, lit<}
 use Rattle.std.specs.List.{list_any}
 use Rattle.rb_program.proofs.ShownLaws.{all_shown, cut_at, is_feed, none_at_all, none_before, none_shown, one_more}
 use Rattle.rb_program.proofs.shown.shown_text.Goals as goal
