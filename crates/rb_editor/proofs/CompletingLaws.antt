@@ -1,10 +1,9 @@
 -- The ids that completion offers are those of the cluster's nodes.
-use Rattle.std.proofs.Common.{◌≡◌, ◌∙◌, ◌≢◌, ℕ, ◌+◌, ◌-◌, ◌≤◌, Bool, true, false, min, List, length, map, take, Option, Some, Result, Ok, refl, ap, arith}
-use Rattle.std.specs.Prelude.{codes, decimal, filter, if◌then◌else◌, nat_le, unwrap_or}
+use Rattle.std.proofs.Common.{◌≡◌, ◌∙◌, ◌≢◌, ℕ, ◌-◌, true, min, List, length, map, take, Some, Ok, refl, ap, arith}
+use Rattle.std.specs.Prelude.{codes, decimal, filter, nat_le}
 use Rattle.std.specs.Str.{bytes_eq}
 use Rattle.std.proofs.lemmas.Bool.{le-leb}
 use Rattle.std.proofs.lemmas.Slice.Eq.{bytes_eq-Decides}
-use Rattle.rb_script.specs.declared.fault.ScriptFault.{ScriptFault}
 use Rattle.rb_script.specs.Script.{PlainScript}
 use Rattle.rb_script.specs.Reading.{read_of}
 use Rattle.rb_replay.specs.Run.{state}
@@ -12,10 +11,10 @@ use Rattle.rb_lsp.proofs.PlaceLaws.{test_cases}
 use Rattle.rb_editor.specs.Ids.{added, id_offers, nodes_of_head, takes_ids, with_more}
 use Rattle.rb_editor.specs.OfferLaws.{most_ids, numbers_from, words}
 use Rattle.rb_editor.specs.Offers.{fits}
-use Rattle.rb_editor.specs.Places.{PlainPlace, head_takes_ids, is_change, place_takes_ids}
+use Rattle.rb_editor.specs.Places.{PlainPlace, head_takes_ids, place_takes_ids}
 use Rattle.rb_editor.specs.Unfinished.{name_of, wanted_of}
 use Rattle.rb_editor.proofs.IdLaws.{ids_offered}
-use Rattle.rb_editor.specs.Completing.{nodes_above, nodes_at, nodes_of}
+use Rattle.rb_editor.specs.Completing.{nodes_at, nodes_of}
 
 -- a head that is no `add-nodes` adds none
 none_added : (head : List ℕ) → name_of head ≢ codes "add-nodes" → added head ≡ 0

@@ -1,5 +1,5 @@
 -- The ids that are offered are numbers from 1, and so are those of the words of changes.
-use Rattle.std.proofs.Common.{◌≡◌, ◌∙◌, ℕ, zero, suc, ◌+◌, ◌-◌, ◌≤◌, Bool, true, false, min, List, [], ◌∷◌, ◌++◌, map, take, refl, ap, ap₂, sym, arith, append_assoc}
+use Rattle.std.proofs.Common.{◌≡◌, ◌∙◌, ℕ, zero, suc, ◌+◌, ◌-◌, ◌≤◌, Bool, true, false, min, List, ◌∷◌, ◌++◌, map, take, refl, ap, ap₂, sym, arith, append_assoc}
 use Rattle.std.specs.Prelude.{OnOk, Result, Ok, Err, Some, codes, decimal, filter, if◌then◌else◌, nat_le}
 use Rattle.std.specs.Fmt.{digits}
 use Rattle.std.proofs.lemmas.Bool.Decides.{nat_tests}

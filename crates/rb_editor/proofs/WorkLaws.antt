@@ -1,5 +1,5 @@
 -- What counts the work of a directive prints its lines, too.
-use Rattle.std.proofs.Common.{◌≡◌, ◌∙◌, ℕ, suc, ◌+◌, List, [], ◌∷◌, length, refl, sym, ap, add-zero, arith}
+use Rattle.std.proofs.Common.{◌≡◌, ◌∙◌, suc, ◌+◌, List, [], ◌∷◌, length, refl, sym, ap, add-zero, arith}
 use Rattle.std.specs.Prelude.{fold}
 use Rattle.rb_texts.specs.Items.{PlainItem}
 use Rattle.rb_machine.specs.Cluster.{Cluster}

@@ -1,5 +1,5 @@
 -- The diagnostics of a text: of each directive of one fresh run, or of a text that isn't a script. (This project's.)
-use Rattle.std.specs.Prelude.{ℕ, suc, ◌+◌, ◌-◌, ◌==◌, nat_lt, Bool, false, ◌&&◌, not, if◌then◌else◌, List, [], ◌∷◌, ◌++◌, codes, length, drop, take, map, slice_get, slice_index_or, Option, Some, None, unwrap_or, Result, Ok, Err}
+use Rattle.std.specs.Prelude.{ℕ, suc, ◌+◌, ◌-◌, ◌==◌, nat_lt, Bool, false, ◌&&◌, not, if◌then◌else◌, List, [], ◌∷◌, ◌++◌, codes, length, drop, take, map, slice_get, slice_index_or, Option, Some, None, Result, Ok, Err}
 use Rattle.std.specs.List.{list_any}
 use Rattle.std.specs.Str.{bytes_eq}
 use Rattle.rb_script.specs.declared.fault.ScriptFault.{ScriptFault}
@@ -149,10 +149,6 @@ diagnostics_of bytes = of_reading bytes (read_of bytes)
 -- the text above a line, which counts from 1
 abbrev pub above : ℕ → List ℕ → List ℕ
 above line bytes = take (feed_start (line - 1) bytes) bytes
-
--- the text from a line on
-abbrev pub behind : ℕ → List ℕ → List ℕ
-behind line bytes = drop (feed_start (line - 1) bytes) bytes
 
 -- the diagnostic that the run stopped at the directive on a line
 unfoldable pub stopped : ℕ → PlainDiagnostic

@@ -1,6 +1,6 @@
 -- Ids of nodes, and words of changes, which have one. (docs/SCRIPTS.md. The nodes are those of the cluster after the directives above, and those
 -- that the head itself adds.)
-use Rattle.std.specs.Prelude.{ℕ, ◌+◌, ◌-◌, Bool, false, min, nat_le, nat_lt, if◌then◌else◌, List, [], ◌++◌, codes, map, take, unwrap_or, Option, Some}
+use Rattle.std.specs.Prelude.{ℕ, ◌+◌, ◌-◌, Bool, false, min, nat_le, nat_lt, if◌then◌else◌, List, [], ◌++◌, codes, map, take, unwrap_or, Some}
 use Rattle.std.specs.Str.{bytes_eq}
 use Rattle.rb_script.specs.declared.limits.TheConstants.{MAX_ARGUMENTS}
 use Rattle.rb_text.specs.Numbers.{number_of}

@@ -5,6 +5,7 @@ pub mod Comparisons
 pub mod Published
 pub mod Work
 pub mod Stops
+pub mod LastStops
 pub mod Layouts
 pub mod Extents
 pub mod Hovers

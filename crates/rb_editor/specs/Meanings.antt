@@ -11,6 +11,7 @@ use Rattle.rb_editor.specs.Published.{diagnose}
 use Rattle.rb_editor.specs.Actions.{actions}
 use Rattle.rb_editor.specs.Completing.{complete}
 use Rattle.rb_editor.specs.Hovers.{hover}
+use Rattle.rb_editor.specs.Stops.{may_stop, needs_run}
 
 abbrev pub answer : Encoding → Query → List ℕ → List ℕ → List ℕ
 answer encoding (CodeAction range) uri text = actions encoding range uri text
@@ -21,4 +22,4 @@ answer encoding FoldingRange uri text = folds text
 answer encoding DocumentSymbol uri text = symbols encoding text
 
 abbrev pub meaning : Meaning
-meaning = record { diagnose = diagnose; answer = answer }
+meaning = record { diagnose = diagnose; answer = answer; needs_run = needs_run; may_stop = may_stop }

@@ -6,7 +6,7 @@ use Rattle.rb_lsp.specs.declared.document.position.Encoding.{Encoding}
 use Rattle.rb_lsp.specs.declared.document.position.Position.{Position}
 use Rattle.rb_lsp.specs.Places.{offset}
 use Rattle.rb_editor.specs.declared.offers.part.Part.{Part}
-use Rattle.rb_editor.specs.declared.offers.part.Part.TheVariants.{Lead, Head, Input, First, Plain, Double, Closing}
+use Rattle.rb_editor.specs.declared.offers.part.Part.TheVariants.{Lead, Input}
 use Rattle.rb_editor.specs.Above.{begun_lines, behind_lines, head_in, line_above, line_begin}
 use Rattle.rb_editor.specs.Ids.{takes_ids}
 use Rattle.rb_editor.specs.Unfinished.{name_of, wanted_of}

@@ -28,6 +28,8 @@ mod publishing;
 mod quiet;
 mod replacement;
 mod run;
+mod same_directives;
+mod stopped_text;
 mod stopping;
 mod work_meter;
 

@@ -18,6 +18,7 @@ mod unfinished;
 mod words;
 mod writing;
 
+pub(crate) use block_lines::all_lines;
 pub use block_lines::{BlockLines, begins_rule};
 pub use completion::add_completion;
 pub use folds::add_folds;

@@ -1,16 +1,17 @@
 -- Requests that their client has cancelled.
-use Rattle.std.proofs.Common.{◌≡◌, ℕ, ◌-◌, List, [], ◌++◌, Option, Some, ap, sym, subst, ◌∙◌, arith, append-nil}
+use Rattle.std.proofs.Common.{◌≡◌, ℕ, ◌-◌, List, [], ◌++◌, Option, Some, None, true, refl, ap, sym, subst, ◌∙◌, arith, append-nil}
 use Rattle.std.specs.Prelude.{IfOk, Result, Ok, Err}
 use Rattle.serde_json.specs.Data.{Data}
 use Rattle.serde_json.specs.Written.{compact_text}
 use Rattle.rb_lsp.specs.declared.rpc.limits.TheConstants.{MAX_WAITING}
 use Rattle.rb_lsp.specs.declared.server.reach.Reach.{Reach}
 use Rattle.rb_lsp.specs.declared.server.reach.Reach.TheVariants.{Cancelled, Whole}
-use Rattle.rb_lsp.specs.Said.{Said, request}
-use Rattle.rb_lsp.specs.Cancels.{CancelWaits, Cancels, IsCancelled, MayReach, later, now, undone}
+use Rattle.rb_lsp.specs.Said.{Said, notification, request}
+use Rattle.rb_lsp.specs.Cancels.{CancelWaits, Cancels, IsCancelled, later, now, undone}
+use Rattle.rb_lsp.specs.Reaches.{MayReach}
 use Rattle.rb_lsp.specs.declared.server.server.ServerReply.{ServerReply}
-use Rattle.rb_lsp.specs.Meanings.{Meaning}
-use Rattle.rb_lsp.specs.Replies.{PlainServer, answer_body, sent, told_of}
+use Rattle.rb_lsp.specs.Meanings.{Meaning, can_reach}
+use Rattle.rb_lsp.specs.Replies.{PlainServer, answer_body, published_run, request_run, run_for, sent, told_of}
 use Rattle.rb_lsp.specs.declared.server.method.Method.{Method}
 use Rattle.rb_lsp.specs.Methods.{method_of}
 use Rattle.rb_lsp.specs.Serves.{Heeds}
@@ -41,30 +42,35 @@ waits_longer : (id : List ℕ) (n : ℕ) (bytes more : List ℕ) → CancelWaits
 waits_longer id n bytes more (now n' bytes' body rest some is cancels) = now n (bytes ++ more) body (rest ++ more) some (longer bytes more body rest is) cancels
 waits_longer id n bytes more (later n' bytes' body rest some is waits) = later n (bytes ++ more) body (rest ++ more) some (longer bytes more body rest is) (waits_longer id (n - 1) rest more waits)
 
-pub may_longer : (heard : Option Said) (reach : Reach) (held more all : List ℕ) → all ≡ held ++ more → MayReach heard reach held → MayReach heard reach all
-may_longer heard reach held more all is may = record {
+pub may_longer : (meaning : Meaning) (server : PlainServer) (heard : Option Said) (reach : Reach) (held more all : List ℕ) → all ≡ held ++ more → MayReach meaning server heard reach held → MayReach meaning server heard reach all
+may_longer meaning server heard reach held more all is may = record {
+  stops = may.stops;
   only = λ id method params asks cancelled. subst (IsCancelled id) (sym is) (waits_longer (compact_text id) MAX_WAITING held more (may.only id method params asks cancelled));
 }
 
 -- ---- how far a message is done
 
 -- all of it
-pub may_whole : (heard : Option Said) (held : List ℕ) → MayReach heard Whole held
-may_whole heard held = record { only = λ id method params asks cancelled. absurd cc }
+pub may_whole : (meaning : Meaning) (server : PlainServer) (heard : Option Said) (held : List ℕ) → MayReach meaning server heard Whole held
+may_whole meaning server heard held = record { stops = refl; only = λ id method params asks cancelled. absurd cc }
 
 -- a request, by what is known of its answer
-pub request_may : {E : Type 0} (r : Result ServerReply E) (what : Said) (id : Data) (method : List ℕ) (params : Option Data) (held : List ℕ) → request id method params ≡ what
-    → IfOk r (λ heard. heard.reach ≡ Cancelled → IsCancelled id held) → IfOk r (λ heard. MayReach (Some what) heard.reach held)
-request_may (Ok heard) what id method params held is only = record {
+pub request_may : {E : Type 0} (r : Result ServerReply E) (meaning : Meaning) (server : PlainServer) (what : Said) (id : Data) (name : List ℕ) (method : Method) (params : Option Data) (held : List ℕ)
+    → request id name params ≡ what → method ≡ method_of name → IfOk r (λ heard. heard.reach ≡ Cancelled → IsCancelled id held)
+    → IfOk r (λ heard. can_reach meaning (request_run meaning server.documents server.phase method params) heard.reach ≡ true) → IfOk r (λ heard. MayReach meaning server (Some what) heard.reach held)
+request_may (Ok heard) meaning server what id name method params held is named only stops = record {
   only = λ id' method' params' asks cancelled.
       let same : id ≡ id' = cc in
       subst (λ (d : Data). IsCancelled d held) same (only cancelled);
+  stops =
+      subst (λ (w : Said). can_reach meaning (run_for meaning server (Some w)) heard.reach ≡ true) is
+      (subst (λ (m : Method). can_reach meaning (request_run meaning server.documents server.phase m params) heard.reach ≡ true) named stops);
 }
-request_may (Err e) what id method params held is only = tt
+request_may (Err e) meaning server what id name method params held is named only stops = tt
 
 pub request_heeds : {E : Type 0} (r : Result ServerReply E) (meaning : Meaning) (server : PlainServer) (what : Said) (id : Data) (name : List ℕ) (method : Method) (params : Option Data) (held : List ℕ)
     → request id name params ≡ what → method ≡ method_of name
-    → IfOk r (λ heard. IsCancelled id held → heard.out.items ≡ sent (Some (answer_body meaning (undone heard.reach) server method params id))) → IfOk r (λ heard. Heeds meaning server what held heard.reach heard.out.items)
+    → IfOk r (λ heard. IsCancelled id held → heard.out.items ≡ sent (Some (answer_body meaning (undone heard.reach) server method params id))) → IfOk r (λ heard. Heeds meaning server (Some what) held heard.reach heard.out.items)
 request_heeds (Ok heard) meaning server what id name method params held is named known = record {
   out_is = λ id' method' params' asks waits.
       let same : id ≡ id' = cc in
@@ -74,18 +80,36 @@ request_heeds (Ok heard) meaning server what id name method params held is named
 }
 request_heeds (Err e) meaning server what id name method params held is named known = tt
 
+-- a notification, by what is known of what is published for it
+pub notice_stops : {E : Type 0} (r : Result ServerReply E) (meaning : Meaning) (server : PlainServer) (what : Said) (name : List ℕ) (method : Method) (params : Option Data) → notification name params ≡ what → method ≡ method_of name
+    → IfOk r (λ heard. can_reach meaning (published_run server method params) heard.reach ≡ true) → IfOk r (λ heard. can_reach meaning (run_for meaning server (Some what)) heard.reach ≡ true)
+notice_stops (Ok heard) meaning server what name method params is named stops =
+    subst (λ (w : Said). can_reach meaning (run_for meaning server (Some w)) heard.reach ≡ true) is
+    (subst (λ (m : Method). can_reach meaning (published_run server m params) heard.reach ≡ true) named stops)
+notice_stops (Err e) meaning server what name method params is named stops = tt
+
 -- another message
 abbrev pub IsNoRequest : Said → Type 0
 IsNoRequest what = (id : Data) (method : List ℕ) (params : Option Data) → what ≡ request id method params → ⊥
 
-pub others_may : {E : Type 0} (r : Result ServerReply E) (what : Said) (held : List ℕ) → IsNoRequest what → IfOk r (λ heard. MayReach (Some what) heard.reach held)
-others_may (Ok heard) what held none = record {
+pub others_may : {E : Type 0} (r : Result ServerReply E) (meaning : Meaning) (server : PlainServer) (what : Said) (held : List ℕ) → IsNoRequest what
+    → IfOk r (λ heard. can_reach meaning (run_for meaning server (Some what)) heard.reach ≡ true) → IfOk r (λ heard. MayReach meaning server (Some what) heard.reach held)
+others_may (Ok heard) meaning server what held none stops = record {
   only = λ id method params asks cancelled.
       let same : what ≡ request id method params = cc in
       absurd (none id method params same);
+  stops = stops;
 }
-others_may (Err e) what held none = tt
+others_may (Err e) meaning server what held none stops = tt
 
-pub others_heed : {E : Type 0} (r : Result ServerReply E) (meaning : Meaning) (server : PlainServer) (what : Said) (held : List ℕ) → IsNoRequest what → IfOk r (λ heard. Heeds meaning server what held heard.reach heard.out.items)
-others_heed (Ok heard) meaning server what held none = record { out_is = λ id method params asks waits. absurd (none id method params asks) }
+pub others_heed : {E : Type 0} (r : Result ServerReply E) (meaning : Meaning) (server : PlainServer) (what : Said) (held : List ℕ) → IsNoRequest what → IfOk r (λ heard. Heeds meaning server (Some what) held heard.reach heard.out.items)
+others_heed (Ok heard) meaning server what held none = record {
+  out_is = λ id method params asks waits.
+      let same : what ≡ request id method params = cc in
+      absurd (none id method params same);
+}
 others_heed (Err e) meaning server what held none = tt
+
+-- what isn't JSON is no request
+pub none_heeds : (meaning : Meaning) (server : PlainServer) (held : List ℕ) (reach : Reach) (out : List ℕ) → Heeds meaning server None held reach out
+none_heeds meaning server held reach out = record { out_is = λ id method params asks waits. absurd cc }

@@ -1,5 +1,5 @@
 -- What goes out for a notification are the diagnostics of a text as it stands.
-use Rattle.std.proofs.Common.{◌≡◌, ℕ, List, Bool, true, false, Option, Some, None, refl, subst}
+use Rattle.std.proofs.Common.{◌≡◌, ℕ, List, Bool, true, false, Option, Some, None, ap, refl, subst}
 use Rattle.std.specs.Prelude.{codes, if◌then◌else◌}
 use Rattle.serde_json.specs.Data.{Data}
 use Rattle.rb_lsp.specs.Params.{text_below}
@@ -12,9 +12,10 @@ use Rattle.rb_lsp.specs.Documents.{PlainDocument}
 use Rattle.rb_lsp.specs.Methods.{is_of_documents}
 use Rattle.rb_lsp.specs.declared.server.reach.Reach.{Reach}
 use Rattle.rb_lsp.specs.Meanings.{Meaning}
-use Rattle.rb_lsp.specs.Notices.{Notice, notice_of, notice_text, with_uri}
+use Rattle.rb_lsp.specs.Notices.{Notice, notice_body, notice_of, notice_text, stale_versions, with_uri}
 use Rattle.rb_lsp.specs.Replies.{PlainServer, On, noticed_by, published, with_notice}
-use Rattle.rb_lsp.specs.Laws.{IsPublished}
+use Rattle.rb_lsp.specs.Messages.{frame}
+use Rattle.rb_lsp.specs.Laws.{IsPublished, published_text}
 
 -- a notice is taken where the server runs
 abbrev IsOf : Phase → Option Notice → Type 0
@@ -33,10 +34,14 @@ notice_is : (phase : Phase) (method : Method) (params : Option Data) → IsOf ph
 notice_is (Running client) method (Some d) = taken_is (is_of_documents method) client method d (text_below (codes "textDocument") (codes "uri") d)
 notice_is phase method params = tt
 
+body_is : (meaning : Meaning) (reach : Reach) (versions : Option (ℕ × ℕ)) (n : Notice) (before ds : List PlainDocument) → notice_body meaning reach versions n before ds ≡ published_text meaning reach versions n before ds
+body_is meaning reach (Some versions) n before ds = refl
+body_is meaning reach None n before ds = refl
+
 one_is : (meaning : Meaning) (reach : Reach) (before : List PlainDocument) (next : PlainServer) (notice : Option Notice) → IsOf next.phase notice
     → IsPublished meaning reach before next notice (notice_text meaning reach notice before next.documents)
 one_is meaning reach before next None is = refl
-one_is meaning reach before next (Some n) is = record { running = is; text_is = refl }
+one_is meaning reach before next (Some n) is = record { running = is; text_is = ap frame (body_is meaning reach (stale_versions n before) n before next.documents) }
 
 -- a notification that is no `exit`
 after_is : (meaning : Meaning) (reach : Reach) (server next : PlainServer) (method : Method) (params : Option Data) → On (with_notice server method params) ≡ On next

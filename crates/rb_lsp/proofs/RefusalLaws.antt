@@ -1,6 +1,5 @@
 -- Where what is asked of a text isn't done whole, that is said, and nothing else changes.
 use Rattle.std.proofs.Common.{◌≡◌, ◌⊎◌, inl, inr, ℕ, List, Bool, Option, Some, None, refl}
-use Rattle.std.specs.Prelude.{codes}
 use Rattle.serde_json.specs.Data.{Data}
 use Rattle.rb_lsp.specs.declared.document.position.Encoding.{Encoding}
 use Rattle.rb_lsp.specs.Messages.{frame}

@@ -7,7 +7,7 @@ use Rattle.rb_script.specs.Writes.{AppendsFront}
 use Rattle.rb_lsp.specs.Messages.{HasNoMessage, NeverHasMessage}
 use Rattle.rb_lsp.specs.Reading.{LosesMessage}
 use Rattle.rb_lsp.specs.Said.{Said, request, notification}
-use Rattle.rb_lsp.specs.Cancels.{MayReach}
+use Rattle.rb_lsp.specs.Reaches.{MayReach}
 use Rattle.rb_lsp.proofs.CancelLaws.{may_longer, may_whole}
 use Rattle.serde_json.specs.Data.{Data}
 use Rattle.rb_lsp.specs.declared.rpc.fault.ServeFault.{ServeFault}
@@ -21,7 +21,7 @@ use Rattle.rb_lsp.specs.declared.server.method.Method.{Method}
 use Rattle.rb_lsp.specs.declared.server.method.Method.TheVariants.{Exit}
 use Rattle.rb_lsp.specs.Replies.{PlainServer, Turned, On, Over, fresh, noticed_by, published}
 use Rattle.rb_lsp.specs.Talk.{Hears, told, goes, Begins, MayAnswer, stands, goes_on, exits, closes, cuts_off, strays, nothing, answer, waits, comes}
-use Rattle.rb_lsp.specs.Serves.{Responds, StartsAnswer, StartsTelling, Tells, TurnsOut, TurnBreaks, Served, BreaksOff, turned_of}
+use Rattle.rb_lsp.specs.Serves.{Heeds, Responds, StartsAnswer, StartsTelling, Tells, TurnsOut, TurnBreaks, Served, BreaksOff, turned_of}
 
 -- ---- writes
 
@@ -39,25 +39,30 @@ then_front old mid new text next wrote front = record {
 }
 
 -- what a message has to have went out
-pub tells_by : (meaning : Meaning) (reach : Reach) (server : PlainServer) (heard : Option Said) (held : List ℕ) (old new : Option (List ℕ)) (text : List ℕ) → MayReach heard reach held → text ≡ told meaning reach server heard → Appends old new text
-    → Tells meaning server heard held old new
-tells_by meaning reach server heard held old new text may is wrote = record { reach = reach; may = may; wrote = subst (λ (l : List ℕ). Appends old new l) is wrote }
+pub tells_by : (meaning : Meaning) (reach : Reach) (server : PlainServer) (heard : Option Said) (held : List ℕ) (old new : Option (List ℕ)) (text : List ℕ) → MayReach meaning server heard reach held → Heeds meaning server heard held reach text
+    → text ≡ told meaning reach server heard → Appends old new text → Tells meaning server heard held held old new
+tells_by meaning reach server heard held old new text may heeds is wrote = record {
+  reach = reach;
+  may = may;
+  heeds = subst (λ (l : List ℕ). Heeds meaning server heard held reach l) is heeds;
+  wrote = subst (λ (l : List ℕ). Appends old new l) is wrote;
+}
 
 -- a beginning of it, whatever was answered
 pub starts_err : {X E : Type 0} (r : Result X E) (meaning : Meaning) (reach : Reach) (server : PlainServer) (heard : Option Said) (held : List ℕ) (old new : Option (List ℕ)) (text : List ℕ)
-    → MayReach heard reach held → text ≡ told meaning reach server heard → AppendsFront old new text → OnErr r (StartsTelling meaning server heard held old new)
+    → MayReach meaning server heard reach held → text ≡ told meaning reach server heard → AppendsFront old new text → OnErr r (StartsTelling meaning server heard held old new)
 starts_err (Ok x) meaning reach server heard held old new text may is front = tt
 starts_err (Err e) meaning reach server heard held old new text may is front = record { reach = reach; may = may; wrote = subst (λ (l : List ℕ). AppendsFront old new l) is front }
 
 -- and nothing, where it didn't come to that
 pub none_err : {X E : Type 0} (r : Result X E) (meaning : Meaning) (server : PlainServer) (heard : Option Said) (held : List ℕ) (old : Option (List ℕ)) → OnErr r (StartsTelling meaning server heard held old old)
 none_err (Ok x) meaning server heard held old = tt
-none_err (Err e) meaning server heard held old = record { reach = Whole; may = may_whole heard held; wrote = front_none old (told meaning Whole server heard) }
+none_err (Err e) meaning server heard held old = record { reach = Whole; may = may_whole meaning server heard held; wrote = front_none old (told meaning Whole server heard) }
 
 -- ---- a message
 
 pub responds_by : (meaning : Meaning) (server then : PlainServer) (body held : List ℕ) (heard : Option Said) (old new : Option (List ℕ)) (r : Result (Option ExitStatus) ServeFault) → Hears body heard
-    → IfOk r (λ over. turned_of over then ≡ goes server heard) → OnOk r (Tells meaning server heard held old new) → IfOk r (λ over. Responds meaning server body held (turned_of over then) old new)
+    → IfOk r (λ over. turned_of over then ≡ goes server heard) → OnOk r (Tells meaning server heard held held old new) → IfOk r (λ over. Responds meaning server body held (turned_of over then) old new)
 responds_by meaning server then body held heard old new (Ok over) hears is tells = record { heard = heard; hears = hears; turned_is = is; tells = tells }
 responds_by meaning server then body held heard old new (Err fault) hears is tells = tt
 
@@ -75,13 +80,13 @@ says_nothing meaning server body held old = record { text = []; may = nothing se
 abbrev pub Follows : List ℕ → Option (List ℕ) → Type 0
 Follows held left = (rest : List ℕ) → left ≡ Some rest → (more : List ℕ) × (rest ≡ held ++ more)
 
-tells_longer : (meaning : Meaning) (server : PlainServer) (heard : Option Said) (held more rest : List ℕ) (old new : Option (List ℕ)) → rest ≡ held ++ more → Tells meaning server heard held old new → Tells meaning server heard rest old new
-tells_longer meaning server heard held more rest old new is t = record { reach = t.reach; may = may_longer heard t.reach held more rest is t.may; wrote = t.wrote }
+tells_longer : (meaning : Meaning) (server : PlainServer) (heard : Option Said) (held more rest : List ℕ) (old new : Option (List ℕ)) → rest ≡ held ++ more → Tells meaning server heard held held old new → Tells meaning server heard held rest old new
+tells_longer meaning server heard held more rest old new is t = record { reach = t.reach; may = may_longer meaning server heard t.reach held more rest is t.may; heeds = t.heeds; wrote = t.wrote }
 
 may_answer_longer : (meaning : Meaning) (server : PlainServer) (body held more rest text : List ℕ) → rest ≡ held ++ more → MayAnswer meaning server body held text → MayAnswer meaning server body rest text
 may_answer_longer meaning server body held more rest text is (nothing server' body' held') = nothing server body rest
 may_answer_longer meaning server body held more rest text is (answer server' body' held' heard reach hears may) =
-    answer server body rest heard reach hears (may_longer heard reach held more rest is may)
+    answer server body rest heard reach hears (may_longer meaning server heard reach held more rest is may)
 
 -- ---- a turn
 
@@ -97,7 +102,7 @@ told_over meaning reach server (Some (notification method params)) status over =
 told_over meaning reach server heard status over = refl
 
 takes_by : (meaning : Meaning) (server : PlainServer) (turned : Turned) (before left old new : Option (List ℕ)) (body held : List ℕ) → Follows held left → LosesMessage before left body → Responds meaning server body held turned old new
-    → TurnsOut meaning server turned before left old new
+    → TurnsOut meaning server turned held before left old new
 takes_by meaning server (On next) None left old new body held follows loses r = tt
 takes_by meaning server (On next) (Some all) None old new body held follows loses r = absurd loses
 takes_by meaning server (On next) (Some all) (Some rest) old new body held follows loses r =
@@ -121,7 +126,7 @@ takes_by meaning server (Over status) (Some all) (Some rest) old new body held f
 
 -- a message came
 pub turns_by : (meaning : Meaning) (server then : PlainServer) (r : Result (Option ExitStatus) ServeFault) (before left old new : Option (List ℕ)) (body seen held : List ℕ) → seen ≡ body → Follows held left → LosesMessage before left body
-    → IfOk r (λ over. Responds meaning server seen held (turned_of over then) old new) → IfOk r (λ over. TurnsOut meaning server (turned_of over then) before left old new)
+    → IfOk r (λ over. Responds meaning server seen held (turned_of over then) old new) → IfOk r (λ over. TurnsOut meaning server (turned_of over then) held before left old new)
 turns_by meaning server then (Ok over) before left old new body seen held is follows loses r =
     takes_by meaning server (turned_of over then) before left old new body held follows loses (subst (λ (b : List ℕ). Responds meaning server b held (turned_of over then) old new) is r)
 turns_by meaning server then (Err fault) before left old new body seen held is follows loses r = tt
@@ -150,17 +155,17 @@ breaks_err meaning (Ok x) server before held = tt
 breaks_err meaning (Err e) server before held = breaks_before meaning server before held
 
 -- none is left
-pub closed_by : (meaning : Meaning) (server : PlainServer) (before left held : Option (List ℕ)) → IsAtEnd before → TurnsOut meaning server (Over Closed) before left held held
-closed_by meaning server None left held at_end = tt
-closed_by meaning server (Some all) left held at_end = record { text = []; ends = closes server all at_end; wrote = Appends-nil held }
+pub closed_by : (meaning : Meaning) (server : PlainServer) (seen : List ℕ) (before left held : Option (List ℕ)) → IsAtEnd before → TurnsOut meaning server (Over Closed) seen before left held held
+closed_by meaning server seen None left held at_end = tt
+closed_by meaning server seen (Some all) left held at_end = record { text = []; ends = closes server all at_end; wrote = Appends-nil held }
 
-pub cut_by : (meaning : Meaning) (server : PlainServer) (before left held : Option (List ℕ)) → IfSome before (λ all. HasNoMessage all × (all ≢ [])) → TurnsOut meaning server (Over CutOff) before left held held
-cut_by meaning server None left held cut = tt
-cut_by meaning server (Some all) left held cut = record { text = []; ends = cuts_off server all cut.0 cut.1; wrote = Appends-nil held }
+pub cut_by : (meaning : Meaning) (server : PlainServer) (seen : List ℕ) (before left held : Option (List ℕ)) → IfSome before (λ all. HasNoMessage all × (all ≢ [])) → TurnsOut meaning server (Over CutOff) seen before left held held
+cut_by meaning server seen None left held cut = tt
+cut_by meaning server seen (Some all) left held cut = record { text = []; ends = cuts_off server all cut.0 cut.1; wrote = Appends-nil held }
 
-pub stray_by : (meaning : Meaning) (server : PlainServer) (before left held : Option (List ℕ)) → IfSome before NeverHasMessage → TurnsOut meaning server (Over NoMessage) before left held held
-stray_by meaning server None left held never = tt
-stray_by meaning server (Some all) left held never = record { text = []; ends = strays server all never; wrote = Appends-nil held }
+pub stray_by : (meaning : Meaning) (server : PlainServer) (seen : List ℕ) (before left held : Option (List ℕ)) → IfSome before NeverHasMessage → TurnsOut meaning server (Over NoMessage) seen before left held held
+stray_by meaning server seen None left held never = tt
+stray_by meaning server seen (Some all) left held never = record { text = []; ends = strays server all never; wrote = Appends-nil held }
 
 -- ---- all turns
 
@@ -187,10 +192,10 @@ pub far_none : (meaning : Meaning) (first left held : Option (List ℕ)) → lef
 far_none meaning None left held is = tt
 far_none meaning (Some all) left held is = record { reaches = []; text = []; rest = all; left_is = is; wrote = Appends-nil held; begins = λ later last end more b. b }
 
-pub far_more : (meaning : Meaning) (first left after old mid new : Option (List ℕ)) (server next : PlainServer) → Far meaning first server left old mid → TurnsOut meaning server (On next) left after mid new → Far meaning first next after old new
-far_more meaning None left after old mid new server next far turned = tt
-far_more meaning (Some all) left after old mid new server next far turned =
-    let t = subst (λ (l : Option (List ℕ)). TurnsOut meaning server (On next) l after mid new) far.left_is turned in
+pub far_more : (meaning : Meaning) (seen : List ℕ) (first left after old mid new : Option (List ℕ)) (server next : PlainServer) → Far meaning first server left old mid → TurnsOut meaning server (On next) seen left after mid new → Far meaning first next after old new
+far_more meaning seen None left after old mid new server next far turned = tt
+far_more meaning seen (Some all) left after old mid new server next far turned =
+    let t = subst (λ (l : Option (List ℕ)). TurnsOut meaning server (On next) seen l after mid new) far.left_is turned in
     let none = t.tells.reach in
     let piece = told meaning none server t.heard in record {
       reaches = far.reaches ++ none ∷ [];
@@ -203,10 +208,10 @@ far_more meaning (Some all) left after old mid new server next far turned =
           (far.begins (none ∷ later) last end (piece ++ more) (goes_on server next last far.rest t.body t.rest end more t.heard none later t.message t.hears t.next_is t.tells.may b)));
     }
 
-pub far_over : (meaning : Meaning) (first left after old mid new : Option (List ℕ)) (server : PlainServer) (status : ExitStatus) → Far meaning first server left old mid → TurnsOut meaning server (Over status) left after mid new → Served meaning first status old new
-far_over meaning None left after old mid new server status far turned = tt
-far_over meaning (Some all) left after old mid new server status far turned =
-    let e = subst (λ (l : Option (List ℕ)). TurnsOut meaning server (Over status) l after mid new) far.left_is turned in record {
+pub far_over : (meaning : Meaning) (seen : List ℕ) (first left after old mid new : Option (List ℕ)) (server : PlainServer) (status : ExitStatus) → Far meaning first server left old mid → TurnsOut meaning server (Over status) seen left after mid new → Served meaning first status old new
+far_over meaning seen None left after old mid new server status far turned = tt
+far_over meaning seen (Some all) left after old mid new server status far turned =
+    let e = subst (λ (l : Option (List ℕ)). TurnsOut meaning server (Over status) seen l after mid new) far.left_is turned in record {
       reaches = far.reaches;
       text = far.text ++ e.text;
       talks = record { last = server; left = far.rest; answers = far.text; ending = e.text; begins = begun meaning all server left old mid far; ends = e.ends; text_is = refl };

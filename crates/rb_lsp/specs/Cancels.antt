@@ -7,7 +7,7 @@ use Rattle.serde_json.specs.Read.{read}
 use Rattle.serde_json.specs.Written.{compact_text}
 use Rattle.rb_lsp.specs.declared.rpc.limits.TheConstants.{MAX_WAITING}
 use Rattle.rb_lsp.specs.Messages.{IsMessage}
-use Rattle.rb_lsp.specs.Said.{Said, is_id, notification, request, said}
+use Rattle.rb_lsp.specs.Said.{Said, is_id, notification, said}
 use Rattle.rb_lsp.specs.declared.server.reach.Reach.{Reach}
 use Rattle.rb_lsp.specs.declared.server.reach.Reach.TheVariants.{Cancelled, NoMemory}
 
@@ -41,10 +41,6 @@ pub data CancelWaits (id : List ℕ) : ℕ → List ℕ → Type 0 where
 -- one of the next messages cancels the request with this id
 abbrev pub IsCancelled : Data → List ℕ → Type 0
 IsCancelled id next = CancelWaits (compact_text id) MAX_WAITING next
-
--- How far a message may be done which these bytes follow: a request is left undone as cancelled only if one of the next messages cancels it.
-pub record MayReach (heard : Option Said) (reach : Reach) (next : List ℕ) : Type 0 where
-  pub only : (id : Data) (method : List ℕ) (params : Option Data) → heard ≡ Some (request id method params) → reach ≡ Cancelled → IsCancelled id next
 
 -- how far a cancelled request is done: it isn't, and memory may have been refused before that was known
 abbrev pub undone : Reach → Reach

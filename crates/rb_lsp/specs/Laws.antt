@@ -1,5 +1,5 @@
 -- Statements about all answers, notifications and conversations.
-use Rattle.std.specs.Prelude.{◌≡◌, ◌⊎◌, ℕ, Bool, true, false, List, [], Option, Some, None, codes}
+use Rattle.std.specs.Prelude.{◌≡◌, ◌⊎◌, ℕ, Bool, true, false, List, [], Option, Some, None}
 use Rattle.serde_json.specs.Data.{Data}
 use Rattle.serde_json.specs.Written.{compact_text}
 use Rattle.rb_lsp.specs.Messages.{frame}
@@ -21,7 +21,7 @@ use Rattle.rb_lsp.specs.declared.server.reach.Reach.TheVariants.{Whole, Stopped,
 use Rattle.rb_lsp.specs.Meanings.{Meaning}
 use Rattle.rb_lsp.specs.Methods.{method_of}
 use Rattle.rb_lsp.specs.Questions.{answer_text, asked_of, body_text, cancelled_for, named_text, no_memory_for, stopped_for, uri_of}
-use Rattle.rb_lsp.specs.Notices.{Notice, list_publication, no_memory_list, notice_body, notice_of, stale_versions}
+use Rattle.rb_lsp.specs.Notices.{Notice, is_crowded, list_publication, list_text, no_memory_list, notice_of, stale_text, stale_versions, told_version}
 use Rattle.rb_lsp.specs.Replies.{PlainServer, On, reply, told_of, turned_by}
 use Rattle.rb_lsp.specs.Talk.{Talks}
 
@@ -55,12 +55,17 @@ TextsAreAnswered = (meaning : Meaning) (reach : Reach) (server other : PlainServ
 abbrev pub ResultsStandInAnswers : Type 0
 ResultsStandInAnswers = (id result : Data) → answer_text id (compact_text result) ≡ body_text (success id result)
 
--- The diagnostics of the document that the notification names are sent, with its URI and the notification's version: those of its current text, as far
--- as it was run, or the one that says that memory was refused. If too many documents are open for it, one diagnostic says so. A change whose version
--- isn't after the known one is refused with a message.
+-- The diagnostics of the document that a notification names, with its URI and the notification's version: those of its current text, as far as it was
+-- run, or the one that says that memory was refused. If too many documents are open for it, one diagnostic says so. A change whose version isn't after the
+-- known one is refused with a message.
+abbrev pub published_text : Meaning → Reach → Option (ℕ × ℕ) → Notice → List PlainDocument → List PlainDocument → List ℕ
+published_text meaning reach (Some versions) n before ds = stale_text versions.0 versions.1
+published_text meaning reach None n before ds = list_publication n.uri (told_version n) (list_text meaning reach n.client n.uri (is_crowded n before) (text_of n.uri ds))
+
+-- these are sent
 pub record Publishes (meaning : Meaning) (reach : Reach) (before : List PlainDocument) (server : PlainServer) (notice : Notice) (text : List ℕ) : Type 0 where
   pub running : server.phase ≡ Running notice.client
-  pub text_is : text ≡ frame (notice_body meaning reach (stale_versions notice before) notice before server.documents)
+  pub text_is : text ≡ frame (published_text meaning reach (stale_versions notice before) notice before server.documents)
 
 -- what is sent for a notification after which the server is this: nothing if it isn't about a document
 abbrev pub IsPublished : Meaning → Reach → List PlainDocument → PlainServer → Option Notice → List ℕ → Type 0

@@ -18,6 +18,7 @@ pub mod Meanings
 pub mod Questions
 pub mod Notices
 pub mod Replies
+pub mod Reaches
 pub mod Talk
 pub mod Serves
 pub mod Laws

@@ -125,6 +125,15 @@ abbrev pub notice_body : Meaning → Reach → Option (ℕ × ℕ) → Notice �
 notice_body meaning reach (Some versions) n before ds = stale_text versions.0 versions.1
 notice_body meaning reach None n before ds = publication meaning reach n.client n.uri (told_version n) (is_crowded n before) (text_of n.uri ds)
 
+-- the text that is run for it: its document's, unless it was refused
+abbrev pub run_after : Option (ℕ × ℕ) → Notice → List PlainDocument → Option (List ℕ)
+run_after (Some versions) n ds = None
+run_after None n ds = text_of n.uri ds
+
+abbrev pub notice_run : Option Notice → List PlainDocument → List PlainDocument → Option (List ℕ)
+notice_run None before ds = None
+notice_run (Some n) before ds = run_after (stale_versions n before) n ds
+
 -- what is sent, by the documents before it and after it
 abbrev pub notice_text : Meaning → Reach → Option Notice → List PlainDocument → List PlainDocument → List ℕ
 notice_text meaning reach None before ds = []

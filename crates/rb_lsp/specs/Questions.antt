@@ -14,7 +14,7 @@ use Rattle.rb_lsp.specs.declared.server.method.Question.TheVariants.{CodeAction,
 use Rattle.rb_lsp.specs.Documents.{PlainDocument, text_of}
 use Rattle.rb_lsp.specs.declared.server.reach.Reach.{Reach}
 use Rattle.rb_lsp.specs.declared.server.reach.Reach.TheVariants.{Stopped, Cancelled, NoMemory}
-use Rattle.rb_lsp.specs.Meanings.{Meaning}
+use Rattle.rb_lsp.specs.Meanings.{Meaning, run_by}
 
 -- the request, if the method's parameters give it
 abbrev pub asked_of : Question → Data → Option Query
@@ -81,6 +81,16 @@ with_asked meaning reach encoding ds id (Some uri) (Some asked) = of_text meanin
 abbrev pub question_body : Meaning → Reach → Encoding → List PlainDocument → Question → Option Data → Data → List ℕ
 question_body meaning reach encoding ds question None id = body_text (unfit id)
 question_body meaning reach encoding ds question (Some d) id = with_asked meaning reach encoding ds id (uri_of d) (asked_of question d)
+
+-- the text that is run for it
+abbrev pub asked_run : Meaning → List PlainDocument → Option (List ℕ) → Option Query → Option (List ℕ)
+asked_run meaning ds None asked = None
+asked_run meaning ds (Some uri) None = None
+asked_run meaning ds (Some uri) (Some asked) = run_by meaning asked (text_of uri ds)
+
+abbrev pub question_run : Meaning → List PlainDocument → Question → Option Data → Option (List ℕ)
+question_run meaning ds question None = None
+question_run meaning ds question (Some d) = asked_run meaning ds (uri_of d) (asked_of question d)
 
 -- the text of the document that is named, if it is open
 abbrev pub named_text : Option Data → List PlainDocument → Option (List ℕ)

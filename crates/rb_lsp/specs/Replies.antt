@@ -18,8 +18,8 @@ use Rattle.rb_lsp.specs.declared.server.phase.ExitStatus.TheVariants.{Done, Exit
 use Rattle.rb_lsp.specs.Documents.{PlainDocument}
 use Rattle.rb_lsp.specs.declared.server.reach.Reach.{Reach}
 use Rattle.rb_lsp.specs.Meanings.{Meaning}
-use Rattle.rb_lsp.specs.Questions.{body_text, question_body}
-use Rattle.rb_lsp.specs.Notices.{documents_after, notice_of, notice_text}
+use Rattle.rb_lsp.specs.Questions.{body_text, question_body, question_run}
+use Rattle.rb_lsp.specs.Notices.{documents_after, notice_of, notice_run, notice_text}
 
 -- the state of a server
 pub record PlainServer : Type 0 where
@@ -137,3 +137,21 @@ published meaning reach server method params =
 abbrev pub told_of : Meaning → Reach → PlainServer → Said → List ℕ
 told_of meaning reach server (notification method params) = published meaning reach server (method_of method) params
 told_of meaning reach server what = sent (reply meaning reach server what)
+
+-- ---- what is run
+
+-- the text that is run for a request
+abbrev pub request_run : Meaning → List PlainDocument → Phase → Method → Option Data → Option (List ℕ)
+request_run meaning ds (Running client) (Asks question) params = question_run meaning ds question params
+request_run meaning ds phase method params = None
+
+-- and for a notification
+abbrev pub published_run : PlainServer → Method → Option Data → Option (List ℕ)
+published_run server Exit params = None
+published_run server method params = notice_run (notice_of server.phase method params) server.documents (with_notice server method params).documents
+
+-- and for any message, or what isn't JSON
+abbrev pub run_for : Meaning → PlainServer → Option Said → Option (List ℕ)
+run_for meaning server (Some (request id method params)) = request_run meaning server.documents server.phase (method_of method) params
+run_for meaning server (Some (notification method params)) = published_run server (method_of method) params
+run_for meaning server heard = None

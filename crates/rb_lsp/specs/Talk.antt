@@ -4,7 +4,7 @@ use Rattle.serde_json.specs.Data.{Data}
 use Rattle.serde_json.specs.Read.{read}
 use Rattle.rb_lsp.specs.Messages.{IsMessage, HasNoMessage, NeverHasMessage}
 use Rattle.rb_lsp.specs.Said.{Said, said}
-use Rattle.rb_lsp.specs.Cancels.{MayReach}
+use Rattle.rb_lsp.specs.Reaches.{MayReach}
 use Rattle.rb_lsp.specs.declared.server.phase.ExitStatus.{ExitStatus}
 use Rattle.rb_lsp.specs.declared.server.phase.ExitStatus.TheVariants.{Closed, CutOff, NoMessage}
 use Rattle.rb_lsp.specs.declared.server.reach.Reach.{Reach}
@@ -29,11 +29,11 @@ goes server None = On server
 goes server (Some what) = turned_by server what
 
 -- A conversation begins: how far what each message asks was done, where the server is after them, which bytes are left, and what was written. A
--- request is left undone as cancelled only if one of the messages after it cancels it.
+-- request is left undone as cancelled only if one of the messages after it cancels it, and as stopped only if it needs a run that may stop.
 pub data Begins (meaning : Meaning) : PlainServer → List ℕ → List Reach → PlainServer → List ℕ → List ℕ → Type 0 where
   stands : (server : PlainServer) (all : List ℕ) → Begins meaning server all [] server all []
   goes_on : (server next last : PlainServer) (all body rest left text : List ℕ) (heard : Option Said) (reach : Reach) (reaches : List Reach)
-      → IsMessage all body rest → Hears body heard → goes server heard ≡ On next → MayReach heard reach rest → Begins meaning next rest reaches last left text
+      → IsMessage all body rest → Hears body heard → goes server heard ≡ On next → MayReach meaning server heard reach rest → Begins meaning next rest reaches last left text
       → Begins meaning server all (reach ∷ reaches) last left (told meaning reach server heard ++ text)
 
 -- How it ends, and what still goes out.
@@ -61,7 +61,7 @@ pub record Talks (meaning : Meaning) (all : List ℕ) (reaches : List Reach) (st
 -- What may be written for a body, which these bytes follow, if a call fails.
 pub data MayAnswer (meaning : Meaning) : PlainServer → List ℕ → List ℕ → List ℕ → Type 0 where
   nothing : (server : PlainServer) (body next : List ℕ) → MayAnswer meaning server body next []
-  answer : (server : PlainServer) (body next : List ℕ) (heard : Option Said) (reach : Reach) → Hears body heard → MayReach heard reach next
+  answer : (server : PlainServer) (body next : List ℕ) (heard : Option Said) (reach : Reach) → Hears body heard → MayReach meaning server heard reach next
       → MayAnswer meaning server body next (told meaning reach server heard)
 
 -- And for the next message.

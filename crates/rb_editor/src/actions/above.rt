@@ -2,7 +2,7 @@
 
 ghost use Rattle.std.specs.Prelude.{◌≡◌, ◌≤◌, length};
 ghost use Rattle.rb_lsp.specs.Tables.{feed_start};
-ghost use Rattle.rb_editor.specs.Findings.{above, behind};
+ghost use Rattle.rb_editor.specs.Findings.{above};
 
 // Where a line of a text begins, which counts from 0: at its end, if it has fewer lines.
 fn line_start(text: &[u8], line: usize) -> usize
@@ -27,12 +27,4 @@ pub(crate) fn above(text: &[u8], line: usize) -> &[u8]
 {
     let end = line_start(text, line.saturating_sub(1));
     &text[..end]
-}
-
-/// The text from a line on, which counts from 1.
-pub(crate) fn behind(text: &[u8], line: usize) -> &[u8]
-    ensures { result.now ≡ behind line text.now }
-{
-    let start = line_start(text, line.saturating_sub(1));
-    &text[start..]
 }

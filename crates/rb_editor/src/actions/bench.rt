@@ -1,11 +1,14 @@
 //! The language server of scripts.
 
-ghost use Rattle.std.specs.Prelude.{◌≡◌, ◌≢◌, ◌≤◌, ◌++◌, Err, None, IfOk, OnErr, OnOk, length};
+ghost use Rattle.std.specs.Prelude.{◌≡◌, ◌≢◌, ◌≤◌, ◌++◌, ◌||◌, not, is_some, Err, None, Some, true, IfOk, OnErr, OnOk, length};
 ghost use Rattle.rb_lsp.specs.declared.document.limits.TheConstants.{MAX_TEXT};
+ghost use Rattle.rb_lsp.specs.Meanings.{can_reach, run_by};
+ghost use Rattle.rb_lsp.specs.Notices.{reach_of};
 ghost use Rattle.rb_lsp.specs.Serves.{BreaksOff, Served};
 ghost use Rattle.rb_text.specs.Asked.{Fails};
 ghost use Rattle.rb_editor.specs.Meanings.{answer, meaning};
-ghost use Rattle.rb_editor.specs.Stops.{needs_run, refused_by};
+ghost use Rattle.rb_editor.specs.Stops.{needs_run};
+ghost use Rattle.rb_editor.specs.LastStops.{refused_by};
 
 use crate::actions::action::add_actions;
 use crate::actions::bounded::BoundedCluster;
@@ -44,6 +47,8 @@ impl Service for Bench {
 
     ghost meaning = { meaning };
 
+    ghost is_nothing = { λ kept. not (is_some kept.run || is_some kept.stopped) };
+
     fn nothing(&self) -> KeptRun<BoundedCluster> {
         KeptRun::none()
     }
@@ -76,8 +81,9 @@ impl Service for Bench {
     ) -> Result<Option<Stop>, AllocError>
         requires { length asked.text.now ≤ MAX_TEXT }
         ensures added { IfOk result (λ stop. stop ≡ None → out.new.items ≡ out.old.items ++ answer asked.entry.encoding asked.entry.query asked.entry.uri.now asked.entry.text.now) }
-        // It isn't done exactly if it needs a run that stopped.
+        // It isn't done exactly if it needs a run that stopped, which is at a directive of the text.
         ensures stopped { IfOk result (λ stop. stop ≡ refused_by asked.entry.query kept.now.stopped asked.entry.text.now) }
+        ensures stops { IfOk result (λ stop. can_reach meaning (run_by meaning asked.entry.query (Some asked.entry.text.now)) (reach_of stop) ≡ true) }
     {
         if needs_run(asked.query)
             && let Some(stop) = kept.stop_of(asked.text)

@@ -19,8 +19,14 @@ const DIRECTIVE_WORK: u64 = 100;
 
 /// A machine whose run may be refused since it has done as much work as it may.
 pub(crate) trait Bounded: Machine {
+    ghost use Rattle.std.specs.Prelude.{◌≡◌, Option};
+    ghost use Rattle.rb_editor.specs.declared.actions.work_meter.EnoughWork.{EnoughWork};
+
+    ghost refused_of: { Self.Meter → Option EnoughWork };
+
     /// The work at which the last directive on this meter was refused, if it was for that.
-    fn refused_at(meter: &Self::Meter) -> Option<EnoughWork>;
+    fn refused_at(meter: &Self::Meter) -> Option<EnoughWork>
+        ensures { result ≡ refused_of meter.now };
 }
 
 // The printed lines of a directive, and the work of the run with it.
@@ -143,11 +149,9 @@ impl Machine for BoundedCluster {
 }
 
 impl Bounded for BoundedCluster {
-    ghost use Rattle.std.specs.Prelude.{◌≡◌};
+    ghost refused_of = { λ m. m.refused };
 
-    fn refused_at(meter: &WorkMeter) -> Option<EnoughWork>
-        ensures { result ≡ meter.now.refused }
-    {
+    fn refused_at(meter: &WorkMeter) -> Option<EnoughWork> {
         meter.refused()
     }
 }

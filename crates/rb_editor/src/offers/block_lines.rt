@@ -89,8 +89,8 @@ fn block_at(script: &Script, place: usize) -> &Block
     script.block(place).unwrap()
 }
 
-// Finds the lines of each block of a script, whose heads begin on these lines.
-fn all_lines(
+/// Finds the lines of each block of a script, whose heads begin on these lines.
+pub(crate) fn all_lines(
     alloc: Global,
     text: &Lines,
     script: &Script,

@@ -1,13 +1,14 @@
 //! Answers to requests, and the state of the server after each.
 
-ghost use Rattle.std.specs.Prelude.{◌≡◌, false, IfOk, option_map};
+ghost use Rattle.std.specs.Prelude.{◌≡◌, true, false, IfOk, option_map};
 ghost use Rattle.serde_json.specs.View.{view};
 ghost use Rattle.serde_json.specs.Written.{has_float};
 ghost use Rattle.rb_lsp.specs.Cancels.{IsCancelled, undone};
+ghost use Rattle.rb_lsp.specs.Meanings.{can_reach};
 ghost use Rattle.rb_lsp.specs.Messages.{frame};
 ghost use Rattle.rb_lsp.specs.Questions.{body_text};
 ghost use Rattle.rb_lsp.specs.Reading.{waiting};
-ghost use Rattle.rb_lsp.specs.Replies.{after, answer_to, body_in, fresh_answer, initialize_answer, no_json, no_message, running_answer};
+ghost use Rattle.rb_lsp.specs.Replies.{after, answer_to, body_in, fresh_answer, initialize_answer, no_json, no_message, request_run, running_answer};
 
 use crate::rpc::{ErrorCode, failure, success};
 use crate::server::beginning::{client_of, initialized};
@@ -102,6 +103,7 @@ pub(crate) fn answer_told<V: Service>(
 ) -> Result<OutgoingText, AllocError>
     requires { has_float (view request.now.id.now) ≡ false }
     ensures said { IfOk result (λ told. told.out.items ≡ frame (body_in V.meaning told.reach documents.now phase method (option_map (λ v. view v.now) request.now.params) (view request.now.id.now))) }
+    ensures stops { IfOk result (λ told. can_reach V.meaning (request_run V.meaning documents.now phase method (option_map (λ v. view v.now) request.now.params)) told.reach ≡ true) }
     ensures only { IfOk result (λ told. told.reach ≡ Reach.Cancelled → IsCancelled (view request.now.id.now) (waiting request.now.reader.now)) }
     ensures cancelled { IfOk result (λ told. IsCancelled (view request.now.id.now) (waiting request.now.reader.now) → told.out.items ≡ frame (body_in V.meaning (undone told.reach) documents.now phase method (option_map (λ v. view v.now) request.now.params) (view request.now.id.now))) }
 {

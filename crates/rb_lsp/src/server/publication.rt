@@ -1,7 +1,8 @@
 //! Diagnostics that are published for a document.
 
-ghost use Rattle.std.specs.Prelude.{◌≡◌, ◌≤◌, ◌++◌, IfOk, IfSome, OnOk, length, option_map};
+ghost use Rattle.std.specs.Prelude.{◌≡◌, ◌≢◌, ◌≤◌, ◌++◌, Some, true, IfOk, IfSome, OnOk, length, option_map};
 ghost use Rattle.rb_lsp.specs.declared.document.limits.TheConstants.{MAX_TEXT};
+ghost use Rattle.rb_lsp.specs.Meanings.{can_reach};
 ghost use Rattle.rb_lsp.specs.Messages.{frame};
 ghost use Rattle.rb_lsp.specs.Notices.{closed_list, crowded_list, head_text, list_by, list_publication, middle_text, no_memory_list, publication};
 
@@ -84,7 +85,9 @@ fn diagnosed<V: Service>(
     kept: &mut V::Kept,
 ) -> Result<OutgoingText, AllocError>
     requires { length text.now ≤ MAX_TEXT }
-    ensures { IfOk result (λ told. told.out.items ≡ frame (list_publication document.now.uri.now document.now.version (list_by V.meaning told.reach document.now.client document.now.uri.now text.now))) }
+    ensures out { IfOk result (λ told. told.out.items ≡ frame (list_publication document.now.uri.now document.now.version (list_by V.meaning told.reach document.now.client document.now.uri.now text.now))) }
+    ensures stops { IfOk result (λ told. can_reach V.meaning (Some text.now) told.reach ≡ true) }
+    ensures reach { IfOk result (λ told. told.reach ≢ Reach.NoMemory) }
 {
     let mut body = Vec::new(alloc);
     add_head(&mut body, document.uri)?;
@@ -131,7 +134,9 @@ pub(crate) fn publication<V: Service>(
     kept: &mut V::Kept,
 ) -> Result<OutgoingText, AllocError>
     requires { IfSome text (λ text. length text.now ≤ MAX_TEXT) }
-    ensures { IfOk result (λ told. told.out.items ≡ frame (publication V.meaning told.reach document.now.client document.now.uri.now document.now.version document.now.is_crowded (option_map (λ text. text.now) text.entry))) }
+    ensures out { IfOk result (λ told. told.out.items ≡ frame (publication V.meaning told.reach document.now.client document.now.uri.now document.now.version document.now.is_crowded (option_map (λ text. text.now) text.entry))) }
+    ensures dropped { IfOk result (λ told. told.reach ≡ Reach.NoMemory → V.is_nothing kept.new ≡ true) }
+    ensures stops { IfOk result (λ told. can_reach V.meaning (option_map (λ text. text.now) text.entry) told.reach ≡ true) }
 {
     let Some(text) = text else {
         let list = closed_list(document.is_crowded);

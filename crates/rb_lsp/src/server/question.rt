@@ -6,10 +6,11 @@ ghost use Rattle.serde_json.specs.Written.{compact_text, has_float};
 ghost use Rattle.rb_lsp.specs.declared.document.limits.TheConstants.{MAX_TEXT};
 ghost use Rattle.rb_lsp.specs.Answers.{failure};
 ghost use Rattle.rb_lsp.specs.Cancels.{IsCancelled, undone};
+ghost use Rattle.rb_lsp.specs.Meanings.{can_reach, run_by};
 ghost use Rattle.rb_lsp.specs.Messages.{frame};
 ghost use Rattle.rb_lsp.specs.Documents.{text_of};
 ghost use Rattle.rb_lsp.specs.Reading.{waiting};
-ghost use Rattle.rb_lsp.specs.Questions.{answer_text, asked_of, body_text, cancelled_for, no_memory_for, not_open, of_text, question_body, stopped_for, text_by, unfit, with_asked};
+ghost use Rattle.rb_lsp.specs.Questions.{answer_text, asked_of, body_text, cancelled_for, no_memory_for, not_open, of_text, question_body, question_run, stopped_for, text_by, unfit, with_asked};
 
 use crate::document::Encoding;
 use crate::rpc::{ErrorCode, failure, text_below, text_of};
@@ -116,6 +117,7 @@ fn answered<V: Service>(
     requires plain { has_float (view request.now.id.now) ≡ false }
     requires bounded { length text.now ≤ MAX_TEXT }
     ensures reach { IfOk result (λ told. told.reach ≢ Reach.Cancelled) }
+    ensures stops { IfOk result (λ told. can_reach V.meaning (run_by V.meaning request.now.query (Some text.now)) told.reach ≡ true) }
     ensures said { IfOk result (λ told. told.out.items ≡ frame (text_by V.meaning told.reach request.now.encoding request.now.query request.now.uri.now (view request.now.id.now) text.now)) }
 {
     let mut body = Vec::new(alloc);
@@ -150,6 +152,8 @@ fn unless_cancelled<V: Service>(
     requires plain { has_float (view request.now.id.now) ≡ false }
     requires bounded { length text.now ≤ MAX_TEXT }
     ensures said { IfOk result (λ told. told.out.items ≡ frame (text_by V.meaning told.reach request.now.encoding request.now.query request.now.uri.now (view request.now.id.now) text.now)) }
+    // It is left undone as stopped only if it needs the run of the text, and that may stop there.
+    ensures stops { IfOk result (λ told. can_reach V.meaning (run_by V.meaning request.now.query (Some text.now)) told.reach ≡ true) }
     // It isn't done exactly if it is cancelled.
     ensures cancelled { IfOk result (λ told. told.reach ≡ Reach.Cancelled ↔ IsCancelled (view request.now.id.now) (waiting request.now.reader.now)) }
 {
@@ -171,6 +175,7 @@ fn of_text<V: Service>(
     requires plain { has_float (view request.now.id.now) ≡ false }
     requires bounded { length text.now ≤ MAX_TEXT }
     ensures said { IfOk result (λ told. told.out.items ≡ frame (of_text V.meaning told.reach request.now.encoding request.now.query request.now.uri.now (view request.now.id.now) (Some text.now))) }
+    ensures stops { IfOk result (λ told. can_reach V.meaning (run_by V.meaning request.now.query (Some text.now)) told.reach ≡ true) }
     ensures only { IfOk result (λ told. told.reach ≡ Reach.Cancelled → IsCancelled (view request.now.id.now) (waiting request.now.reader.now)) }
     ensures cancelled { IfOk result (λ told. IsCancelled (view request.now.id.now) (waiting request.now.reader.now) → told.out.items ≡ frame (of_text V.meaning (undone told.reach) request.now.encoding request.now.query request.now.uri.now (view request.now.id.now) (Some text.now))) }
 {
@@ -192,6 +197,7 @@ fn of_document<V: Service>(
 ) -> Result<OutgoingText, AllocError>
     requires { has_float (view request.now.id.now) ≡ false }
     ensures said { IfOk result (λ told. told.out.items ≡ frame (of_text V.meaning told.reach request.now.encoding request.now.query request.now.uri.now (view request.now.id.now) (text_of request.now.uri.now documents.now))) }
+    ensures stops { IfOk result (λ told. can_reach V.meaning (run_by V.meaning request.now.query (text_of request.now.uri.now documents.now)) told.reach ≡ true) }
     ensures only { IfOk result (λ told. told.reach ≡ Reach.Cancelled → IsCancelled (view request.now.id.now) (waiting request.now.reader.now)) }
     ensures cancelled { IfOk result (λ told. IsCancelled (view request.now.id.now) (waiting request.now.reader.now) → told.out.items ≡ frame (of_text V.meaning (undone told.reach) request.now.encoding request.now.query request.now.uri.now (view request.now.id.now) (text_of request.now.uri.now documents.now))) }
 {
@@ -212,6 +218,7 @@ pub(crate) fn question_told<V: Service>(
 ) -> Result<OutgoingText, AllocError>
     requires { has_float (view request.now.id.now) ≡ false }
     ensures said { IfOk result (λ told. told.out.items ≡ frame (question_body V.meaning told.reach encoding documents.now question (option_map (λ v. view v.now) request.now.params) (view request.now.id.now))) }
+    ensures stops { IfOk result (λ told. can_reach V.meaning (question_run V.meaning documents.now question (option_map (λ v. view v.now) request.now.params)) told.reach ≡ true) }
     ensures only { IfOk result (λ told. told.reach ≡ Reach.Cancelled → IsCancelled (view request.now.id.now) (waiting request.now.reader.now)) }
     ensures cancelled { IfOk result (λ told. IsCancelled (view request.now.id.now) (waiting request.now.reader.now) → told.out.items ≡ frame (question_body V.meaning (undone told.reach) encoding documents.now question (option_map (λ v. view v.now) request.now.params) (view request.now.id.now))) }
 {

@@ -1,13 +1,15 @@
 //! A server, and how it handles a message.
 
-ghost use Rattle.std.specs.Prelude.{◌≡◌, [], false, Some, None, IfOk, OnOk, option_map};
+ghost use Rattle.std.specs.Prelude.{◌≡◌, [], true, false, Some, None, IfOk, OnOk, option_map};
 ghost use Rattle.serde_json.specs.View.{view};
 ghost use Rattle.serde_json.specs.Written.{has_float};
 ghost use Rattle.rb_lsp.specs.Said.{said};
-ghost use Rattle.rb_lsp.specs.Cancels.{IsCancelled, MayReach, undone};
-ghost use Rattle.rb_lsp.specs.Notices.{documents_after, notice_of, notice_text};
+ghost use Rattle.rb_lsp.specs.Cancels.{IsCancelled, undone};
+ghost use Rattle.rb_lsp.specs.Meanings.{can_reach};
+ghost use Rattle.rb_lsp.specs.Notices.{documents_after, notice_of, notice_run, notice_text};
 ghost use Rattle.rb_lsp.specs.Questions.{body_text};
-ghost use Rattle.rb_lsp.specs.Replies.{after, answer_body, no_json, noticed_by, published, sent, told_of, turned_by, with_phase};
+ghost use Rattle.rb_lsp.specs.Reaches.{MayReach};
+ghost use Rattle.rb_lsp.specs.Replies.{after, answer_body, no_json, noticed_by, published, published_run, request_run, sent, told_of, turned_by, with_phase};
 ghost use Rattle.rb_lsp.specs.Reading.{waiting};
 ghost use Rattle.rb_lsp.specs.Serves.{Heeds, turned_of};
 
@@ -69,6 +71,7 @@ pub(crate) struct ServerReply {
 // Sends nothing.
 fn silent(alloc: Global, over: Option<ExitStatus>) -> ServerReply
     ensures out { result.out.items ≡ [] }
+    ensures reach { result.reach ≡ Reach.Whole }
     ensures over { result.over ≡ over }
 {
     ServerReply {
@@ -89,6 +92,7 @@ fn hear_request<V: Service>(
 ) -> Result<ServerReply, AllocError>
     requires { has_float (view request.now.id.now) ≡ false }
     ensures out { IfOk result (λ heard. heard.out.items ≡ sent (Some (answer_body V.meaning heard.reach server.old method (option_map (λ v. view v.now) request.now.params) (view request.now.id.now)))) }
+    ensures stops { IfOk result (λ heard. can_reach V.meaning (request_run V.meaning server.old.documents server.old.phase method (option_map (λ v. view v.now) request.now.params)) heard.reach ≡ true) }
     ensures only { IfOk result (λ heard. heard.reach ≡ Reach.Cancelled → IsCancelled (view request.now.id.now) (waiting request.now.reader.now)) }
     ensures cancelled { IfOk result (λ heard. IsCancelled (view request.now.id.now) (waiting request.now.reader.now) → heard.out.items ≡ sent (Some (answer_body V.meaning (undone heard.reach) server.old method (option_map (λ v. view v.now) request.now.params) (view request.now.id.now)))) }
     ensures over { IfOk result (λ heard. heard.over ≡ None) }
@@ -128,6 +132,7 @@ fn notice<V: Service>(
 ) -> Result<OutgoingText, AllocError>
     ensures documents { OnOk result (documents.new ≡ documents_after (Some (record { client = notice.now.client; method = notice.now.method; uri = notice.now.uri.now; given = view notice.now.params.now })) documents.old) }
     ensures out { IfOk result (λ told. told.out.items ≡ notice_text V.meaning told.reach (Some (record { client = notice.now.client; method = notice.now.method; uri = notice.now.uri.now; given = view notice.now.params.now })) documents.old documents.new) }
+    ensures stops { IfOk result (λ told. can_reach V.meaning (notice_run (Some (record { client = notice.now.client; method = notice.now.method; uri = notice.now.uri.now; given = view notice.now.params.now })) documents.old documents.new) told.reach ≡ true) }
 {
     let uri = notice.uri;
     let version = number_below(notice.params, "textDocument", "version");
@@ -170,6 +175,7 @@ fn take_notice<V: Service>(
     ensures phase { server.new.phase ≡ server.old.phase }
     ensures documents { OnOk result (server.new.documents ≡ documents_after (notice_of server.old.phase method (option_map (λ v. view v.now) params.entry)) server.old.documents) }
     ensures out { IfOk result (λ told. told.out.items ≡ notice_text V.meaning told.reach (notice_of server.old.phase method (option_map (λ v. view v.now) params.entry)) server.old.documents server.new.documents) }
+    ensures stops { IfOk result (λ told. can_reach V.meaning (notice_run (notice_of server.old.phase method (option_map (λ v. view v.now) params.entry)) server.old.documents server.new.documents) told.reach ≡ true) }
 {
     let Phase::Running(client) = server.phase else {
         return Ok(OutgoingText::whole(Vec::new(alloc)));
@@ -201,6 +207,7 @@ fn hear_notification<V: Service>(
     params: Option<&Value>,
 ) -> Result<ServerReply, AllocError>
     ensures out { IfOk result (λ heard. heard.out.items ≡ published V.meaning heard.reach server.old method (option_map (λ v. view v.now) params.entry)) }
+    ensures stops { IfOk result (λ heard. can_reach V.meaning (published_run server.old method (option_map (λ v. view v.now) params.entry)) heard.reach ≡ true) }
     ensures turned { IfOk result (λ heard. turned_of heard.over server.new ≡ noticed_by server.old method (option_map (λ v. view v.now) params.entry)) }
 {
     if matches!(method, Method::Exit) {
@@ -225,9 +232,10 @@ pub(crate) fn hear<V: Service>(
 ) -> Result<ServerReply, AllocError>
     ensures out { IfOk result (λ heard. heard.out.items ≡ told_of V.meaning heard.reach server.old (said (view message.now))) }
     ensures turned { IfOk result (λ heard. turned_of heard.over server.new ≡ turned_by server.old (said (view message.now))) }
-    // A request is answered as cancelled only if one of the next messages cancels it, and then it isn't done.
-    ensures only { IfOk result (λ heard. MayReach (Some (said (view message.now))) heard.reach (waiting reader.now)) }
-    ensures cancelled { IfOk result (λ heard. Heeds V.meaning server.old (said (view message.now)) (waiting reader.now) heard.reach heard.out.items) }
+    // A request is answered as cancelled only if one of the next messages cancels it, and then it isn't done; as stopped only if it needs a run that
+    // may stop there.
+    ensures only { IfOk result (λ heard. MayReach V.meaning server.old (Some (said (view message.now))) heard.reach (waiting reader.now)) }
+    ensures cancelled { IfOk result (λ heard. Heeds V.meaning server.old (Some (said (view message.now))) (waiting reader.now) heard.reach heard.out.items) }
 {
     match incoming_of(message) {
         Incoming::Request(id, method, params) => {

@@ -1,8 +1,9 @@
 //! What documents mean, which a server leaves to others.
 
-ghost use Rattle.std.specs.Prelude.{◌≡◌, ◌≤◌, ◌++◌, None, IfOk, length};
+ghost use Rattle.std.specs.Prelude.{◌≡◌, ◌≤◌, ◌++◌, Bool, None, Some, true, IfOk, length};
 ghost use Rattle.rb_lsp.specs.declared.document.limits.TheConstants.{MAX_TEXT};
-ghost use Rattle.rb_lsp.specs.Meanings.{Meaning};
+ghost use Rattle.rb_lsp.specs.Meanings.{Meaning, can_reach, run_by};
+ghost use Rattle.rb_lsp.specs.Notices.{reach_of};
 
 use crate::document::Encoding;
 use crate::server::client::Client;
@@ -28,8 +29,12 @@ pub trait Service {
     // the diagnostics of a text, and the results of requests about it
     ghost meaning: { Meaning };
 
+    // whether nothing is kept
+    ghost is_nothing: { Self.Kept → Bool };
+
     /// Kept for a document before its first text.
-    fn nothing(&self) -> Self::Kept;
+    fn nothing(&self) -> Self::Kept
+        ensures { is_nothing result ≡ true };
 
     /// Adds the diagnostics of the text of a document, and keeps what it found out about the text. Returns where the run of the text stopped, if
     /// it had done [`crate::server::MAX_WORK`].
@@ -42,7 +47,8 @@ pub trait Service {
         out: &mut Vec<u8>,
     ) -> Result<Option<Stop>, AllocError>
         requires { length text.now ≤ MAX_TEXT }
-        ensures { IfOk result (λ stop. out.new.items ≡ out.old.items ++ (meaning).diagnose stop client uri.now text.now) };
+        ensures added { IfOk result (λ stop. out.new.items ≡ out.old.items ++ (meaning).diagnose stop client uri.now text.now) }
+        ensures stops { IfOk result (λ stop. can_reach (meaning) (Some text.now) (reach_of stop) ≡ true) };
 
     /// Adds the result of a query about a document. If it needs a run of the text and that stopped, returns where instead.
     fn add_answer(
@@ -52,5 +58,6 @@ pub trait Service {
         out: &mut Vec<u8>,
     ) -> Result<Option<Stop>, AllocError>
         requires { length asked.text.now ≤ MAX_TEXT }
-        ensures { IfOk result (λ stop. stop ≡ None → out.new.items ≡ out.old.items ++ (meaning).answer asked.entry.encoding asked.entry.query asked.entry.uri.now asked.entry.text.now) };
+        ensures added { IfOk result (λ stop. stop ≡ None → out.new.items ≡ out.old.items ++ (meaning).answer asked.entry.encoding asked.entry.query asked.entry.uri.now asked.entry.text.now) }
+        ensures stops { IfOk result (λ stop. can_reach (meaning) (run_by (meaning) asked.entry.query (Some asked.entry.text.now)) (reach_of stop) ≡ true) };
 }

@@ -59,7 +59,8 @@ fn turn<V: Service, S: Source, W: Sink>(
     source: &mut S,
     sink: &mut W,
 ) -> Result<Option<ExitStatus>, ServeFault>
-    ensures ok { IfOk result (λ over. TurnsOut V.meaning server.old (turned_of over server.new) (left_of reader.old (S.left source.old)) (left_of reader.new (S.left source.new)) (W.held sink.old) (W.held sink.new)) }
+    // One message is taken off the bytes that are left. Of those after it the reader has read some, which say whether it is cancelled; they stay.
+    ensures ok { IfOk result (λ over. TurnsOut V.meaning server.old (turned_of over server.new) (waiting reader.new) (left_of reader.old (S.left source.old)) (left_of reader.new (S.left source.new)) (W.held sink.old) (W.held sink.new)) }
     ensures failed { OnErr result (TurnBreaks V.meaning server.old (left_of reader.old (S.left source.old)) (W.held sink.old) (W.held sink.new)) }
     // Without a failed call the conversation breaks off only once all calls are made.
     ensures io { S.gives_all source.old → W.takes_all sink.old → S.gives_all source.new × W.takes_all sink.new × (result ≡ Err ServeFault.Io → calls_of reader.new ≡ 0) }
@@ -104,7 +105,7 @@ fn respond_to<V: Service, W: Sink>(
     sink: &mut W,
 ) -> Result<Option<ExitStatus>, ServeFault>
     ensures turned { IfOk result (λ over. turned_of over server.new ≡ goes server.old (Some (said (view message.now)))) }
-    ensures tells { OnOk result (Tells V.meaning server.old (Some (said (view message.now))) (waiting reader.now) (W.held sink.old) (W.held sink.new)) }
+    ensures tells { OnOk result (Tells V.meaning server.old (Some (said (view message.now))) (waiting reader.now) (waiting reader.now) (W.held sink.old) (W.held sink.new)) }
     ensures failed { OnErr result (StartsTelling V.meaning server.old (Some (said (view message.now))) (waiting reader.now) (W.held sink.old) (W.held sink.new)) }
     ensures io { W.takes_all sink.old → (result ≢ Err ServeFault.Io) × W.takes_all sink.new }
 {
@@ -121,7 +122,7 @@ fn refuse<V: Service, W: Sink>(
     sink: &mut W,
 ) -> Result<Option<ExitStatus>, ServeFault>
     ensures turned { IfOk result (λ over. turned_of over server.new ≡ goes server.old None) }
-    ensures tells { OnOk result (Tells V.meaning server.old None (waiting reader.now) (W.held sink.old) (W.held sink.new)) }
+    ensures tells { OnOk result (Tells V.meaning server.old None (waiting reader.now) (waiting reader.now) (W.held sink.old) (W.held sink.new)) }
     ensures failed { OnErr result (StartsTelling V.meaning server.old None (waiting reader.now) (W.held sink.old) (W.held sink.new)) }
     ensures io { W.takes_all sink.old → (result ≢ Err ServeFault.Io) × W.takes_all sink.new }
 {

@@ -1,4 +1,4 @@
-use Rattle.std.proofs.Common.{◌∙◌, ℕ, ◌+◌, List, drop, refl, ap, sym, arith}
+use Rattle.std.proofs.Common.{◌∙◌, ℕ, ◌+◌, drop, refl, ap, sym, arith}
 use Rattle.std.specs.Prelude.{slice_range}
 use Rattle.rb_editor.specs.Corrections.{column_in, word_column}
 use Rattle.rb_editor.proofs.CorrectionLaws.{column_more, column_passed}

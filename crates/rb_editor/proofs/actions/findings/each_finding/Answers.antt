@@ -1,4 +1,4 @@
-use Rattle.std.proofs.Common.{◌∙◌, ℕ, List, [], ◌++◌, Option, ap, arith}
+use Rattle.std.proofs.Common.{◌∙◌, ℕ, [], ◌++◌, Option, ap, arith}
 use Rattle.rb_replay.specs.Run.{outputs}
 use Rattle.rb_editor.specs.Diagnostics.{PlainDiagnostic}
 use Rattle.rb_editor.specs.Findings.{before, findings, first_head}

@@ -1,4 +1,4 @@
-use Rattle.std.proofs.Common.{◌∙◌, ℕ, ◌+◌, List, drop, refl, ap, sym, arith}
+use Rattle.std.proofs.Common.{◌∙◌, ℕ, ◌+◌, drop, refl, ap, sym, arith}
 use Rattle.std.specs.Prelude.{slice_range}
 use Rattle.rb_editor.specs.Unfinished.{has_piece, is_listed}
 use Rattle.rb_editor.proofs.PieceLaws.{piece_more, piece_passed}

@@ -1,6 +1,6 @@
 use Rattle.std.proofs.Common.{sym, subst}
 use Rattle.rb_text.proofs.AskedLaws.{fails_none, fails_then}
-use Rattle.rb_lsp.specs.Reading.{left_of}
+use Rattle.rb_lsp.specs.Reading.{left_of, waiting}
 use Rattle.rb_lsp.specs.Replies.{PlainServer}
 use Rattle.rb_lsp.proofs.TalkLaws.{Far, far_broken, far_more, far_none, far_over, far_stopped}
 use Rattle.rb_lsp.proofs.server.serving.serve.Goals as goal
@@ -25,7 +25,7 @@ loop-preserved g c =
     let mid = g.W.Sink.held c.loop.sink in
     let new = g.W.Sink.held c.turn.new.sink in
     record {
-      far = far_more g.V.Service.meaning first left after old mid new c.loop.server c.turn.new.server c.loop.invariant.far (rw c.in-Ok-None.field-0-is at c.in-Ok-None.ensures.ok);
+      far = far_more g.V.Service.meaning (waiting c.turn.new.reader) first left after old mid new c.loop.server c.turn.new.server c.loop.invariant.far (rw c.in-Ok-None.field-0-is at c.in-Ok-None.ensures.ok);
       unfailed = fails_then _ _ _ 0 0 c.loop.invariant.unfailed (c.in-Ok-None.ensures.unfailed (λ e. cc));
     }
 
@@ -37,7 +37,7 @@ returns-in-Ok-Some-clause-ok g c =
     let old = g.W.Sink.held c.args.sink.now in
     let mid = g.W.Sink.held c.loop.sink in
     let new = g.W.Sink.held c.turn.new.sink in
-    far_over g.V.Service.meaning first left after old mid new c.loop.server c.in-Ok-Some.status c.loop.invariant.far (rw c.in-Ok-Some.field-0-is at c.in-Ok-Some.ensures.ok)
+    far_over g.V.Service.meaning (waiting c.turn.new.reader) first left after old mid new c.loop.server c.in-Ok-Some.status c.loop.invariant.far (rw c.in-Ok-Some.field-0-is at c.in-Ok-Some.ensures.ok)
 
 pub returns-in-Err-clause-failed : goal.returns-in-Err-clause-failed
 returns-in-Err-clause-failed g c =

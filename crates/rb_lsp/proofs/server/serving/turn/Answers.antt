@@ -28,16 +28,16 @@ pub returns-in-End-clause-ok : goal.returns-in-End-clause-ok
 returns-in-End-clause-ok g c =
     let before = left_of c.args.reader.now (g.S.Source.left c.args.source.now) in
     let left = left_of c.next.new.self (g.S.Source.left c.next.new.source) in
-    closed_by g.V.Service.meaning c.args.server.now before left (g.W.Sink.held c.args.sink.now) (rw c.in-End.is at c.in_ok-next.ensures.given)
+    closed_by g.V.Service.meaning c.args.server.now (waiting c.next.new.self) before left (g.W.Sink.held c.args.sink.now) (rw c.in-End.is at c.in_ok-next.ensures.given)
 
 pub returns-in-CutOff-clause-ok : goal.returns-in-CutOff-clause-ok
 returns-in-CutOff-clause-ok g c =
     let before = left_of c.args.reader.now (g.S.Source.left c.args.source.now) in
     let left = left_of c.next.new.self (g.S.Source.left c.next.new.source) in
-    cut_by g.V.Service.meaning c.args.server.now before left (g.W.Sink.held c.args.sink.now) (rw c.in-CutOff.is at c.in_ok-next.ensures.given)
+    cut_by g.V.Service.meaning c.args.server.now (waiting c.next.new.self) before left (g.W.Sink.held c.args.sink.now) (rw c.in-CutOff.is at c.in_ok-next.ensures.given)
 
 pub returns-in-Bad-clause-ok : goal.returns-in-Bad-clause-ok
 returns-in-Bad-clause-ok g c =
     let before = left_of c.args.reader.now (g.S.Source.left c.args.source.now) in
     let left = left_of c.next.new.self (g.S.Source.left c.next.new.source) in
-    stray_by g.V.Service.meaning c.args.server.now before left (g.W.Sink.held c.args.sink.now) (rw c.in-Bad.is at c.in_ok-next.ensures.given)
+    stray_by g.V.Service.meaning c.args.server.now (waiting c.next.new.self) before left (g.W.Sink.held c.args.sink.now) (rw c.in-Bad.is at c.in_ok-next.ensures.given)
