@@ -339,8 +339,8 @@ def test_progress(room: pathlib.Path) -> Iterator[str]:
         yield "short work shows how far it is"
 
 
-def piped(room: pathlib.Path, call: str) -> tuple[int, bytes, bytes]:
-    done = subprocess.run([PROGRAM, call, "slow.txt"], cwd=room, stdin=subprocess.DEVNULL, capture_output=True, timeout=MOST_SECONDS)
+def piped(room: pathlib.Path, *words: str) -> tuple[int, bytes, bytes]:
+    done = subprocess.run([PROGRAM, *words, "slow.txt"], cwd=room, stdin=subprocess.DEVNULL, capture_output=True, timeout=MOST_SECONDS)
     return done.returncode, TIME.sub(b"TIME\n", done.stdout), done.stderr
 
 
@@ -364,22 +364,22 @@ def test_directive_that_takes_long(room: pathlib.Path) -> Iterator[str]:
     Nothing of it goes into a pipe."""
     head = slow_directive(room)
     line = rb"\r\x1b\[K(\d+) of 4107: ([ -~]*?)(?=\r)"
-    for call in ("run", "rewrite", "check"):
-        status, out, errors = piped(room, call)
+    for call in (("run",), ("rewrite",), ("check",), ("check", "--why")):
+        status, out, errors = piped(room, *call)
         if errors:
             yield f"{call} in pipes: {errors!r}"
-        came, got, first = on_terminal(room, "slow.txt", streams=("stderr",), call=(call,))
+        came, got, first = on_terminal(room, "slow.txt", streams=("stderr",), call=call)
         if came != status or re.sub(line, b"", got) != b"\r\x1b[K" or (b"4107", head) not in re.findall(line, got):
             yield f"{call}: {came} {got[-300:]!r}"
         elif first is None or first < 1:
             yield f"{call}: it shows after {first} seconds what runs"
-        came, got, _ = on_terminal(room, "slow.txt", call=(call,), env={"NO_COLOR": "1"})
+        came, got, _ = on_terminal(room, "slow.txt", call=call, env={"NO_COLOR": "1"})
         if came != status or re.sub(line, b"", got) != b"\r\x1b[K" + out:
             yield f"{call} on one terminal: {came} {got[:300]!r}"
     (room / "slow.txt").write_bytes(GOOD)
-    for call in ("run", "rewrite", "check"):
-        if on_terminal(room, "slow.txt", streams=("stderr",), call=(call,))[1:] != (b"", None):
-            yield f"{call}: a short run shows what runs"
+    for name in ("run", "rewrite", "check"):
+        if on_terminal(room, "slow.txt", streams=("stderr",), call=(name,))[1:] != (b"", None):
+            yield f"{name}: a short run shows what runs"
 
 
 def line_shown(got: bytes) -> bytes:

@@ -95,6 +95,10 @@ def bounded_runs(_edits: int) -> Iterator[str]:
         client.send(changed(URI, 20_002, {"range": {"start": at, "end": at}, "text": "000"}))
         if stops_at(told(client)[0]) != [at["line"]] or late != at["line"] + 4:
             yield "it doesn't stop earlier"
+        # The directive at which it stopped has less work.
+        client.send(changed(URI, 20_003, {"range": {"start": at, "end": {**at, "character": at["character"] + 3}}, "text": ""}))
+        if stops_at(told(client)[0]) != [late]:
+            yield "it stops at a directive that was edited"
         if (status := client.end()) != 0:
             yield f"status {status}"
 
