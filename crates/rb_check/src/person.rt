@@ -14,6 +14,7 @@ use std::time::{Clock, Duration, Instant};
 // A terminal has no more bytes at once.
 pub(crate) const MOST_KEYS: usize = 4_096;
 
+// For how many milliseconds after a key that is no answer no other key is one.
 const KEYS_APART: u64 = 200;
 
 /// Who answers the questions of a review.
@@ -35,7 +36,7 @@ pub(crate) trait Person: Drop {
         ensures listed { report.new.differing.items ≡ report.old.differing.items }
         // The question goes out, and of the answer what the terminal doesn't show itself.
         ensures shown { (keys : Option (List ℕ)) × GoesOut report.old.state report.new.state (W.held report.old.output) (W.held report.new.output) (question.now ++ echo_of keys) }
-        // What nobody was asked isn't answered.
+        // If standard output is closed, no question is shown, and the input counts as ended.
         ensures unasked { report.old.state.is_closed ≡ true → result ≡ HeardAnswer.End }
         ensures known { is_known self.old → is_known self.new }
         ensures next { is_known self.old → result ≡ first_heard (left self.old) }

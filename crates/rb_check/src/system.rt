@@ -119,7 +119,7 @@ impl<'a, R: Files + AllocGlobal> System for RuntimeSystem<'a, R> {
     }
 }
 
-// All bytes of a file; of a longer one than a script may be, one byte too many.
+// Reads all bytes of a file. Of a file longer than a script may be it reads one byte more than that.
 fn first_bytes<F: Read + Drop>(alloc: Global, file: F) -> Result<Vec<u8>, PathError>
     ensures bytes { IfOk result (λ bytes. IfSome (F.remaining file) (λ all. bytes.items ≡ take (MAX_SCRIPT + 1) all)) }
     ensures failed { IfErr result IsUnread }
@@ -130,6 +130,7 @@ fn first_bytes<F: Read + Drop>(alloc: Global, file: F) -> Result<Vec<u8>, PathEr
     }
 }
 
+// Gives the error of a read that failed.
 fn unread(fault: ReadFault) -> PathError
     ensures failed { fault ≡ ReadFault.Io → result ≡ without_cause NotRead }
     ensures memory { fault ≡ ReadFault.OutOfMemory → result ≡ without_cause OutOfMemory }
@@ -151,7 +152,7 @@ fn are_one<T: PartialEq>(one: &Option<T>, another: &Option<T>) -> bool
     }
 }
 
-// What putting a new text came to. A new file that could be neither used nor removed is named.
+// Gives the error of a text that was not put in its place. A new file that could be neither used nor removed is named.
 fn told<R: Files + AllocGlobal, W: ReportSink, E: ReportSink>(
     outcome: Result<(), Unreplaced>,
     place: &AtomicReplace<'_, R>,

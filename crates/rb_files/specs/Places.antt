@@ -112,7 +112,7 @@ Replaces text (Err why) old new = IfSome old (λ s. LeavesOld why s new)
 abbrev pub IsFresh : Option Standing → Type 0
 IsFresh old = IfSome old (λ s. (s.new ≡ None) × (s.is_stuck ≡ false))
 
--- a new file was given a text after what it had, and was settled, and the file was the one that was read
+-- a text was appended to the new file, which was settled then, and the old file was still as it was read
 pub record WasPut {P : Type 0} (contents : P → Option (List ℕ)) (is_unchanged is_settled : P → Type 0) (text : List ℕ) : Type 0 where
   pub before : P
   pub after : P

@@ -1,4 +1,4 @@
--- Notes on what ran are notes on its script.
+-- The notes on a run are those on the script that was run.
 use Rattle.std.proofs.Common.{◌≡◌, ℕ, List, Option, Some, None, IfSome}
 use Rattle.rb_script.specs.Script.{PlainScript}
 use Rattle.rb_script_report.specs.declared.layout.Layout.{Layout}

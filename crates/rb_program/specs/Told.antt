@@ -20,7 +20,7 @@ IsOutputShown output shown = (text : List ℕ) × IsTextShown text shown × IfSo
 abbrev pub TellsText : List ℕ → Option (List ℕ) → Option (List ℕ) → Type 0
 TellsText text old new = (shown : List ℕ) × (IsTextShown text shown ⊎ (shown ≡ text)) × Appends old new shown
 
--- what is wrong with the arguments is told; no help was asked for
+-- something is wrong with the arguments: neither help nor the version was asked for
 abbrev pub IsMistake : ErrorKind → Type 0
 IsMistake kind = (kind ≢ kinds.DisplayHelp) × (kind ≢ kinds.DisplayVersion)
 

@@ -122,7 +122,7 @@ fn put<R: Print + AllocGlobal>(
     status_of(put_seen(&mut screen, at, &block.directive(), &seen.lines))
 }
 
-// Where its head is.
+// The place of the directive's head.
 fn head_at<'a>(path: &'a [u8], seen: &LookedAt) -> FileLine<'a>
     ensures { (result.path.now ≡ path.now) × (result.line ≡ seen.now.head) }
 {
@@ -132,7 +132,7 @@ fn head_at<'a>(path: &'a [u8], seen: &LookedAt) -> FileLine<'a>
     }
 }
 
-// Where a byte of the script acts, bytes are put by their numbers.
+// A screen for the script: if a byte of it acts in a terminal, bytes are shown by their numbers.
 fn screen_for<S>(sink: S, path: &[u8], read: &ScriptWithLines) -> VisibleSink<S>
     ensures { result.showing ≡ showing_of_script path.now read.now.lines }
 {

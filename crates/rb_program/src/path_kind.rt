@@ -11,7 +11,7 @@ use std::rt::Files;
 #[derive(Clone, Copy)]
 pub enum PathKind {
     File,
-    /// A folder, for one.
+    /// Something else, such as a folder.
     Other,
     /// Nothing that the system tells of.
     Nothing,
