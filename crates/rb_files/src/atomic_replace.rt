@@ -1,11 +1,12 @@
 //! The place of a real file.
 
-ghost use Rattle.std.specs.Prelude.{◌≡◌, ◌↔◌, Err, None, Some, IfErr, IfOk, IfSome, IsOk, MatchResult, OnOk, false, option_and_then, option_map, string_bytes, true};
+ghost use Rattle.std.specs.Prelude.{◌≡◌, ◌↔◌, Err, None, Some, IfErr, IfOk, IfSome, IsOk, IsSome, MatchResult, OnOk, false, option_and_then, option_map, string_bytes, true};
 ghost use Rattle.std.specs.Io.KnownBytes.{Appends};
 ghost use Rattle.std.specs.Fs.{metadata_len, metadata_mode, new_options, permissions_mode, with_create_new, with_write};
 ghost use Rattle.std.specs.Path.{path_join};
 ghost use Rattle.rb_files.specs.Names.{folder_of, new_name, owner_to_give};
 ghost use Rattle.rb_files.specs.PathErrors.{IsOfReading, of_writing};
+ghost use Rattle.rb_files.specs.Places.{Removes, Turns, created, renamed};
 
 use crate::entry::{folder_of, followed};
 use crate::file_look::FileLook;
@@ -268,7 +269,11 @@ impl<'a, R: Files + AllocGlobal> FilePlace for AtomicReplace<'a, R> {
 
     ghost is_settled = { λ place. IfSome place.new (λ new. (new.mode ≡ Some (metadata_mode place.seen)) × (new.is_stored ≡ true)) };
 
-    fn create(&mut self) -> Result<(), PathError> {
+    fn create(&mut self) -> Result<(), PathError>
+        ensures told { Turns created result None None }
+        // It is made only if there is a new file.
+        ensures made { IfOk result (λ _. IsSome self.exit.now.new) }
+    {
         answered(self.check_rights())?;
         match self.new_file() {
             Ok(new) => {
@@ -304,7 +309,12 @@ impl<'a, R: Files + AllocGlobal> FilePlace for AtomicReplace<'a, R> {
         }
     }
 
-    fn rename(&mut self) -> Result<(), PathError> {
+    fn rename(&mut self) -> Result<(), PathError>
+        ensures told { Turns renamed result None None }
+        // What is renamed was there, and the system said that it went.
+        ensures moved { IfOk result (λ _. IsSome self.entry.now.new × (self.exit.now.new ≡ None)) }
+        ensures kept { IfErr result (λ _. self.exit.now.new ≡ self.entry.now.new) }
+    {
         let outcome = match &self.new {
             Some(new) => fs::rename(self.rt, new.path.as_str(), self.target.as_str()),
             None => Err(missing()),
@@ -312,7 +322,11 @@ impl<'a, R: Files + AllocGlobal> FilePlace for AtomicReplace<'a, R> {
         without(&mut self.new, outcome)
     }
 
-    fn remove(&mut self) -> Result<(), PathError> {
+    fn remove(&mut self) -> Result<(), PathError>
+        ensures told { Removes result None None }
+        ensures gone { IfOk result (λ _. IsSome self.entry.now.new × (self.exit.now.new ≡ None)) }
+        ensures kept { IfErr result (λ _. self.exit.now.new ≡ self.entry.now.new) }
+    {
         let outcome = match &self.new {
             Some(new) => fs::remove_file(self.rt, new.path.as_str()),
             None => Err(missing()),

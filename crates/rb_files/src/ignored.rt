@@ -1,8 +1,7 @@
 //! The file in a folder that names paths to ignore.
 
-ghost use Rattle.std.specs.Prelude.{◌≡◌, ◌↔◌, ◌≤◌, false, true, Err, IfErr, IfOk, IsOk, None, Ok, map, option_map, string_bytes};
+ghost use Rattle.std.specs.Prelude.{◌≡◌, ◌↔◌, ◌≤◌, false, true, Err, IfErr, IfOk, IsOk, None, Ok, map, option_map, string_bytes, string_len};
 ghost use Rattle.std.specs.Io.BufRead.{strip_last};
-ghost use Rattle.std.specs.Io.Take.{take_limit};
 ghost use Rattle.std.specs.Str.Lines.{lines};
 ghost use Rattle.rb_files.specs.Ignored.{ignored_by, named_by, slash};
 ghost use Rattle.rb_files.specs.PathErrors.{IsOfReading, is_missing};
@@ -11,7 +10,7 @@ use crate::opening::opened;
 use crate::path_error::PathError;
 use rb_report::check::Failure;
 use std::alloc::{AllocError, Global};
-use std::io::{ErrorKind, Read, Take};
+use std::io::{ErrorKind, Read};
 use std::path::Path;
 use std::rt::Files;
 use std::{fs, io};
@@ -51,17 +50,24 @@ fn text_of<R: Files + AllocGlobal>(rt: &R, path: &str) -> Result<Option<String>,
     Ok(Some(read_within(rt.alloc(), file, metadata.len())?))
 }
 
-// Reads a file that was opened with this length.
-fn read_within<F: Read + Drop>(alloc: Global, file: Take<F>, len: u64) -> Result<String, PathError>
-    requires { take_limit file ≡ len }
-    ensures limit { IfOk result (λ _. len ≤ MAX_IGNORED) }
+// Reads a file to its end. One that is too long is read no further, whatever length it is said to have.
+fn read_within<F: Read + Drop>(alloc: Global, file: F, len: u64) -> Result<String, PathError>
+    ensures limit { IfOk result (λ text. string_len text ≤ MAX_IGNORED) }
     ensures why { IfErr result IsOfReading }
 {
     within_limit(len)?;
-    match io::read_to_string(alloc, file) {
-        Ok(text) => Ok(text),
+    match io::read_to_string(alloc, file.take(MAX_IGNORED + 1)) {
+        Ok(text) => kept_within(text),
         Err(error) => Err(PathError::of_reading(error)),
     }
+}
+
+fn kept_within(text: String) -> Result<String, PathError>
+    ensures limit { IfOk result (λ kept. (kept ≡ text) × (string_len kept ≤ MAX_IGNORED)) }
+    ensures why { IfErr result IsOfReading }
+{
+    within_limit(text.len() as u64)?;
+    Ok(text)
 }
 
 // Takes a missing file as none: a folder may have no list of ignored paths.
@@ -75,7 +81,7 @@ fn unless_missing(error: PathError) -> Result<Option<String>, PathError>
     Err(error)
 }
 
-// Whether that many bytes are read of it. It is opened with this length, and no more is read.
+// Whether it may have that many bytes.
 fn within_limit(len: u64) -> Result<(), PathError>
     ensures limit { IsOk result ↔ len ≤ MAX_IGNORED }
     ensures why { IfErr result IsOfReading }

@@ -34,3 +34,4 @@ pub mod LinePartLaws
 pub mod EndLaws
 pub mod RefusalLaws
 pub mod SolidLaws
+pub mod WriterLaws

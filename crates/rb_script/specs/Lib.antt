@@ -33,3 +33,4 @@ pub mod LineParts
 pub mod Ends
 pub mod Refusals
 pub mod Writes
+pub mod Writers

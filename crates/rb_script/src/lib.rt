@@ -55,7 +55,7 @@ pub use marks::{
     continues, is_blank, is_comment, is_lead, is_rule, is_separator, is_space, trim_blanks,
 };
 pub use script::Script;
-pub use sink::{Sink, Through, WriteFault};
+pub use sink::{Sink, Through, WriteFault, Writer};
 pub use span::Span;
 pub use with_lines::ScriptWithLines;
 pub use writing::needs_double;
