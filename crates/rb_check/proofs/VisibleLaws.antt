@@ -8,7 +8,8 @@ use Rattle.rb_script.specs.declared.sink.WriteFault.{WriteFault}
 use Rattle.rb_script.specs.Writes.{Writes, AppendsFront}
 use Rattle.rb_text.specs.Json.{hex_digit}
 use Rattle.rb_text.proofs.JsonLaws.{flat_of}
-use Rattle.rb_check.specs.Visible.{acts, stays, by_number, visible_byte}
+use Rattle.rb_report.specs.Names.{by_number}
+use Rattle.rb_check.specs.Visible.{acts, stays, visible_byte}
 
 -- nothing is known of what goes out
 pub unknown : {X : Type 0} (r : Result X WriteFault) (text : List ℕ) → Writes r None None text

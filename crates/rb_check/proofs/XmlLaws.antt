@@ -5,7 +5,8 @@ use Rattle.std.specs.List.{flat_map, list_all}
 use Rattle.std.proofs.lemmas.Bool.{and_from, ltb-true, ne_eqb}
 use Rattle.rb_text.specs.Json.{hex_digit}
 use Rattle.rb_text.proofs.JsonLaws.{flat_of}
-use Rattle.rb_check.specs.Visible.{stays, by_number}
+use Rattle.rb_report.specs.Names.{by_number}
+use Rattle.rb_check.specs.Visible.{stays}
 use Rattle.rb_check.specs.Xml.{in_text, in_value}
 use Rattle.rb_check.proofs.LineLaws.{cases}
 use Rattle.rb_check.proofs.VisibleLaws.{is_quiet, byte_by}

@@ -9,6 +9,7 @@ use Rattle.rb_report.specs.declared.check.colors.Colors.TheVariants.{Off}
 use Rattle.rb_report.specs.declared.check.status.Status.{Status}
 use Rattle.rb_report.specs.declared.check.status.Status.TheVariants.{Matched}
 use Rattle.rb_report.specs.Counts.{nothing, of_outcome, status_of, together}
+use Rattle.rb_report.specs.Names.{shown_name}
 use Rattle.rb_report.specs.Notices.{warning_text}
 use Rattle.rb_report.specs.Refusals.{at_line}
 use Rattle.rb_script_report.specs.declared.view.Detail.TheVariants.{Differing}
@@ -73,7 +74,7 @@ script_suite strict ls path whys heads s = suite_text path (verdict_of strict ls
 
 -- its line, and the message
 abbrev pub placed : List ℕ → Option ℕ → List ℕ → List ℕ
-placed path line message = path ++ (at_line line ++ (codes ": " ++ (message ++ codes "\n")))
+placed path line message = shown_name path ++ (at_line line ++ (codes ": " ++ (message ++ codes "\n")))
 
 -- a warning is in the suite of the script's run
 abbrev pub notice_suite : List ℕ → Option ℕ → NoticeKind → List ℕ → List ℕ

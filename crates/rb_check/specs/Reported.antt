@@ -38,7 +38,7 @@ use Rattle.rb_check.specs.Reviews.{review_end}
 use Rattle.rb_check.specs.ScriptTexts.{PlainChecked}
 use Rattle.rb_check.specs.Shown.{GoesOut, begun_text, colors_in, lacks_memory, last_text, noticed_text, own_after, remark_text, shown_in, started}
 use Rattle.rb_check.specs.Targets.{AreNamedLines, AreNotFound, no_directive_failure}
-use Rattle.rb_check.specs.Visible.{showing_of_script}
+use Rattle.rb_check.specs.Visible.{showing_of_lines}
 
 -- ---- what a report says
 
@@ -65,7 +65,7 @@ pub record IsRun (asked : CheckRequest) (form : ReportForm) (path bytes : List �
   pub path_is : c.path ≡ path
   pub layout_is : IsLayout bytes c.script c.layout
   pub whys_are : c.whys ≡ asked_reasons asked.explains c.script
-  pub colors_are : c.colors ≡ colors_in (shown_in form.format (showing_of_script path c.layout.text)) asked.colors
+  pub colors_are : c.colors ≡ colors_in (shown_in form.format path (showing_of_lines c.layout.text)) asked.colors
 
 -- the bytes that are read are a script, and its run is shown and counted, with what happened to its outputs; or they are no script, and the reason is
 pub data Reported (reads : List ℕ → List ℕ → Type 0) (tells : List ℕ → List ℕ → Bool → Type 0) (asked : CheckRequest) (is_known : Type 0) (coming : List HeardAnswer) (form : ReportForm) (path : List ℕ) (before after : CheckPoint) (listed : List ListedScript) (text : List ℕ) : Type 0 where

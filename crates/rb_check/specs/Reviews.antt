@@ -90,6 +90,11 @@ heard_by_key is_soon [] = heard.End
 heard_by_key is_soon (b ∷ []) = if is_soon then heard.Else else (if b == 4 then heard.End else heard_as (answer_of b))
 heard_by_key is_soon (b ∷ c ∷ keys) = heard.Else
 
+-- what a read of keys says: one that failed is the end
+abbrev pub heard_by_read : Bool → Option (List ℕ) → HeardAnswer
+heard_by_read is_soon None = heard.End
+heard_by_read is_soon (Some keys) = heard_by_key is_soon keys
+
 -- what is shown of them, since such a terminal shows nothing: a key alone, if it is visible
 abbrev pub visible_key : List ℕ → List ℕ
 visible_key [] = []

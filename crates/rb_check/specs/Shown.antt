@@ -17,6 +17,7 @@ use Rattle.rb_report.specs.declared.check.totals.Totals.{Totals}
 use Rattle.rb_report.specs.Briefs.{brief_text}
 use Rattle.rb_report.specs.Counts.{accepted_text, nothing, of_outcome, together, totals_text}
 use Rattle.rb_report.specs.Failures.{failure_sentence, failure_text}
+use Rattle.rb_report.specs.Names.{acts_in_line, shown_name}
 use Rattle.rb_report.specs.Notices.{unaccepted_text, warning_sentence, warning_text}
 use Rattle.rb_report.specs.Pieces.{noun}
 use Rattle.rb_report.specs.Refusals.{fault_line, refusal_text, sentence}
@@ -111,12 +112,12 @@ pub record LosesNothing (old new : ReportState) : Type 0 where
   pub memory : lacks_memory new ≡ false
   pub output : new.is_closed ≡ old.is_closed
 
--- how bytes go out in a format
-abbrev pub shown_in : Option Format → Showing → Showing
-shown_in None showing = showing
-shown_in (Some Json) showing = showings.Json
-shown_in (Some Github) showing = showing
-shown_in (Some Junit) showing = showings.AsIs
+-- how what is about a script at a path goes out in a format; a workflow command has the path itself
+abbrev pub shown_in : Option Format → List ℕ → Showing → Showing
+shown_in None path showing = showing
+shown_in (Some Json) path showing = showings.Json
+shown_in (Some Github) path showing = if acts_in_line path then showings.Visible else showing
+shown_in (Some Junit) path showing = showings.AsIs
 
 -- the chosen colours, if bytes go out as they are
 abbrev pub colors_in : Showing → Colors → Colors
@@ -128,7 +129,7 @@ colors_in showings.Json wanted = Off
 
 -- a note about one of its lines
 abbrev pub note_text : List ℕ → ℕ → List ℕ → List ℕ
-note_text path line note = path ++ (codes ":" ++ (decimal line ++ (codes ": " ++ (note ++ codes "\n"))))
+note_text path line note = shown_name path ++ (codes ":" ++ (decimal line ++ (codes ": " ++ (note ++ codes "\n"))))
 
 abbrev pub accepted_sentence : ℕ → List ℕ
 accepted_sentence n = codes "accepted " ++ (decimal n ++ noun n (codes " output") (codes " outputs"))
@@ -280,8 +281,9 @@ says_little other = false
 abbrev pub says_cause : PathError → Bool
 says_cause error = says_little error.failure && is_some error.cause
 
+-- what the system says of it, in one line
 abbrev pub cause_line : List ℕ → List ℕ → List ℕ
-cause_line path words = path ++ (codes ": " ++ (words ++ codes "\n"))
+cause_line path words = shown_name path ++ (codes ": " ++ (shown_name words ++ codes "\n"))
 
 abbrev pub cause_text : Bool → List ℕ → List ℕ → List ℕ
 cause_text says path words = if says then cause_line path words else []
@@ -292,7 +294,7 @@ failure_lines path error words = failure_text path error.failure ++ cause_text (
 
 -- a new file that could be neither used nor removed
 abbrev pub left_file_text : List ℕ → List ℕ
-left_file_text path = path ++ codes ": this new file could not be removed\n"
+left_file_text path = shown_name path ++ codes ": this new file could not be removed\n"
 
 -- a note about an output that no script can expect
 abbrev pub long_line_text : List ℕ → ℕ → List ℕ
@@ -300,6 +302,7 @@ long_line_text path line = note_text path line (codes "this output has a line of
 
 abbrev pub note_line : Note → List ℕ
 note_line (notes.Failure path failure) = failure_text path.now failure
+note_line (notes.Cause path words) = cause_line path.now words.now
 note_line (notes.LeftFile path) = left_file_text path.now
 note_line (notes.LongLine path line) = long_line_text path.now line
 note_line (notes.Quit accepted left) = quit_text accepted left

@@ -2,6 +2,7 @@
 -- doesn't have. (W3C, Extensible Markup Language 1.0, 2.2 and 2.4.)
 use Rattle.std.specs.Prelude.{ℕ, ◌==◌, if◌then◌else◌, List, codes, decimal}
 use Rattle.std.specs.List.{flat_map}
+use Rattle.rb_report.specs.Names.{shown_name}
 use Rattle.rb_check.specs.Visible.{visible_byte}
 use Rattle.rb_check.specs.declared.xml.XmlPart.{XmlPart}
 use Rattle.rb_check.specs.declared.xml.XmlPart.TheVariants.{Text, Value}
@@ -23,6 +24,7 @@ byte_text Value = in_value
 
 abbrev pub piece_text : XmlPiece → List ℕ
 piece_text (pieces.Bytes bytes) = bytes.now
+piece_text (pieces.Name name) = shown_name name.now
 piece_text (pieces.Number n) = decimal n
 piece_text (pieces.Text bytes) = flat_map in_text bytes.now
 piece_text (pieces.Value bytes) = flat_map in_value bytes.now

@@ -1,7 +1,7 @@
 //! Answers to the questions of a review.
 
 ghost use Rattle.std.specs.Prelude.{◌≡◌, option_map};
-ghost use Rattle.rb_check.specs.Reviews.{answer_of, answer_to, heard_as, heard_by_key, heard_by_line, heard_in, visible_key};
+ghost use Rattle.rb_check.specs.Reviews.{answer_of, answer_to, heard_as, heard_by_key, heard_by_line, heard_by_read, heard_in, visible_key};
 
 // What Ctrl-D is, where the terminal gives each key at once.
 const CTRL_D: u8 = 4;
@@ -48,9 +48,19 @@ fn heard_in(line: &str) -> HeardAnswer
     heard_as(answer_to(line.trim().as_bytes()))
 }
 
-/// What the bytes of one read mean, if the terminal gives each key at once. Several that come together, as of an arrow key or a text that is
-/// pasted, are no answer, nor is what comes soon after them.
-pub(crate) fn heard_by_key(keys: &[u8], is_soon: bool) -> HeardAnswer
+/// What a read of keys means. One that failed is the end, as nothing is.
+pub(crate) fn heard_by_read(keys: Option<&[u8]>, is_soon: bool) -> HeardAnswer
+    ensures { result ≡ heard_by_read is_soon (option_map (λ keys. keys.now) keys.entry) }
+{
+    match keys {
+        Some(keys) => heard_by_key(keys, is_soon),
+        None => HeardAnswer::End,
+    }
+}
+
+// What the bytes of one read mean, if the terminal gives each key at once. Several that come together, as of an arrow key or a text that is
+// pasted, are no answer, nor is what comes soon after them.
+fn heard_by_key(keys: &[u8], is_soon: bool) -> HeardAnswer
     ensures { result ≡ heard_by_key is_soon keys.now }
 {
     match keys {

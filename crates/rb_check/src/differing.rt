@@ -5,7 +5,7 @@ ghost use Rattle.rb_script.specs.Writes.{Writes};
 ghost use Rattle.rb_check.specs.Shown.{differing_text};
 
 use crate::report_sink::ReportSink;
-use crate::visible::showing_of;
+use crate::visible::Showing;
 use rb_report::check::put_brief;
 use rb_script::WriteFault;
 
@@ -29,7 +29,7 @@ pub(crate) fn put_each_differing<W: ReportSink>(
 {
     for script in scripts {
         let path = script.path.as_bytes();
-        output.show_as(showing_of(path));
+        output.show_as(Showing::AsIs);
         put_brief(
             output,
             path,

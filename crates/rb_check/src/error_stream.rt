@@ -6,11 +6,11 @@ ghost use Rattle.rb_check.specs.Shown.{Told, cause_line, cleared, failure_lines,
 
 use crate::notes::Note;
 use crate::report_sink::ReportSink;
-use crate::visible::Showing;
 use rb_files::PathError;
 use rb_report::check::Failure;
 use rb_script::WriteFault;
 use rb_text::{Piece, WrittenPiece, put_pieces};
+use std::alloc::{AllocError, Global};
 use std::io;
 
 // Takes the cursor back to the line's first column, and clears the line (ECMA-48).
@@ -19,6 +19,7 @@ const CLEARED: &[u8] = b"\r\x1b[K";
 /// The stream of errors.
 #[derive(Drop)]
 pub(crate) struct ErrorStream<E: ReportSink> {
+    alloc: Global,
     pub(crate) sink: E,
     // The progress line is on the terminal.
     pub(crate) shows_progress: bool,
@@ -26,11 +27,12 @@ pub(crate) struct ErrorStream<E: ReportSink> {
 
 impl<E: ReportSink> ErrorStream<E> {
     /// There is no progress line on the terminal yet.
-    pub(crate) fn new(sink: E) -> ErrorStream<E>
+    pub(crate) fn new(alloc: Global, sink: E) -> ErrorStream<E>
         ensures sink { result.sink ≡ sink }
         ensures shown { result.shows_progress ≡ false }
     {
         ErrorStream {
+            alloc,
             sink,
             shows_progress: false,
         }
@@ -76,12 +78,12 @@ impl<E: ReportSink> ErrorStream<E> {
     }
 
     fn tell_cause(&mut self, path: &[u8], cause: io::Error)
-        ensures shown { self.new.shows_progress ≡ self.old.shows_progress }
-        ensures told { (words : List ℕ) × Told (E.takes_all self.old.sink) (E.takes_all self.new.sink) (E.held self.old.sink) (E.held self.new.sink) (cause_line path.now words) }
+        ensures shown { self.new.shows_progress ≡ false }
+        ensures told { (words : List ℕ) × Told (E.takes_all self.old.sink) (E.takes_all self.new.sink) (E.held self.old.sink) (E.held self.new.sink) (cleared self.old.shows_progress ++ cause_line path.now words) }
         ensures flushed { E.takes_all self.old.sink → E.is_flushed self.new.sink }
     {
-        let _ = put_cause(&mut self.sink, path, cause);
-        let _ = self.sink.flush();
+        let cause = cause.to_string(self.alloc);
+        self.tell(&Note::Cause(path, words_of(&cause)));
     }
 
     /// Shows how far the work is.
@@ -95,15 +97,12 @@ impl<E: ReportSink> ErrorStream<E> {
     }
 }
 
-// Writes what the system says of a path's error, in a line.
-fn put_cause<E: ReportSink>(sink: &mut E, path: &[u8], cause: io::Error) -> Result<(), WriteFault>
-    ensures wrote { (words : List ℕ) × Writes result (E.held sink.old) (E.held sink.new) (cause_line path.now words) }
-    ensures all { E.takes_all sink.old → IsOk result × E.takes_all sink.new }
-{
-    sink.put(path)?;
-    sink.put(b": ")?;
-    sink.put_cause(cause)?;
-    sink.put(b"\n")
+// The system's words, if there was memory for them.
+fn words_of(cause: &Result<String, AllocError>) -> &[u8] {
+    match cause {
+        Ok(words) => words.as_bytes(),
+        Err(_) => b"out of memory",
+    }
 }
 
 fn put_progress<E: ReportSink>(sink: &mut E, done: usize, all: usize) -> Result<(), WriteFault>

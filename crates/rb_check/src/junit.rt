@@ -250,7 +250,7 @@ fn placed<'a>(
         Some(line) => add_pieces(
             &mut text,
             &[
-                XmlPiece::Bytes(path),
+                XmlPiece::Name(path),
                 XmlPiece::Bytes(b":"),
                 XmlPiece::Number(line as u64),
                 XmlPiece::Bytes(b": "),
@@ -261,7 +261,7 @@ fn placed<'a>(
         None => add_pieces(
             &mut text,
             &[
-                XmlPiece::Bytes(path),
+                XmlPiece::Name(path),
                 XmlPiece::Bytes(b": "),
                 XmlPiece::Bytes(message),
                 XmlPiece::Bytes(b"\n"),

@@ -67,4 +67,4 @@ pub use progress::ProgressClock;
 pub use reasons::{ScriptRun, run_script};
 pub use runner::{ExplainedOutput, Runner};
 pub use target::Target;
-pub use visible::{Showing, VisibleSink, visible_name};
+pub use visible::{Showing, VisibleSink, shown_of_script};

@@ -3,17 +3,19 @@
 ghost use Rattle.std.specs.Prelude.{IsOk};
 ghost use Rattle.rb_script.specs.Writes.{Writes};
 ghost use Rattle.rb_check.specs.Reviews.{quit_text};
-ghost use Rattle.rb_check.specs.Shown.{left_file_text, note_line, note_text};
+ghost use Rattle.rb_check.specs.Shown.{cause_line, left_file_text, note_line, note_text};
 
-use rb_report::check::{Failure, Totals, put_failure, put_totals};
+use rb_report::check::{Failure, ReportPiece, Totals, put_failure, put_totals};
 use rb_script::{Sink, WriteFault};
-use rb_text::{Piece, WrittenPiece, put_pieces};
+use rb_text::{WrittenPiece, put_pieces};
 
 /// A note of a report.
 #[derive(Clone, Copy)]
 pub(crate) enum Note<'a> {
     /// Why a path failed.
     Failure(&'a [u8], Failure),
+    /// What the system says of it.
+    Cause(&'a [u8], &'a [u8]),
     /// A new file could be neither used nor removed.
     LeftFile(&'a [u8]),
     /// The output on this line can't be expected.
@@ -30,6 +32,7 @@ impl WrittenPiece for Note<'_> {
     fn put<S: Sink>(&self, sink: &mut S) -> Result<(), WriteFault> {
         match *self {
             Note::Failure(path, failure) => put_failure(sink, path, failure),
+            Note::Cause(path, words) => put_cause(sink, path, words),
             Note::LeftFile(path) => put_left_file(sink, path),
             Note::LongLine(path, line) => {
                 let note =
@@ -55,12 +58,27 @@ pub(crate) fn put_note<'a, S: Sink>(
     put_pieces(
         sink,
         &[
-            Piece::Bytes(path),
-            Piece::Bytes(b":"),
-            Piece::Number(line as u64),
-            Piece::Bytes(b": "),
-            Piece::Bytes(note),
-            Piece::Bytes(b"\n"),
+            ReportPiece::Name(path),
+            ReportPiece::Bytes(b":"),
+            ReportPiece::Number(line as u64),
+            ReportPiece::Bytes(b": "),
+            ReportPiece::Bytes(note),
+            ReportPiece::Bytes(b"\n"),
+        ],
+    )
+}
+
+fn put_cause<'a, S: Sink>(sink: &mut S, path: &'a [u8], words: &'a [u8]) -> Result<(), WriteFault>
+    ensures wrote { Writes result (S.held sink.old) (S.held sink.new) (cause_line path.now words.now) }
+    ensures all { S.takes_all sink.old → IsOk result × S.takes_all sink.new }
+{
+    put_pieces(
+        sink,
+        &[
+            ReportPiece::Name(path),
+            ReportPiece::Bytes(b": "),
+            ReportPiece::Name(words),
+            ReportPiece::Bytes(b"\n"),
         ],
     )
 }
@@ -72,8 +90,8 @@ fn put_left_file<S: Sink>(sink: &mut S, path: &[u8]) -> Result<(), WriteFault>
     put_pieces(
         sink,
         &[
-            Piece::Bytes(path),
-            Piece::Bytes(b": this new file could not be removed\n"),
+            ReportPiece::Name(path),
+            ReportPiece::Bytes(b": this new file could not be removed\n"),
         ],
     )
 }
@@ -86,11 +104,11 @@ fn put_quit<S: Sink>(sink: &mut S, accepted: u64, left: usize) -> Result<(), Wri
     put_pieces(
         sink,
         &[
-            Piece::Bytes(b"the review ends here; accepted so far: "),
-            Piece::Number(accepted),
-            Piece::Bytes(b"; scripts not looked at: "),
-            Piece::Number(left as u64),
-            Piece::Bytes(b"\n"),
+            ReportPiece::Bytes(b"the review ends here; accepted so far: "),
+            ReportPiece::Number(accepted),
+            ReportPiece::Bytes(b"; scripts not looked at: "),
+            ReportPiece::Number(left as u64),
+            ReportPiece::Bytes(b"\n"),
         ],
     )
 }

@@ -8,7 +8,7 @@ ghost use Rattle.rb_check.specs.Lost.{counted_failures, lost_failures, lost_text
 ghost use Rattle.rb_check.specs.Reported.{AreChecked, IsCheckStatus, IsCounted, IsReport, Reports, check_point};
 ghost use Rattle.rb_check.specs.Reviews.{review_end};
 ghost use Rattle.rb_check.specs.Shown.{GoesOut, last_text, lists, shown_in, started};
-ghost use Rattle.rb_check.specs.Visible.{showing_of};
+ghost use Rattle.rb_check.specs.declared.visible.Showing.{Showing};
 
 use crate::check_request::CheckRequest;
 use crate::checking::check_script;
@@ -22,6 +22,7 @@ use crate::runner::Runner;
 use crate::system::{RuntimeSystem, System};
 use rb_files::{FailedPath, Found, PathError, find};
 use rb_report::check::{Failure, Status};
+use rb_script::Through;
 use rb_script_report::Detail;
 use rb_text::FailFast;
 use std::io;
@@ -46,8 +47,8 @@ pub fn check<T: Runner, R: Files + Input + Print + Clock + AllocGlobal, E: Write
     // It is the status of what is counted: each script as its run says, or its failure.
     ensures counted { IfOk result (λ status. IsCheckStatus asked.entry status) }
 {
-    let output = stream_over(rt.alloc(), FailFast(io::writer(rt)))?;
-    let errors = ErrorStream::new(stream_over(rt.alloc(), errors)?);
+    let output = stream_over(rt.alloc(), FailFast(Through(io::writer(rt))))?;
+    let errors = ErrorStream::new(rt.alloc(), stream_over(rt.alloc(), errors)?);
     let report = report_on(rt, runner, &asked, output, errors);
     Ok(report.status(asked.is_strict))
 }
@@ -214,8 +215,8 @@ fn tell_each_lost<W: ReportSink, E: ReportSink>(lost: &[FailedPath], report: &mu
 fn tell_one_lost<W: ReportSink, E: ReportSink>(lost: &FailedPath, report: &mut Report<W, E>)
     ensures counts { report.new.counts ≡ together report.old.counts (of_outcome (Failed (path_failure lost.now))) }
     ensures listed { report.new.differing.items ≡ report.old.differing.items }
-    // If something of the path acts, it goes out by numbers.
-    ensures heeded { report.new.showing ≡ shown_in report.old.state.form.format (showing_of lost.now.path.items) }
+    // If something of the path acts, a workflow command goes out by numbers.
+    ensures heeded { report.new.showing ≡ shown_in report.old.state.form.format lost.now.path.items Showing.AsIs }
     ensures shown { GoesOut report.old.state report.new.state (W.held report.old.output) (W.held report.new.output) (path_text report.old.state.form lost.now) }
 {
     report.heed(&lost.path, None);

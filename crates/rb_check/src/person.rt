@@ -1,11 +1,11 @@
 //! Who answers the questions of a review.
 
-ghost use Rattle.std.specs.Prelude.{◌≡◌, ◌<◌, ◌≤◌, ◌^◌, ◌++◌, ℕ, [], List, Option, ⊤, true, length, option_map, string_bytes};
+ghost use Rattle.std.specs.Prelude.{◌≡◌, ◌<◌, ◌≤◌, ◌^◌, ◌++◌, ℕ, [], Bool, List, Option, ⊤, true, length, option_map, string_bytes};
 ghost use Rattle.rb_check.specs.Asking.{IsAsked, echo_of, help_text};
-ghost use Rattle.rb_check.specs.Reviews.{after_answer, answered, first_heard, heard_by_line, rest_heard};
+ghost use Rattle.rb_check.specs.Reviews.{after_answer, answered, first_heard, heard_by_line, heard_by_read, rest_heard};
 ghost use Rattle.rb_check.specs.Shown.{GoesOut};
 
-use crate::answer::{Answer, HeardAnswer, heard_by_key, heard_by_line, visible_key};
+use crate::answer::{Answer, HeardAnswer, heard_by_line, heard_by_read, visible_key};
 use crate::report::Report;
 use crate::report_sink::ReportSink;
 use std::io::Read;
@@ -53,7 +53,7 @@ pub(crate) struct TerminalPerson<'a, R> {
     missed: Option<Instant>,
 }
 
-impl<'a, R: Input + Clock + AllocGlobal> TerminalPerson<'a, R> {
+impl<'a, R> TerminalPerson<'a, R> {
     pub(crate) fn new(rt: &'a R, gives_keys: bool) -> TerminalPerson<'a, R> {
         TerminalPerson {
             rt,
@@ -61,20 +61,20 @@ impl<'a, R: Input + Clock + AllocGlobal> TerminalPerson<'a, R> {
             missed: None,
         }
     }
+}
 
-    // Reads what is there, at least a byte. Such a terminal shows nothing of it.
+impl<'a, R: KeyInput + Clock> TerminalPerson<'a, R> {
+    // Reads what is there, at least a byte. Such a terminal shows nothing of it. A read that fails ends the review.
     fn hear_key<W: ReportSink, E: ReportSink>(&mut self, report: &mut Report<W, E>) -> HeardAnswer
         ensures counts { report.new.counts ≡ report.old.counts }
         ensures listed { report.new.differing.items ≡ report.old.differing.items }
         ensures shown { (keys : Option (List ℕ)) × GoesOut report.old.state report.new.state (W.held report.old.output) (W.held report.new.output) (echo_of keys) }
+        ensures heard { (keys : Option (List ℕ)) × (is_soon : Bool) × R.gives self.old.rt.now keys × (result ≡ heard_by_read is_soon keys) }
     {
-        let mut keys = [0u8; MOST_KEYS];
-        let Ok(count) = self.rt.reader().read(&mut keys) else {
-            return HeardAnswer::End;
-        };
-        let keys = &keys[..count];
-        echo(keys, report);
-        let heard = heard_by_key(keys, self.is_soon());
+        let mut room = [0u8; MOST_KEYS];
+        let keys = self.rt.keys(&mut room);
+        echo(keys.unwrap_or(b""), report);
+        let heard = heard_by_read(keys, self.is_soon());
         if matches!(heard, HeardAnswer::Else) {
             self.missed = Instant::now(self.rt).ok();
         }
@@ -89,6 +89,28 @@ impl<'a, R: Input + Clock + AllocGlobal> TerminalPerson<'a, R> {
         match missed.elapsed(self.rt) {
             Ok(elapsed) => elapsed < Duration::from_millis(KEYS_APART),
             Err(_) => false,
+        }
+    }
+}
+
+/// Reads what a terminal gives at once. Code over it is proved of whatever is read.
+pub(crate) trait KeyInput {
+    // a read gives these keys, none at the end, or it fails
+    ghost gives: { Self → Option (List ℕ) → Type 0 };
+
+    /// What is there, read into the room: nothing at the end; `None`, if the read failed.
+    fn keys<'k>(&self, room: &'k mut [u8]) -> Option<&'k [u8]>
+        ensures { gives self.now (option_map (λ keys. keys.now) result) };
+}
+
+// What comes from a terminal is not known.
+impl<R: Input> KeyInput for R {
+    ghost gives = { λ _ _. ⊤ };
+
+    fn keys<'k>(&self, room: &'k mut [u8]) -> Option<&'k [u8]> {
+        match self.reader().read(room) {
+            Ok(count) => Some(&room[..count]),
+            Err(_) => None,
         }
     }
 }

@@ -1,6 +1,6 @@
 //! The run of a script, and the reasons of its outputs.
 
-ghost use Rattle.std.specs.Prelude.{◌≡◌, ◌≢◌, ◌≤◌, Err, IfErr, IfOk, length};
+ghost use Rattle.std.specs.Prelude.{◌≡◌, ◌≢◌, ◌+◌, ◌≤◌, ◌^◌, Err, IfErr, IfOk, OnOk, length};
 ghost use Rattle.rb_script.specs.declared.limits.TheConstants.{MAX_DIRECTIVES};
 ghost use Rattle.rb_script.specs.Script.{PlainScript};
 ghost use Rattle.rb_script.specs.Reads.{Reads};
@@ -15,7 +15,7 @@ use crate::runner::Runner;
 use rb_bench::{RunProgress, run_directives};
 use rb_machine::Machine;
 use rb_replay::{Outputs, Session, StartFault, block_at};
-use rb_script::{Lines, Script, ScriptWithLines};
+use rb_script::{Lines, Script, ScriptWithLines, limits_are};
 use rb_script_report::Layout;
 use std::alloc::{AllocError, Global};
 
@@ -46,6 +46,8 @@ pub fn run_script<T: Runner>(
     ensures only { (s : PlainScript) → Reads bytes.now s → IfErr result (λ fault. fault ≡ StartFault.OutOfMemory) }
     ensures refused { IfErr result (λ fault. TellsStartFault fault (read_of bytes.now)) }
     ensures spaced { result ≢ Err StartFault.BadSpacing }
+    // Each directive is run once.
+    ensures counted { T.ran runner.old ≤ 2 ^ 62 → IfOk result (λ run. T.ran runner.new ≡ T.ran runner.old + length run.session.script.blocks) }
 {
     let read = ScriptWithLines::read(alloc, bytes)?;
     let layout = Layout {
@@ -70,6 +72,7 @@ fn run_read<T: Runner>(
     requires { length script.blocks ≤ MAX_DIRECTIVES }
     ensures script { IfOk result (λ ran. ran.0.script ≡ script) }
     ensures whys { IfOk result (λ ran. ran.1.items ≡ asked_reasons explains script) }
+    ensures counted { T.ran runner.old ≤ 2 ^ 62 → OnOk result (T.ran runner.new ≡ T.ran runner.old + length script.blocks) }
 {
     let (printed, whys) = if explains {
         run_explained(alloc, runner, &script)?
@@ -88,6 +91,7 @@ fn run_explained<T: Runner>(
     requires { length script.now.blocks ≤ MAX_DIRECTIVES }
     ensures outputs { IfOk result (λ ran. ran.0 ≡ outputs script.now) }
     ensures whys { IfOk result (λ ran. ran.1.items ≡ whys_of script.now) }
+    ensures counted { T.ran runner.old ≤ 2 ^ 62 → OnOk result (T.ran runner.new ≡ T.ran runner.old + length script.now.blocks) }
 {
     runner.progress().begin(script.len());
     let ran = explain_each(alloc, runner, script);
@@ -104,7 +108,9 @@ fn explain_each<T: Runner>(
     requires { length script.now.blocks ≤ MAX_DIRECTIVES }
     ensures outputs { IfOk result (λ ran. ran.0 ≡ outputs script.now) }
     ensures whys { IfOk result (λ ran. ran.1.items ≡ whys_of script.now) }
+    ensures counted { T.ran runner.old ≤ 2 ^ 62 → OnOk result (T.ran runner.new ≡ T.ran runner.old + length script.now.blocks) }
 {
+    limits_are();
     let mut printed = Outputs::new(alloc);
     let mut whys = Vec::new(alloc);
     let mut machine: T::Machine = Machine::empty(alloc)?;

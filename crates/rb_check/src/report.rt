@@ -11,7 +11,7 @@ ghost use Rattle.rb_report.specs.Failures.{failure_text};
 ghost use Rattle.rb_report.specs.Counts.{nothing, status_of, together};
 ghost use Rattle.rb_script_report.specs.Shows.{Shows};
 ghost use Rattle.rb_check.specs.Shown.{GoesOut, GoesOutIf, closed, colors_in, lacking, lacks_memory, noticed_text, programs_text, remark_text, shown_in, started, LosesNothing, Told, cleared, is_broken_pipe, is_reader_gone, lost_output_text};
-ghost use Rattle.rb_check.specs.Visible.{showing_of, showing_of_script};
+ghost use Rattle.rb_check.specs.Visible.{showing_of_lines};
 
 use crate::check_request::CheckRequest;
 use crate::differing::Differing;
@@ -22,9 +22,9 @@ use crate::ran::together;
 use crate::remark::{Remark, RemarkLine, programs_text};
 use crate::report_sink::ReportSink;
 use crate::report_state::ReportState;
-use crate::visible::{Showing, showing_of, showing_of_script};
+use crate::visible::{Showing, showing_of_lines};
 use rb_files::PathError;
-use rb_report::check::{Colors, Failure, Status, Totals};
+use rb_report::check::{Colors, Failure, Status, Totals, acts_in_line};
 use rb_script::{Lines, WriteFault};
 use rb_script_report::ShowFault;
 use rb_text::WrittenPiece;
@@ -77,12 +77,12 @@ impl<W: ReportSink, E: ReportSink> Report<W, E> {
         ensures state { self.new.state ≡ self.old.state }
         ensures held { Keeps (W.held self.old.output) (W.held self.new.output) }
         ensures output { W.shown_as self.new.output ≡ self.new.showing }
-        // If something of the path or of the lines acts, bytes go out by their numbers.
-        ensures harmless { (showing : Showing) × (self.new.showing ≡ shown_in self.old.state.form.format showing) × (E.shown_as self.new.errors.sink ≡ showing) × MatchOption lines.entry (showing ≡ showing_of path.now) (λ ls. showing ≡ showing_of_script path.now ls.now) }
+        // If something of the lines acts, bytes go out by their numbers.
+        ensures harmless { (showing : Showing) × (self.new.showing ≡ shown_in self.old.state.form.format path.now showing) × (E.shown_as self.new.errors.sink ≡ showing) × MatchOption lines.entry (showing ≡ Showing.AsIs) (λ ls. showing ≡ showing_of_lines ls.now) }
     {
-        let showing = showing_for(path, lines);
+        let showing = showing_for(lines);
         self.errors.sink.show_as(showing);
-        self.showing = shown_in(self.state.form.format, showing);
+        self.showing = shown_in(self.state.form.format, path, showing);
         self.output.show_as(self.showing);
     }
 
@@ -316,23 +316,24 @@ impl<W: ReportSink, E: ReportSink> Report<W, E> {
     }
 }
 
-// How what is about a script at a path goes out, with these lines if they are known.
-fn showing_for(path: &[u8], lines: Option<&Lines>) -> Showing
-    ensures { MatchOption lines.entry (result ≡ showing_of path.now) (λ ls. result ≡ showing_of_script path.now ls.now) }
+// How what is about a script goes out, with these lines if they are known.
+fn showing_for(lines: Option<&Lines>) -> Showing
+    ensures { MatchOption lines.entry (result ≡ Showing.AsIs) (λ ls. result ≡ showing_of_lines ls.now) }
 {
     match lines {
-        Some(lines) => showing_of_script(path, lines),
-        None => showing_of(path),
+        Some(lines) => showing_of_lines(lines),
+        None => Showing::AsIs,
     }
 }
 
-// How bytes go out in a format.
-fn shown_in(format: Option<Format>, showing: Showing) -> Showing
-    ensures { result ≡ shown_in format showing }
+// How what is about a script at a path goes out in a format. A workflow command has the path itself.
+fn shown_in(format: Option<Format>, path: &[u8], showing: Showing) -> Showing
+    ensures { result ≡ shown_in format path.now showing }
 {
     match format {
         Some(Format::Json) => Showing::Json,
         Some(Format::Junit) => Showing::AsIs,
+        Some(Format::Github) if acts_in_line(path) => Showing::Visible,
         Some(Format::Github) => showing,
         None => showing,
     }

@@ -2,7 +2,7 @@
 //!
 //! Code over a report is proved of this trait alone: where it's known what a stream holds, it's known what the report writes.
 
-ghost use Rattle.std.specs.Prelude.{◌≡◌, ℕ, List, [], IfErr, IsOk};
+ghost use Rattle.std.specs.Prelude.{◌≡◌, [], IfErr, IsOk};
 ghost use Rattle.std.specs.Io.Buffered.{writer_buffer};
 ghost use Rattle.std.specs.Io.KnownBytes.{Keeps};
 ghost use Rattle.std.specs.IoError.{error_kind};
@@ -34,11 +34,6 @@ pub(crate) trait ReportSink: Sink + Drop {
         ensures wrote { Writes result (Self.held self.old) (Self.held self.new) bytes.now }
         ensures all { Self.takes_all self.old → IsOk result × Self.takes_all self.new };
 
-    /// Writes what the system says of an error.
-    fn put_cause(&mut self, cause: io::Error) -> Result<(), WriteFault>
-        ensures wrote { (words : List ℕ) × Writes result (Self.held self.old) (Self.held self.new) words }
-        ensures all { Self.takes_all self.old → IsOk result × Self.takes_all self.new };
-
     /// Hands on what was written.
     fn flush(&mut self) -> io::Result<()>
         ensures held { Keeps (Self.held self.old) (Self.held self.new) }
@@ -57,13 +52,6 @@ impl<W: Write + Drop> ReportSink for VisibleSink<Through<BufWriter<W>>> {
 
     fn put_acting(&mut self, bytes: &[u8]) -> Result<(), WriteFault> {
         self.sink.put(bytes)
-    }
-
-    fn put_cause(&mut self, cause: io::Error) -> Result<(), WriteFault> {
-        match write!(self.sink.0, "{cause}") {
-            Ok(()) => Ok(()),
-            Err(_) => Err(WriteFault),
-        }
     }
 
     fn flush(&mut self) -> io::Result<()> {

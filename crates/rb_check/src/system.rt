@@ -95,8 +95,7 @@ impl<'a, R: Files + AllocGlobal> System for RuntimeSystem<'a, R> {
 
     fn read(&self, path: &str) -> Result<Text, PathError> {
         let (file, seen) = opened(self.0, path)?;
-        let bytes = first_bytes(self.0.alloc(), file)?;
-        Ok(Text { bytes, seen })
+        text_of(self.0.alloc(), file, seen)
     }
 
     fn write<M: Machine, W: ReportSink, E: ReportSink>(
@@ -117,6 +116,16 @@ impl<'a, R: Files + AllocGlobal> System for RuntimeSystem<'a, R> {
         let another = file_at(self.0, other).ok().flatten();
         are_one(&one, &another)
     }
+}
+
+// Reads a file to its end, however long it is said to be.
+fn text_of<F: Read + Drop>(alloc: Global, file: F, seen: Metadata) -> Result<Text, PathError>
+    ensures bytes { IfOk result (λ text. IfSome (F.remaining file) (λ all. text.bytes.items ≡ take (MAX_SCRIPT + 1) all)) }
+    ensures seen { IfOk result (λ text. text.seen ≡ seen) }
+    ensures failed { IfErr result IsUnread }
+{
+    let bytes = first_bytes(alloc, file)?;
+    Ok(Text { bytes, seen })
 }
 
 // Reads all bytes of a file. Of a file longer than a script may be it reads one byte more than that.

@@ -1,19 +1,20 @@
 //! Output for people and programs acts in no terminal and in no log.
 //!
-//! A script may have any bytes. If one has a control character, a mark that turns the direction of text, a separator of lines, or bytes that are not
-//! UTF-8, all of it but printable ASCII is shown by numbers, as `\x1b`, and without colours: then the only bytes that act are line ends, which the
-//! program itself writes, and tabs.
+//! A script may have any bytes. If one has a control character, a mark that turns the direction of text, a character that isn't seen, or bytes that
+//! are not UTF-8, all of it but printable ASCII is shown by numbers, as `\x1b`, and without colours: then the only bytes that act are line ends, which
+//! the program itself writes, and tabs. Names have neither: texts get them as `rb_report` shows them.
 
 ghost use Rattle.std.specs.Prelude.{◌≡◌, ◌||◌, [], if◌then◌else◌, None, IfOk, IsOk};
 ghost use Rattle.std.specs.List.{list_any};
 ghost use Rattle.rb_script.specs.Writes.{Writes};
-ghost use Rattle.rb_check.specs.Visible.{acts, acts_past_ascii, by_number, stays, visible_byte, json_byte, byte_shown, has_acting_char, is_harmful, showing_of, showing_of_script, text_shown};
+ghost use Rattle.rb_report.specs.Names.{by_number};
+ghost use Rattle.rb_check.specs.Visible.{acts, stays, visible_byte, json_byte, byte_shown, is_harmful, showing_of_lines, text_shown};
 
 use rb_bench::Outlet;
+use rb_report::check::{by_number, has_acting_char};
 use rb_script::{Lines, Sink, Through, WriteFault};
-use rb_text::{Escape, hex_digit, put_escaped};
+use rb_text::{Escape, put_escaped};
 use std::alloc::{AllocError, Global};
-use std::str;
 
 /// How bytes go out.
 #[derive(Clone, Copy, Debug, PartialEq, Eq)]
@@ -42,13 +43,6 @@ fn stays(b: u8) -> bool
     ensures { result ≡ stays b }
 {
     b == b'\n' || b == b'\t' || (b' ' <= b && b <= b'~' && b != b'\\')
-}
-
-/// A byte by its number.
-pub(crate) fn by_number(b: u8) -> [u8; 4]
-    ensures { result ≡ by_number b }
-{
-    [b'\\', b'x', hex_digit(b / 16), hex_digit(b % 16)]
 }
 
 /// The byte itself, or its number if it isn't printable.
@@ -95,13 +89,13 @@ pub struct VisibleSink<S> {
 
 impl<S> VisibleSink<S> {
     ghost use Rattle.std.specs.Prelude.{◌≡◌};
-    ghost use Rattle.rb_check.specs.Visible.{showing_of_script};
+    ghost use Rattle.rb_check.specs.Visible.{showing_of_lines};
 
-    /// A screen for what is shown of a script at a path, which has these lines. If a byte of it acts, bytes are put by their numbers.
-    pub fn of_script(sink: S, path: &[u8], lines: &Lines) -> VisibleSink<S>
-        ensures { result.showing ≡ showing_of_script path.now lines.now }
+    /// A screen for what is shown of a script with these lines. If a byte of them acts, bytes are put by their numbers.
+    pub fn of_script(sink: S, lines: &Lines) -> VisibleSink<S>
+        ensures { result.showing ≡ showing_of_lines lines.now }
     {
-        let showing = showing_of_script(path, lines);
+        let showing = showing_of_lines(lines);
         VisibleSink { sink, showing }
     }
 }
@@ -139,31 +133,6 @@ fn has_control(line: &[u8]) -> bool
     line.iter().any(|b| acts(*b))
 }
 
-// Whether a character past ASCII acts: a control character, an end of a line, or a mark that turns the direction of what is read (Unicode Standard
-// Annex 9, table 3).
-fn acts_past_ascii(c: char) -> bool
-    ensures { result ≡ acts_past_ascii c }
-{
-    let code = c as u32;
-    (0x80 <= code && code < 0xa0)
-        || code == 0x61c
-        || code == 0x200e
-        || code == 0x200f
-        || (0x2028 <= code && code <= 0x202e)
-        || (0x2066 <= code && code <= 0x2069)
-        || code == 0xfeff
-}
-
-// Whether a character of the line does, or the line is no text.
-fn has_acting_char(line: &[u8]) -> bool
-    ensures { result ≡ has_acting_char line.now }
-{
-    match str::from_utf8(line) {
-        Ok(text) => text.chars().any(|c| acts_past_ascii(c)),
-        Err(_) => true,
-    }
-}
-
 // Whether a line has something that would act, or is no text.
 fn is_harmful(line: &[u8]) -> bool
     ensures { result ≡ is_harmful line.now }
@@ -183,42 +152,24 @@ fn are_harmful(lines: &Lines) -> bool
     false
 }
 
-/// How a path goes out.
-pub(crate) fn showing_of(path: &[u8]) -> Showing
-    ensures { result ≡ showing_of path.now }
+/// How what is shown of a script goes out, which has these lines.
+pub(crate) fn showing_of_lines(lines: &Lines) -> Showing
+    ensures { result ≡ showing_of_lines lines.now }
 {
-    if is_harmful(path) {
+    if are_harmful(lines) {
         Showing::Visible
     } else {
         Showing::AsIs
     }
 }
 
-/// How what is shown of a script at a path goes out, which has these lines.
-pub(crate) fn showing_of_script(path: &[u8], lines: &Lines) -> Showing
-    ensures { result ≡ showing_of_script path.now lines.now }
-{
-    if are_harmful(lines) {
-        Showing::Visible
-    } else {
-        showing_of(path)
-    }
-}
-
-// Copies bytes as they are shown.
-fn shown_as(alloc: Global, showing: Showing, bytes: &[u8]) -> Result<Vec<u8>, AllocError>
-    ensures { IfOk result (λ shown. shown.items ≡ text_shown showing bytes.now) }
+/// Copies what is shown of a script with these lines. If a byte of them acts, bytes are there by their numbers.
+pub fn shown_of_script(alloc: Global, lines: &Lines, bytes: &[u8]) -> Result<Vec<u8>, AllocError>
+    ensures { IfOk result (λ shown. shown.items ≡ text_shown (showing_of_lines lines.now) bytes.now) }
 {
     let mut sink = Through(Vec::new(alloc));
-    match put_shown(&mut sink, showing, bytes) {
+    match put_shown(&mut sink, showing_of_lines(lines), bytes) {
         Ok(()) => Ok(sink.0),
         Err(_) => Err(AllocError),
     }
-}
-
-/// Copies a name for a terminal: if something of it acts, bytes by their numbers.
-pub fn visible_name(alloc: Global, name: &[u8]) -> Result<Vec<u8>, AllocError>
-    ensures { IfOk result (λ shown. shown.items ≡ text_shown (showing_of name.now) name.now) }
-{
-    shown_as(alloc, showing_of(name), name)
 }

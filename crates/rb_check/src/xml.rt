@@ -5,7 +5,8 @@ ghost use Rattle.rb_script.specs.Writes.{Writes};
 ghost use Rattle.rb_check.specs.Xml.{byte_text, in_text, in_value, piece_text};
 
 use crate::replaced::{Replaced, put_replaced};
-use crate::visible::{by_number, visible_text};
+use crate::visible::visible_text;
+use rb_report::check::{by_number, put_name};
 use rb_script::{Sink, WriteFault};
 use rb_text::{Escape, WrittenPiece, put_escaped, put_number};
 
@@ -62,6 +63,8 @@ fn put_value_byte<S: Sink>(sink: &mut S, b: u8) -> Result<(), WriteFault>
 pub(crate) enum XmlPiece<'a> {
     /// The bytes as they are.
     Bytes(&'a [u8]),
+    /// A name as it is shown.
+    Name(&'a [u8]),
     /// A number in decimal digits.
     Number(u64),
     /// The bytes as they are in the text of an element.
@@ -76,6 +79,7 @@ impl WrittenPiece for XmlPiece<'_> {
     fn put<S: Sink>(&self, sink: &mut S) -> Result<(), WriteFault> {
         match *self {
             XmlPiece::Bytes(bytes) => sink.put(bytes),
+            XmlPiece::Name(name) => put_name(sink, name),
             XmlPiece::Number(number) => put_number(sink, number),
             XmlPiece::Text(bytes) => put_escaped(sink, &XmlPart::Text, bytes),
             XmlPiece::Value(bytes) => put_escaped(sink, &XmlPart::Value, bytes),

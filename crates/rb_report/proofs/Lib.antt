@@ -21,3 +21,4 @@ pub mod AddedLaws
 pub mod DistanceLaws
 pub mod NearLaws
 pub mod FormLaws
+pub mod NameLaws

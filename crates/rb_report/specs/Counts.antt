@@ -9,6 +9,7 @@ use Rattle.rb_report.specs.declared.check.outcome.Outcome.TheVariants as outcome
 use Rattle.rb_report.specs.declared.check.status.Status.{Status}
 use Rattle.rb_report.specs.declared.check.status.Status.TheVariants as statuses
 use Rattle.rb_report.specs.declared.check.totals.Totals.{Totals}
+use Rattle.rb_report.specs.Names.{shown_name}
 use Rattle.rb_report.specs.Pieces.{count_text, noun}
 use Rattle.rb_report.specs.Statuses.{code_of}
 
@@ -115,4 +116,4 @@ totals_text t ms =
 
 -- a script into which actual outputs were written
 abbrev pub accepted_text : List ℕ → ℕ → List ℕ
-accepted_text path outputs = path ++ (codes ": accepted " ++ (decimal outputs ++ (noun outputs (codes " output") (codes " outputs") ++ codes "\n")))
+accepted_text path outputs = shown_name path ++ (codes ": accepted " ++ (decimal outputs ++ (noun outputs (codes " output") (codes " outputs") ++ codes "\n")))

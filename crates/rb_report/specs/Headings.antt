@@ -4,10 +4,11 @@ use Rattle.rb_script.specs.Lines.{Line}
 use Rattle.rb_report.specs.declared.check.colors.Colors.TheVariants.{Off}
 use Rattle.rb_report.specs.declared.check.side.Side.TheVariants.{Both}
 use Rattle.rb_report.specs.Diffs.{on_side, diff_text}
+use Rattle.rb_report.specs.Names.{shown_name}
 
 -- the file and a line of it, which counts from 1
 abbrev pub place_text : List ℕ → ℕ → List ℕ
-place_text path line = path ++ (codes ":" ++ (decimal line ++ codes ": "))
+place_text path line = shown_name path ++ (codes ":" ++ (decimal line ++ codes ": "))
 
 -- where the head of a directive begins, and the head
 abbrev pub heading_text : List ℕ → ℕ → List ℕ → List ℕ

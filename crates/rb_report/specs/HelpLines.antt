@@ -1,5 +1,5 @@
 -- Lines of help: what an option takes, and what a value means. (docs/SCRIPTS.md.)
-use Rattle.std.specs.Prelude.{ℕ, if◌then◌else◌, List, [], ◌∷◌, Option, Some, None, map}
+use Rattle.std.specs.Prelude.{if◌then◌else◌, List, [], ◌∷◌, Option, Some, None, map}
 use Rattle.std.specs.Str.{bytes_eq}
 use Rattle.rb_vocab.specs.declared.message_type.MessageType.{MessageType}
 use Rattle.rb_vocab.specs.MessageTypes.{meaning_of, type_of}

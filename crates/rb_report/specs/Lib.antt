@@ -1,3 +1,4 @@
+pub mod Names
 pub mod Pieces
 pub mod Ends
 pub mod LineRanges

@@ -3,6 +3,7 @@ use Rattle.std.specs.Prelude.{ℕ, List, ◌++◌, codes, decimal}
 use Rattle.rb_report.specs.declared.check.warning_kind.WarningKind.{WarningKind}
 use Rattle.rb_report.specs.declared.check.warning_kind.WarningKind.TheVariants as doubts
 use Rattle.rb_report.specs.Headings.{heading_text}
+use Rattle.rb_report.specs.Names.{shown_name}
 
 -- a directive whose error was not accepted
 abbrev pub left_text : List ℕ → ℕ → List ℕ → List ℕ → List ℕ
@@ -15,8 +16,8 @@ warning_sentence doubts.InInput = codes "this looks like a directive inside inpu
 warning_sentence doubts.Unread = codes "this is input, and the directive above it takes none: a line ---- is missing before it"
 
 abbrev pub warning_text : List ℕ → ℕ → WarningKind → List ℕ
-warning_text path line doubt = path ++ (codes ":" ++ (decimal line ++ (codes ": warning: " ++ (warning_sentence doubt ++ codes "\n"))))
+warning_text path line doubt = shown_name path ++ (codes ":" ++ (decimal line ++ (codes ": warning: " ++ (warning_sentence doubt ++ codes "\n"))))
 
 -- a script that has such lines, and into which nothing was written
 abbrev pub unaccepted_text : List ℕ → List ℕ
-unaccepted_text path = path ++ codes ": nothing was accepted, since it has warnings; --force accepts all the same\n"
+unaccepted_text path = shown_name path ++ codes ": nothing was accepted, since it has warnings; --force accepts all the same\n"

@@ -1,5 +1,6 @@
 -- The pieces of a text. (This project's.)
 use Rattle.std.specs.Prelude.{ℕ, ◌==◌, if◌then◌else◌, List, [], ◌++◌, codes, decimal}
+use Rattle.rb_report.specs.Names.{shown_name}
 use Rattle.rb_report.specs.declared.check.piece.ReportPiece.{ReportPiece}
 use Rattle.rb_report.specs.declared.check.piece.ReportPiece.TheVariants as pieces
 
@@ -13,5 +14,6 @@ noun n one many = if n == 1 then one else many
 
 abbrev pub piece_text : ReportPiece → List ℕ
 piece_text (pieces.Bytes bytes) = bytes.now
+piece_text (pieces.Name name) = shown_name name.now
 piece_text (pieces.Number n) = decimal n
 piece_text (pieces.Count n word) = count_text n word.now

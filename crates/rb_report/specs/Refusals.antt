@@ -2,13 +2,14 @@
 use Rattle.std.specs.Prelude.{ℕ, List, [], ◌++◌, Option, Some, None, codes, decimal}
 use Rattle.rb_script.specs.declared.fault.ScriptFault.{ScriptFault}
 use Rattle.rb_script.specs.declared.fault.ScriptFault.TheVariants as faults
+use Rattle.rb_report.specs.Names.{shown_name}
 
 abbrev pub sentence : ScriptFault → List ℕ
 sentence faults.TooLong = codes "the script, or its canonical text, has more than 4,194,304 bytes; cut it into several scripts"
 sentence (faults.LineTooLong line) =
     codes "this line has more than 65,536 bytes; usually an end of line is missing, or the file is not a script"
 sentence (faults.BadLine line) =
-    codes "this is not a name with arguments; usually a parenthesis is not closed, a backslash is missing, or an empty line cut the output above"
+    codes "this is not a name with arguments; usually a parenthesis is not closed or has no name= before it, a backslash is missing, or an empty line cut the output above"
 sentence (faults.NoSeparator line) =
     codes "no line ---- follows this directive; usually it was left out, or an empty line cut the output above"
 sentence (faults.NotClosed line) =
@@ -36,4 +37,4 @@ at_line None = []
 at_line (Some line) = codes ":" ++ decimal line
 
 abbrev pub refusal_text : List ℕ → ScriptFault → List ℕ
-refusal_text path fault = path ++ (at_line (fault_line fault) ++ (codes ": " ++ (sentence fault ++ codes "\n")))
+refusal_text path fault = shown_name path ++ (at_line (fault_line fault) ++ (codes ": " ++ (sentence fault ++ codes "\n")))

@@ -7,12 +7,12 @@ use Rattle.rb_vocab.specs.declared.directive_error.DirectiveError.{DirectiveErro
 use Rattle.rb_vocab.specs.declared.directive_error.DirectiveError.TheVariants as errors
 use Rattle.rb_directive.specs.declared.build.Asked.{Asked}
 use Rattle.rb_directive.specs.Requests.{request}
-use Rattle.rb_report.specs.Hints.{PlainHint, meant_or, unknown}
+use Rattle.rb_report.specs.Hints.{PlainHint, meant_or}
 use Rattle.rb_report.specs.Manual.{pages, keys}
 use Rattle.rb_report.specs.Choices.{levels, choices_of}
 use Rattle.rb_report.specs.Distance.{Word}
 use Rattle.rb_report.specs.Forms.{form_of_fault, missing}
-use Rattle.rb_report.specs.Nearest.{names_of, keys_of, nearest, or_else}
+use Rattle.rb_report.specs.Nearest.{names_of, keys_of, nearest}
 
 -- the word is one of these
 abbrev pub is_among : Word → List Word → Bool
@@ -23,14 +23,18 @@ abbrev pub of_values : List Word → List Word → Option Word
 of_values cs [] = None
 of_values cs (v ∷ vs) = if is_among v cs then of_values cs vs else nearest v cs
 
--- an option has a wrong value; a word can be the name of a level only
-abbrev pub of_argument : PlainArgument → Option Word
-of_argument a = if a.has_equals then of_values (choices_of a.key) a.values else nearest a.key levels
+-- a word, which is the name of a level after `log-level` only
+abbrev pub of_word : Word → Word → Option Word
+of_word name word = if bytes_eq name (codes "log-level") then nearest word levels else None
+
+-- an argument of the directive with this name: an option has a wrong value
+abbrev pub of_argument : Word → PlainArgument → Option Word
+of_argument name a = if a.has_equals then of_values (choices_of a.key) a.values else of_word name a.key
 
 -- the first of the arguments with this key
-abbrev pub of_arguments : Word → List PlainArgument → Option Word
-of_arguments key [] = None
-of_arguments key (a ∷ args) = if bytes_eq a.key key then of_argument a else of_arguments key args
+abbrev pub of_arguments : Word → Word → List PlainArgument → Option Word
+of_arguments name key [] = None
+of_arguments name key (a ∷ args) = if bytes_eq a.key key then of_argument name a else of_arguments name key args
 
 -- the first of the values that is none of the choices
 abbrev pub wrong_value : List Word → List Word → Word
@@ -56,7 +60,7 @@ wrong_by d other = []
 abbrev pub of_fault : PlainDirective → DirectiveError → Option Word
 of_fault d (errors.UnknownDirective name) = nearest name (names_of pages)
 of_fault d (errors.UnsupportedOption key) = nearest key (keys_of d.name keys ++ codes "log-level" ∷ [])
-of_fault d (errors.BadArgument key) = of_arguments key d.args
+of_fault d (errors.BadArgument key) = of_arguments d.name key d.args
 of_fault d other = None
 
 -- the word in the place of one that is wrong
@@ -78,7 +82,7 @@ wrong_word d = wrong_of_reading d (request d)
 -- that word; if none is near, how the directive is written
 abbrev pub of_reading : PlainDirective → Result Asked DirectiveError → PlainHint
 of_reading d (Ok asked) = missing d
-of_reading d (Err fault) = meant_or unknown (or_else (of_fault d fault) (form_of_fault d fault))
+of_reading d (Err fault) = meant_or (form_of_fault d fault) (of_fault d fault)
 
 unfoldable pub suggested : PlainDirective → PlainHint
 suggested d = of_reading d (request d)

@@ -23,6 +23,7 @@ mod line_range;
 mod line_view;
 mod longest;
 mod mismatch;
+mod name;
 mod outcome;
 mod piece;
 mod position;
@@ -49,12 +50,14 @@ pub use laws::{
     diffs_are_their_stretches, diffs_tell_both_sides, highlights_are_least, highlights_need_colors,
     highlights_take_nothing_away, lines_are_told_apart, reasons_stand_between,
     same_lines_are_plain, sentences_are_distinct, shown_diffs_tell_both_sides,
-    statuses_are_greatest,
+    shown_names_act_in_nothing, statuses_are_greatest,
 };
 pub use left::put_left;
 pub use line_range::LineRange;
 pub use mismatch::{MismatchView, Sides, put_directive, put_mismatch, put_note};
+pub use name::{acts_in_line, by_number, has_acting_char, put_name, shown_name};
 pub use outcome::Outcome;
+pub use piece::ReportPiece;
 pub use refusal::{fault_line, put_refusal, sentence};
 pub use side::Side;
 pub use status::Status;

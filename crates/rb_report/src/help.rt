@@ -14,6 +14,7 @@ mod keys;
 mod laws;
 mod nearest;
 mod options;
+mod other_names;
 mod page;
 mod pages;
 mod suggest;
@@ -22,8 +23,8 @@ mod values;
 pub use choices::choices_of;
 pub use keys::KEYS;
 pub use laws::{
-    choices_are_taken, lines_are_on_all, options_are_those_of_the_table, pages_are_of_the_table,
-    suggestions_are_near,
+    choices_are_taken, lines_are_on_all, options_are_those_of_the_table, other_names_are_free,
+    pages_are_of_the_table, suggestions_are_near,
 };
 pub use nearest::{Known, nearest_name};
 pub use page::{page_of, put_manual};

@@ -1,5 +1,5 @@
 -- What is shown where only what differs is: the mismatches. And where nothing is.
-use Rattle.std.proofs.Common.{◌≡◌, ◌∙◌, ℕ, suc, ◌+◌, ◌-◌, ◌≤◌, Bool, true, false, List, [], ◌∷◌, ◌++◌, length, Option, None, refl, ap, ap₂, arith}
+use Rattle.std.proofs.Common.{◌≡◌, ◌∙◌, ℕ, suc, ◌+◌, ◌-◌, ◌≤◌, Bool, true, false, List, [], ◌∷◌, ◌++◌, length, Option, None, refl, ap, ap₂, sym, arith}
 use Rattle.std.specs.Prelude.{◌&&◌, ◌||◌, not, slice_index, slice_index_or}
 use Rattle.std.specs.List.{list_any}
 use Rattle.rb_script.specs.Lines.{Line}
@@ -15,7 +15,7 @@ use Rattle.rb_script_report.specs.declared.summary.ScriptSummary.{ScriptSummary}
 use Rattle.rb_script_report.specs.declared.view.Detail.{Detail}
 use Rattle.rb_script_report.specs.declared.view.Detail.TheVariants as shown
 use Rattle.rb_script_report.specs.Errors.{is_error, says_error, is_unexpected, error_count}
-use Rattle.rb_script_report.specs.Checked.{mismatch_shown, left_next, all_shown, checked_text, mismatch_at, mismatches_at, left_behind, brief_at, of_first, first_head, NoneIsNamed}
+use Rattle.rb_script_report.specs.Checked.{directive_shown, mismatch_shown, left_next, all_shown, checked_text, mismatch_at, mismatches_at, left_behind, brief_at, of_first, first_head, NoneIsNamed}
 use Rattle.rb_script_report.specs.Shows.{summary_of, IsQuiet}
 
 abbrev no_block : PlainBlock
@@ -77,8 +77,13 @@ shown-differing left colors ls path (line ∷ heads) (b ∷ bs) (o ∷ os) p e n
     let here : 0 ≡ p - p = omega arith in
     test_cases (same_lines b.expected o)
     (λ yes. let unnamed : is_unexpected ls line o ≡ false = second (same_lines b.expected o) (is_unexpected ls line o) yes none.0 in rw (yes, unnamed) (rest left))
-    (λ no. rw no (ap (λ (t : List ℕ). mismatch_shown left false colors path line b o ++ t) (rest (left_after left b.expected o))
-    ∙ ap (λ (d : ℕ). nth left colors path (line ∷ heads) (b ∷ bs) (o ∷ os) d ++ from_places (nth_left left (b ∷ bs) (o ∷ os) d) colors path (line ∷ heads) (b ∷ bs) (o ∷ os) p ks) here))
+    (λ no.
+    let shown : directive_shown left false colors ls path line b o ≡ mismatch_shown left false colors path line b o = rw no refl in
+    let spent : left_next left b o ≡ left_after left b.expected o = rw no refl in
+    let first : differing p (b ∷ bs) (o ∷ os) ≡ p ∷ ks = rw no refl in
+    ap₂ (λ (t u : List ℕ). t ++ u) shown (ap (λ (n : ℕ). all_shown n false colors ls path heads bs os) spent ∙ rest (left_after left b.expected o))
+    ∙ ap (λ (d : ℕ). nth left colors path (line ∷ heads) (b ∷ bs) (o ∷ os) d ++ from_places (nth_left left (b ∷ bs) (o ∷ os) d) colors path (line ∷ heads) (b ∷ bs) (o ∷ os) p ks) here
+    ∙ ap (λ (is : List ℕ). from_places left colors path (line ∷ heads) (b ∷ bs) (o ∷ os) p is) (sym first))
 
 pub shown-mismatches : (colors : Colors) (ls : List Line) (path heads : List ℕ) (s : PlainScript) → length heads ≡ length s.blocks → NoneIsNamed ls heads s.blocks (outputs s)
     → checked_text shown.Differing colors ls path heads s ≡ mismatches_at MAX_SCRIPT_CELLS colors path heads s (mismatches s)

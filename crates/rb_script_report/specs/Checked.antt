@@ -1,5 +1,5 @@
 -- What `check` shows of a script that ran: its directives in order, each with the line of its head. (This project's.)
-use Rattle.std.specs.Prelude.{◌≡◌, ℕ, ◌-◌, Bool, true, false, ◌&&◌, if◌then◌else◌, List, [], ◌∷◌, ◌++◌, Option, Some, None, length, slice_index, slice_index_or}
+use Rattle.std.specs.Prelude.{◌≡◌, ℕ, ◌-◌, Bool, true, false, ◌&&◌, not, if◌then◌else◌, List, [], ◌∷◌, ◌++◌, Option, Some, None, length, slice_index, slice_index_or}
 use Rattle.rb_script.specs.Lines.{Line}
 use Rattle.rb_script.specs.Script.{PlainBlock, PlainScript}
 use Rattle.rb_script.specs.Reading.{directive_of}
@@ -23,9 +23,9 @@ use Rattle.rb_script_report.specs.Errors.{first_line, is_error, is_unexpected}
 abbrev pub head_of : PlainBlock → List ℕ
 head_of b = head_text (directive_of b)
 
--- what was probably meant, where the output is an error
+-- what was probably meant, if the output differs or is an error
 abbrev pub meant_by : PlainBlock → List Line → PlainHint
-meant_by b output = if is_error output then suggested (directive_of b) else unknown
+meant_by b output = if same_lines b.expected output && not (is_error output) then unknown else suggested (directive_of b)
 
 -- on a line of its own
 abbrev pub hint_of : PlainBlock → List Line → List ℕ

@@ -76,12 +76,13 @@ pub(crate) fn put_directive_at<M: Machine, S: Sink>(
     let path = view.path;
     let line = number_at(run.layout.heads.as_slice(), index);
     let place = FileLine { path, line };
-    let hint = hint_of(block, output);
     if all {
         let why = why_at(run.whys, index);
+        let hint = hint_of(block, output);
         return put_run(sink, place, &block.directive(), output, why, hint);
     }
     if is_unexpected(&run.layout.text, line, output) {
+        let hint = hint_of(block, output);
         return put_note(sink, place, &block.directive(), first_line(output), hint);
     }
     Ok(())

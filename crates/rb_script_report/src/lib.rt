@@ -43,6 +43,7 @@ pub use laws::{
     shown_lines_are_of_heads,
 };
 pub use layout::Layout;
+pub use names::begins_with_name;
 pub use put::{first_index, is_quiet, is_same, put_checked, summary_of};
 pub use reasons::{LineReasons, why_at};
 pub use shown_script::ShownScript;

@@ -17,7 +17,7 @@ fn word_of(line: &[u8]) -> &[u8]
 }
 
 /// Whether the line's first word is the name of a directive.
-pub(crate) fn begins_with_name(line: &[u8]) -> bool
+pub fn begins_with_name(line: &[u8]) -> bool
     ensures { result ≡ begins_with_name line.now }
 {
     is_name(word_of(line))

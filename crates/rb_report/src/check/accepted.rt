@@ -16,7 +16,7 @@ pub fn put_accepted<S: Sink>(sink: &mut S, path: &[u8], outputs: usize) -> Resul
     put_pieces(
         sink,
         &[
-            ReportPiece::Bytes(path),
+            ReportPiece::Name(path),
             ReportPiece::Bytes(b": accepted "),
             ReportPiece::Number(count),
             ReportPiece::Bytes(noun(count, b" output", b" outputs")),

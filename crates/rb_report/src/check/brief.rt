@@ -21,7 +21,7 @@ pub fn put_brief<S: Sink>(
     put_pieces(
         sink,
         &[
-            ReportPiece::Bytes(path),
+            ReportPiece::Name(path),
             ReportPiece::Bytes(b": "),
             ReportPiece::Number(mismatches as u64),
             ReportPiece::Bytes(b" of "),

@@ -67,7 +67,7 @@ pub fn put_failure<S: Sink>(sink: &mut S, path: &[u8], failure: Failure) -> Resu
     put_pieces(
         sink,
         &[
-            ReportPiece::Bytes(path),
+            ReportPiece::Name(path),
             ReportPiece::Bytes(b": "),
             ReportPiece::Bytes(failure_sentence(failure)),
             ReportPiece::Bytes(b"\n"),

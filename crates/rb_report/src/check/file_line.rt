@@ -31,7 +31,7 @@ pub(crate) fn put_heading<'a, S: Sink>(
     put_pieces(
         sink,
         &[
-            ReportPiece::Bytes(place.path),
+            ReportPiece::Name(place.path),
             ReportPiece::Bytes(b":"),
             ReportPiece::Number(place.line as u64),
             ReportPiece::Bytes(b": "),

@@ -4,15 +4,18 @@ ghost use Rattle.std.specs.Prelude.{◌≡◌, IsOk, decimal};
 ghost use Rattle.rb_script.specs.Writes.{Writes};
 ghost use Rattle.rb_report.specs.Pieces.{count_text, noun, piece_text};
 
+use crate::check::name::put_name;
 use rb_script::{Sink, WriteFault};
 pub(crate) use rb_text::put_pieces;
 use rb_text::{Piece, WrittenPiece, put_number};
 
 /// A piece of a text.
 #[derive(Clone, Copy)]
-pub(crate) enum ReportPiece<'a> {
+pub enum ReportPiece<'a> {
     /// The bytes as they are.
     Bytes(&'a [u8]),
+    /// A name as it is shown: nothing of it ends the line or acts.
+    Name(&'a [u8]),
     /// A number in decimal digits.
     Number(u64),
     /// A count of something, after a comma; nothing if it is 0.
@@ -32,6 +35,7 @@ impl WrittenPiece for ReportPiece<'_> {
     fn put<S: Sink>(&self, sink: &mut S) -> Result<(), WriteFault> {
         match *self {
             ReportPiece::Bytes(bytes) => sink.put(bytes),
+            ReportPiece::Name(name) => put_name(sink, name),
             ReportPiece::Number(n) => put_number(sink, n),
             ReportPiece::Count(n, word) => put_count(sink, n, word),
         }

@@ -17,7 +17,7 @@ pub fn sentence(fault: ScriptFault) -> &'static [u8]
         ScriptFault::LineTooLong(_) =>
             b"this line has more than 65,536 bytes; usually an end of line is missing, or the file is not a script",
         ScriptFault::BadLine(_) =>
-            b"this is not a name with arguments; usually a parenthesis is not closed, a backslash is missing, or an empty line cut the output above",
+            b"this is not a name with arguments; usually a parenthesis is not closed or has no name= before it, a backslash is missing, or an empty line cut the output above",
         ScriptFault::NoSeparator(_) =>
             b"no line ---- follows this directive; usually it was left out, or an empty line cut the output above",
         ScriptFault::NotClosed(_) =>
@@ -60,7 +60,7 @@ pub fn put_refusal<S: Sink>(sink: &mut S, path: &[u8], fault: ScriptFault) -> Re
         Some(line) => put_pieces(
             sink,
             &[
-                ReportPiece::Bytes(path),
+                ReportPiece::Name(path),
                 ReportPiece::Bytes(b":"),
                 ReportPiece::Number(line as u64),
                 ReportPiece::Bytes(b": "),
@@ -71,7 +71,7 @@ pub fn put_refusal<S: Sink>(sink: &mut S, path: &[u8], fault: ScriptFault) -> Re
         None => put_pieces(
             sink,
             &[
-                ReportPiece::Bytes(path),
+                ReportPiece::Name(path),
                 ReportPiece::Bytes(b": "),
                 ReportPiece::Bytes(sentence),
                 ReportPiece::Bytes(b"\n"),

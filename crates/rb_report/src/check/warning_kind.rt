@@ -45,7 +45,7 @@ pub fn put_warning<S: Sink>(
     put_pieces(
         sink,
         &[
-            ReportPiece::Bytes(path),
+            ReportPiece::Name(path),
             ReportPiece::Bytes(b":"),
             ReportPiece::Number(line as u64),
             ReportPiece::Bytes(b": warning: "),
@@ -63,7 +63,7 @@ pub fn put_unaccepted<S: Sink>(sink: &mut S, path: &[u8]) -> Result<(), WriteFau
     put_pieces(
         sink,
         &[
-            ReportPiece::Bytes(path),
+            ReportPiece::Name(path),
             ReportPiece::Bytes(
                 b": nothing was accepted, since it has warnings; --force accepts all the same\n",
             ),

@@ -3,7 +3,7 @@
 ghost use Rattle.std.specs.Prelude.{◌≡◌, ◌<◌, length, map, option_map};
 ghost use Rattle.rb_script.specs.Directive.{plain_argument};
 ghost use Rattle.rb_script.specs.Tokens.{plain};
-ghost use Rattle.rb_report.specs.Suggestions.{is_among, of_values, of_argument, of_arguments, wrong_in, wrong_part, wrong_value};
+ghost use Rattle.rb_report.specs.Suggestions.{is_among, of_values, of_word, of_argument, of_arguments, wrong_in, wrong_part, wrong_value};
 
 use crate::help::choices::{LEVELS, choices_of};
 use crate::help::nearest::{Known, nearest_in};
@@ -34,15 +34,25 @@ fn of_values(directive: &DirectiveRef<'_>, argument: usize, choices: &[Known]) -
     None
 }
 
+// Finds the level nearest to a word of the directive with this name, if that takes one.
+fn of_word(name: &[u8], word: &[u8]) -> Option<Known>
+    ensures { option_map (λ w. w.now) result ≡ of_word name.now word.now }
+{
+    if name == b"log-level".as_slice() {
+        return nearest_in(word, &LEVELS);
+    }
+    None
+}
+
 fn of_argument(directive: &DirectiveRef<'_>, argument: usize) -> Option<Known>
     requires { argument < length (plain directive.now).args }
-    ensures { option_map (λ w. w.now) result ≡ of_argument (plain_argument (plain directive.now) argument) }
+    ensures { option_map (λ w. w.now) result ≡ of_argument (plain directive.now).name (plain_argument (plain directive.now) argument) }
 {
     let key = directive.key(argument);
     if directive.has_equals(argument) {
         return of_values(directive, argument, choices_of(key));
     }
-    nearest_in(key, &LEVELS)
+    of_word(directive.name(), key)
 }
 
 // Finds the first value that is none of the choices.
@@ -86,7 +96,7 @@ pub(crate) fn wrong_in<'d>(directive: &'d DirectiveRef<'_>, key: &[u8]) -> &'d [
 
 /// Finds what the first argument with this key probably meant.
 pub(crate) fn of_arguments(directive: &DirectiveRef<'_>, key: &[u8]) -> Option<Known>
-    ensures { option_map (λ w. w.now) result ≡ of_arguments key.now (plain directive.now).args }
+    ensures { option_map (λ w. w.now) result ≡ of_arguments (plain directive.now).name key.now (plain directive.now).args }
 {
     for i in 0..directive.args() {
         if directive.key(i) == key {

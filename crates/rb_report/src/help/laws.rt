@@ -7,8 +7,9 @@ ghost use Rattle.rb_vocab.specs.MessageTypes.{type_of};
 ghost use Rattle.rb_directive.specs.declared.table.Row.{Row};
 ghost use Rattle.rb_directive.specs.declared.table.OptionRow.{OptionRow};
 ghost use Rattle.rb_directive.specs.Names.{argument_text, name_text};
-ghost use Rattle.rb_directive.specs.Table.{directives, options};
+ghost use Rattle.rb_directive.specs.Table.{directives, is_name, options};
 ghost use Rattle.rb_directive.specs.Forms.{flag_of, transition_of};
+ghost use Rattle.rb_report.specs.Forms.{other_names};
 ghost use Rattle.rb_report.specs.HelpLines.{option_line, value_line};
 ghost use Rattle.rb_report.specs.Manual.{Key, Page, keys, pages};
 ghost use Rattle.rb_report.specs.Choices.{levels, flags, transitions, types};
@@ -38,6 +39,12 @@ pub fn lines_are_on_all()
     ensures options { list_all (λ (k : Key). not (length (option_line k.1) == 0)) keys ≡ true }
     ensures log_level { not (length (option_line (codes "log-level")) == 0) ≡ true }
     ensures values { list_all (λ (w : Word). not (length (value_line w) == 0)) (levels ++ (flags ++ (transitions ++ types))) ≡ true }
+{}
+
+/// No name that other tools have is that of a directive, and each has a line of help.
+pub fn other_names_are_free()
+    ensures names { list_all (λ (k : Key). not (is_name k.0)) other_names ≡ true }
+    ensures lines { list_all (λ (k : Key). not (length k.1 == 0)) other_names ≡ true }
 {}
 
 /// The nearest of some words is one of them, and at most two letters off, but not all letters differ.

@@ -2,9 +2,8 @@
 
 ghost use Rattle.std.specs.Prelude.{◌≡◌, option_map};
 ghost use Rattle.rb_script.specs.Tokens.{plain};
-ghost use Rattle.rb_report.specs.Hints.{meant_or, plain_hint, unknown};
+ghost use Rattle.rb_report.specs.Hints.{meant_or, plain_hint};
 ghost use Rattle.rb_report.specs.Forms.{form_of_fault};
-ghost use Rattle.rb_report.specs.Nearest.{or_else};
 ghost use Rattle.rb_report.specs.Suggestions.{of_fault, suggested, suggested_word, wrong_by, wrong_word};
 
 use crate::check::Hint;
@@ -62,21 +61,12 @@ pub fn wrong_word<'d>(directive: &'d DirectiveRef<'_>) -> &'d [u8]
 }
 
 // Finds the near word, or how the directive is written.
-fn word_or_form(directive: &DirectiveRef<'_>, fault: &DirectiveError<'_>) -> Option<Known>
-    ensures { option_map (λ w. w.now) result ≡ or_else (of_fault (plain directive.now) fault.now) (form_of_fault (plain directive.now) fault.now) }
+fn word_or_form(directive: &DirectiveRef<'_>, fault: &DirectiveError<'_>) -> Hint<'static>
+    ensures { plain_hint result ≡ meant_or (form_of_fault (plain directive.now) fault.now) (of_fault (plain directive.now) fault.now) }
 {
     match of_fault(directive, fault) {
-        Some(word) => Some(word),
-        None => form_of_fault(directive, fault),
-    }
-}
-
-fn meant(word: Option<Known>) -> Hint<'static>
-    ensures { plain_hint result ≡ meant_or unknown (option_map (λ w. w.now) word.entry) }
-{
-    match word {
         Some(word) => Hint::Meant(word),
-        None => Hint::Unknown,
+        None => form_of_fault(directive, fault),
     }
 }
 
@@ -88,6 +78,6 @@ pub fn suggested(directive: &DirectiveRef<'_>) -> Hint<'static>
 {
     match request(directive) {
         Ok(_) => missing(directive),
-        Err(fault) => meant(word_or_form(directive, &fault)),
+        Err(fault) => word_or_form(directive, &fault),
     }
 }

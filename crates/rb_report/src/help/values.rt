@@ -23,7 +23,8 @@ const VALUE_LINES: [(&[u8], &[u8]); 11] = [
     (b"implicit", b"goes through a joint configuration that the leader leaves automatically"),
 ];
 
-fn line_among(word: &[u8], rows: &[(Known, Known)]) -> Known
+/// Finds the line on a word; an empty one if there is none.
+pub(crate) fn line_among(word: &[u8], rows: &[(Known, Known)]) -> Known
     ensures { result.now ≡ line_among word.now (map (λ r. (r.0.now, r.1.now)) rows.now) }
 {
     for row in rows {

@@ -16,7 +16,7 @@ use Rattle.rb_check.specs.Endings.{IsAnswered}
 use Rattle.rb_check.specs.Listed.{Lists}
 use Rattle.rb_check.specs.Reported.{check_point, missed, ran, refused}
 use Rattle.rb_check.specs.ScriptTexts.{checked}
-use Rattle.rb_check.specs.Visible.{showing_of_script}
+use Rattle.rb_check.specs.Visible.{showing_of_lines}
 use Rattle.rb_check.specs.Shown.{colors_in, remark_text, shown_in}
 use Rattle.rb_check.proofs.ReportLaws.{lists_none, nothing_heeded, part_heeded}
 use Rattle.rb_check.proofs.ShownLaws.{along, goes_heeded, on_err}
@@ -55,7 +55,7 @@ returns-clause-reported g c =
         path_is = refl;
         layout_is = c.in-Ok.ensures.script;
         whys_are = c.deref-2.ensures.value ∙ c.in-Ok.ensures.whys;
-        colors_are = c.colors.ensures ∙ ap (λ (s : Showing). colors_in s asked.colors) (showing.1 ∙ ap (λ (s : Showing). shown_in c.heed.new.self.state.form.format s) showing.3 ∙ ap (λ (p : List ℕ). shown_in c.heed.new.self.state.form.format (showing_of_script p run.layout.text)) c.as_bytes-2.ensures.value ∙ ap (λ (v : ReportState). shown_in v.form.format (showing_of_script c.args.path.now run.layout.text)) c.heed.ensures.state);
+        colors_are = c.colors.ensures ∙ ap (λ (s : Showing). colors_in s asked.colors) (showing.1 ∙ ap (λ (s : Showing). shown_in c.heed.new.self.state.form.format c.as_bytes-2.result.now s) showing.3 ∙ ap (λ (p : List ℕ). shown_in c.heed.new.self.state.form.format p (showing_of_lines run.layout.text)) c.as_bytes-2.ensures.value ∙ ap (λ (v : ReportState). shown_in v.form.format c.args.path.now (showing_of_lines run.layout.text)) c.heed.ensures.state);
       })
           (subst (λ (v : ReportState). IsAnswered (g.S.System.tells_one c.args.system.now) asked (g.P.Person.is_known c.args.reviewer.now.person) (g.P.Person.left c.args.reviewer.now.person) v.form script c.args.reviewer.now.review c.answer.new.reviewer.review end answered.1 answered.0) same answered.2)
           (c.in_ok-answer.ensures.counts ∙ ap (λ (o : Outcome). counts_after c.heed-2.new.self.counts o end.failure) (c.ran_of.ensures.counts end.left)

@@ -24,6 +24,7 @@ loop-i-preserved g c =
       printed = on.1;
       so_far = reasons-more before after s.blocks c.loop-i.i b c.in_ok-ran.ran.reasons c.loop-i.whys.items c.push-in-loop-i.new.self.items (whys_of s)
           c.block_at.ensures reasons next c.in_ok-push-2.ensures.items c.loop-i.invariant.so_far;
+      counted = λ small. omega (arith, c.loop-i.invariant.counted small, c.in_ok-ran.ensures.counted (omega (arith, small, c.loop-i.invariant.counted small)));
     }
 
 pub returns-clause-outputs : goal.returns-clause-outputs

@@ -1,17 +1,18 @@
 use Rattle.std.proofs.Common.{◌≡◌, ◌∙◌, ◌<◌, ℕ, Bool, true, false, cond, List, [], Some, get_or, length, ap, sym, refl, arith}
 use Rattle.std.specs.Prelude.{slice_get}
 use Rattle.std.proofs.lemmas.Option.{slice_get-get_or}
+use Rattle.rb_script.specs.Directive.{PlainDirective}
 use Rattle.rb_script.specs.Lines.{Line}
 use Rattle.rb_script.specs.Tokens.{plain}
 use Rattle.rb_text.proofs.SentLaws.{sent_all, sent_none, writes_along}
 use Rattle.rb_replay.specs.Report.{same_lines}
 use Rattle.rb_report.specs.Heads.{head_text}
 use Rattle.rb_report.specs.Headings.{note_text}
-use Rattle.rb_report.specs.Hints.{hint_text, plain_hint}
+use Rattle.rb_report.specs.Hints.{PlainHint, hint_text, plain_hint}
 use Rattle.rb_report.specs.Whys.{reasons_in, told_run}
 use Rattle.rb_report.proofs.CellLaws.{always, then_is}
-use Rattle.rb_script_report.specs.Checked.{match_shown}
-use Rattle.rb_script_report.specs.Errors.{is_unexpected}
+use Rattle.rb_script_report.specs.Checked.{head_of, hint_of, match_shown}
+use Rattle.rb_script_report.specs.Errors.{first_line, is_unexpected}
 use Rattle.rb_script_report.specs.Whys.{why_at, told_differing, told_directive, told_match}
 use Rattle.rb_script_report.proofs.WhyLaws.{told-is, left-is, alone-is, on-is, told-differing, told-matching, leaves-after, leaves-all}
 use Rattle.rb_script_report.proofs.alone.put_directive_at.Goals as goal
@@ -99,11 +100,16 @@ returns-then-is_unexpected-clause-wrote g c =
     let why : List Line = why_at whys i in
     let head : slice_get heads i ≡ Some line = sym (ap (λ (hs : List ℕ). slice_get hs i) c.as_slice.ensures.value) ∙ c.number_at-line.ensures in
     let same : same_lines b.expected o ≡ true = ap (λ (ls : List Line). same_lines ls o) (sym c.expected.ensures) ∙ sym c.is_same.ensures ∙ c.if-not-is_same.false in
-    let note = note_text path line (head_text (plain c.directive-then-is_unexpected.result)) c.first_line.result.now (hint_text (plain_hint c.hint_of-hint.result)) in
+    let note = note_text path line (head_text (plain c.directive-then-is_unexpected.result)) c.first_line.result.now (hint_text (plain_hint c.hint_of-hint-then-is_unexpected.result)) in
     let named : is_unexpected text line o ≡ true = sym c.is_unexpected.ensures ∙ c.if-is_unexpected.true in
-    let shown : note ≡ match_shown false text path line b o = cc in
+    let hint = plain_hint c.hint_of-hint-then-is_unexpected.result in
+    let shown : note ≡ note_text path line (head_of b) (first_line o) (hint_of b o)
+    = ap (λ (d : PlainDirective). note_text path line (head_text d) c.first_line.result.now (hint_text hint)) c.directive-then-is_unexpected.ensures.whole
+    ∙ ap (λ (l : List ℕ). note_text path line (head_of b) l (hint_text hint)) c.first_line.ensures
+    ∙ ap (λ (h : PlainHint). note_text path line (head_of b) (first_line o) (hint_text h)) c.hint_of-hint-then-is_unexpected.ensures in
+    let matched : note_text path line (head_of b) (first_line o) (hint_of b o) ≡ match_shown false text path line b o = rw named refl in
     writes_along _ _ _ _ _
-    (shown ∙ ap (λ (t : Bool). told_match t text path line b o why) (sym c.if-all.false) ∙ told-matching left all v.colors text path line b o why same
+    (shown ∙ matched ∙ ap (λ (t : Bool). told_match t text path line b o why) (sym c.if-all.false) ∙ told-matching left all v.colors text path line b o why same
     ∙ alone-is left all v.colors text path whys heads s i line b o why head c.block_at-block.ensures c.output_at-output.ensures refl)
     c.put_note.ensures.wrote
 

@@ -9,10 +9,11 @@ returns-in-Some-clause-told g c =
     let first = cleared c.args.self.now.shows_progress in
     let path = c.args.path.now in
     let failure = failure_text path c.args.error.failure in
-    let words = c.tell_cause.ensures.told in (
+    let words = c.tell_cause.ensures.told in
+    let cause = told_along _ _ (ap (λ (b : Bool). cleared b ++ cause_line path words.0) c.tell.ensures.shown) words.1 in (
       words.0,
       told_along _ _ (append_assoc first failure (cause_line path words.0) ∙ ap (λ (says : Bool). first ++ (failure ++ cause_text says path words.0)) c.in-Some.ensures.said)
-          (told_then _ _ _ (first ++ failure) (cause_line path words.0) c.tell.ensures.told words.1),
+          (told_then _ _ _ (first ++ failure) (cause_line path words.0) c.tell.ensures.told cause),
     )
 
 pub returns-in-None-clause-told : goal.returns-in-None-clause-told
