@@ -20,7 +20,7 @@ ghost use Rattle.rb_bench.specs.declared.running.Mode.{Mode};
 ghost use Rattle.rb_bench.specs.declared.fault.BenchFault.TheVariants as faults;
 ghost use Rattle.rb_report.specs.declared.check.status.Status.{Status};
 
-use rb_replay::edits_answer_as_one_run;
+use rb_replay::{edits_answer_as_one_run, started_sessions_stay_fresh};
 
 /// Whatever is sent to a session, its accepted edits are those that its commands ask for, in order, and what it holds
 /// at last is what one run gives of the first script with these edits made.
@@ -29,6 +29,7 @@ pub fn conversations_answer_as_one_run()
         → (steps : Answered) × AreMade first xs steps × Leads first steps last × (last.script ≡ after first.script steps) × IsFresh last }
 {
     edits_answer_as_one_run();
+    started_sessions_stay_fresh();
 }
 
 /// A conversation has one text and one status, given the lines, the session, and the commands for which memory ran out.

@@ -28,7 +28,7 @@ mod starting;
 
 pub use choosing::{Choice, chosen};
 pub use command::{Command, Purpose, command_of};
-pub use directives::{DirectiveRunner, run_directive, run_directives};
+pub use directives::{DirectiveRunner, RunContext, run_directive, run_directives};
 pub use fault::BenchFault;
 pub use laws::{
     conversations_answer_as_one_run, conversations_are_one, names_are_distinct, runs_are_one,
@@ -38,7 +38,7 @@ pub use limits::{DEFAULT_CHECKPOINT_INTERVAL, MAX_GIVEN, MAX_READS, limits_are};
 pub use names::{edit_fault_name, script_fault_name};
 pub use outlet::Outlet;
 pub use progress::{NoProgress, RunProgress, ToldLines};
-pub use rb_args::ChoiceFault;
+pub use rb_args::{ChoiceFault, ScriptCommand, Subcommand};
 pub use rb_report::check::Status;
 pub use running::{Mode, run_bytes, run_over, write_run};
 pub use session::serve;

@@ -5,9 +5,10 @@
 
 ghost use Rattle.std.specs.Prelude.{ℕ, List, Option, None, IsOk, OnOk};
 ghost use Rattle.std.specs.Io.KnownBytes.{Keeps};
+ghost use Rattle.rb_script.specs.Writers.{IsCall};
 ghost use Rattle.rb_bench.specs.Handed.{IsHandedOn};
 
-use rb_script::{Sink, Through, WriteFault};
+use rb_script::{Sink, Through, WriteFault, Writer};
 use std::io::Write;
 
 /// Takes text, and hands it on.
@@ -27,9 +28,17 @@ impl<W: Write> Outlet for Through<W> {
     ghost handed = { λ _. None };
 
     fn flush(&mut self) -> Result<(), WriteFault> {
-        match self.0.flush() {
-            Ok(()) => Ok(()),
-            Err(_) => Err(WriteFault),
-        }
+        hand_on(self)
+    }
+}
+
+// Hands on what a writer holds back, by one call.
+fn hand_on<W: Writer>(writer: &mut W) -> Result<(), WriteFault>
+    ensures kept { Keeps (W.contents writer.old) (W.contents writer.new) }
+    ensures once { IsCall result (W.calls writer.old) (W.calls writer.new) }
+{
+    match writer.hand_on() {
+        Ok(()) => Ok(()),
+        Err(_) => Err(WriteFault),
     }
 }

@@ -9,6 +9,7 @@ ghost use Rattle.rb_replay.specs.Start.{is_checkpoint_interval};
 ghost use Rattle.rb_bench.specs.Handed.{IsHandedOn};
 ghost use Rattle.rb_bench.specs.Runs.{Answers, RunsOver, IsWritten, text_for, status_for, most_read};
 
+use crate::directives::{ClusterRunner, RunContext};
 use crate::fault::BenchFault;
 use crate::outlet::Outlet;
 use crate::progress::{NoProgress, RunProgress};
@@ -112,7 +113,9 @@ fn run_read<W: Outlet, P: RunProgress>(
     ensures io { W.takes_all writer.old → result ≢ Err BenchFault.Io }
 {
     // No edit follows, and no text depends on checkpoints.
-    let session = run_once(alloc, &bytes, progress)?;
+    let context = RunContext::new(alloc, progress);
+    let mut clusters = ClusterRunner { context };
+    let session = run_once(alloc, &bytes, &mut clusters)?;
     drop(bytes);
     let status = write_run(&session, writer, mode);
     // To give it back piece by piece would take a short run a tenth of its time.

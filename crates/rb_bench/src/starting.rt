@@ -1,6 +1,6 @@
 //! Sessions on the script of some bytes.
 
-ghost use Rattle.std.specs.Prelude.{◌≡◌, ◌≢◌, ◌↔◌, Err, true, false, IfOk, IfErr, IfSome};
+ghost use Rattle.std.specs.Prelude.{◌≡◌, ◌≢◌, ◌↔◌, ◌+◌, ◌≤◌, ◌^◌, Err, true, false, IfOk, IfErr, IfSome, length};
 ghost use Rattle.rb_script.specs.Script.{PlainScript};
 ghost use Rattle.rb_script.specs.Reads.{Reads};
 ghost use Rattle.rb_script.specs.Reading.{read_of, early_fault};
@@ -9,9 +9,8 @@ ghost use Rattle.rb_replay.specs.Start.{TellsStartFault, is_checkpoint_interval}
 ghost use Rattle.rb_bench.specs.Faults.{TellsFault};
 ghost use Rattle.rb_bench.specs.Serves.{IsStarted};
 
-use crate::directives::{ClusterRunner, run_directives};
+use crate::directives::{DirectiveRunner, run_directives};
 use crate::fault::BenchFault;
-use crate::progress::RunProgress;
 use rb_cluster::{Cluster, Meter};
 use rb_raftlog::SplitLog;
 use rb_replay::{Session, StartFault};
@@ -38,12 +37,12 @@ pub(crate) fn started(alloc: Global, bytes: &[u8], every: u64) -> Result<BenchSe
     Ok(Session::start(alloc, bytes, every, &mut meter)?)
 }
 
-/// Starts a session of the script without checkpoints, for a script that isn't edited. Reports to `progress` which directive runs.
-pub(crate) fn run_once<P: RunProgress>(
+/// Starts a session of the script without checkpoints, for a script that isn't edited. Each directive is run once.
+pub(crate) fn run_once<T: DirectiveRunner>(
     alloc: Global,
     bytes: &[u8],
-    progress: &P,
-) -> Result<BenchSession, StartFault>
+    runner: &mut T,
+) -> Result<Session<T::Machine>, StartFault>
     ensures script { IfOk result (λ s. Reads bytes.now s.script) }
     ensures run { IfOk result IsOneRun }
     // A script is refused only if there is no memory.
@@ -53,9 +52,9 @@ pub(crate) fn run_once<P: RunProgress>(
     ensures early { IfSome (early_fault bytes.now) (λ fault. result ≡ Err (StartFault.Script fault)) }
     // There is no checkpoint interval to check.
     ensures spaced { result ≢ Err StartFault.BadSpacing }
+    ensures counted { T.ran runner.old ≤ 2 ^ 62 → IfOk result (λ s. T.ran runner.new ≡ T.ran runner.old + length s.script.blocks) }
 {
     let script = Script::read(alloc, bytes)?;
-    let mut clusters = ClusterRunner { alloc, progress };
-    let outputs = run_directives(alloc, &mut clusters, &script)?;
+    let outputs = run_directives(alloc, runner, &script)?;
     Ok(Session::from_outputs(alloc, script, outputs)?)
 }

@@ -10,6 +10,7 @@ mod add_nodes;
 mod changes;
 mod cluster;
 mod deliveries;
+mod directives;
 mod laws;
 mod lists;
 mod meter;
@@ -23,6 +24,10 @@ mod snapshots;
 mod views;
 
 pub use cluster::Cluster;
+pub use directives::{
+    directives_call_their_nodes, messages_are_delivered_in_order, readies_are_processed,
+    snapshots_are_sent_by_hand, stabilizing_leaves_nothing_to_do,
+};
 pub use laws::{
     add_nodes_keeps_nodes, log_level_sets_the_level, outputs_can_be_expected, outputs_have_lines,
     reading_is_the_same_everywhere, refused_changes_nothing, views_change_nothing,

@@ -3,7 +3,7 @@
 //! The first of these faults refuses a directive: its name is unknown or its arguments are wrong (rb_directive), a node that it names
 //! doesn't exist, or this cluster can't do it. Otherwise it has its effect.
 
-ghost use Rattle.std.specs.Prelude.{◌≡◌, IfOk, OnOk, None};
+ghost use Rattle.std.specs.Prelude.{◌≡◌, ◌+◌, ◌<◌, ◌^◌, IfOk, OnOk, None};
 ghost use Rattle.rb_script.specs.Tokens.{plain};
 ghost use Rattle.rb_directive.specs.Requests.{request, IsWithin};
 ghost use Rattle.rb_texts.specs.Items.{error};
@@ -13,6 +13,7 @@ ghost use Rattle.rb_machine.specs.Observers.{watched, after, after_directive};
 
 use crate::add_nodes::add_nodes_fault;
 use crate::cluster::Cluster;
+use crate::meter::Meter;
 use crate::shared_node::SharedNode;
 use rb_directive::{Named, NodeCommandWithArg, Request, request};
 use rb_machine::{Observer, PrintedLines};
@@ -178,6 +179,20 @@ impl<L: RaftLog> Cluster<L> {
         }
         observer.start(asked.log_level.unwrap_or(self.level));
         self.perform(&asked.request, observer)
+    }
+
+    /// Runs a directive as [`Cluster::run_watched`] does. The meter rises by one, even if this fails; at its end it stays.
+    pub fn run_counted<O: Observer<L>>(
+        &mut self,
+        directive: &DirectiveRef<'_>,
+        observer: &mut O,
+        meter: &mut Meter,
+    ) -> Result<(), AllocError>
+        ensures watched { OnOk result (watched self.new (O.meaning observer.new) ≡ after_directive O.starting O.taking O.settling (O.meaning observer.old) (execution self.old (plain directive.now))) }
+        ensures counted { meter.old < 2 ^ 63 → meter.new ≡ meter.old + 1 }
+    {
+        meter.raise_or_stay();
+        self.run_watched(directive, observer)
     }
 
     /// Runs a directive, and returns what it prints.

@@ -1,5 +1,5 @@
 -- Edits of a session, and the script after a list of edits. (This project's.)
-use Rattle.std.specs.Prelude.{◌≡◌, List, [], ◌∷◌, length, Result, Ok, Err}
+use Rattle.std.specs.Prelude.{◌≡◌, ◌↔◌, ℕ, List, [], ◌∷◌, length, Result, Ok, Err}
 use Rattle.rb_script.specs.declared.edit.Edit.{Edit}
 use Rattle.rb_script.specs.declared.fault.EditFault.{EditFault}
 use Rattle.rb_script.specs.Script.{PlainScript}
@@ -8,7 +8,7 @@ use Rattle.rb_replay.specs.declared.session.Changed.{Changed}
 use Rattle.rb_replay.specs.Run.{outputs}
 use Rattle.rb_replay.specs.Report.{mismatches}
 use Rattle.rb_replay.specs.Holding.{Holding, IsOneRun}
-use Rattle.rb_replay.specs.Reuse.{ReusesFor}
+use Rattle.rb_replay.specs.Reuse.{ReusesFor, IsCostFor}
 
 -- After an accepted edit, the session is that of one run of the new script.
 pub record IsEdited (old : Holding) (edit : Edit) (changed : Changed) (new : Holding) : Type 0 where
@@ -25,6 +25,11 @@ Answer = Result Changed EditFault
 abbrev pub IsAnswer : Holding → Edit → Answer → Holding → Type 0
 IsAnswer old edit (Ok changed) new = IsEdited old edit changed new
 IsAnswer old edit (Err fault) new = new ≡ old
+
+-- A refused edit changes nothing. What an accepted one says that it executed is the stated number of directives, and no other.
+abbrev pub IsExact : Holding → Edit → Answer → Holding → Type 0
+IsExact old edit (Ok changed) new = (n : ℕ) → IsCostFor old edit new.script n ↔ (n ≡ changed.executed)
+IsExact old edit (Err fault) new = new ≡ old
 
 -- edits, each with its answer
 abbrev pub Answered : Type 0

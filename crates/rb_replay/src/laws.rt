@@ -1,6 +1,6 @@
 //! Laws of a session and of the reuse of checkpoints, for all scripts, edits and replacements.
 
-ghost use Rattle.std.specs.Prelude.{◌≡◌, ℕ, ◌+◌, ◌-◌, ◌*◌, ◌/◌, ◌<◌, ◌≤◌, ◌↔◌, List, [], Option, Ok, Contains, IfSome, length, slice_index};
+ghost use Rattle.std.specs.Prelude.{◌≡◌, ℕ, ◌+◌, ◌-◌, ◌*◌, ◌/◌, ◌<◌, ◌≤◌, ◌↔◌, List, [], ◌∷◌, ◌++◌, Option, Ok, Contains, IfSome, length, slice_index};
 ghost use Rattle.rb_script.specs.declared.edit.Edit.{Edit};
 ghost use Rattle.rb_script.specs.declared.edit.Edit.TheVariants as edits;
 ghost use Rattle.rb_script.specs.Script.{PlainScript};
@@ -15,16 +15,29 @@ ghost use Rattle.rb_replay.specs.Report.{mismatches, rewritten};
 ghost use Rattle.rb_replay.specs.Points.{AreKept, IsRising};
 ghost use Rattle.rb_replay.specs.Holding.{Holding, IsFresh, IsOneRun};
 ghost use Rattle.rb_replay.specs.Reuse.{Change, change_by, change_of, IsChange, IsOneBlock, IsCost, IsFirstMeeting, points_before, IsPointBefore};
-ghost use Rattle.rb_replay.specs.After.{Answered, Leads, after};
+ghost use Rattle.rb_replay.specs.After.{Answer, Answered, IsExact, Leads, after};
 ghost use Rattle.rb_replay.specs.Replacements.{IsLongestSplice, IsReplaced, IsReplacementCost, shown};
 
-/// After any edits, a session is that of one run of the script with the accepted edits applied.
+/// After any edits, a session is that of one run of the script with the accepted edits applied. That `Session::edit` gives such answers is its
+/// clause `answer`; that a session starts as one run is `fresh` of `Session::start`.
 pub fn edits_answer_as_one_run()
-    ensures script { (first last : Holding) (steps : Answered) → Leads first steps last → last.script ≡ after first.script steps }
-    ensures run { (first last : Holding) (steps : Answered) → IsOneRun first → Leads first steps last → IsOneRun last }
-    ensures fresh { (first last : Holding) (steps : Answered) → IsFresh first → Leads first steps last → IsFresh last }
+    // The script is that of the accepted edits, and everything that the session holds is what one run of it gives.
+    ensures run { (first last : Holding) (steps : Answered) → IsOneRun first → Leads first steps last → (last.script ≡ after first.script steps) × IsOneRun last }
+    // The outputs are those of one run. `Session::output` shows them.
     ensures outputs { (first last : Holding) (steps : Answered) → IsOneRun first → Leads first steps last → last.outputs ≡ outputs (after first.script steps) }
+    // The mismatches are those of one run. `Session::mismatches` shows them, and `changed.mismatches` is their number (`IsEdited`).
     ensures mismatches { (first last : Holding) (steps : Answered) → IsOneRun first → Leads first steps last → last.mismatches ≡ mismatches (after first.script steps) }
+    // The bytes of the rewritten script are those of one run. `Session::write_rewritten` writes them (`wrote`).
+    ensures rewritten { (first last : Holding) (steps : Answered) → IsOneRun first → Leads first steps last → rewritten last.script ≡ rewritten (after first.script steps) }
+    // Wherever an edit is in the list: if it is refused, it changes nothing; if not, it says exactly the stated number of executed directives. The
+    // meter has counted that number (`Session::edit`, `counted`).
+    ensures exact { (first last : Holding) (before later : Answered) (edit : Edit) (answer : Answer) → Leads first (before ++ (edit, answer) ∷ later) last
+        → (old : Holding) × (new : Holding) × Leads first before old × IsExact old edit answer new × Leads new later last }
+{}
+
+/// A session that was started keeps its checkpoint interval, and stays one that could have been started.
+pub fn started_sessions_stay_fresh()
+    ensures { (first last : Holding) (steps : Answered) → IsFresh first → Leads first steps last → IsFresh last }
 {}
 
 /// If the outputs can be expected, the rewritten script reads as the script that accepts them, and only as that. It has no

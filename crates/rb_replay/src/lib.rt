@@ -34,6 +34,7 @@ pub use laws::{
     cost_is_bounded, cost_is_one, cost_is_small, edits_answer_as_one_run, edits_are_changes,
     expectations_cost_nothing, points_are_few, points_are_members, points_are_near,
     replaced_sessions_show_a_fresh_start, replacements_are_changes, rewritten_scripts_match,
+    started_sessions_stay_fresh,
 };
 pub use outputs::Outputs;
 pub use session::{Changed, Session};

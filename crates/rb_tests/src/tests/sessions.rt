@@ -5,7 +5,12 @@ mod clusters;
 mod edits;
 mod tested;
 
-use rb_raftlog::SplitLog;
+use rb_cluster::Cluster;
+use rb_raftlog::{PlainLog, SplitLog};
+use rb_replay::Session;
 
 /// A session as the program has it.
-type BenchSession = rb_replay::Session<rb_cluster::Cluster<SplitLog>>;
+type BenchSession = Session<Cluster<SplitLog>>;
+
+/// The same over plain logs.
+type PlainSession = Session<Cluster<PlainLog>>;

@@ -14,5 +14,5 @@ unfolding outcome
 returns-clause-output g c =
     let e = execution c.args.cluster.now (plain c.args.directive.now) in
     subst (λ (ls : List Line). IfOk c.or_ok.result (λ lines. lines ≡ ls))
-    (printed_is c.new-told.result.printed c.run_watched.new.observer.printed e c.new-told.ensures
-    (ap (λ (w : Watched _). w.by) c.in_ok-run_watched.ensures ∙ items_seen with_item (at_level c.new-told.result.printed e.level) e.observed)) c.or_ok.ensures
+    (printed_is c.new-told.result.printed c.run_counted.new.observer.printed e c.new-told.ensures
+    (ap (λ (w : Watched _). w.by) c.in_ok-run_counted.ensures.watched ∙ items_seen with_item (at_level c.new-told.result.printed e.level) e.observed)) c.or_ok.ensures

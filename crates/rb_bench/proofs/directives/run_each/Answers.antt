@@ -17,8 +17,9 @@ loop-i-preserved g c =
     record {
       here = on.0;
       printed = on.1;
+      counted = λ small. omega (arith, c.loop-i.invariant.counted small, c.in_ok-output.ensures.counted (omega (arith, small, c.loop-i.invariant.counted small)));
     }
 
-pub returns : goal.returns
-returns g c =
+pub returns-clause-outputs : goal.returns-clause-outputs
+returns-clause-outputs g c =
     c.loop-i.invariant.printed ∙ take_all c.loop-i.i (outputs c.args.script.now) (omega (arith, c.loop-i-test.false, c.len-i-end.ensures, length-outputs c.args.script.now))

@@ -1,8 +1,8 @@
 //! Edits of sessions, each with its answer, the checkpoints after it and the report. Where an allocation is refused, the session shows
 //! what it showed before, at most the edit's cost was executed, and the edit is made again.
 
-use super::BenchSession;
 use super::tested::{Ask, Tested, asked};
+use super::{BenchSession, PlainSession};
 use crate::tests::bench::fakes::repeated;
 use crate::tests::{is, is_in_row};
 use rb_replay::{Changed, StartFault};
@@ -262,14 +262,19 @@ fn edit_all<T: Tested>(rt: &impl Abort, alloc: Global, k: usize, steps: &[Step])
     are_made
 }
 
+fn make_each_edit<T: Tested>(rt: &impl Abort, alloc: Global) {
+    let to_the_end = edit_all::<T>(rt, alloc, 0, &TO_THE_END);
+    is(rt, to_the_end, "to the end");
+    let removed = edit_all::<T>(rt, alloc, 0, &REMOVED);
+    is(rt, removed, "removed");
+    let refused = edit_all::<T>(rt, alloc, 1, &REFUSED);
+    is(rt, refused, "refused");
+}
+
 #[test]
 fn each_edit(rt: HostRuntime) {
-    let to_the_end = edit_all::<BenchSession>(&rt, rt.alloc(), 0, &TO_THE_END);
-    is(&rt, to_the_end, "to the end");
-    let removed = edit_all::<BenchSession>(&rt, rt.alloc(), 0, &REMOVED);
-    is(&rt, removed, "removed");
-    let refused = edit_all::<BenchSession>(&rt, rt.alloc(), 1, &REFUSED);
-    is(&rt, refused, "refused");
+    make_each_edit::<BenchSession>(&rt, rt.alloc());
+    make_each_edit::<PlainSession>(&rt, rt.alloc());
 }
 
 #[test]
@@ -345,12 +350,17 @@ fn inserts_at<T: Tested>(rt: &impl Abort, alloc: Global, script: &[u8], place: u
     so
 }
 
-#[test]
-fn an_insert_at_each_position(rt: HostRuntime) {
-    let script = long_script(&rt, rt.alloc());
+fn insert_at_each_position<T: Tested>(rt: &impl Abort, alloc: Global) {
+    let script = long_script(rt, alloc);
     for place in 1..202 {
-        let so = inserts_at::<BenchSession>(&rt, rt.alloc(), script.as_slice(), place);
-        is_in_row(&rt, so, "at most seven", place);
+        let so = inserts_at::<T>(rt, alloc, script.as_slice(), place);
+        is_in_row(rt, so, "at most seven", place);
     }
     drop(script);
+}
+
+#[test]
+fn an_insert_at_each_position(rt: HostRuntime) {
+    insert_at_each_position::<BenchSession>(&rt, rt.alloc());
+    insert_at_each_position::<PlainSession>(&rt, rt.alloc());
 }
