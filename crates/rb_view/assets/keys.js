@@ -59,7 +59,7 @@ export class Keys {
   /** @param {KeyboardEvent} event */
   pressed(event) {
     const target = event.target instanceof Element ? event.target : document.body;
-    if (event.ctrlKey || event.metaKey || event.altKey || this.help.open || target.closest("input, select")) {
+    if (event.ctrlKey || event.metaKey || event.altKey || this.help.open || byId("panes").hidden || target.closest("input, select, textarea, [contenteditable]")) {
       return;
     }
     const command = this.commands.find(({ keys }) => keys.includes(event.key));

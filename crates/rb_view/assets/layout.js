@@ -3,7 +3,7 @@
 // which is on the band's other side, and marks of nodes further and further to the right, one after another.
 
 import { firstAbove } from "./history.js";
-import { fitted, folded, widthOf } from "./measure.js";
+import { brokenAt, fitted, folded, widthOf } from "./measure.js";
 import { Route } from "./route.js";
 import { ARROW, BESIDE, FREE, HEAD_LEFT, LEAST_LEFT, LINE_STEP, NARROW_HEAD_LEFT, SLOT } from "./sizes.js";
 import { labelsOf, MARKS, NOTES } from "./words.js";
@@ -15,7 +15,7 @@ import { labelsOf, MARKS, NOTES } from "./words.js";
 /** @typedef {{ node: number, y: number, side: string, text: string, look: string, lines: string[], width: number, of: Event[] }} PlacedMark */
 /** @typedef {{ text: string, look: string, lines: string[], y: number, of: Event }} PlacedNote */
 /** @typedef {{ node: number, isLeft: boolean, width: number, top: number, bottom: number }} PlacedText */
-/** @typedef {{ step: Step, top: number, height: number, marks: PlacedMark[], sent: Message[], notes: PlacedNote[], slots: number, texts?: PlacedText[] }} PlacedRow */
+/** @typedef {{ step: Step, head: string[], top: number, height: number, marks: PlacedMark[], sent: Message[], notes: PlacedNote[], slots: number, texts?: PlacedText[] }} PlacedRow */
 /** @typedef {{ name: string, id: number, cells: any[], message?: Message, of?: Event[] }} Happening */
 
 const ROW_TOP = 26;
@@ -35,6 +35,15 @@ const NARROW_GAP = 108;
 const MORE_GAP = 24;
 // How many lines a mark or a note may take.
 const MOST_LINES = 4;
+// How many a head may take, and how wide its letters are.
+const MOST_HEAD_LINES = 2;
+const HEAD_LETTER = 6.7;
+
+/**
+ * How far below a row's top its slots begin.
+ * @param {PlacedRow} row
+ */
+const topOf = ({ head }) => ROW_TOP + LINE_STEP * (head.length - 1);
 
 /** @param {number} size */
 const fours = (size) => 4 * Math.floor(size / 4);
@@ -182,14 +191,23 @@ export class Layout {
   /** @param {Step} step */
   addRow(step) {
     /** @type {PlacedRow} */
-    const row = { step, top: this.height, height: 0, marks: [], sent: [], notes: [], slots: 0 };
+    const row = { step, head: this.headOf(step), top: this.height, height: 0, marks: [], sent: [], notes: [], slots: 0 };
     this.tops.push(this.height);
     this.rows.push(row);
     const gone = this.goneIn(step);
     this.place(row, gathered(step, this.commits, gone));
     this.placeChanges(row, gone);
-    row.height = ROW_TOP + SLOT * row.slots + ROW_BOTTOM;
+    row.height = topOf(row) + SLOT * row.slots + ROW_BOTTOM;
     this.height += row.height;
+  }
+
+  /**
+   * The lines of a step's head before the first column, with the signs that it has.
+   * @param {Step} step
+   */
+  headOf(step) {
+    const sign = (step.pieces === null ? "" : "✗ ") + (step.warnings.length > 0 ? "⚠ " : "");
+    return brokenAt(sign + step.head.join(" "), Math.floor((this.left - this.headLeft - FREE) / HEAD_LETTER), MOST_HEAD_LINES);
   }
 
   /**
@@ -212,7 +230,7 @@ export class Layout {
     row.slots += 1;
     this.shared = null;
     this.arrival = null;
-    return row.top + ROW_TOP + SLOT * (row.slots - 0.5);
+    return row.top + topOf(row) + SLOT * (row.slots - 0.5);
   }
 
   /**
@@ -386,7 +404,7 @@ export class Layout {
         return mark ? mark.y - 1 : /** @type {number} */ (message);
       }
     }
-    return row.top + ROW_TOP - 4;
+    return row.top + topOf(row) - 4;
   }
 
   // ---- labels and arrows

@@ -39,6 +39,15 @@ export class Logs {
     this.pane.addEventListener("pointerover", ({ target }) => this.tell(/** @type {Element} */ (target)));
   }
 
+  /**
+   * @param {import("./rows.js").Model} model
+   * @param {Position} position
+   */
+  replace(model, position) {
+    this.model = model;
+    this.choose(position);
+  }
+
   /** @param {Position} position */
   choose(position) {
     this.most = position.place === this.chosen.place ? this.most : COLUMNS;

@@ -3,7 +3,6 @@
 /** @typedef {import("./types.js").Message} Message */
 /** @typedef {{ to: number, type: string }} Key */
 
-/** Of the messages to one node and of one type the earliest is always the one that is delivered or dropped. */
 export class Mail {
   constructor() {
     /** @type {Map<string, { first: number, messages: Message[] }>} */
@@ -26,10 +25,18 @@ export class Mail {
     this.queue(message).messages.push(message);
   }
 
-  /** @param {Key} key */
-  take(key) {
-    const queue = this.queue(key);
-    const message = queue.messages[queue.first];
+  /**
+   * Takes the earliest message to this node and of this type that says the same: another may be delivered or dropped before it.
+   * @param {Key & { from: number, term: number, said: any[] }} met
+   */
+  take({ to, type, from, term, said }) {
+    const queue = this.queue({ to, type });
+    let at = queue.first;
+    while (at < queue.messages.length - 1 && !isSame(queue.messages[at], from, term, said)) {
+      at += 1;
+    }
+    const message = queue.messages[at];
+    queue.messages.copyWithin(queue.first + 1, queue.first, at);
     queue.first += 1;
     return message;
   }
@@ -41,6 +48,16 @@ export class Mail {
   takeBack(key) {
     return /** @type {Message} */ (this.queue(key).messages.pop());
   }
+}
+
+/**
+ * @param {Message} message
+ * @param {number} from
+ * @param {number} term
+ * @param {any[]} said
+ */
+function isSame(message, from, term, said) {
+  return message.from === from && message.term === term && message.said.every((cell, at) => cell === said[at]);
 }
 
 const STEPS_A_BLOCK = 32;

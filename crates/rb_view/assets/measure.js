@@ -44,6 +44,26 @@ export function fitted(text, room, weight) {
 }
 
 /**
+ * Breaks a text into at most `most` lines of so many letters, at blanks where there are some. What there is no room for is cut.
+ * @param {string} text
+ * @param {number} letters
+ * @param {number} most
+ */
+export function brokenAt(text, letters, most) {
+  const lines = [];
+  let rest = text;
+  while (rest.length > letters && lines.length < most - 1) {
+    const blank = rest.lastIndexOf(" ", letters);
+    if (blank <= 0) {
+      break;
+    }
+    lines.push(rest.slice(0, blank));
+    rest = rest.slice(blank + 1);
+  }
+  return [...lines, rest.length > letters ? beginning(rest, letters - 1) + "…" : rest];
+}
+
+/**
  * Breaks a text into at most `most` lines that fit, at blanks and commas where there are some. The end of a longer text is cut.
  * @param {string} text
  * @param {number} room

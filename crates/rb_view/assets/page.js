@@ -1,14 +1,12 @@
-// The page: reads the rows, and goes through them by keys, buttons, clicks and the address.
+// The page: goes through a run by keys, buttons, clicks and the address.
 
 import { byId } from "./dom.js";
 import { Keys } from "./keys.js";
-import { makeLegend } from "./legend.js";
 import { Logs } from "./logs.js";
 import { Picture } from "./picture.js";
 import { Player } from "./play.js";
 import { after, before, eventsAt, instantAt, placesOf } from "./position.js";
 import { printWhole } from "./print.js";
-import { readRows } from "./rows.js";
 import { Script } from "./script.js";
 import { Search } from "./search.js";
 import { State } from "./state.js";
@@ -33,7 +31,7 @@ function writeAddress(place) {
   }
 }
 
-class Page {
+export class Page {
   /** @param {Model} model */
   constructor(model) {
     this.model = model;
@@ -46,12 +44,23 @@ class Page {
     const script = new Script(model, this.search, take);
     this.script = script;
     /** @type {import("./types.js").Part[]} */
-    this.parts = [picture, script, new Logs(model), new State(model, this.search, take)];
+    this.parts = [picture, script, new Logs(model), this.makeState(take)];
     this.player = new Player(() => this.goOn());
     this.keys = new Keys(this.commands());
     this.keepFocus();
-    printWhole(model, () => this.chosen.place, () => picture.placeAgain());
+    printWhole(() => this.shown(), () => picture.placeAgain());
     window.addEventListener("hashchange", () => this.chooseByAddress());
+  }
+
+  /** What is printed: the run, the directives that the filters leave, and the chosen one. */
+  shown() {
+    const { model, search } = this;
+    return { model, steps: model.steps.filter((step) => search.leaves(step)), chosen: this.chosen.place };
+  }
+
+  /** @param {(position: Position) => void} take */
+  makeState(take) {
+    return new State(this.model, this.search, take);
   }
 
   /** @returns {import("./keys.js").Command[]} */
@@ -71,14 +80,14 @@ class Page {
       { keys: ["m"], button: "next-mismatch", says: "the next mismatch", does: () => this.takePlace(this.nextMismatch()) },
       { keys: ["M"], says: "the mismatch before", does: () => this.takePlace(this.lastMismatch()) },
       { keys: ["o"], says: "unfold the equal lines of a mismatch, or fold them", does: () => this.script.toggleFolds() },
-      { keys: ["/"], says: "find a text", does: () => this.search.ask() },
+      { keys: ["/"], says: "find a text: Enter finds it, and n and N go on", does: () => this.search.ask() },
       { keys: ["n"], button: "next-found", says: "the next place that was found, or that the filters leave", does: () => this.find(1) },
       { keys: ["N"], button: "last-found", says: "the place before", does: () => this.find(-1) },
       { keys: ["?"], button: "show-help", says: "this list", does: () => this.keys.showHelp() },
     ];
   }
 
-  /** Keeps keys for steps after a click into the picture, and takes Enter and Escape in the field of the search. */
+  /** Keeps keys for steps after a click into the picture, and after Enter, which finds, or Escape in the field of the search. */
   keepFocus() {
     const directives = byId("directives");
     byId("drawing").addEventListener("click", () => directives.focus({ preventScroll: true }));
@@ -86,7 +95,8 @@ class Page {
     byId("find").addEventListener("keydown", ({ key, shiftKey }) => {
       if (key === "Enter") {
         this.find(shiftKey ? -1 : 1);
-      } else if (key === "Escape") {
+      }
+      if (key === "Enter" || key === "Escape") {
         directives.focus({ preventScroll: true });
       }
     });
@@ -127,15 +137,38 @@ class Page {
     this.take(this.search.next(this.chosen, direction));
   }
 
-  /** @param {Position} position */
-  choose({ place, event }) {
+  /**
+   * The position that is nearest to this one.
+   * @param {Position} position
+   * @returns {Position}
+   */
+  within({ place, event }) {
     const chosen = Math.min(Math.max(1, place), this.model.steps.length);
-    const position = { place: chosen, event: Math.min(Math.max(0, event), eventsAt(this.model, chosen)) };
+    return { place: chosen, event: Math.min(Math.max(0, event), eventsAt(this.model, chosen)) };
+  }
+
+  /** @param {Position} wanted */
+  choose(wanted) {
+    const position = this.within(wanted);
     if (position.place !== this.chosen.place || position.event !== this.chosen.event) {
       this.chosen = position;
       this.refresh();
       this.tell();
     }
+  }
+
+  /**
+   * Shows another run in place of this one. Filters, and what is looked for, stay.
+   * @param {Model} model a run with at least one directive
+   * @param {Position} position what is chosen then
+   */
+  replace(model, position) {
+    this.player.stop();
+    this.model = model;
+    this.search.replace(model);
+    this.chosen = this.within(position);
+    this.parts.forEach((part) => part.replace(model, this.chosen));
+    this.tell();
   }
 
   refresh() {
@@ -146,8 +179,7 @@ class Page {
     const { place, event } = this.chosen;
     const { step, event: happened } = instantAt(this.model, this.chosen);
     const events = placesOf(step).map((at) => step.events[at]);
-    const where = event > 0 ? `, event ${event} of ${events.length}` : "";
-    byId("where").textContent = `step ${place} of ${this.model.steps.length}, line ${step.line}${where}`;
+    byId("where").textContent = whereText(this.model, step.line, this.chosen, events.length);
     byId("said").textContent = happened ? eventText(happened) : this.summary(step.head.join(" "), events);
     writeAddress(event > 0 ? `#${place}.${event}` : `#${place}`);
   }
@@ -191,37 +223,38 @@ class Page {
   }
 }
 
+/**
+ * What stands in the header of a position.
+ * @param {Model} model
+ * @param {number} line
+ * @param {Position} position
+ * @param {number} events how many the directive has
+ */
+function whereText(model, line, { place, event }, events) {
+  return `step ${place} of ${model.steps.length}, line ${line}${event > 0 ? `, event ${event} of ${events}` : ""}`;
+}
+
+/**
+ * Keeps as much room for the position as the longest one takes, so that the header stays as it is from step to step.
+ * @param {Model} model
+ */
+function reserveWhere(model) {
+  const where = byId("where");
+  const told = where.textContent;
+  const place = model.steps.length;
+  const events = model.hasEvents() ? model.steps.reduce((most, { events: all }) => Math.max(most, all.length), 0) : 0;
+  where.style.minWidth = "";
+  where.textContent = whereText(model, model.steps[place - 1]?.line ?? 0, { place, event: events }, events);
+  where.style.minWidth = `${Math.ceil(where.getBoundingClientRect().width)}px`;
+  where.textContent = told;
+}
+
 /** @param {Model} model */
-function tellCounts(model) {
+export function tellCounts(model) {
   const counts = byId("counts");
   const wrong = counted(model.mismatches.length, "mismatch", "mismatches");
   counts.textContent = `${counted(model.steps.length, "directive", "directives")}, ${wrong}, ${counted(model.nodes.length, "node", "nodes")}`;
   counts.classList.toggle("bad", model.mismatches.length > 0);
+  reserveWhere(model);
   byId("next-mismatch").hidden = model.mismatches.length === 0;
 }
-
-function start() {
-  const notice = byId("notice");
-  try {
-    const model = readRows(JSON.parse(byId("steps").textContent ?? ""));
-    document.title = `${model.name}: raftbench`;
-    byId("name").textContent = model.name;
-    tellCounts(model);
-    if (model.steps.length === 0) {
-      notice.textContent = "The script has no directives.";
-      return;
-    }
-    byId("panes").hidden = false;
-    byId("keys").hidden = false;
-    byId("search").hidden = false;
-    notice.hidden = true;
-    makeLegend();
-    new Page(model).chooseByAddress();
-  } catch (fault) {
-    notice.hidden = false;
-    notice.textContent = `The page can't be shown: ${fault instanceof Error ? fault.message : fault}.`;
-    throw fault;
-  }
-}
-
-start();

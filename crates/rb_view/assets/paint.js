@@ -2,8 +2,7 @@
 
 import { group, svg } from "./dom.js";
 import { firstAbove } from "./history.js";
-import { BESIDE, FREE, HALF_BAND, LINE_STEP, SLOT } from "./sizes.js";
-import { beginning } from "./text.js";
+import { BESIDE, HALF_BAND, LINE_STEP, SLOT } from "./sizes.js";
 import { fateText, KINDS, messageText } from "./words.js";
 
 /** @typedef {import("./types.js").Message} Message */
@@ -266,24 +265,13 @@ export class Painter {
    * @param {PlacedRow} row
    */
   drawHead(gutter, row) {
-    const { place, line, pieces, warnings } = row.step;
+    const { place, line, pieces } = row.step;
     const { headLeft } = this.layout;
     const y = row.top + 17;
     svg(gutter, "text", { class: joined("place", place === this.scene.chosen && "chosen"), x: headLeft - 8, y, "text-anchor": "end" }, String(line));
     const head = row.step.head.join(" ");
-    const sign = (pieces === null ? "" : "✗ ") + (warnings.length > 0 ? "⚠ " : "");
     const look = joined("head", pieces !== null && "bad", this.scene.isFound(head) && "found");
-    this.words(gutter, look, headLeft, y, false, [sign + this.headText(head, sign.length)], place, head);
+    this.words(gutter, look, headLeft, y, false, row.head, place, head);
     row.notes.forEach((note) => this.words(gutter, note.look, headLeft, note.y, false, note.lines, place, note.text));
-  }
-
-  /**
-   * The head in letters of one width, cut before the first column.
-   * @param {string} head
-   * @param {number} taken
-   */
-  headText(head, taken) {
-    const most = Math.floor((this.layout.left - this.layout.headLeft - FREE) / 6.7) - taken;
-    return head.length > most ? beginning(head, most - 1) + "…" : head;
   }
 }

@@ -49,13 +49,28 @@ export class Picture {
   }
 
   makeHeads() {
-    this.heads.append(this.gutter);
+    this.heads.replaceChildren(this.gutter);
     return this.model.nodes.map((node) => {
       const role = element("span", "");
       const column = element("div", "column", element("b", "", `node ${node.id}`), role);
       this.heads.append(column);
       return { column, role };
     });
+  }
+
+  /**
+   * Draws another run.
+   * @param {import("./rows.js").Model} model
+   * @param {Position} position
+   */
+  replace(model, position) {
+    this.model = model;
+    this.layout = new Layout(model);
+    this.chosen = position;
+    this.painter = this.traced = null;
+    this.described = "";
+    this.columns = this.makeHeads();
+    this.resized();
   }
 
   // ---- where it is scrolled to

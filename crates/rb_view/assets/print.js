@@ -65,25 +65,68 @@ function printedPiece(layout, top, bottom) {
 }
 
 /**
- * Lets the page be printed whole.
+ * The rows of these directives, as stretches of the picture from one height to another.
+ * @param {Layout} layout
+ * @param {Step[]} steps
+ */
+function stretchesOf(layout, steps) {
+  /** @type {{ from: number, to: number }[]} */
+  const found = [];
+  for (const { place } of steps) {
+    const { top, height } = layout.rows[place - 1];
+    const last = found[found.length - 1];
+    if (last && last.to === top) {
+      last.to = top + height;
+    } else {
+      found.push({ from: top, to: top + height });
+    }
+  }
+  return found;
+}
+
+/**
+ * The pieces of the picture of these directives.
  * @param {import("./rows.js").Model} model
- * @param {() => number} chosen the directive that is chosen
+ * @param {Step[]} steps
+ */
+function printedPicture(model, steps) {
+  const layout = new Layout(model);
+  layout.spread(PAGE_WIDTH);
+  return stretchesOf(layout, steps).flatMap(({ from, to }) => {
+    const ends = cutsOf(layout, from, to);
+    return ends.slice(1).map((end, at) => printedPiece(layout, ends[at], end));
+  });
+}
+
+/**
+ * Says what isn't printed, where that is so.
+ * @param {number} count how many directives are printed
+ * @param {number} left how many the filters leave
+ * @param {number} all
+ * @param {Step[]} steps
+ */
+function noteOf(count, left, all, steps) {
+  const from = count < left ? ` from line ${steps[0].line} on` : "";
+  const of = left < all ? ` of ${all}, those that the filters leave` : "";
+  return from || of ? [element("p", "", `${counted(count, "directive", "directives")}${of}${from}.`)] : [];
+}
+
+/**
+ * Lets the page be printed whole, or what its filters leave.
+ * @param {() => { model: import("./rows.js").Model, steps: Step[], chosen: number }} shown the run, the directives that are printed, and the chosen one
  * @param {() => void} after puts the screen's own picture back
  */
-export function printWhole(model, chosen, after) {
+export function printWhole(shown, after) {
   const room = byId("print");
   window.addEventListener("beforeprint", () => {
-    const first = model.steps.length > MOST_PRINTED ? chosen() : 1;
-    const steps = model.steps.slice(first - 1, first - 1 + MOST_PRINTED);
-    const layout = new Layout(model);
-    layout.spread(PAGE_WIDTH);
-    const last = layout.rows[steps[steps.length - 1].place - 1];
-    const ends = cutsOf(layout, layout.rows[first - 1].top, last.top + last.height);
-    const note = steps.length < model.steps.length ? [element("p", "", `${counted(steps.length, "directive", "directives")} from line ${steps[0].line} on.`)] : [];
-    const pieces = ends.slice(1).map((end, at) => printedPiece(layout, ends[at], end));
-    const tail = paragraphs(model.tail).map((text) => element("p", "comment", text));
-    const script = element("div", "script", ...steps.map(printedStep), ...(steps[steps.length - 1].place === model.steps.length ? tail : []));
-    room.replaceChildren(element("h1", "", model.name), ...note, script, withAttributes(element("div", "pieces", ...pieces), { "aria-label": "Picture" }));
+    const { model, steps: left, chosen } = shown();
+    const rest = left.filter(({ place }) => place >= chosen);
+    const steps = (left.length > MOST_PRINTED ? rest : left).slice(0, MOST_PRINTED);
+    const hasEnd = steps.length > 0 && steps[steps.length - 1].place === model.steps.length;
+    const tail = hasEnd ? paragraphs(model.tail).map((text) => element("p", "comment", text)) : [];
+    const script = element("div", "script", ...steps.map(printedStep), ...tail);
+    const pieces = withAttributes(element("div", "pieces", ...printedPicture(model, steps)), { "aria-label": "Picture" });
+    room.replaceChildren(element("h1", "", model.name), ...noteOf(steps.length, left.length, model.steps.length, steps), script, pieces);
   });
   window.addEventListener("afterprint", () => {
     room.replaceChildren();

@@ -104,7 +104,7 @@ export class Model {
   }
 }
 
-class Reader {
+export class Reader {
   constructor() {
     this.model = new Model();
     this.isWhole = false;
@@ -185,7 +185,8 @@ class Reader {
    * @param {any[]} cells
    */
   meets(name, cells) {
-    const message = this.mail.take({ to: cells[1], type: cells[2] });
+    const [from, to, type, term, ...said] = cells;
+    const message = this.mail.take({ from, to, type, term, said });
     message.met = this.step;
     message.metAt = this.serial;
     message.metTerm = this.terms[message.to];

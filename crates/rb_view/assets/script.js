@@ -12,8 +12,8 @@ import { paragraphs, wrapped } from "./wrap.js";
 /** @typedef {import("./difference.js").Line} Line */
 /** @typedef {{ look: string, text: string, from: number, line: Line | null }} ScriptRow a piece of a line, from this letter on */
 
-const LINE = 18;
-const BLOCK_EDGE = 6;
+export const LINE = 18;
+export const BLOCK_EDGE = 6;
 const NUMBER_WIDTH = 54;
 
 export class Script {
@@ -42,6 +42,20 @@ export class Script {
     this.pane.addEventListener("click", ({ target }) => this.clicked(/** @type {Element} */ (target)));
     new ResizeObserver(() => this.resized()).observe(this.pane);
     this.resized();
+  }
+
+  /**
+   * Shows the script of another run.
+   * @param {import("./rows.js").Model} model
+   * @param {Position} position
+   */
+  replace(model, position) {
+    this.isFolded = this.isFolded || position.place !== this.chosen.place;
+    this.model = model;
+    this.chosen = position;
+    this.measure();
+    this.show();
+    this.draw();
   }
 
   /** @param {Element} target */

@@ -31,25 +31,33 @@ export class Search {
       this.told.textContent = "";
       refresh();
     });
-    this.addChoices("filter-node", model.nodes.map(({ id }) => String(id)), (value) => (this.filters.node = Number(value)), refresh);
-    this.addChoices("filter-type", [...new Set(model.messages.map(({ type }) => type))].sort(), (value) => (this.filters.type = value), refresh);
-    const terms = new Set(model.nodes.flatMap((node) => node.numbers.values.map(({ term }) => term)).filter(Boolean));
-    this.addChoices("filter-term", [...terms].sort((one, other) => one - other).map(String), (value) => (this.filters.term = Number(value)), refresh);
+    this.choices = ["node", "type", "term"].map((name) => /** @type {HTMLSelectElement} */ (byId(`filter-${name}`)));
+    for (const field of this.choices) {
+      field.addEventListener("change", () => {
+        this.readFilters();
+        refresh();
+      });
+    }
+    this.replace(model);
   }
 
   /**
-   * @param {string} id
-   * @param {string[]} values
-   * @param {(value: string) => void} take
-   * @param {() => void} refresh
+   * Looks through another run. A filter stays, unless the run has nothing of it.
+   * @param {import("./rows.js").Model} model
    */
-  addChoices(id, values, take, refresh) {
-    const field = /** @type {HTMLSelectElement} */ (byId(id));
-    field.append(...values.map((value) => withAttributes(element("option", "", value.replace(/^Msg/, "")), { value })));
-    field.addEventListener("change", () => {
-      take(field.value);
-      refresh();
-    });
+  replace(model) {
+    this.model = model;
+    this.told.textContent = "";
+    const terms = new Set(model.nodes.flatMap((node) => node.numbers.values.map(({ term }) => term)).filter(Boolean));
+    const types = new Set(model.messages.map(({ type }) => type));
+    const values = [model.nodes.map(({ id }) => String(id)), [...types].sort(), [...terms].sort((one, other) => one - other).map(String)];
+    this.choices.forEach((field, at) => offerChoices(field, values[at]));
+    this.readFilters();
+  }
+
+  readFilters() {
+    const [node, type, term] = this.choices.map(({ value }) => value);
+    this.filters = { node: Number(node), type, term: Number(term) };
   }
 
   /** Has the reader write a text, in place of the last one. */
@@ -73,6 +81,14 @@ export class Search {
       /** @param {string} text */
       isFound: (text) => needle !== "" && text.toLowerCase().includes(needle),
     };
+  }
+
+  /**
+   * Whether the filters leave something of a directive.
+   * @param {Step} step
+   */
+  leaves(step) {
+    return !this.isFiltered() || placesOf(step).some((at) => this.isKept(step.events[at]));
   }
 
   /** @param {Event} event */
@@ -155,4 +171,16 @@ function textsOfEvent(event) {
   const mark = MARKS[event.name] ? [MARKS[event.name](event.cells)[0]] : [];
   const labels = event.message ? labelsOf(event.message) : [];
   return [eventText(event), ...mark, ...labels, ...(event.reasons ?? []), ...(event.hints ?? [])];
+}
+
+/**
+ * Offers these values below the first choice, which is no filter. What is chosen stays, if it is among them.
+ * @param {HTMLSelectElement} field
+ * @param {string[]} values
+ */
+function offerChoices(field, values) {
+  const chosen = field.value;
+  const none = field.options[0];
+  field.replaceChildren(none, ...values.map((value) => withAttributes(element("option", "", value.replace(/^Msg/, "")), { value })));
+  field.value = values.includes(chosen) ? chosen : none.value;
 }

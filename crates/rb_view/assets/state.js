@@ -39,6 +39,15 @@ export class State {
     });
   }
 
+  /**
+   * @param {import("./rows.js").Model} model
+   * @param {Position} position
+   */
+  replace(model, position) {
+    this.model = model;
+    this.choose(position);
+  }
+
   /** @param {Position} position */
   choose(position) {
     this.watch.disconnect();
@@ -55,7 +64,7 @@ export class State {
       element("h2", "", when),
       ...nodes.map((node) => this.card(node, instant, before)),
       element("h2", "", pending.length === 1 ? "1 message on its way" : `${pending.length || "No"} messages on their way`),
-      this.list(pending, (message) => element("li", "", messageText(message))),
+      this.list(pending, (message) => this.message(message)),
     );
     if (this.isOpen) {
       this.pane.scrollTop = 0;
@@ -65,6 +74,11 @@ export class State {
         list.scrollTop = now.offsetTop - list.clientHeight / 2;
       }
     }
+  }
+
+  /** @param {import("./types.js").Message} message one that is on its way */
+  message(message) {
+    return element("li", "", messageText(message));
   }
 
   /** @param {Position} position */

@@ -104,8 +104,8 @@
  */
 
 /**
- * What a part of the page does when another position is chosen.
- * @typedef {{ choose(position: Position): void }} Part
+ * What a part of the page does when another position is chosen, or another run is shown.
+ * @typedef {{ choose(position: Position): void, replace(model: import("./rows.js").Model, position: Position): void }} Part
  */
 
 export {};

@@ -40,7 +40,7 @@ pub use arrow::{Arrow, ArrowPlace};
 pub use arrows::Arrows;
 pub use chart::Chart;
 pub use css_class::{CssClass, DeliveryState};
-pub use draw::{ChartFault, DrawnRun, MAX_EVENTS, chart_of};
+pub use draw::{ChartFault, ChartScript, DrawnRun, MAX_EVENTS, chart_of};
 pub use in_flight::{InFlight, MessageChange};
 pub use laws::{
     arrows_are_of_what_is_sent, messages_end_their_own_arrows, pictures_show_what_is_pending,

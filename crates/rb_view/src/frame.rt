@@ -34,6 +34,7 @@ mod script_style;
 mod search;
 mod sizes;
 mod source;
+mod start;
 mod state;
 mod style;
 mod text;

@@ -32,6 +32,7 @@ use crate::frame::script_style::SCRIPT_STYLE;
 use crate::frame::search::SEARCH;
 use crate::frame::sizes::SIZES;
 use crate::frame::source::SOURCE;
+use crate::frame::start::START;
 use crate::frame::state::STATE;
 use crate::frame::style::STYLE;
 use crate::frame::text::TEXT;
@@ -48,8 +49,8 @@ pub fn front() -> [&'static [u8]; 9]
 
 /// The parts after them: the page's code.
 #[rattlefmt::skip]
-pub fn back() -> [&'static [u8]; 29]
-    ensures { map (λ part. part.now) result ≡ BETWEEN.now ∷ DOM.now ∷ KEYS.now ∷ HISTORY.now ∷ SIZES.now ∷ TEXT.now ∷ WORDS.now ∷ PAINT.now ∷ LEGEND.now ∷ POSITION.now ∷ LOGS.now ∷ MEASURE.now ∷ ROUTE.now ∷ LAYOUT.now ∷ DESCRIBE.now ∷ PICTURE.now ∷ PLAY.now ∷ LINES.now ∷ DIFFERENCE.now ∷ WRAP.now ∷ PRINT.now ∷ MAIL.now ∷ SOURCE.now ∷ ROWS.now ∷ SCRIPT.now ∷ SEARCH.now ∷ STATE.now ∷ PAGE.now ∷ END.now ∷ [] }
+pub fn back() -> [&'static [u8]; 30]
+    ensures { map (λ part. part.now) result ≡ BETWEEN.now ∷ DOM.now ∷ HISTORY.now ∷ SIZES.now ∷ TEXT.now ∷ WORDS.now ∷ PAINT.now ∷ LEGEND.now ∷ KEYS.now ∷ POSITION.now ∷ LOGS.now ∷ MEASURE.now ∷ ROUTE.now ∷ LAYOUT.now ∷ DESCRIBE.now ∷ PICTURE.now ∷ PLAY.now ∷ LINES.now ∷ DIFFERENCE.now ∷ WRAP.now ∷ PRINT.now ∷ SCRIPT.now ∷ SEARCH.now ∷ STATE.now ∷ PAGE.now ∷ MAIL.now ∷ SOURCE.now ∷ ROWS.now ∷ START.now ∷ END.now ∷ [] }
 {
-    [BETWEEN, DOM, KEYS, HISTORY, SIZES, TEXT, WORDS, PAINT, LEGEND, POSITION, LOGS, MEASURE, ROUTE, LAYOUT, DESCRIBE, PICTURE, PLAY, LINES, DIFFERENCE, WRAP, PRINT, MAIL, SOURCE, ROWS, SCRIPT, SEARCH, STATE, PAGE, END]
+    [BETWEEN, DOM, HISTORY, SIZES, TEXT, WORDS, PAINT, LEGEND, KEYS, POSITION, LOGS, MEASURE, ROUTE, LAYOUT, DESCRIBE, PICTURE, PLAY, LINES, DIFFERENCE, WRAP, PRINT, SCRIPT, SEARCH, STATE, PAGE, MAIL, SOURCE, ROWS, START, END]
 }

@@ -53,7 +53,7 @@ class Keys {\n\
 \n\
 \x20 pressed(event) {\n\
 \x20   const target = event.target instanceof Element ? event.target : document.body;\n\
-\x20   if (event.ctrlKey || event.metaKey || event.altKey || this.help.open || target.closest(\"input, select\")) {\n\
+\x20   if (event.ctrlKey || event.metaKey || event.altKey || this.help.open || byId(\"panes\").hidden || target.closest(\"input, select, textarea, [contenteditable]\")) {\n\
 \x20     return;\n\
 \x20   }\n\
 \x20   const command = this.commands.find(({ keys }) => keys.includes(event.key));\n\

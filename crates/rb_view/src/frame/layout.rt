@@ -27,6 +27,11 @@ const NARROW_GAP = 108;\n\
 const MORE_GAP = 24;\n\
 // How many lines a mark or a note may take.\n\
 const MOST_LINES = 4;\n\
+// How many a head may take, and how wide its letters are.\n\
+const MOST_HEAD_LINES = 2;\n\
+const HEAD_LETTER = 6.7;\n\
+\n\
+const topOf = ({ head }) => ROW_TOP + LINE_STEP * (head.length - 1);\n\
 \n\
 const fours = (size) => 4 * Math.floor(size / 4);\n\
 \n\
@@ -131,14 +136,19 @@ class Layout {\n\
 \x20 }\n\
 \n\
 \x20 addRow(step) {\n\
-\x20   const row = { step, top: this.height, height: 0, marks: [], sent: [], notes: [], slots: 0 };\n\
+\x20   const row = { step, head: this.headOf(step), top: this.height, height: 0, marks: [], sent: [], notes: [], slots: 0 };\n\
 \x20   this.tops.push(this.height);\n\
 \x20   this.rows.push(row);\n\
 \x20   const gone = this.goneIn(step);\n\
 \x20   this.place(row, gathered(step, this.commits, gone));\n\
 \x20   this.placeChanges(row, gone);\n\
-\x20   row.height = ROW_TOP + SLOT * row.slots + ROW_BOTTOM;\n\
+\x20   row.height = topOf(row) + SLOT * row.slots + ROW_BOTTOM;\n\
 \x20   this.height += row.height;\n\
+\x20 }\n\
+\n\
+\x20 headOf(step) {\n\
+\x20   const sign = (step.pieces === null ? \"\" : \"\xe2\x9c\x97 \") + (step.warnings.length > 0 ? \"\xe2\x9a\xa0 \" : \"\");\n\
+\x20   return brokenAt(sign + step.head.join(\" \"), Math.floor((this.left - this.headLeft - FREE) / HEAD_LETTER), MOST_HEAD_LINES);\n\
 \x20 }\n\
 \n\
 \x20 goneIn(step) {\n\
@@ -155,7 +165,7 @@ class Layout {\n\
 \x20   row.slots += 1;\n\
 \x20   this.shared = null;\n\
 \x20   this.arrival = null;\n\
-\x20   return row.top + ROW_TOP + SLOT * (row.slots - 0.5);\n\
+\x20   return row.top + topOf(row) + SLOT * (row.slots - 0.5);\n\
 \x20 }\n\
 \n\
 \x20 place(row, events) {\n\
@@ -283,7 +293,7 @@ class Layout {\n\
 \x20       return mark ? mark.y - 1 : (message);\n\
 \x20     }\n\
 \x20   }\n\
-\x20   return row.top + ROW_TOP - 4;\n\
+\x20   return row.top + topOf(row) - 4;\n\
 \x20 }\n\
 \n\
 \x20 // ---- labels and arrows\n\

@@ -30,6 +30,11 @@ class Logs {\n\
 \x20   this.pane.addEventListener(\"pointerover\", ({ target }) => this.tell((target)));\n\
 \x20 }\n\
 \n\
+\x20 replace(model, position) {\n\
+\x20   this.model = model;\n\
+\x20   this.choose(position);\n\
+\x20 }\n\
+\n\
 \x20 choose(position) {\n\
 \x20   this.most = position.place === this.chosen.place ? this.most : COLUMNS;\n\
 \x20   this.chosen = position;\n\

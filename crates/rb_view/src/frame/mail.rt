@@ -26,9 +26,14 @@ class Mail {\n\
 \x20   this.queue(message).messages.push(message);\n\
 \x20 }\n\
 \n\
-\x20 take(key) {\n\
-\x20   const queue = this.queue(key);\n\
-\x20   const message = queue.messages[queue.first];\n\
+\x20 take({ to, type, from, term, said }) {\n\
+\x20   const queue = this.queue({ to, type });\n\
+\x20   let at = queue.first;\n\
+\x20   while (at < queue.messages.length - 1 && !isSame(queue.messages[at], from, term, said)) {\n\
+\x20     at += 1;\n\
+\x20   }\n\
+\x20   const message = queue.messages[at];\n\
+\x20   queue.messages.copyWithin(queue.first + 1, queue.first, at);\n\
 \x20   queue.first += 1;\n\
 \x20   return message;\n\
 \x20 }\n\
@@ -36,6 +41,10 @@ class Mail {\n\
 \x20 takeBack(key) {\n\
 \x20   return (this.queue(key).messages.pop());\n\
 \x20 }\n\
+}\n\
+\n\
+function isSame(message, from, term, said) {\n\
+\x20 return message.from === from && message.term === term && message.said.every((cell, at) => cell === said[at]);\n\
 }\n\
 \n\
 const STEPS_A_BLOCK = 32;\n\

@@ -35,6 +35,20 @@ function fitted(text, room, weight) {\n\
 \x20 return beginning(text, cut) + \"\xe2\x80\xa6\";\n\
 }\n\
 \n\
+function brokenAt(text, letters, most) {\n\
+\x20 const lines = [];\n\
+\x20 let rest = text;\n\
+\x20 while (rest.length > letters && lines.length < most - 1) {\n\
+\x20   const blank = rest.lastIndexOf(\" \", letters);\n\
+\x20   if (blank <= 0) {\n\
+\x20     break;\n\
+\x20   }\n\
+\x20   lines.push(rest.slice(0, blank));\n\
+\x20   rest = rest.slice(blank + 1);\n\
+\x20 }\n\
+\x20 return [...lines, rest.length > letters ? beginning(rest, letters - 1) + \"\xe2\x80\xa6\" : rest];\n\
+}\n\
+\n\
 function folded(text, room, most, weight) {\n\
 \x20 if (most === 1 || text.length * 7 < room) {\n\
 \x20   return [fitted(text, room, weight)];\n\

@@ -1,10 +1,10 @@
-//! Code of a page. The page: reads the rows, and goes through them by keys, buttons, clicks and the address. Made of assets/page.js by `tests/page/assemble.py sources`.
+//! Code of a page. The page: goes through a run by keys, buttons, clicks and the address. Made of assets/page.js by `tests/page/assemble.py sources`.
 
 /// The code.
 #[rattlefmt::skip]
 pub(crate) const PAGE: &[u8] = b"\
 \n\
-// The page: reads the rows, and goes through them by keys, buttons, clicks and the address.\n\
+// The page: goes through a run by keys, buttons, clicks and the address.\n\
 \n\
 \n\
 \n\
@@ -27,12 +27,21 @@ class Page {\n\
 \x20   const picture = new Picture(model, this.search, (place) => take({ place, event: 0 }));\n\
 \x20   const script = new Script(model, this.search, take);\n\
 \x20   this.script = script;\n\
-\x20   this.parts = [picture, script, new Logs(model), new State(model, this.search, take)];\n\
+\x20   this.parts = [picture, script, new Logs(model), this.makeState(take)];\n\
 \x20   this.player = new Player(() => this.goOn());\n\
 \x20   this.keys = new Keys(this.commands());\n\
 \x20   this.keepFocus();\n\
-\x20   printWhole(model, () => this.chosen.place, () => picture.placeAgain());\n\
+\x20   printWhole(() => this.shown(), () => picture.placeAgain());\n\
 \x20   window.addEventListener(\"hashchange\", () => this.chooseByAddress());\n\
+\x20 }\n\
+\n\
+\x20 shown() {\n\
+\x20   const { model, search } = this;\n\
+\x20   return { model, steps: model.steps.filter((step) => search.leaves(step)), chosen: this.chosen.place };\n\
+\x20 }\n\
+\n\
+\x20 makeState(take) {\n\
+\x20   return new State(this.model, this.search, take);\n\
 \x20 }\n\
 \n\
 \x20 commands() {\n\
@@ -51,7 +60,7 @@ class Page {\n\
 \x20     { keys: [\"m\"], button: \"next-mismatch\", says: \"the next mismatch\", does: () => this.takePlace(this.nextMismatch()) },\n\
 \x20     { keys: [\"M\"], says: \"the mismatch before\", does: () => this.takePlace(this.lastMismatch()) },\n\
 \x20     { keys: [\"o\"], says: \"unfold the equal lines of a mismatch, or fold them\", does: () => this.script.toggleFolds() },\n\
-\x20     { keys: [\"/\"], says: \"find a text\", does: () => this.search.ask() },\n\
+\x20     { keys: [\"/\"], says: \"find a text: Enter finds it, and n and N go on\", does: () => this.search.ask() },\n\
 \x20     { keys: [\"n\"], button: \"next-found\", says: \"the next place that was found, or that the filters leave\", does: () => this.find(1) },\n\
 \x20     { keys: [\"N\"], button: \"last-found\", says: \"the place before\", does: () => this.find(-1) },\n\
 \x20     { keys: [\"?\"], button: \"show-help\", says: \"this list\", does: () => this.keys.showHelp() },\n\
@@ -65,7 +74,8 @@ class Page {\n\
 \x20   byId(\"find\").addEventListener(\"keydown\", ({ key, shiftKey }) => {\n\
 \x20     if (key === \"Enter\") {\n\
 \x20       this.find(shiftKey ? -1 : 1);\n\
-\x20     } else if (key === \"Escape\") {\n\
+\x20     }\n\
+\x20     if (key === \"Enter\" || key === \"Escape\") {\n\
 \x20       directives.focus({ preventScroll: true });\n\
 \x20     }\n\
 \x20   });\n\
@@ -99,14 +109,27 @@ class Page {\n\
 \x20   this.take(this.search.next(this.chosen, direction));\n\
 \x20 }\n\
 \n\
-\x20 choose({ place, event }) {\n\
+\x20 within({ place, event }) {\n\
 \x20   const chosen = Math.min(Math.max(1, place), this.model.steps.length);\n\
-\x20   const position = { place: chosen, event: Math.min(Math.max(0, event), eventsAt(this.model, chosen)) };\n\
+\x20   return { place: chosen, event: Math.min(Math.max(0, event), eventsAt(this.model, chosen)) };\n\
+\x20 }\n\
+\n\
+\x20 choose(wanted) {\n\
+\x20   const position = this.within(wanted);\n\
 \x20   if (position.place !== this.chosen.place || position.event !== this.chosen.event) {\n\
 \x20     this.chosen = position;\n\
 \x20     this.refresh();\n\
 \x20     this.tell();\n\
 \x20   }\n\
+\x20 }\n\
+\n\
+\x20 replace(model, position) {\n\
+\x20   this.player.stop();\n\
+\x20   this.model = model;\n\
+\x20   this.search.replace(model);\n\
+\x20   this.chosen = this.within(position);\n\
+\x20   this.parts.forEach((part) => part.replace(model, this.chosen));\n\
+\x20   this.tell();\n\
 \x20 }\n\
 \n\
 \x20 refresh() {\n\
@@ -117,8 +140,7 @@ class Page {\n\
 \x20   const { place, event } = this.chosen;\n\
 \x20   const { step, event: happened } = instantAt(this.model, this.chosen);\n\
 \x20   const events = placesOf(step).map((at) => step.events[at]);\n\
-\x20   const where = event > 0 ? `, event ${event} of ${events.length}` : \"\";\n\
-\x20   byId(\"where\").textContent = `step ${place} of ${this.model.steps.length}, line ${step.line}${where}`;\n\
+\x20   byId(\"where\").textContent = whereText(this.model, step.line, this.chosen, events.length);\n\
 \x20   byId(\"said\").textContent = happened ? eventText(happened) : this.summary(step.head.join(\" \"), events);\n\
 \x20   writeAddress(event > 0 ? `#${place}.${event}` : `#${place}`);\n\
 \x20 }\n\
@@ -155,37 +177,27 @@ class Page {\n\
 \x20 }\n\
 }\n\
 \n\
+function whereText(model, line, { place, event }, events) {\n\
+\x20 return `step ${place} of ${model.steps.length}, line ${line}${event > 0 ? `, event ${event} of ${events}` : \"\"}`;\n\
+}\n\
+\n\
+function reserveWhere(model) {\n\
+\x20 const where = byId(\"where\");\n\
+\x20 const told = where.textContent;\n\
+\x20 const place = model.steps.length;\n\
+\x20 const events = model.hasEvents() ? model.steps.reduce((most, { events: all }) => Math.max(most, all.length), 0) : 0;\n\
+\x20 where.style.minWidth = \"\";\n\
+\x20 where.textContent = whereText(model, model.steps[place - 1]?.line ?? 0, { place, event: events }, events);\n\
+\x20 where.style.minWidth = `${Math.ceil(where.getBoundingClientRect().width)}px`;\n\
+\x20 where.textContent = told;\n\
+}\n\
+\n\
 function tellCounts(model) {\n\
 \x20 const counts = byId(\"counts\");\n\
 \x20 const wrong = counted(model.mismatches.length, \"mismatch\", \"mismatches\");\n\
 \x20 counts.textContent = `${counted(model.steps.length, \"directive\", \"directives\")}, ${wrong}, ${counted(model.nodes.length, \"node\", \"nodes\")}`;\n\
 \x20 counts.classList.toggle(\"bad\", model.mismatches.length > 0);\n\
+\x20 reserveWhere(model);\n\
 \x20 byId(\"next-mismatch\").hidden = model.mismatches.length === 0;\n\
 }\n\
-\n\
-function start() {\n\
-\x20 const notice = byId(\"notice\");\n\
-\x20 try {\n\
-\x20   const model = readRows(JSON.parse(byId(\"steps\").textContent ?? \"\"));\n\
-\x20   document.title = `${model.name}: raftbench`;\n\
-\x20   byId(\"name\").textContent = model.name;\n\
-\x20   tellCounts(model);\n\
-\x20   if (model.steps.length === 0) {\n\
-\x20     notice.textContent = \"The script has no directives.\";\n\
-\x20     return;\n\
-\x20   }\n\
-\x20   byId(\"panes\").hidden = false;\n\
-\x20   byId(\"keys\").hidden = false;\n\
-\x20   byId(\"search\").hidden = false;\n\
-\x20   notice.hidden = true;\n\
-\x20   makeLegend();\n\
-\x20   new Page(model).chooseByAddress();\n\
-\x20 } catch (fault) {\n\
-\x20   notice.hidden = false;\n\
-\x20   notice.textContent = `The page can't be shown: ${fault instanceof Error ? fault.message : fault}.`;\n\
-\x20   throw fault;\n\
-\x20 }\n\
-}\n\
-\n\
-start();\n\
 ";

@@ -171,20 +171,14 @@ class Painter {\n\
 \x20 }\n\
 \n\
 \x20 drawHead(gutter, row) {\n\
-\x20   const { place, line, pieces, warnings } = row.step;\n\
+\x20   const { place, line, pieces } = row.step;\n\
 \x20   const { headLeft } = this.layout;\n\
 \x20   const y = row.top + 17;\n\
 \x20   svg(gutter, \"text\", { class: joined(\"place\", place === this.scene.chosen && \"chosen\"), x: headLeft - 8, y, \"text-anchor\": \"end\" }, String(line));\n\
 \x20   const head = row.step.head.join(\" \");\n\
-\x20   const sign = (pieces === null ? \"\" : \"\xe2\x9c\x97 \") + (warnings.length > 0 ? \"\xe2\x9a\xa0 \" : \"\");\n\
 \x20   const look = joined(\"head\", pieces !== null && \"bad\", this.scene.isFound(head) && \"found\");\n\
-\x20   this.words(gutter, look, headLeft, y, false, [sign + this.headText(head, sign.length)], place, head);\n\
+\x20   this.words(gutter, look, headLeft, y, false, row.head, place, head);\n\
 \x20   row.notes.forEach((note) => this.words(gutter, note.look, headLeft, note.y, false, note.lines, place, note.text));\n\
-\x20 }\n\
-\n\
-\x20 headText(head, taken) {\n\
-\x20   const most = Math.floor((this.layout.left - this.layout.headLeft - FREE) / 6.7) - taken;\n\
-\x20   return head.length > most ? beginning(head, most - 1) + \"\xe2\x80\xa6\" : head;\n\
 \x20 }\n\
 }\n\
 ";

@@ -38,13 +38,23 @@ class Picture {\n\
 \x20 }\n\
 \n\
 \x20 makeHeads() {\n\
-\x20   this.heads.append(this.gutter);\n\
+\x20   this.heads.replaceChildren(this.gutter);\n\
 \x20   return this.model.nodes.map((node) => {\n\
 \x20     const role = element(\"span\", \"\");\n\
 \x20     const column = element(\"div\", \"column\", element(\"b\", \"\", `node ${node.id}`), role);\n\
 \x20     this.heads.append(column);\n\
 \x20     return { column, role };\n\
 \x20   });\n\
+\x20 }\n\
+\n\
+\x20 replace(model, position) {\n\
+\x20   this.model = model;\n\
+\x20   this.layout = new Layout(model);\n\
+\x20   this.chosen = position;\n\
+\x20   this.painter = this.traced = null;\n\
+\x20   this.described = \"\";\n\
+\x20   this.columns = this.makeHeads();\n\
+\x20   this.resized();\n\
 \x20 }\n\
 \n\
 \x20 // ---- where it is scrolled to\n\

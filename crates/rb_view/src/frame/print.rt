@@ -50,20 +50,46 @@ function printedPiece(layout, top, bottom) {\n\
 \x20 return piece;\n\
 }\n\
 \n\
-function printWhole(model, chosen, after) {\n\
+function stretchesOf(layout, steps) {\n\
+\x20 const found = [];\n\
+\x20 for (const { place } of steps) {\n\
+\x20   const { top, height } = layout.rows[place - 1];\n\
+\x20   const last = found[found.length - 1];\n\
+\x20   if (last && last.to === top) {\n\
+\x20     last.to = top + height;\n\
+\x20   } else {\n\
+\x20     found.push({ from: top, to: top + height });\n\
+\x20   }\n\
+\x20 }\n\
+\x20 return found;\n\
+}\n\
+\n\
+function printedPicture(model, steps) {\n\
+\x20 const layout = new Layout(model);\n\
+\x20 layout.spread(PAGE_WIDTH);\n\
+\x20 return stretchesOf(layout, steps).flatMap(({ from, to }) => {\n\
+\x20   const ends = cutsOf(layout, from, to);\n\
+\x20   return ends.slice(1).map((end, at) => printedPiece(layout, ends[at], end));\n\
+\x20 });\n\
+}\n\
+\n\
+function noteOf(count, left, all, steps) {\n\
+\x20 const from = count < left ? ` from line ${steps[0].line} on` : \"\";\n\
+\x20 const of = left < all ? ` of ${all}, those that the filters leave` : \"\";\n\
+\x20 return from || of ? [element(\"p\", \"\", `${counted(count, \"directive\", \"directives\")}${of}${from}.`)] : [];\n\
+}\n\
+\n\
+function printWhole(shown, after) {\n\
 \x20 const room = byId(\"print\");\n\
 \x20 window.addEventListener(\"beforeprint\", () => {\n\
-\x20   const first = model.steps.length > MOST_PRINTED ? chosen() : 1;\n\
-\x20   const steps = model.steps.slice(first - 1, first - 1 + MOST_PRINTED);\n\
-\x20   const layout = new Layout(model);\n\
-\x20   layout.spread(PAGE_WIDTH);\n\
-\x20   const last = layout.rows[steps[steps.length - 1].place - 1];\n\
-\x20   const ends = cutsOf(layout, layout.rows[first - 1].top, last.top + last.height);\n\
-\x20   const note = steps.length < model.steps.length ? [element(\"p\", \"\", `${counted(steps.length, \"directive\", \"directives\")} from line ${steps[0].line} on.`)] : [];\n\
-\x20   const pieces = ends.slice(1).map((end, at) => printedPiece(layout, ends[at], end));\n\
-\x20   const tail = paragraphs(model.tail).map((text) => element(\"p\", \"comment\", text));\n\
-\x20   const script = element(\"div\", \"script\", ...steps.map(printedStep), ...(steps[steps.length - 1].place === model.steps.length ? tail : []));\n\
-\x20   room.replaceChildren(element(\"h1\", \"\", model.name), ...note, script, withAttributes(element(\"div\", \"pieces\", ...pieces), { \"aria-label\": \"Picture\" }));\n\
+\x20   const { model, steps: left, chosen } = shown();\n\
+\x20   const rest = left.filter(({ place }) => place >= chosen);\n\
+\x20   const steps = (left.length > MOST_PRINTED ? rest : left).slice(0, MOST_PRINTED);\n\
+\x20   const hasEnd = steps.length > 0 && steps[steps.length - 1].place === model.steps.length;\n\
+\x20   const tail = hasEnd ? paragraphs(model.tail).map((text) => element(\"p\", \"comment\", text)) : [];\n\
+\x20   const script = element(\"div\", \"script\", ...steps.map(printedStep), ...tail);\n\
+\x20   const pieces = withAttributes(element(\"div\", \"pieces\", ...printedPicture(model, steps)), { \"aria-label\": \"Picture\" });\n\
+\x20   room.replaceChildren(element(\"h1\", \"\", model.name), ...noteOf(steps.length, left.length, model.steps.length, steps), script, pieces);\n\
 \x20 });\n\
 \x20 window.addEventListener(\"afterprint\", () => {\n\
 \x20   room.replaceChildren();\n\

@@ -128,7 +128,8 @@ class Reader {\n\
 \x20 }\n\
 \n\
 \x20 meets(name, cells) {\n\
-\x20   const message = this.mail.take({ to: cells[1], type: cells[2] });\n\
+\x20   const [from, to, type, term, ...said] = cells;\n\
+\x20   const message = this.mail.take({ from, to, type, term, said });\n\
 \x20   message.met = this.step;\n\
 \x20   message.metAt = this.serial;\n\
 \x20   message.metTerm = this.terms[message.to];\n\

@@ -33,6 +33,15 @@ class Script {\n\
 \x20   this.resized();\n\
 \x20 }\n\
 \n\
+\x20 replace(model, position) {\n\
+\x20   this.isFolded = this.isFolded || position.place !== this.chosen.place;\n\
+\x20   this.model = model;\n\
+\x20   this.chosen = position;\n\
+\x20   this.measure();\n\
+\x20   this.show();\n\
+\x20   this.draw();\n\
+\x20 }\n\
+\n\
 \x20 clicked(target) {\n\
 \x20   const row = (target.closest(\"[data-event]\"));\n\
 \x20   const block = (target.closest(\".block\"));\n\

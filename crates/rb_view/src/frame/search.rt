@@ -21,19 +21,29 @@ class Search {\n\
 \x20     this.told.textContent = \"\";\n\
 \x20     refresh();\n\
 \x20   });\n\
-\x20   this.addChoices(\"filter-node\", model.nodes.map(({ id }) => String(id)), (value) => (this.filters.node = Number(value)), refresh);\n\
-\x20   this.addChoices(\"filter-type\", [...new Set(model.messages.map(({ type }) => type))].sort(), (value) => (this.filters.type = value), refresh);\n\
-\x20   const terms = new Set(model.nodes.flatMap((node) => node.numbers.values.map(({ term }) => term)).filter(Boolean));\n\
-\x20   this.addChoices(\"filter-term\", [...terms].sort((one, other) => one - other).map(String), (value) => (this.filters.term = Number(value)), refresh);\n\
+\x20   this.choices = [\"node\", \"type\", \"term\"].map((name) => (byId(`filter-${name}`)));\n\
+\x20   for (const field of this.choices) {\n\
+\x20     field.addEventListener(\"change\", () => {\n\
+\x20       this.readFilters();\n\
+\x20       refresh();\n\
+\x20     });\n\
+\x20   }\n\
+\x20   this.replace(model);\n\
 \x20 }\n\
 \n\
-\x20 addChoices(id, values, take, refresh) {\n\
-\x20   const field = (byId(id));\n\
-\x20   field.append(...values.map((value) => withAttributes(element(\"option\", \"\", value.replace(/^Msg/, \"\")), { value })));\n\
-\x20   field.addEventListener(\"change\", () => {\n\
-\x20     take(field.value);\n\
-\x20     refresh();\n\
-\x20   });\n\
+\x20 replace(model) {\n\
+\x20   this.model = model;\n\
+\x20   this.told.textContent = \"\";\n\
+\x20   const terms = new Set(model.nodes.flatMap((node) => node.numbers.values.map(({ term }) => term)).filter(Boolean));\n\
+\x20   const types = new Set(model.messages.map(({ type }) => type));\n\
+\x20   const values = [model.nodes.map(({ id }) => String(id)), [...types].sort(), [...terms].sort((one, other) => one - other).map(String)];\n\
+\x20   this.choices.forEach((field, at) => offerChoices(field, values[at]));\n\
+\x20   this.readFilters();\n\
+\x20 }\n\
+\n\
+\x20 readFilters() {\n\
+\x20   const [node, type, term] = this.choices.map(({ value }) => value);\n\
+\x20   this.filters = { node: Number(node), type, term: Number(term) };\n\
 \x20 }\n\
 \n\
 \x20 ask() {\n\
@@ -53,6 +63,10 @@ class Search {\n\
 \x20     isKept: (event) => !isFiltered || this.isKept(event),\n\
 \x20     isFound: (text) => needle !== \"\" && text.toLowerCase().includes(needle),\n\
 \x20   };\n\
+\x20 }\n\
+\n\
+\x20 leaves(step) {\n\
+\x20   return !this.isFiltered() || placesOf(step).some((at) => this.isKept(step.events[at]));\n\
 \x20 }\n\
 \n\
 \x20 isKept(event) {\n\
@@ -116,5 +130,12 @@ function textsOfEvent(event) {\n\
 \x20 const mark = MARKS[event.name] ? [MARKS[event.name](event.cells)[0]] : [];\n\
 \x20 const labels = event.message ? labelsOf(event.message) : [];\n\
 \x20 return [eventText(event), ...mark, ...labels, ...(event.reasons ?? []), ...(event.hints ?? [])];\n\
+}\n\
+\n\
+function offerChoices(field, values) {\n\
+\x20 const chosen = field.value;\n\
+\x20 const none = field.options[0];\n\
+\x20 field.replaceChildren(none, ...values.map((value) => withAttributes(element(\"option\", \"\", value.replace(/^Msg/, \"\")), { value })));\n\
+\x20 field.value = values.includes(chosen) ? chosen : none.value;\n\
 }\n\
 ";

@@ -30,6 +30,11 @@ class State {\n\
 \x20   });\n\
 \x20 }\n\
 \n\
+\x20 replace(model, position) {\n\
+\x20   this.model = model;\n\
+\x20   this.choose(position);\n\
+\x20 }\n\
+\n\
 \x20 choose(position) {\n\
 \x20   this.watch.disconnect();\n\
 \x20   this.growing.clear();\n\
@@ -45,7 +50,7 @@ class State {\n\
 \x20     element(\"h2\", \"\", when),\n\
 \x20     ...nodes.map((node) => this.card(node, instant, before)),\n\
 \x20     element(\"h2\", \"\", pending.length === 1 ? \"1 message on its way\" : `${pending.length || \"No\"} messages on their way`),\n\
-\x20     this.list(pending, (message) => element(\"li\", \"\", messageText(message))),\n\
+\x20     this.list(pending, (message) => this.message(message)),\n\
 \x20   );\n\
 \x20   if (this.isOpen) {\n\
 \x20     this.pane.scrollTop = 0;\n\
@@ -55,6 +60,10 @@ class State {\n\
 \x20       list.scrollTop = now.offsetTop - list.clientHeight / 2;\n\
 \x20     }\n\
 \x20   }\n\
+\x20 }\n\
+\n\
+\x20 message(message) {\n\
+\x20   return element(\"li\", \"\", messageText(message));\n\
 \x20 }\n\
 \n\
 \x20 happened({ place, event }) {\n\

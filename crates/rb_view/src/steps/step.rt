@@ -1,6 +1,6 @@
 //! One directive of a run.
 
-ghost use Rattle.std.specs.Prelude.{◌≡◌, ◌++◌, IfOk, IfSome, MatchOption, OnOk, false, true};
+ghost use Rattle.std.specs.Prelude.{◌≡◌, ◌+◌, ◌++◌, ◌<◌, ◌≤◌, ◌^◌, IfOk, IfSome, MatchOption, OnOk, false, true};
 ghost use Rattle.rb_script.specs.Reading.{directive_of};
 ghost use Rattle.rb_view.specs.Kept.{texts_of};
 ghost use Rattle.rb_view.specs.PageRoom.{has_room, held, held_with};
@@ -21,7 +21,7 @@ use crate::steps::rows::EventRows;
 use crate::steps::script::keep_script;
 use crate::steps::shown::{DirectiveRun, StepMachine};
 use crate::steps::written::WrittenNode;
-use rb_cluster::Cluster;
+use rb_cluster::{Cluster, Meter};
 use rb_machine::{Both, Machine, PrintedLines};
 use rb_raftlog::RaftLog;
 use rb_report::check::Table;
@@ -52,6 +52,7 @@ fn run<L: RaftLog>(
     alloc: Global,
     cluster: &Cluster<L>,
     block: &Block,
+    meter: &mut Meter,
 ) -> Result<WatchedRun<L>, AllocError>
     requires { AreSound cluster.now.nodes }
     ensures cluster { IfOk result (λ ran. ran.cluster ≡ (outcome cluster.now (directive_of block.now)).cluster) }
@@ -59,6 +60,8 @@ fn run<L: RaftLog>(
     ensures texts { IfOk result (λ ran. ran.texts ≡ held (observed_texts cluster.now.nodes (execution cluster.now (directive_of block.now)).observed)) }
     ensures nodes { IfOk result (λ ran. ran.nodes.items ≡ written_last cluster.now.nodes (execution cluster.now (directive_of block.now)).observed) }
     ensures bytes { IfOk result (λ ran. shows_bytes (execution cluster.now (directive_of block.now)).observed ≡ true) }
+    ensures counted { meter.old < 2 ^ 63 → OnOk result (meter.new ≡ meter.old + 1) }
+    ensures most { meter.old < 2 ^ 63 → meter.new ≤ meter.old + 1 }
 {
     let mut after = Machine::try_copy(cluster)?;
     let printed = PrintedLines::new(alloc);
@@ -67,7 +70,7 @@ fn run<L: RaftLog>(
         first: printed,
         second: rows,
     };
-    after.run_watched(&block.directive(), &mut both)?;
+    after.run_counted(&block.directive(), &mut both, meter)?;
     let Both { first, second } = both;
     let output = first.or_ok()?;
     let (texts, nodes) = second.into_parts();
@@ -118,8 +121,9 @@ impl<L: RaftLog> StepMachine for Cluster<L> {
         &self,
         alloc: Global,
         block: &Block,
+        meter: &mut Meter,
     ) -> Result<DirectiveRun<Cluster<L>>, AllocError> {
-        let ran = run(alloc, self, block)?;
+        let ran = run(alloc, self, block, meter)?;
         let WatchedRun {
             cluster,
             output,
@@ -176,6 +180,7 @@ pub(crate) fn keep_step<M: StepMachine>(
     table: &mut Table,
     machine: &M,
     place: StepPlace<'_>,
+    meter: &mut Meter,
 ) -> Result<Option<StepRun<M>>, AllocError>
     requires { AreSound (M.meaning machine.now).nodes }
     ensures room { IfOk result (λ run. MatchOption run (has_room (texts.old ++ step_texts (step table.old.left place.entry.line (M.meaning machine.now) place.entry.block.now)) ≡ false) (λ _. has_room texts.new ≡ true)) }
@@ -184,8 +189,10 @@ pub(crate) fn keep_step<M: StepMachine>(
     ensures machine { IfOk result (λ run. IfSome run (λ r. M.meaning r.machine ≡ (outcome (M.meaning machine.now) (directive_of place.entry.block.now)).cluster)) }
     ensures output { IfOk result (λ run. IfSome run (λ r. r.output ≡ (outcome (M.meaning machine.now) (directive_of place.entry.block.now)).output)) }
     ensures bytes { IfOk result (λ run. IfSome run (λ _. BlockShowsBytes (M.meaning machine.now) place.entry.block.now)) }
+    ensures counted { meter.old < 2 ^ 63 → OnOk result (meter.new ≡ meter.old + 1) }
+    ensures most { meter.old < 2 ^ 63 → meter.new ≤ meter.old + 1 }
 {
-    let ran = machine.run_on_copy(alloc, place.block)?;
+    let ran = machine.run_on_copy(alloc, place.block, meter)?;
     let DirectiveRun {
         machine,
         output,

@@ -1,6 +1,6 @@
 //! All directives of a run.
 
-ghost use Rattle.std.specs.Prelude.{◌≡◌, ◌<◌, ◌≤◌, ◌∷◌, [], ◌++◌, IfNone, IfOk, IfSome, MatchOption, OnOk, Some, false, length, map, slice_get, true};
+ghost use Rattle.std.specs.Prelude.{◌≡◌, ◌+◌, ◌<◌, ◌≤◌, ◌^◌, ◌∷◌, [], ◌++◌, IfNone, IfOk, IfSome, MatchOption, OnOk, Some, false, length, map, slice_get, true};
 ghost use Rattle.std.specs.List.{flat_map};
 ghost use Rattle.rb_script.specs.declared.limits.TheConstants.{MAX_DIRECTIVES};
 ghost use Rattle.rb_script.specs.Lines.{lines};
@@ -17,6 +17,7 @@ use crate::rows::{Cell, keep_row};
 use crate::steps::room::has_room;
 use crate::steps::shown::StepMachine;
 use crate::steps::step::{StepPlace, keep_step};
+use rb_cluster::Meter;
 use rb_machine::Machine;
 use rb_replay::{Outputs, Session, block_at};
 use rb_report::check::{Table, warning_sentence};
@@ -31,6 +32,7 @@ fn keep_directives<M: StepMachine>(
     texts: &mut Lines,
     script: &Script,
     heads: &[usize],
+    meter: &mut Meter,
 ) -> Result<Option<Outputs>, AllocError>
     requires few { length script.now.blocks ≤ MAX_DIRECTIVES }
     requires count { length heads.now ≡ length script.now.blocks }
@@ -38,6 +40,8 @@ fn keep_directives<M: StepMachine>(
     ensures texts { IfOk result (λ ran. IfSome ran (λ _. texts.new ≡ texts.old ++ flat_map step_texts (steps heads.now script.now))) }
     ensures outputs { IfOk result (λ ran. IfSome ran (λ printed. printed ≡ outputs script.now)) }
     ensures bytes { IfOk result (λ ran. IfSome ran (λ _. GoOnShowingBytes empty script.now.blocks)) }
+    ensures counted { meter.old ≤ 2 ^ 62 → IfOk result (λ ran. IfSome ran (λ _. meter.new ≡ meter.old + length script.now.blocks)) }
+    ensures most { meter.old ≤ 2 ^ 62 → meter.new ≤ meter.old + length script.now.blocks }
 {
     let mut printed = Outputs::new(alloc);
     let mut machine = M::empty(alloc)?;
@@ -46,7 +50,7 @@ fn keep_directives<M: StepMachine>(
         let block = block_at(script, i);
         let line = number_at(heads, i);
         let place = StepPlace { block, line };
-        let Some(ran) = keep_step(alloc, texts, &mut table, &machine, place)? else {
+        let Some(ran) = keep_step(alloc, texts, &mut table, &machine, place, meter)? else {
             return Ok(None);
         };
         printed.push(ran.output)?;
@@ -124,6 +128,7 @@ pub fn steps_of<M: StepMachine>(
     alloc: Global,
     read: ScriptWithLines,
     bytes: &[u8],
+    meter: &mut Meter,
 ) -> Result<Option<(Session<M>, Lines)>, AllocError>
     requires few { length read.script.blocks ≤ MAX_DIRECTIVES }
     requires count { length read.heads.items ≡ length read.script.blocks }
@@ -132,6 +137,9 @@ pub fn steps_of<M: StepMachine>(
     ensures script { IfOk result (λ ran. IfSome ran (λ r. r.0.script ≡ read.script)) }
     ensures texts { IfOk result (λ ran. IfSome ran (λ r. r.1 ≡ steps_texts bytes.now read.heads.items read.script)) }
     ensures bytes { IfOk result (λ ran. IfSome ran (λ _. GoOnShowingBytes empty read.script.blocks)) }
+    // Each directive is run once; without room or memory, none is run twice.
+    ensures counted { meter.old ≤ 2 ^ 62 → IfOk result (λ ran. IfSome ran (λ _. meter.new ≡ meter.old + length read.script.blocks)) }
+    ensures most { meter.old ≤ 2 ^ 62 → meter.new ≤ meter.old + length read.script.blocks }
 {
     let ScriptWithLines {
         script,
@@ -141,7 +149,8 @@ pub fn steps_of<M: StepMachine>(
     let layout = Layout { text, heads };
     let mut texts = Lines::new(alloc);
     keep_source(&mut texts, bytes)?;
-    let ran = keep_directives::<M>(alloc, &mut texts, &script, layout.heads.as_slice())?;
+    let heads = layout.heads.as_slice();
+    let ran = keep_directives::<M>(alloc, &mut texts, &script, heads, meter)?;
     let Some(printed) = ran else {
         return Ok(None);
     };

@@ -14,6 +14,7 @@ loop-i-init g c = record {
   here = c.in_ok-cluster.ensures;
   printed = c.new-printed.ensures;
   none = c.requires.none;
+  counted = λ _. omega (arith);
 }
 
 pub loop-i-preserved : goal.loop-i-preserved
@@ -32,6 +33,7 @@ loop-i-preserved g c =
       here = on.0;
       printed = on.1;
       none = c.in_ok-output.ensures.left;
+      counted = λ small. omega (arith, small, c.loop-i.invariant.counted small, c.in_ok-output.ensures.counted (omega (arith, small, c.loop-i.invariant.counted small)));
     }
 
 pub returns-then-not-has_room-clause-room : goal.returns-then-not-has_room-clause-room

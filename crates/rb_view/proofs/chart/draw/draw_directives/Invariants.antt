@@ -1,5 +1,5 @@
 -- What is drawn so far, and the directives that are left; what was printed.
-use Rattle.std.proofs.Common.{◌≡◌, [], drop, take}
+use Rattle.std.proofs.Common.{◌≡◌, ◌+◌, ◌≤◌, ◌^◌, [], drop, take}
 use Rattle.rb_machine.specs.Cluster.{empty}
 use Rattle.rb_replay.specs.Run.{outputs, state}
 use Rattle.rb_view.specs.Drawn.{view_of, views_from}
@@ -11,4 +11,5 @@ invariant-loop-i g l = record {
   here : l.cluster ≡ state l.script l.i;
   printed : l.printed ≡ take l.i (outputs l.script);
   none : l.both.first.lines ≡ [];
+  counted : l.initial.meter ≤ 2 ^ 62 → l.meter ≡ l.initial.meter + l.i;
 }

@@ -24,6 +24,7 @@ loop-i-init g c = record {
   printed = c.new-printed.ensures;
   rows = ap₂ (λ (n : ℕ) (d : Cluster). c.args.texts.now ++ flat_map step_texts (steps_from n c.args.heads.now d c.args.script.now.blocks)) c.in_ok-table.ensures c.in_ok-machine.ensures;
   bytes = λ rest. subst (λ (d : Cluster). GoOnShowingBytes d c.args.script.now.blocks) c.in_ok-machine.ensures rest;
+  counted = λ _. omega (arith);
 }
 
 pub loop-i-preserved : goal.loop-i-preserved
@@ -52,6 +53,7 @@ loop-i-preserved g c =
           (steps_more left c.keep_step.new.table.left heads bs i line b before after c.number_at-line.ensures c.block_at-block.ensures stepped spent)
           texts c.loop-i.invariant.rows;
       bytes = λ rest. c.loop-i.invariant.bytes (goes_on_showing bs i b before after c.block_at-block.ensures stepped bytes rest);
+      counted = λ small. omega (arith, small, c.loop-i.invariant.counted small, c.in_ok-ran.ensures.counted (omega (arith, small, c.loop-i.invariant.counted small)));
     }
 
 pub returns-in_default-clause-room : goal.returns-in_default-clause-room

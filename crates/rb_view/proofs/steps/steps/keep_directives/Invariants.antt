@@ -1,5 +1,5 @@
 -- The rows so far, and those of the directives that are left; what was printed; what is shown of contents.
-use Rattle.std.proofs.Common.{◌≡◌, ◌++◌, drop, take}
+use Rattle.std.proofs.Common.{◌≡◌, ◌+◌, ◌≤◌, ◌^◌, ◌++◌, drop, take}
 use Rattle.std.specs.List.{flat_map}
 use Rattle.rb_machine.specs.Cluster.{empty}
 use Rattle.rb_replay.specs.Run.{outputs, state}
@@ -13,4 +13,5 @@ invariant-loop-i g l = record {
   here : g.M.Machine.meaning l.machine ≡ state l.script l.i;
   printed : l.printed ≡ take l.i (outputs l.script);
   bytes : GoOnShowingBytes (g.M.Machine.meaning l.machine) (drop l.i l.script.blocks) → GoOnShowingBytes empty l.script.blocks;
+  counted : l.initial.meter ≤ 2 ^ 62 → l.meter ≡ l.initial.meter + l.i;
 }

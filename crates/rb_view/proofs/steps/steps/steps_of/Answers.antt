@@ -17,4 +17,4 @@ returns-in_default-clause-room g c =
     let began = c.in_ok-keep_source.ensures ∙ ap (λ (t : List Line). t ++ source) c.new-texts.ensures in
     front_full source (flat_map step_texts (steps heads s)) rest
     (ap (λ (t : List Line). has_room (t ++ flat_map step_texts (steps heads s))) (sym began)
-    ∙ ap (λ (hs : List ℕ). has_room (c.keep_source.new.texts ++ flat_map step_texts (steps hs s))) (sym c.as_slice.ensures.value) ∙ in_none _ _ _ c.in_default.is c.in_ok-ran.ensures.room)
+    ∙ ap (λ (hs : List ℕ). has_room (c.keep_source.new.texts ++ flat_map step_texts (steps hs s))) (sym c.as_slice-heads.ensures.value) ∙ in_none _ _ _ c.in_default.is c.in_ok-ran.ensures.room)

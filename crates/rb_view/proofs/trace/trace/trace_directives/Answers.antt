@@ -16,6 +16,7 @@ loop-i-init g c = record {
   here = c.in_ok-machine.ensures;
   printed = c.new-printed.ensures;
   traced = ap₂ (λ (d : Cluster) (t : Tracer). traced_from c.args.heads.now 1 d t c.args.script.now.blocks) c.in_ok-machine.ensures c.new-tracer.ensures;
+  counted = λ _. omega (arith);
 }
 
 pub loop-i-preserved : goal.loop-i-preserved
@@ -35,6 +36,7 @@ loop-i-preserved g c =
       printed = on.1;
       traced = sym (traced_more heads bs i line (i + 1) b before after c.loop-i.tracer c.in_ok-ran.ran.tracer c.number_at.ensures c.block_at.ensures c.in_ok-ran.ensures.machine so)
           ∙ c.loop-i.invariant.traced;
+      counted = λ small. omega (arith, small, c.loop-i.invariant.counted small, c.in_ok-ran.ensures.counted (omega (arith, small, c.loop-i.invariant.counted small)));
     }
 
 pub returns-clause-objects : goal.returns-clause-objects
