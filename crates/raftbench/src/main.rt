@@ -4,9 +4,10 @@
 mod editing;
 
 use crate::editing::serve_editor;
-use rb_args::{CommandChoice, Subcommand, chosen};
+use rb_args::{CommandChoice, Subcommand};
 use rb_program::{
-    ProgramError, RuntimeConsole, Terminals, UsageError, carry_out, check_all, show_directives,
+    ProgramError, RuntimeConsole, Terminals, UsageError, carry_out, check_all, choice_by,
+    show_directives,
 };
 use rb_report::check::Status;
 use std::io::{IsTerminal, Write};
@@ -64,5 +65,5 @@ fn choose<R: Env + AllocGlobal>(rt: &R) -> Result<CommandChoice, ProgramError> {
         }
         Err(error) => return Err(ProgramError::from(error)),
     };
-    Ok(chosen(rt.alloc(), words.as_slice())?)
+    choice_by(rt.alloc(), words.as_slice())
 }

@@ -14,3 +14,4 @@ pub mod Manuals
 pub mod Targets
 pub mod Checks
 pub mod Told
+pub mod Arguments

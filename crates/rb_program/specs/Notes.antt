@@ -10,6 +10,7 @@ use Rattle.rb_report.specs.Headings.{note_text}
 use Rattle.rb_report.specs.Hints.{hint_text}
 use Rattle.rb_report.specs.Notices.{warning_text}
 use Rattle.rb_report.specs.Suggestions.{suggested}
+use Rattle.rb_check.specs.Visible.{showing_of_lines, text_shown}
 use Rattle.rb_program.specs.declared.rewriting.Rewritten.{Rewritten}
 use Rattle.rb_replay.specs.Run.{outputs}
 use Rattle.rb_script_report.specs.declared.layout.Layout.{Layout}
@@ -40,9 +41,13 @@ warnings_noted path ws = flat_map (λ (w : Warning). warning_text path w.line w.
 abbrev pub notes_text : List ℕ → Layout → PlainScript → List ℕ
 notes_text path l s = warnings_noted path (all_warnings l.text l.heads.items s.blocks (outputs s)) ++ errors_noted l.text path l.heads.items s.blocks (outputs s)
 
+-- they as they go out: if a byte of the script acts, bytes by their numbers
+abbrev pub notes_shown : List ℕ → Layout → PlainScript → List ℕ
+notes_shown path l s = text_shown (showing_of_lines l.text) (notes_text path l s)
+
 -- the notes on the script that the bytes are
 pub record AreNotes (path bytes notes : List ℕ) : Type 0 where
   pub script : PlainScript
   pub layout : Layout
   pub layout_is : IsLayout bytes script layout
-  pub notes_are : notes ≡ notes_text path layout script
+  pub notes_are : notes ≡ notes_shown path layout script

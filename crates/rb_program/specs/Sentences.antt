@@ -7,7 +7,7 @@ use Rattle.rb_report.specs.Refusals.{fault_line}
 use Rattle.rb_view.specs.declared.chart.draw.TheConstants.{MAX_EVENTS}
 use Rattle.rb_view.specs.declared.steps.room.TheConstants.{MAX_PAGE}
 use Rattle.rb_bench.specs.Names.{script_name}
-use Rattle.rb_check.specs.Visible.{showing_of, text_shown}
+use Rattle.rb_report.specs.Names.{shown_name}
 use Rattle.rb_program.specs.declared.program_error.ProgramError.{ProgramError}
 use Rattle.rb_program.specs.declared.program_error.ProgramError.TheVariants as refusals
 use Rattle.rb_program.specs.declared.usage_error.UsageError.{UsageError}
@@ -15,7 +15,7 @@ use Rattle.rb_program.specs.declared.usage_error.UsageError.TheVariants as misus
 
 -- a word as it is shown on a terminal
 abbrev pub IsShown : List ℕ → List ℕ → Type 0
-IsShown word shown = shown ≡ text_shown (showing_of word) word
+IsShown word shown = shown ≡ shown_name word
 
 -- a line as it is shown there
 abbrev pub IsLineShown : Line → List ℕ → Type 0

@@ -14,6 +14,7 @@ use crate::style::{Style, style_of};
 use crate::target::targets;
 use crate::usage_error::{UsageError, misused};
 use rb_args::CheckChoice;
+use rb_bench::RunContext;
 use rb_check::{CheckRequest, Target, check};
 use rb_report::check::{Colors, Status};
 use rb_script_report::Detail;
@@ -54,10 +55,8 @@ pub fn check_all<
     let keys = gives_keys(rt);
     let is_told = progress.is_wanted();
     let asked = request(choice, named, style, colors, is_told, keys);
-    let mut clusters = Clusters {
-        alloc: rt.alloc(),
-        progress: &progress,
-    };
+    let context = RunContext::new(rt.alloc(), &progress);
+    let mut clusters = Clusters { context };
     Ok(check(rt, &mut clusters, asked, errors)?)
 }
 

@@ -1,6 +1,6 @@
 //! The machine that the scripts of a check run on.
 
-use rb_bench::{DirectiveRunner, RunProgress, ToldLines, run_directive};
+use rb_bench::{DirectiveRunner, RunContext, RunProgress, ToldLines, run_directive};
 use rb_check::{ExplainedOutput, Runner};
 use rb_cluster::Cluster;
 use rb_machine::Both;
@@ -12,8 +12,7 @@ use std::alloc::{AllocError, Global};
 /// Clusters of nodes with split logs. Reports to `progress` which directive runs.
 #[derive(Drop)]
 pub(crate) struct Clusters<'p, P> {
-    pub(crate) alloc: Global,
-    pub(crate) progress: &'p P,
+    pub(crate) context: RunContext<'p, P>,
 }
 
 impl<'p, P: RunProgress> DirectiveRunner for Clusters<'p, P> {
@@ -21,8 +20,10 @@ impl<'p, P: RunProgress> DirectiveRunner for Clusters<'p, P> {
 
     type Progress = P;
 
+    ghost ran = { λ r. r.context.meter };
+
     fn progress(&self) -> &P {
-        self.progress
+        self.context.progress
     }
 
     fn run(
@@ -30,7 +31,7 @@ impl<'p, P: RunProgress> DirectiveRunner for Clusters<'p, P> {
         machine: &mut Cluster<SplitLog>,
         directive: &DirectiveRef<'_>,
     ) -> Result<Lines, AllocError> {
-        run_directive(self.alloc, machine, directive, self.progress)
+        run_directive(&mut self.context, machine, directive)
     }
 }
 
@@ -43,10 +44,10 @@ impl<'p, P: RunProgress> Runner for Clusters<'p, P> {
         directive: &DirectiveRef<'_>,
     ) -> Result<ExplainedOutput, AllocError> {
         let mut both = Both {
-            first: ToldLines::new(alloc, self.progress, directive),
+            first: ToldLines::new(alloc, self.context.progress, directive),
             second: LineReasons::new(alloc),
         };
-        machine.run_watched(directive, &mut both)?;
+        machine.run_counted(directive, &mut both, &mut self.context.meter)?;
         let Both { first, second } = both;
         Ok(ExplainedOutput {
             output: first.printed.or_ok()?,

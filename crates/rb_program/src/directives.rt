@@ -33,7 +33,7 @@ pub fn show_directives<R: Print + AllocGlobal>(
     ensures { ShowsDirectives (option_map (λ name. name.now) name.entry) result }
 {
     let alloc = rt.alloc();
-    let mut writer = Through(BufWriter::new(alloc, FailFast(io::writer(rt)))?);
+    let mut writer = Through(BufWriter::new(alloc, FailFast(Through(io::writer(rt))))?);
     write_directives(alloc, &mut writer, name)
 }
 

@@ -79,6 +79,6 @@ pub(crate) fn run_from<R: Print + AllocGlobal, S: Source, J: Job>(
     ensures answered { J.is_right job.now ≡ true → IfSome (S.left source.old) (λ all. EndsAs (J.answers job.now all (S.left source.new)) result) }
 {
     let alloc = rt.alloc();
-    let mut writer = Through(BufWriter::new(alloc, FailFast(io::writer(rt)))?);
+    let mut writer = Through(BufWriter::new(alloc, FailFast(Through(io::writer(rt))))?);
     ended(job.run(alloc, source, &mut writer))
 }

@@ -7,6 +7,7 @@
 //! with the same faults and statuses. They write nothing before all memory is there.
 #![tactic(auto)]
 
+mod arguments;
 mod chart;
 mod chart_over;
 mod checking;
@@ -41,6 +42,7 @@ mod trace_over;
 mod usage_error;
 mod work;
 
+pub use arguments::choice_by;
 pub use checking::{Terminals, check_all};
 pub use console::{Console, RuntimeConsole};
 pub use directives::show_directives;

@@ -9,7 +9,7 @@ ghost use Rattle.rb_report.specs.Heads.{head_text};
 ghost use Rattle.rb_report.specs.Headings.{directive_text};
 ghost use Rattle.rb_bench.specs.Handed.{IsHandedOn};
 ghost use Rattle.rb_check.specs.Place.{ArePartedAt};
-ghost use Rattle.rb_check.specs.Visible.{showing_of_script};
+ghost use Rattle.rb_check.specs.Visible.{showing_of_lines};
 ghost use Rattle.rb_program.specs.Choices.{IsMisplaced};
 ghost use Rattle.rb_program.specs.Looks.{IsLookAt, IsLooked, IsOfSystem, IsSeenAt};
 
@@ -116,8 +116,8 @@ fn put<R: Print + AllocGlobal>(
     ensures failed { IfErr result (λ refusal. IsOfSystem refusal) }
 {
     let block = read.script.block(seen.place).unwrap();
-    let sink = Through(BufWriter::new(rt.alloc(), FailFast(io::writer(rt)))?);
-    let mut screen = screen_for(sink, path, read);
+    let sink = Through(BufWriter::new(rt.alloc(), FailFast(Through(io::writer(rt))))?);
+    let mut screen = screen_for(sink, read);
     let at = head_at(path, seen);
     status_of(put_seen(&mut screen, at, &block.directive(), &seen.lines))
 }
@@ -133,10 +133,10 @@ fn head_at<'a>(path: &'a [u8], seen: &LookedAt) -> FileLine<'a>
 }
 
 // A screen for the script: if a byte of it acts in a terminal, bytes are shown by their numbers.
-fn screen_for<S>(sink: S, path: &[u8], read: &ScriptWithLines) -> VisibleSink<S>
-    ensures { result.showing ≡ showing_of_script path.now read.now.lines }
+fn screen_for<S>(sink: S, read: &ScriptWithLines) -> VisibleSink<S>
+    ensures { result.showing ≡ showing_of_lines read.now.lines }
 {
-    VisibleSink::of_script(sink, path, &read.lines)
+    VisibleSink::of_script(sink, &read.lines)
 }
 
 // Writes the lines under the directive's head.

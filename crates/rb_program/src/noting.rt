@@ -4,9 +4,9 @@ ghost use Rattle.std.specs.Prelude.{◌≡◌, IfSome, IsOk};
 ghost use Rattle.rb_script.specs.Writes.{Writes};
 ghost use Rattle.rb_replay.specs.Run.{outputs};
 ghost use Rattle.rb_script_report.specs.Layouts.{IsLayout};
-ghost use Rattle.rb_program.specs.Notes.{error_noted, errors_noted, notes_text, warnings_noted};
+ghost use Rattle.rb_program.specs.Notes.{error_noted, errors_noted, notes_shown, warnings_noted};
 
-use rb_check::ScriptRun;
+use rb_check::{ScriptRun, shown_of_script};
 use rb_machine::Machine;
 use rb_replay::Session;
 use rb_report::check::{FileLine, put_note, put_warning};
@@ -17,7 +17,7 @@ use rb_script_report::{
 };
 use std::alloc::Global;
 
-/// The notes on the script of the bytes, which ran; none, if memory was refused.
+/// The notes on the script of the bytes, which ran, as a terminal gets them; none, if memory was refused.
 pub(crate) fn notes_of<M: Machine>(
     alloc: Global,
     path: &[u8],
@@ -25,7 +25,7 @@ pub(crate) fn notes_of<M: Machine>(
     run: &ScriptRun<M>,
 ) -> Option<Vec<u8>>
     requires { IsLayout bytes.now run.now.session.script run.now.layout }
-    ensures { IfSome result (λ notes. notes.items ≡ notes_text path.now run.now.layout run.now.session.script) }
+    ensures { IfSome result (λ notes. notes.items ≡ notes_shown path.now run.now.layout run.now.session.script) }
 {
     let Ok(doubts) = warnings(alloc, &run.session, &run.layout) else {
         return None;
@@ -33,7 +33,10 @@ pub(crate) fn notes_of<M: Machine>(
     let mut sink = Through(Vec::new(alloc));
     let is_whole = put_warnings(&mut sink, path, &doubts).is_ok()
         && put_errors(&mut sink, path, bytes, &run.session, &run.layout).is_ok();
-    if is_whole { Some(sink.0) } else { None }
+    if !is_whole {
+        return None;
+    }
+    shown_of_script(alloc, &run.layout.text, &sink.0).ok()
 }
 
 // Writes the lines that look like a slip.

@@ -3,8 +3,8 @@
 ghost use Rattle.std.specs.Prelude.{◌≡◌, true};
 
 use rb_bench::RunProgress;
-use rb_check::{ProgressClock, visible_name};
-use rb_report::check::put_head;
+use rb_check::ProgressClock;
+use rb_report::check::{put_head, shown_name};
 use rb_script::{DirectiveRef, Through};
 use std::alloc::{AllocError, Global};
 use std::cell::Cell;
@@ -99,7 +99,7 @@ fn shown_head(alloc: Global, directive: &DirectiveRef<'_>) -> Result<Vec<u8>, Al
     };
     let head = sink.0;
     let length = head.len().min(MAX_HEAD);
-    let mut shown = visible_name(alloc, &head[..length])?;
+    let mut shown = shown_name(alloc, &head[..length])?;
     shown.truncate(MAX_HEAD);
     Ok(shown)
 }

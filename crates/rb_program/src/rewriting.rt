@@ -19,7 +19,7 @@ use crate::clusters::Clusters;
 use crate::noting::notes_of;
 use crate::program_error::ProgramError;
 use crate::running::{ended, script};
-use rb_bench::{BenchFault, Mode, Outlet, RunProgress, write_run};
+use rb_bench::{BenchFault, Mode, Outlet, RunContext, RunProgress, write_run};
 use rb_check::{ScriptRun, run_script};
 use rb_cluster::Cluster;
 use rb_raftlog::SplitLog;
@@ -84,7 +84,7 @@ fn rewrite_noted<R: Print + AllocGlobal, E: Write + Drop, P: RunProgress>(
     ensures { EndsAs (Answers modes.Rewrite bytes.now) result }
 {
     let alloc = rt.alloc();
-    let mut writer = Through(BufWriter::new(alloc, FailFast(io::writer(rt)))?);
+    let mut writer = Through(BufWriter::new(alloc, FailFast(Through(io::writer(rt))))?);
     let rewritten = rewrite_bytes(alloc, name.as_bytes(), bytes, &mut writer, progress);
     ended(put_notes(rewritten, errors))
 }
@@ -142,7 +142,8 @@ fn run_once<P: RunProgress>(
     ensures refused { IfErr result (λ fault. TellsFault fault (read_of bytes.now)) }
     ensures own { IfErr result (λ fault. (fault ≢ BenchFault.Io) × (fault ≢ BenchFault.Spacing)) }
 {
-    let mut clusters = Clusters { alloc, progress };
+    let context = RunContext::new(alloc, progress);
+    let mut clusters = Clusters { context };
     let run = run_script(alloc, &mut clusters, false, bytes)?;
     Ok(run)
 }

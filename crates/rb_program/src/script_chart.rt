@@ -11,12 +11,12 @@ ghost use Rattle.rb_bench.specs.Runs.{status_of};
 ghost use Rattle.rb_program.specs.Drawn.{HasNoRoomFor, IsPicture, IsPictureOf, IsTooLarge};
 
 use crate::script_steps::status;
-use rb_cluster::Cluster;
+use rb_cluster::{Cluster, Meter};
 use rb_raftlog::SplitLog;
 use rb_replay::{Outputs, Session};
 use rb_report::check::Status;
 use rb_script::{Script, ScriptWithLines};
-use rb_view::chart::{Chart, ChartFault, ChartPart, DrawnRun, chart_of};
+use rb_view::chart::{Chart, ChartFault, ChartPart, ChartScript, DrawnRun, chart_of};
 use std::alloc::{AllocError, Global};
 
 /// A picture, and the status that a report of its script would have.
@@ -40,16 +40,14 @@ fn status_after(alloc: Global, script: Script, printed: Outputs) -> Result<Statu
 fn drawn(
     alloc: Global,
     name: &[u8],
-    bytes: &[u8],
-    script: &Script,
-    heads: &[usize],
+    source: ChartScript<'_>,
     part: ChartPart,
 ) -> Result<Option<DrawnRun>, AllocError>
-    requires reads { Reads bytes.now script.now }
-    requires heads { AreHeadLines 1 (lines bytes.now) script.now.blocks heads.now }
-    ensures { IfOk result (λ picture. MatchOption picture (HasNoRoomFor bytes.now part script.now) (λ run. IsPictureOf bytes.now part script.now run.chart × (run.printed ≡ outputs script.now))) }
+    requires reads { Reads source.bytes.now source.script.now }
+    requires heads { AreHeadLines 1 (lines source.bytes.now) source.script.now.blocks source.heads.now }
+    ensures { IfOk result (λ picture. MatchOption picture (HasNoRoomFor source.entry.bytes.now part source.entry.script.now) (λ run. IsPictureOf source.entry.bytes.now part source.entry.script.now run.chart × (run.printed ≡ outputs source.entry.script.now))) }
 {
-    match chart_of::<SplitLog>(alloc, name, bytes, script, heads, part) {
+    match chart_of::<SplitLog>(alloc, name, source, part, &mut Meter::new()) {
         Ok(run) => Ok(Some(run)),
         Err(ChartFault::TooLarge) => Ok(None),
         Err(ChartFault::OutOfMemory) => Err(AllocError),
@@ -73,7 +71,12 @@ pub(crate) fn picture_of(
         lines: _,
         heads,
     } = read;
-    let Some(run) = drawn(alloc, name, bytes, &script, heads.as_slice(), part)? else {
+    let source = ChartScript {
+        bytes,
+        script: &script,
+        heads: heads.as_slice(),
+    };
+    let Some(run) = drawn(alloc, name, source, part)? else {
         return Ok(None);
     };
     let DrawnRun { chart, printed } = run;

@@ -13,7 +13,7 @@ ghost use Rattle.rb_program.specs.Written.{AreRowsOf, AreStepsOf, IsPastPage, Ro
 
 use crate::reading::read_script;
 use rb_bench::BenchFault;
-use rb_cluster::Cluster;
+use rb_cluster::{Cluster, Meter};
 use rb_machine::Machine;
 use rb_raftlog::SplitLog;
 use rb_replay::Session;
@@ -41,7 +41,7 @@ fn rows<M: StepMachine>(
     ensures script { IfOk result (λ ran. IfSome ran (λ r. r.0.script ≡ read.script)) }
     ensures rows { IfOk result (λ ran. MatchOption ran (RowsHaveNoRoom bytes.now read.script) (λ r. AreRowsOf bytes.now read.script r.1)) }
 {
-    let ran = steps_of(alloc, read, bytes)?;
+    let ran = steps_of(alloc, read, bytes, &mut Meter::new())?;
     Ok(ran)
 }
 

@@ -3,14 +3,14 @@
 ghost use Rattle.std.specs.Prelude.{◌≡◌, [], IfOk, MatchResult, string_bytes};
 ghost use Rattle.rb_program.specs.Sentences.{IsShown, IsTextShown};
 
-use rb_check::visible_name;
+use rb_report::check::shown_name;
 use std::alloc::{AllocError, Global};
 
-/// Copies a word for a terminal, in which no byte of it acts.
+/// Copies a word of somebody for a terminal or a log: nothing of it acts there, or ends its line.
 pub(crate) fn shown_word(alloc: Global, word: &str) -> Result<String, AllocError>
     ensures { IfOk result (λ shown. IsShown word.now (string_bytes shown)) }
 {
-    let shown = visible_name(alloc, word.as_bytes())?;
+    let shown = shown_name(alloc, word.as_bytes())?;
     // What is shown of a text is text.
     match String::from_utf8(shown) {
         Ok(text) => Ok(text),

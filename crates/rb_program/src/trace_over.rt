@@ -17,7 +17,7 @@ ghost use Rattle.rb_program.specs.Traced.{AreLinesOf, IsTraceOf, Traces, TracesO
 use crate::reading::read_script;
 use crate::script_steps::status;
 use rb_bench::{BenchFault, Outlet};
-use rb_cluster::Cluster;
+use rb_cluster::{Cluster, Meter};
 use rb_raftlog::{RaftLog, SplitLog};
 use rb_replay::Session;
 use rb_report::check::Status;
@@ -98,7 +98,13 @@ fn traced<L: RaftLog>(
     ensures script { IfOk result (λ ran. ran.0.script ≡ read.script) }
     ensures lines { IfOk result (λ ran. AreLinesOf name.now bytes.now read.script ran.1) }
 {
-    let ran = trace_of(alloc, name, read.script, read.heads.as_slice())?;
+    let ran = trace_of(
+        alloc,
+        name,
+        read.script,
+        read.heads.as_slice(),
+        &mut Meter::new(),
+    )?;
     Ok(ran)
 }
 

@@ -23,14 +23,14 @@ pub returns-clause-output : goal.returns-clause-output
 unfolding outcome
 returns-clause-output g c =
     let e = execution c.args.machine.now (plain c.args.directive.now) in
-    let seen = each_seen printing.with_item with_item (printing.at_level c.new.result.printed e.level) c.run_watched.new.observer.first.printed (at_level c.new-2.result e.level) c.run_watched.new.observer.second e.observed
-    (ap (λ (w : Watched (PrintedLines × LineReasons)). w.by) c.in_ok-run_watched.ensures) in
-    c.in_ok-or_ok.ensures ∙ printed_is c.new.result.printed c.run_watched.new.observer.first.printed e c.new.ensures seen.0
+    let seen = each_seen printing.with_item with_item (printing.at_level c.new.result.printed e.level) c.run_counted.new.observer.first.printed (at_level c.new-2.result e.level) c.run_counted.new.observer.second e.observed
+    (ap (λ (w : Watched (PrintedLines × LineReasons)). w.by) c.in_ok-run_counted.ensures.watched) in
+    c.in_ok-or_ok.ensures ∙ printed_is c.new.result.printed c.run_counted.new.observer.first.printed e c.new.ensures seen.0
 
 pub returns-clause-reasons : goal.returns-clause-reasons
 returns-clause-reasons g c =
     let e = execution c.args.machine.now (plain c.args.directive.now) in
-    let seen = each_seen printing.with_item with_item (printing.at_level c.new.result.printed e.level) c.run_watched.new.observer.first.printed (at_level c.new-2.result e.level) c.run_watched.new.observer.second e.observed
-    (ap (λ (w : Watched (PrintedLines × LineReasons)). w.by) c.in_ok-run_watched.ensures) in
+    let seen = each_seen printing.with_item with_item (printing.at_level c.new.result.printed e.level) c.run_counted.new.observer.first.printed (at_level c.new-2.result e.level) c.run_counted.new.observer.second e.observed
+    (ap (λ (w : Watched (PrintedLines × LineReasons)). w.by) c.in_ok-run_counted.ensures.watched) in
     c.in_ok-all.ensures
     ∙ ap all_reasons (seen.1 ∙ ap (λ (r : LineReasons). fold with_item r (shown_items e)) (begun_at c.new-2.result e.level c.new-2.ensures.above c.new-2.ensures.has_begun c.new-2.ensures.last))
