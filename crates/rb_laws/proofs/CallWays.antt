@@ -165,7 +165,7 @@ pub record Brought (t u : NodeStep) (i : ℕ) : Type 0 where
   pub applied : u.node.applied ≡ i
   pub commit : t.node.commit ≤ u.node.commit
 
-body_brought : (body : Body) (t : NodeStep) → Brought t (body_applied body t) t.node.applied
+pub body_brought : (body : Body) (t : NodeStep) → Brought t (body_applied body t) t.node.applied
 body_brought (Payload bytes) t = record { id = refl; log = refl; applied = refl; commit = omega arith }
 body_brought (Change transition words) t =
     (let l = changed_leaves (change_way t transition words) in
@@ -221,7 +221,7 @@ left_way {w} t =
     if_both (Path (StepMove w) t) (leaves_joint n) _ _
     (λ can. (let c = n.tracker.config in
     let both = first_two (is_leader n.role) (is_joint c) c.auto (n.transferee == 0) (nat_le n.pending_change n.applied) can in
-    Onward (appended_change_way t (Change Auto []) (leader_of n.role both.0) (inr (inr both.1))) (all_told_way (appended_change t (Change Auto [])))))
+    Onward (appended_change_way t (Change Auto []) (leader_of n.role both.0) (inr (inr (refl, both.1)))) (all_told_way (appended_change t (Change Auto [])))))
     (λ _. telling_path (nothing_done t))
 
 -- ---- ticks
@@ -236,7 +236,7 @@ heartbeat_sent_to_each_way : (n : PlainNode) (ids : List ℕ) → Way TellMove n
 heartbeat_sent_to_each_way n [] = One (Idle n n refl)
 heartbeat_sent_to_each_way n (id ∷ ids) = Then (beat_way n id) (heartbeat_sent_to_each_way (heartbeat_sent_to n id) ids)
 
-beats_due_way : (t : NodeStep) → Path TellMove t (with_node t (due_heartbeats_sent t.node))
+pub beats_due_way : (t : NodeStep) → Path TellMove t (with_node t (due_heartbeats_sent t.node))
 unfolding due_heartbeats_sent
 beats_due_way t =
     let n : PlainNode = with_heartbeat_elapsed t.node 0 in
@@ -356,7 +356,7 @@ advanced_way t known =
 
 -- ---- every call
 
-forgotten_way : (r : Role) (n : PlainNode) → Way TellMove n (forgotten_by r n)
+pub forgotten_way : (r : Role) (n : PlainNode) → Way TellMove n (forgotten_by r n)
 forgotten_way role.Follower n = One (Idle n (record n { lead = 0 }) refl)
 forgotten_way role.Precandidate n = One (Idle n n refl)
 forgotten_way role.Candidate n = One (Idle n n refl)
@@ -370,7 +370,7 @@ reported_at_way : (o : Option ℕ) (n : PlainNode) → Way TellMove n (reported_
 reported_at_way None n = One (Idle n n refl)
 reported_at_way (Some at) n = reported_with_way (view_at n.tracker.views at) n at refl
 
-reported_way : (n : PlainNode) (id : ℕ) → Way TellMove n (reported n id)
+pub reported_way : (n : PlainNode) (id : ℕ) → Way TellMove n (reported n id)
 reported_way n id = if_both (Way TellMove n) (is_leader n.role) _ _ (λ _. reported_at_way (place n.tracker.views id) n) (λ _. One (Idle n n refl))
 
 compacted_way : {sound : Type 0} {w : Ways} (o : Option CompactFault) (n : PlainNode) (i : ℕ) → compact_fault n.log i (min n.applied n.log.durable) ≡ o

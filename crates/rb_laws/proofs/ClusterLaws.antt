@@ -1,112 +1,152 @@
--- Election safety and log matching of a cluster, and where a cluster begins
-use Rattle.std.proofs.Common.{◌≡◌, ℕ, zero, suc, ◌+◌, true, List, [], ◌∷◌, ◌++◌, length, length-append, Some, Result, Ok, refl, sym, ap, subst, ◌∙◌}
+-- Election safety and log matching of a script's cluster, at any two points. The network begins with all nodes that are ever added.
+use Rattle.std.proofs.Common.{◌≡◌, ℕ, ◌+◌, ◌<◌, ◌≤◌, true, List, [], ◌++◌, length, Some, refl, sym, ap, subst, ◌∙◌, arith, inl, inr}
 use Rattle.std.specs.Prelude.{Contains, slice_get}
-use Rattle.std.specs.List.{range_with_len}
-use Rattle.std.proofs.lemmas.List.Elements.{All-contains_itself}
+use Rattle.std.proofs.lemmas.Bool.{cases_lt}
+use Rattle.std.proofs.lemmas.List.Elements.{All-nil}
 use Rattle.std.proofs.lemmas.Option.{none-some}
 use Rattle.rb_script.specs.Directive.{PlainDirective}
-use Rattle.rb_vocab.specs.declared.directive_error.DirectiveError.{DirectiveError}
+use Rattle.rb_script.specs.Script.{PlainScript}
 use Rattle.rb_directive.specs.declared.requests.AddNodes.{AddNodes}
-use Rattle.rb_directive.specs.declared.requests.Request.{Request}
-use Rattle.rb_directive.specs.declared.requests.Request.TheVariants as requests
-use Rattle.rb_directive.specs.declared.build.Asked.{Asked}
-use Rattle.rb_directive.specs.Requests.{request}
 use Rattle.rb_vocab.specs.declared.conf_state.ConfState.{ConfState}
 use Rattle.rb_raftlog.specs.declared.snapshot.Snapshot.{Snapshot}
+use Rattle.rb_raftlog.specs.Log.{LogValue}
 use Rattle.rb_raftlog.specs.Laws.{AreMatching}
 use Rattle.rb_message.specs.declared.message.Message.{Message}
-use Rattle.rb_node.specs.declared.options.Options.{Options}
 use Rattle.rb_node.specs.Node.{PlainNode, started}
-use Rattle.rb_node.specs.Calls.{node_started}
-use Rattle.rb_machine.specs.AddNodes.{start, options, node_added, added_each, nodes_added}
+use Rattle.rb_machine.specs.AddNodes.{start}
 use Rattle.rb_machine.specs.Cluster.{Cluster, empty}
-use Rattle.rb_machine.specs.Outcome.{effect, outcome}
-use Rattle.rb_laws.specs.Clusters.{AreSteady, led, IsNew}
-use Rattle.rb_laws.specs.Network.{Network, run, IsStarted, AreStarted, Leads}
-use Rattle.rb_laws.proofs.DirectiveLaws.{IsCovered, by_directives, outcome_has}
-use Rattle.rb_laws.proofs.ListLaws.{each_push, in_nothing}
+use Rattle.rb_replay.specs.Run.{directives, led, state}
+use Rattle.rb_laws.specs.Clusters.{AreSteady, HasSameMembers}
+use Rattle.rb_laws.specs.Network.{Network, run, AreStarted, IsBegun, Leads}
+use Rattle.rb_laws.proofs.DirectiveLaws.{IsCovered}
+use Rattle.rb_laws.proofs.JoinLaws.{AreStartsOf, both_start, all_come, all_grow, all_start, all_join, get_before, TwoPoints, two_points}
+use Rattle.rb_laws.proofs.Holding.{Setting}
+use Rattle.rb_laws.proofs.ListLaws.{in_nothing}
 use Rattle.rb_laws.proofs.MatchingLaws.{two_match}
 use Rattle.rb_laws.proofs.SafetyLaws.{setting_of, begun_sane, one_leader}
-use Rattle.rb_laws.proofs.TieLaws.{IsComing, IsReached, lasts, stays}
-
--- ---- two leaders
-
-new_reached : (members : ConfState) (single : members.outgoing ≡ []) (c : Cluster) → IsNew members c → IsCovered (IsReached (setting_of true members single) (record { nodes = c.nodes; said = [] })) c
-new_reached members single c new =
-    let g = setting_of true members single in
-    let s : Network = record { nodes = c.nodes; said = [] } in
-    let sane = begun_sane true members single s (record { started = new.started; silent = refl }) in
-    let coming : (m : Message) → Contains c.pending m → IsComing g s m = λ m among. absurd (in_nothing c.pending m new.silent among) in
-    (c.pending, (stays g s c.nodes c.pending (record { sane = sane; same = refl; coming = coming }), All-contains_itself c.pending))
-
-pub one_cluster_leader : (members : ConfState) (c : Cluster) (earlier later : List PlainDirective) (first second term : ℕ) → members.outgoing ≡ [] → IsNew members c → AreSteady earlier → AreSteady later → Leads (led c earlier).nodes first term → Leads (led (led c earlier) later).nodes second term → second ≡ first
-unfolding setting_of
-one_cluster_leader members c earlier later first second term single new steady steady_still a b =
-    let g = setting_of true members single in
-    let s : Network = record { nodes = c.nodes; said = [] } in
-    let r = by_directives (lasts g s) c earlier (λ _. steady) (new_reached members single c new) in
-    let first_run = r.1.0 in
-    let t = run first_run.happenings s in
-    let q = by_directives (lasts g t) (led c earlier) later (λ _. steady_still) (r.0, (stays g t (led c earlier).nodes r.0 first_run.tied, r.1.1)) in
-    one_leader members s first_run.happenings q.1.0.happenings first second term single (record { started = new.started; silent = refl }) first_run.honest q.1.0.honest
-    (subst (λ (nodes : List PlainNode). Leads nodes first term) first_run.tied.same a)
-    (subst (λ (nodes : List PlainNode). Leads nodes second term) q.1.0.tied.same b)
-
--- ---- two logs
-
-pub cluster_matches : (members : ConfState) (c : Cluster) (earlier later : List PlainDirective) (j k : ℕ) (first second : PlainNode) → members.outgoing ≡ [] → IsNew members c → AreSteady earlier → AreSteady later → slice_get (led c earlier).nodes j ≡ Some first → slice_get (led (led c earlier) later).nodes k ≡ Some second → AreMatching first.log second.log
-unfolding setting_of
-cluster_matches members c earlier later j k first second single new steady steady_still at there =
-    let g = setting_of true members single in
-    let s : Network = record { nodes = c.nodes; said = [] } in
-    let r = by_directives (lasts g s) c earlier (λ _. steady) (new_reached members single c new) in
-    let first_run = r.1.0 in
-    let t = run first_run.happenings s in
-    let q = by_directives (lasts g t) (led c earlier) later (λ _. steady_still) (r.0, (stays g t (led c earlier).nodes r.0 first_run.tied, r.1.1)) in
-    let later_run = q.1.0 in
-    two_match members s first_run.happenings later_run.happenings j k first second single (record { started = new.started; silent = refl }) first_run.honest later_run.honest first_run.genuine later_run.genuine
-    (subst (λ (nodes : List PlainNode). slice_get nodes j ≡ Some first) first_run.tied.same at)
-    (subst (λ (nodes : List PlainNode). slice_get nodes k ≡ Some second) later_run.tied.same there)
+use Rattle.rb_laws.proofs.TieLaws.{IsComing, IsReached, reaches, stays}
 
 -- ---- the beginning
 
-one_started : (members : ConfState) (from : Snapshot) (given : Options) (xs : List PlainNode) → from.config ≡ members → AreStarted members xs → AreStarted members (xs ++ started (length xs + 1) from given ∷ [])
-one_started members from given xs same before =
-    each_push (λ (k : ℕ) (n : PlainNode). IsStarted members (k + 1) n) xs (started (length xs + 1) from given) (record { start = from; options = given; config = same; is = refl }) before
+-- the nodes that come before a point, and those that come later
+abbrev pub come_before : List PlainDirective → List PlainNode
+come_before earlier = all_come empty earlier
 
-all_started : (members : ConfState) (from : Snapshot) (given : Options) (n : ℕ) (x : Cluster) → from.config ≡ members → AreStarted members x.nodes → AreStarted members (added_each from given x (range_with_len (length x.nodes + 1) n)).cluster.nodes
-all_started members from given zero x same before = before
-all_started members from given (suc n) x same before =
-    let id = length x.nodes + 1 in
-    let y = (node_added x (node_started id from given [])).cluster in
-    let longer : length y.nodes ≡ id = length-append x.nodes (started id from given ∷ []) in
-    subst (λ (low : ℕ). AreStarted members (added_each from given y (range_with_len low n)).cluster.nodes) (ap (λ (i : ℕ). i + 1) longer)
-    (all_started members from given n y same (one_started members from given x.nodes same before))
+abbrev pub come_after : List PlainDirective → List PlainDirective → List PlainNode
+come_after earlier later = all_come (led empty earlier) later ++ []
 
-none_sent : (from : Snapshot) (given : Options) (ids : List ℕ) (x : Cluster) → (added_each from given x ids).cluster.pending ≡ x.pending
-none_sent from given [] x = refl
-none_sent from given (id ∷ ids) x = none_sent from given ids (node_added x (node_started id from given [])).cluster
+abbrev pub first_network : List PlainDirective → List PlainDirective → Network
+first_network earlier later = record { nodes = come_before earlier ++ come_after earlier later; said = [] }
 
-added_new : (members : ConfState) (r : AddNodes) (x : Cluster) → (start r).config ≡ members → IsNew members x → IsNew members (nodes_added r x).cluster
-unfolding nodes_added
-added_new members r x same new = record {
-  started = all_started members (start r) (options r) r.count x same new.started;
-  silent = none_sent (start r) (options r) (range_with_len (length x.nodes + 1) r.count) x ∙ new.silent;
-}
-
-pub same_asked : (r : Result Asked DirectiveError) (a b : Asked) → r ≡ Ok a → r ≡ Ok b → a ≡ b
-same_asked r a b one two = cc
-
-pub still_new : (members : ConfState) (c : Cluster) (d : PlainDirective) (a : Asked) (r : AddNodes) → request d ≡ Ok a → a.request ≡ requests.AddNodes r → (start r).config ≡ members → IsNew members c → IsNew members (outcome c d).cluster
-still_new members c d a r asks adds same new =
-    outcome_has (IsNew members) c d
-    (λ b is _. (let so : requests.AddNodes r ≡ b.request = sym adds ∙ ap (λ (x : Asked). x.request) (same_asked (request d) a b asks is) in
-    subst (λ (q : Request). IsNew members (effect q c).cluster) so (added_new members r c same new))) new
-
-pub empty_new : (members : ConfState) → IsNew members empty
+pub all_start_so : (starts : Snapshot → Type 0) (earlier later : List PlainDirective) → AreSteady starts earlier → AreSteady starts later → AreStartsOf starts 0 (first_network earlier later).nodes
 unfolding empty
-empty_new members = record { started = λ k n is. absurd (none-some n is); silent = refl }
+all_start_so starts earlier later steady steady_still =
+    let news = all_come (led empty earlier) later in
+    let many : length (led empty earlier).nodes ≡ 0 + length (come_before earlier) = all_grow starts empty earlier steady in
+    let second : AreStartsOf starts (length (led empty earlier).nodes) (news ++ []) =
+    both_start starts (length (led empty earlier).nodes) news [] (all_start starts (led empty earlier) later steady_still) (λ k n at. absurd (none-some n at)) in
+    both_start starts 0 (come_before earlier) (news ++ []) (all_start starts empty earlier steady) (subst (λ (low : ℕ). AreStartsOf starts low (news ++ [])) many second)
+
+pub begun_with : (members : ConfState) (earlier later : List PlainDirective) → AreSteady (λ (from : Snapshot). from.config ≡ members) earlier → AreSteady (λ (from : Snapshot). from.config ≡ members) later → IsBegun members (first_network earlier later)
+begun_with members earlier later steady steady_still =
+    let all = all_start_so (λ (from : Snapshot). from.config ≡ members) earlier later steady steady_still in
+    record {
+      started = λ k n at.
+          (let is = all k n at in
+          let same : 0 + k + 1 ≡ k + 1 = omega arith in
+          record { start = is.from; options = is.given; config = is.as_asked; is = is.is ∙ ap (λ (id : ℕ). started id is.from is.given) same });
+      silent = refl;
+    }
+
+-- ---- two points
+
+-- honest happenings lead to both
+record AreReached (g : Setting) (earlier later : List PlainDirective) : Type 0 where
+  coming : List Message
+  first : IsReached g (first_network earlier later) (come_after earlier later) (led empty earlier).nodes coming
+  coming_still : List Message
+  second : IsReached g (run first.happenings (first_network earlier later)) [] (led (led empty earlier) later).nodes coming_still
+
+both_reached : (members : ConfState) (single : members.outgoing ≡ []) (earlier later : List PlainDirective) → AreSteady (λ (from : Snapshot). from.config ≡ members) earlier → AreSteady (λ (from : Snapshot). from.config ≡ members) later → AreReached (setting_of true members single) earlier later
+unfolding empty
+both_reached members single earlier later steady steady_still =
+    let g = setting_of true members single in
+    let starts : Snapshot → Type 0 = λ from. from.config ≡ members in
+    let s = first_network earlier later in
+    let none : List Message = [] in
+    let sane = begun_sane true members single s (begun_with members earlier later steady steady_still) in
+    let begin : IsReached g s s.nodes [] none = stays g s s.nodes [] none (record { sane = sane; same = refl; coming = λ m among. absurd (in_nothing none m refl among) }) in
+    let a = all_join (reaches g s) starts empty earlier (come_after earlier later) steady (none, (begin, All-nil (Contains none))) in
+    let t = run a.1.0.happenings s in
+    let c = led empty earlier in
+    let b = all_join (reaches g t) starts c later [] steady_still (a.0, (stays g t (come_after earlier later) c.nodes a.0 a.1.0.tied, a.1.1)) in
+    record { coming = a.0; first = a.1.0; coming_still = b.0; second = b.1.0 }
 
 pub start_single : (r : AddNodes) → (start r).config.outgoing ≡ []
 unfolding start
 start_single r = refl
+
+-- ---- two leaders
+
+leads_among : (nodes silent all : List PlainNode) (id term : ℕ) → nodes ++ silent ≡ all → Leads nodes id term → Leads all id term
+leads_among nodes silent all id term same l =
+    subst (λ (ns : List PlainNode). Leads ns id term) same
+    (record { place = l.place; node = l.node; stands = get_before nodes silent l.place l.node l.stands; leads = l.leads; of_term = l.of_term; of_id = l.of_id })
+
+leader_between : (members : ConfState) (single : members.outgoing ≡ []) (earlier later : List PlainDirective) (first second term : ℕ) → AreSteady (λ (from : Snapshot). from.config ≡ members) earlier → AreSteady (λ (from : Snapshot). from.config ≡ members) later
+    → Leads (led empty earlier).nodes first term → Leads (led (led empty earlier) later).nodes second term → second ≡ first
+unfolding setting_of
+leader_between members single earlier later first second term steady steady_still a b =
+    let s = first_network earlier later in
+    let r = both_reached members single earlier later steady steady_still in
+    let t = run r.first.happenings s in
+    let u = run r.second.happenings t in
+    one_leader members s r.first.happenings r.second.happenings first second term single (begun_with members earlier later steady steady_still) r.first.honest r.second.honest
+    (leads_among (led empty earlier).nodes (come_after earlier later) t.nodes first term r.first.tied.same a)
+    (leads_among (led (led empty earlier) later).nodes [] u.nodes second term r.second.tied.same b)
+
+leader_at : (s : PlainScript) (p q first second term : ℕ) → p ≤ q → HasSameMembers s → Leads (state s p).nodes first term → Leads (state s q).nodes second term → second ≡ first
+leader_at s p q first second term low h a b =
+    let members = (start h.first).config in
+    let x = two_points (λ (from : Snapshot). from.config ≡ members) (directives s) p q low h.steady in
+    leader_between members (start_single h.first) x.earlier x.later first second term x.steady x.steady_still
+    (subst (λ (c : Cluster). Leads c.nodes first term) x.first a) (subst (λ (c : Cluster). Leads c.nodes second term) x.second b)
+
+pub one_cluster_leader : (s : PlainScript) (p q first second term : ℕ) → HasSameMembers s → Leads (state s p).nodes first term → Leads (state s q).nodes second term → second ≡ first
+one_cluster_leader s p q first second term h a b =
+    elim (cases_lt p q) as (λ _. second ≡ first) [
+      | inl less ↦ leader_at s p q first second term (omega (arith, less)) h a b
+      | inr over ↦ sym (leader_at s q p second first term over h b a)
+    ]
+
+-- ---- two logs
+
+matches_between : (members : ConfState) (single : members.outgoing ≡ []) (earlier later : List PlainDirective) (j k : ℕ) (first second : PlainNode) → AreSteady (λ (from : Snapshot). from.config ≡ members) earlier → AreSteady (λ (from : Snapshot). from.config ≡ members) later
+    → slice_get (led empty earlier).nodes j ≡ Some first → slice_get (led (led empty earlier) later).nodes k ≡ Some second → AreMatching first.log second.log
+unfolding setting_of
+matches_between members single earlier later j k first second steady steady_still at there =
+    let s = first_network earlier later in
+    let r = both_reached members single earlier later steady steady_still in
+    two_match members s r.first.happenings r.second.happenings j k first second single (begun_with members earlier later steady steady_still) r.first.honest r.second.honest r.first.genuine r.second.genuine
+    (subst (λ (ns : List PlainNode). slice_get ns j ≡ Some first) r.first.tied.same (get_before (led empty earlier).nodes (come_after earlier later) j first at))
+    (subst (λ (ns : List PlainNode). slice_get ns k ≡ Some second) r.second.tied.same (get_before (led (led empty earlier) later).nodes [] k second there))
+
+matches_at : (s : PlainScript) (p q j k : ℕ) (first second : PlainNode) → p ≤ q → HasSameMembers s → slice_get (state s p).nodes j ≡ Some first → slice_get (state s q).nodes k ≡ Some second → AreMatching first.log second.log
+matches_at s p q j k first second low h at there =
+    let members = (start h.first).config in
+    let x = two_points (λ (from : Snapshot). from.config ≡ members) (directives s) p q low h.steady in
+    matches_between members (start_single h.first) x.earlier x.later j k first second x.steady x.steady_still
+    (subst (λ (c : Cluster). slice_get c.nodes j ≡ Some first) x.first at) (subst (λ (c : Cluster). slice_get c.nodes k ≡ Some second) x.second there)
+
+matching_back : (v w : LogValue) → AreMatching v w → AreMatching w v
+matching_back v w m = record {
+  terms = λ i j t one two low above_w above_v. sym (m.terms i j t two one low above_v above_w);
+  entries = λ i j t one two low above_w above_v. sym (m.entries i j t two one low above_v above_w);
+}
+
+pub cluster_matches : (s : PlainScript) (p q j k : ℕ) (first second : PlainNode) → HasSameMembers s → slice_get (state s p).nodes j ≡ Some first → slice_get (state s q).nodes k ≡ Some second → AreMatching first.log second.log
+cluster_matches s p q j k first second h at there =
+    elim (cases_lt p q) as (λ _. AreMatching first.log second.log) [
+      | inl less ↦ matches_at s p q j k first second (omega (arith, less)) h at there
+      | inr over ↦ matching_back second.log first.log (matches_at s q p k j second first over h there at)
+    ]

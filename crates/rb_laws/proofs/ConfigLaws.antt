@@ -35,7 +35,7 @@ tells_config : {a b : PlainNode} → TellMove a b → b.tracker.config ≡ a.tra
 tells_config (Idle a b e) = ap (λ (w : Whole). w.tracker.config) e
 tells_config _ = refl
 
-keeps_config : Allows TellMove (λ a b. b.tracker.config ≡ a.tracker.config)
+pub keeps_config : Allows TellMove (λ a b. b.tracker.config ≡ a.tracker.config)
 keeps_config = record { nothing = λ n. refl; chain = λ a b c p q. q ∙ p; each = λ a b m. tells_config m }
 
 -- ---- a change
@@ -52,7 +52,7 @@ switched_config : (r : Result Config ChangeFault) (t : NodeStep) → (switched r
 switched_config (Ok c) t = led_on_config (with_event (with_node t (record t.node { tracker = configured t.node.tracker c })) (event_at t.node.id (event.Switched c)))
 switched_config (Err fault) t = refl
 
-change_config : (t : NodeStep) (transition : Transition) (words : List Word) → (change_applied t transition words).node.tracker.config ≡ result_unwrap_or (changed t.node.tracker.config transition words) t.node.tracker.config
+pub change_config : (t : NodeStep) (transition : Transition) (words : List Word) → (change_applied t transition words).node.tracker.config ≡ result_unwrap_or (changed t.node.tracker.config transition words) t.node.tracker.config
 unfolding change_applied
 change_config t transition words = switched_config (changed t.node.tracker.config transition words) t
 

@@ -51,7 +51,6 @@ use Rattle.rb_machine.specs.Effects.{Effect, each, acted_by, acted}
 use Rattle.rb_machine.specs.Snapshots.{queued, snapshot_sent_by, compact_error_by, compact_error, compact_by}
 use Rattle.rb_machine.specs.Views.{log_shown_by, status_shown_by}
 use Rattle.rb_machine.proofs.CompactLaws.{may_compact}
-use Rattle.rb_laws.specs.Clusters.{IsSteadyRequest, IsSteadyBy, AreSteady, led}
 use Rattle.rb_laws.proofs.ListLaws.{set_here}
 
 -- ---- what holds after a directive: it is refused, and the cluster stays; or it has its effect
@@ -94,6 +93,17 @@ Covers P ms c = P c.nodes ms × All (Contains ms) c.pending
 abbrev pub IsCovered : (List PlainNode → List Message → Type 0) → Cluster → Type 0
 IsCovered P c = (ms : List Message) × Covers P ms c
 
+-- ---- requests that neither add nodes nor propose a change
+
+abbrev pub IsQuietRequest : Request → Type 0
+IsQuietRequest (requests.AddNodes asked) = ⊥
+IsQuietRequest (requests.ProposeConfChange asked) = ⊥
+IsQuietRequest _ = Unit {0}
+
+abbrev pub IsQuietBy : Result Asked DirectiveError → Type 0
+IsQuietBy (Ok a) = IsQuietRequest a.request
+IsQuietBy (Err e) = Unit {0}
+
 -- ---- ids of nodes that exist
 
 abbrev AreIds : List ℕ → Type 0
@@ -102,7 +112,7 @@ AreIds ids = All (λ (id : ℕ). 0 < id) ids
 some_none : {X : Type 0} → (x : X) → Some x ≡ None → ⊥
 some_none x e = cc
 
-neither : {X : Type 0} → (a b : Option X) → option_or a b ≡ None → (a ≡ None) × (b ≡ None)
+pub neither : {X : Type 0} → (a b : Option X) → option_or a b ≡ None → (a ≡ None) × (b ≡ None)
 neither None b none = (refl, none)
 neither (Some x) b none = absurd (some_none x none)
 
@@ -302,7 +312,7 @@ module _ {steady : Bool} {P : List PlainNode → List Message → Type 0} (w : L
 
   -- ---- each request, and each directive
 
-  has_effect : (r : Request) (x : Cluster) (ms : List Message) → (steady ≡ true → IsSteadyRequest r) → (missing_node x.nodes (nodes_of r) ≡ None) × (own_fault r x ≡ None) → Covers P ms x → IsCovered P (effect r x).cluster
+  pub has_effect : (r : Request) (x : Cluster) (ms : List Message) → (steady ≡ true → IsQuietRequest r) → (missing_node x.nodes (nodes_of r) ≡ None) × (own_fault r x ≡ None) → Covers P ms x → IsCovered P (effect r x).cluster
   unfolding nodes_added compact_error
   has_effect (requests.AddNodes asked) x ms asks may h = (ms, adds ms (start asked) (options asked) x (range_with_len (length x.nodes + 1) asked.count) asks h)
   has_effect (requests.ProposeConfChange asked) x ms asks may h =
@@ -322,12 +332,8 @@ module _ {steady : Bool} {P : List PlainNode → List Message → Type 0} (w : L
   has_effect (requests.Status id) x ms asks may h = (ms, elim (node_at x id) as (λ o. Covers P ms (status_shown_by o x).cluster) [ None ↦ h | Some n ↦ h ])
   has_effect requests.RaftState x ms asks may h = (ms, h)
 
-  pub by_directive : (c : Cluster) (d : PlainDirective) → (steady ≡ true → IsSteadyBy (request d)) → IsCovered P c → IsCovered P (outcome c d).cluster
+  pub by_directive : (c : Cluster) (d : PlainDirective) → (steady ≡ true → IsQuietBy (request d)) → IsCovered P c → IsCovered P (outcome c d).cluster
   unfolding fault
   by_directive c d asks h =
       outcome_has (IsCovered P) c d
-      (λ a is none. has_effect a.request c h.0 (λ so. subst IsSteadyBy is (asks so)) (neither (missing_node c.nodes (nodes_of a.request)) (own_fault a.request c) none) h.1) h
-
-  pub by_directives : (c : Cluster) (ds : List PlainDirective) → (steady ≡ true → AreSteady ds) → IsCovered P c → IsCovered P (led c ds)
-  by_directives c [] asks h = h
-  by_directives c (d ∷ ds) asks h = by_directives (outcome c d).cluster ds (λ is. (asks is).1) (by_directive c d (λ is. (asks is).0) h)
+      (λ a is none. has_effect a.request c h.0 (λ so. subst IsQuietBy is (asks so)) (neither (missing_node c.nodes (nodes_of a.request)) (own_fault a.request c) none) h.1) h

@@ -110,7 +110,7 @@ no_three true false true h =
       | inr rest ↦ elim rest as (λ _. true ≡ false) [ inl none ↦ sym none | inr over ↦ over ]
     ]
 
-no_lease_hears : (n : PlainNode) → HasNoLease n → hears_leader n ≡ false
+pub no_lease_hears : (n : PlainNode) → HasNoLease n → hears_leader n ≡ false
 no_lease_hears n none =
     no_three n.options.check_quorum (n.lead == 0) (nat_lt n.clock.elapsed ELECTION_TICKS)
     (elim none as (λ _. (n.options.check_quorum ≡ false) ⊎ (((n.lead == 0) ≡ true) ⊎ (nat_lt n.clock.elapsed ELECTION_TICKS ≡ false))) [

@@ -37,11 +37,14 @@ entry_within v i e at = (held_in v i e.term (entry_term v i e at)).1
 
 -- ---- a part of a log, as an append has it
 
-pub part_plain : (v : LogValue) (prev : ℕ) (es : List Entry) → AreOfLog v prev es → All IsPlain v.entries → All IsPlain es
-part_plain v prev es among plain k d low =
+pub part_all : (P : Entry → Type 0) (v : LogValue) (prev : ℕ) (es : List Entry) → AreOfLog v prev es → All P v.entries → All P es
+part_all P v prev es among all k d low =
     let e = get_or es k d in
     let x = entry_there v (prev + 1 + k) e (among k e (slice_get-get_or es k d low)) in
-    All-contains IsPlain v.entries e plain (x.0, slice_get_within v.entries x.0 e x.2, get_or_from_slice_get v.entries x.0 e e x.2)
+    All-contains P v.entries e all (x.0, slice_get_within v.entries x.0 e x.2, get_or_from_slice_get v.entries x.0 e e x.2)
+
+pub part_plain : (v : LogValue) (prev : ℕ) (es : List Entry) → AreOfLog v prev es → All IsPlain v.entries → All IsPlain es
+part_plain v prev es among plain = part_all IsPlain v prev es among plain
 
 part_entry : (v : LogValue) (p term i : ℕ) (es : List Entry) (e : Entry) → AreOfLog v p es → entry_at (log_from p term es) i ≡ Ok e → entry_at v i ≡ Ok e
 part_entry v p term i es e among at =

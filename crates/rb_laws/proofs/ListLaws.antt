@@ -53,13 +53,13 @@ in_nothing xs x none among = let low : among.0 < length xs = among.1 in omega (a
 
 -- ---- the elements of a number, and the others
 
-in_first : {X : Type 0} (x : X) (xs : List X) → Contains (x ∷ xs) x
+pub in_first : {X : Type 0} (x : X) (xs : List X) → Contains (x ∷ xs) x
 in_first x xs = Contains-append_left (x ∷ []) xs x (Contains-push [] x)
 
-in_rest : {X : Type 0} (x : X) (xs : List X) (y : X) → Contains xs y → Contains (x ∷ xs) y
+pub in_rest : {X : Type 0} (x : X) (xs : List X) (y : X) → Contains xs y → Contains (x ∷ xs) y
 in_rest x xs y among = Contains-append_right (x ∷ []) xs y among
 
-first_or_rest : {X : Type 0} (x : X) (xs : List X) (y : X) → Contains (x ∷ xs) y → (x ≡ y) ⊎ Contains xs y
+pub first_or_rest : {X : Type 0} (x : X) (xs : List X) (y : X) → Contains (x ∷ xs) y → (x ≡ y) ⊎ Contains xs y
 first_or_rest x xs y among =
     elim (Contains-append_cases (x ∷ []) xs y among) as (λ _. (x ≡ y) ⊎ Contains xs y) [
       | inr rest ↦ inr rest

@@ -43,7 +43,7 @@ written n at view is = subst (AreOfMembers n.role n.tracker.config) (sym (ids_se
 in_any_config : (r s : Role) (c d : Config) (ids : List ℕ) → (r ≡ role.Leader → ⊥) → (s ≡ role.Leader → ⊥) → AreOfMembers r c ids → AreOfMembers s d ids
 in_any_config r s c d ids first never is = record { only_leading = λ _. is.only_leading first; in_order = is.in_order; of_members = λ leads. absurd (never leads) }
 
-telling_members : {a b : PlainNode} → TellMove a b → HasViewsOfMembers a → HasViewsOfMembers b
+pub telling_members : {a b : PlainNode} → TellMove a b → HasViewsOfMembers a → HasViewsOfMembers b
 telling_members (Idle a b e) is = subst (λ (x : Whole). AreOfMembers x.core.role x.tracker.config (keys_of x.tracker.views)) (sym e) is
 telling_members (Viewed n at view new at_place same sound) is = written n at new is
 telling_members _ is = is
@@ -86,7 +86,7 @@ revised_members n leads up =
       of_members = λ _ id. revised_seen n id up ∙ sym (ap (λ (x : PlainNode). is_member x.tracker.config id) (with_members_only n));
     }
 
-change_members : {a b : PlainNode} → ChangeMove a b → HasViewsOfMembers a → HasViewsOfMembers b
+pub change_members : {a b : PlainNode} → ChangeMove a b → HasViewsOfMembers a → HasViewsOfMembers b
 change_members (Unchanged n) is = is
 change_members (Configures n c never) is = in_any_config n.role n.role n.tracker.config c (keys_of n.tracker.views) never never is
 change_members (Resigns n c) is = nobody role.Follower c no_follower

@@ -166,10 +166,10 @@ puts_plain {w} n body hears puts h =
     let single : n.tracker.config.outgoing ≡ [] = ap (λ (c : Config). c.outgoing) h.config ∙ w.setting.single in
     let never : is_joint n.tracker.config ≡ false = ap (λ (ids : List ℕ). not (length ids == 0)) single in
     elim puts as (λ _. is_change body ≡ false) [
-      | inl plain ↦ plain
+      | inl empty ↦ ap is_change empty
       | inr other ↦ elim other as (λ _. is_change body ≡ false) [
         | inl came ↦ (fine w (kind.Proposal body) hears came).0
-        | inr joint ↦ absurd (false≢true (sym never ∙ joint))
+        | inr joint ↦ absurd (false≢true (sym never ∙ joint.1))
       ]
     ]
 

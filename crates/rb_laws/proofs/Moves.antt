@@ -11,6 +11,7 @@ use Rattle.rb_raftlog.specs.declared.entry.Body.TheVariants.{Payload, Change}
 use Rattle.rb_raftlog.specs.declared.entry.Entry.{Entry}
 use Rattle.rb_raftlog.specs.declared.snapshot.Snapshot.{Snapshot}
 use Rattle.rb_vocab.specs.declared.change.Transition.{Transition}
+use Rattle.rb_vocab.specs.declared.change.Transition.TheVariants.{Auto}
 use Rattle.rb_vocab.specs.declared.change.Word.{Word}
 use Rattle.rb_tracker.specs.Active.{others_marked_inactive}
 use Rattle.rb_tracker.specs.Ballots.{answered, vote_result}
@@ -122,9 +123,9 @@ pub data Learned (w : Ways) (n : PlainNode) (i : ℕ) : Type 0 where
   By_beat : (commit : ℕ) (m : CameNow w n (kind.Heartbeat commit)) → i ≤ commit → i ≤ last n.log → Learned w n i
   By_snapshot : (s : Snapshot) → CameNow w n (kind.Snapshot s) → i ≡ s.index → term_at n.log i ≡ Ok s.term → Learned w n i
 
--- what a leader appends is no change, or is proposed, or leaves a joint configuration
+-- what a leader appends is empty, or is proposed, or leaves a joint configuration
 abbrev pub Puts : Ways → PlainNode → Body → Type 0
-Puts w n body = (is_change body ≡ false) ⊎ (Came w (kind.Proposal body) ⊎ (is_joint n.tracker.config ≡ true))
+Puts w n body = (body ≡ Payload []) ⊎ (Came w (kind.Proposal body) ⊎ ((body ≡ Change Auto []) × (is_joint n.tracker.config ≡ true)))
 
 pub data StepMove (w : Ways) : PlainNode → PlainNode → Type 0 where
   StepTells : {a b : PlainNode} → TellMove a b → StepMove w a b

@@ -13,8 +13,8 @@ use Rattle.rb_node.specs.Node.{PlainNode}
 use Rattle.rb_laws.specs.Sound.{HasSoundViews}
 use Rattle.rb_laws.proofs.ViewLaws.{no_views}
 use Rattle.rb_laws.specs.Network.{Network, Happening, put_out, happened_to, IsStarted, IsBegun, Leads}
-use Rattle.rb_laws.specs.Restarts.{Durable, durable, Occurrence, Called, Restarted, called_to, restarted_to, occurred, passed, AreHonestThrough, AreTrueThrough}
-use Rattle.rb_laws.specs.Safety.{BeginAt, HasCommitted}
+use Rattle.rb_laws.specs.Restarts.{Durable, durable, Occurrence, Called, Restarted, called_to, restarted_to, occurred, passed, AreHonestThrough, IsRestartingNetwork}
+use Rattle.rb_laws.specs.Safety.{HasCommitted}
 use Rattle.rb_laws.proofs.Links.{still_linked, linked_match}
 use Rattle.rb_laws.proofs.ListLaws.{in_nothing}
 use Rattle.rb_laws.proofs.Holding.{Setting, IsElected, still_elected, still_holds}
@@ -29,7 +29,8 @@ use Rattle.rb_laws.proofs.NodeKnowledge.{Ground}
 use Rattle.rb_laws.proofs.FollowerMoves.{IsWhole}
 use Rattle.rb_laws.proofs.CommittedLogs.{Had, had, leader_has, commits_agree, contents_same}
 use Rattle.rb_laws.proofs.NetworkHistory.{AreAlike, begun_known, no_history}
-use Rattle.rb_laws.proofs.TwoMoments.{alike_at}
+use Rattle.rb_laws.proofs.TrueCalls.{all_honest_through}
+use Rattle.rb_laws.proofs.TwoMoments.{TellsBoth, ground_of, alike_at}
 use Rattle.rb_laws.proofs.Forgetting.{IsSince, since_tip, since_settled}
 use Rattle.rb_laws.proofs.RestartedNodes.{IsSaneWith, pass_sane}
 use Rattle.rb_laws.proofs.RestartHistory.{IsKnownWith, pass_known}
@@ -116,76 +117,67 @@ since_had g old new n since h = record {
   leads = λ is. since_tip old new n.term (tip n.log) since (h.leads is);
 }
 
--- the history later, which tells of both
-record TellsThen (g : Ground) (first second : PlainNode) : Type 0 where
-  heard : List Message
-  history : History
-  whole : IsWhole g heard history
-  earlier : Had g history first
-  later : Had g history second
-  applied_earlier : first.applied ≤ first.commit
-  applied_later : second.applied ≤ second.commit
-
-abbrev ground : (members : ConfState) → members.outgoing ≡ [] → ℕ → ℕ → List ℕ → Ground
-ground members single index term content = record { root = spot index term; start = content; setting = setting_of false members single }
-
-tells_then : (members : ConfState) (single : members.outgoing ≡ []) (index term : ℕ) (content : List ℕ) (s : Network) (earlier later : List Occurrence) (j k : ℕ) (first second : PlainNode) → term ≤ 1 → IsBegun members s → BeginAt index term content s.nodes → AreHonestThrough (config_of members) earlier (durable s) → AreHonestThrough (config_of members) later (passed earlier (durable s)) → AreTrueThrough earlier (durable s) → AreTrueThrough later (passed earlier (durable s))
-    → slice_get (passed earlier (durable s)).network.nodes j ≡ Some first → slice_get (passed later (passed earlier (durable s))).network.nodes k ≡ Some second → TellsThen (ground members single index term content) first second
+tells_then : (s : Network) (earlier later : List Occurrence) (j k : ℕ) (first second : PlainNode) → (net : IsRestartingNetwork s earlier later)
+    → slice_get (passed earlier (durable s)).network.nodes j ≡ Some first → slice_get (passed later (passed earlier (durable s))).network.nodes k ≡ Some second → TellsBoth (ground_of s net.starts) first second
 unfolding setting_of
-tells_then members single index term content s earlier later j k first second low begun alike honest honest_still true_calls true_still at there =
-    let g : Ground = ground members single index term content in
+tells_then s earlier later j k first second net at there =
+    let start = net.starts in
+    let g : Ground = ground_of s start in
     let x = durable s in
     let t = passed earlier x in
     let loose : g.setting.strict ≡ true → ⊥ = λ no. false≢true no in
-    let sane : IsSaneWith g.setting x = begun_with members single s begun in
+    let sane : IsSaneWith g.setting x = begun_with start.members start.single s start.begun in
+    let honest : AreHonestThrough g.setting.config earlier x = all_honest_through g.setting loose earlier x sane net.before in
     let sane_then : IsSaneWith g.setting t = pass_sane g.setting loose earlier x sane honest in
+    let honest_still : AreHonestThrough g.setting.config later t = all_honest_through g.setting loose later t sane_then net.since in
     let sane_now : IsSaneWith g.setting (passed later t) = pass_sane g.setting loose later t sane_then honest_still in
-    let a = pass_known g earlier x s.said no_history loose sane honest true_calls (begun_known_with g members s low begun (alike_at index term content s.nodes alike)) in
-    let b = pass_known g later t a.heard a.history loose sane_then honest_still true_still a.known in
+    let alike = alike_at start.index start.term start.content s.nodes start.begins in
+    let a = pass_known g earlier x s.said no_history loose sane honest net.before (begun_known_with g start.members s start.low start.begun alike) in
+    let b = pass_known g later t a.heard a.history loose sane_then honest_still net.since a.known in
     record {
       heard = b.heard;
       history = b.history;
       whole = b.known.known.whole;
       earlier = since_had g a.history b.history first b.since (had g a.history (j + 1) first (a.known.known.knows j first at));
       later = had g b.history (k + 1) second (b.known.known.knows k second there);
-      applied_earlier = (sane_then.sane.good j first at).sound.is_committed;
-      applied_later = (sane_now.sane.good k second there).sound.is_committed;
+      sound_earlier = (sane_then.sane.good j first at).sound;
+      sound_later = (sane_now.sane.good k second there).sound;
     }
 
-pub logs_match : (members : ConfState) (index term : ℕ) (content : List ℕ) (s : Network) (earlier later : List Occurrence) (j k : ℕ) (n m : PlainNode) → members.outgoing ≡ [] → term ≤ 1 → IsBegun members s → BeginAt index term content s.nodes → AreHonestThrough (config_of members) earlier (durable s) → AreHonestThrough (config_of members) later (passed earlier (durable s)) → AreTrueThrough earlier (durable s) → AreTrueThrough later (passed earlier (durable s))
+pub logs_match : (s : Network) (earlier later : List Occurrence) (j k : ℕ) (n m : PlainNode) → IsRestartingNetwork s earlier later
     → slice_get (passed earlier (durable s)).network.nodes j ≡ Some n → slice_get (passed later (passed earlier (durable s))).network.nodes k ≡ Some m → AreMatching n.log m.log
-logs_match members index term content s earlier later j k n m single low begun alike honest honest_still true_calls true_still at there =
-    let x = tells_then members single index term content s earlier later j k n m low begun alike honest honest_still true_calls true_still at there in
+logs_match s earlier later j k n m net at there =
+    let x = tells_then s earlier later j k n m net at there in
     linked_match x.history.links n.log m.log x.whole.lawful.history.tree.single x.earlier.linked x.later.linked
 
-pub leads_after : (members : ConfState) (index term : ℕ) (content : List ℕ) (s : Network) (earlier later : List Occurrence) (j k : ℕ) (n l : PlainNode) → members.outgoing ≡ [] → term ≤ 1 → IsBegun members s → BeginAt index term content s.nodes → AreHonestThrough (config_of members) earlier (durable s) → AreHonestThrough (config_of members) later (passed earlier (durable s)) → AreTrueThrough earlier (durable s) → AreTrueThrough later (passed earlier (durable s))
+pub leads_after : (s : Network) (earlier later : List Occurrence) (j k : ℕ) (n l : PlainNode) → IsRestartingNetwork s earlier later
     → slice_get (passed earlier (durable s)).network.nodes j ≡ Some n → slice_get (passed later (passed earlier (durable s))).network.nodes k ≡ Some l → l.role ≡ role.Leader → n.term < l.term → HasCommitted n l
-leads_after members index term content s earlier later j k n l single low begun alike honest honest_still true_calls true_still at there leads past =
-    let x = tells_then members single index term content s earlier later j k n l low begun alike honest honest_still true_calls true_still at there in
-    leader_has (ground members single index term content) x.heard x.history n l x.whole x.earlier x.later leads past
+leads_after s earlier later j k n l net at there leads past =
+    let x = tells_then s earlier later j k n l net at there in
+    leader_has (ground_of s net.starts) x.heard x.history n l x.whole x.earlier x.later leads past
 
-pub leads_before : (members : ConfState) (index term : ℕ) (content : List ℕ) (s : Network) (earlier later : List Occurrence) (j k : ℕ) (l n : PlainNode) → members.outgoing ≡ [] → term ≤ 1 → IsBegun members s → BeginAt index term content s.nodes → AreHonestThrough (config_of members) earlier (durable s) → AreHonestThrough (config_of members) later (passed earlier (durable s)) → AreTrueThrough earlier (durable s) → AreTrueThrough later (passed earlier (durable s))
+pub leads_before : (s : Network) (earlier later : List Occurrence) (j k : ℕ) (l n : PlainNode) → IsRestartingNetwork s earlier later
     → slice_get (passed earlier (durable s)).network.nodes j ≡ Some l → slice_get (passed later (passed earlier (durable s))).network.nodes k ≡ Some n → l.role ≡ role.Leader → n.term < l.term → HasCommitted n l
-leads_before members index term content s earlier later j k l n single low begun alike honest honest_still true_calls true_still at there leads past =
-    let x = tells_then members single index term content s earlier later j k l n low begun alike honest honest_still true_calls true_still at there in
-    leader_has (ground members single index term content) x.heard x.history n l x.whole x.later x.earlier leads past
+leads_before s earlier later j k l n net at there leads past =
+    let x = tells_then s earlier later j k l n net at there in
+    leader_has (ground_of s net.starts) x.heard x.history n l x.whole x.later x.earlier leads past
 
-pub commits_same : (members : ConfState) (index term : ℕ) (content : List ℕ) (s : Network) (earlier later : List Occurrence) (j k i : ℕ) (n m : PlainNode) → members.outgoing ≡ [] → term ≤ 1 → IsBegun members s → BeginAt index term content s.nodes → AreHonestThrough (config_of members) earlier (durable s) → AreHonestThrough (config_of members) later (passed earlier (durable s)) → AreTrueThrough earlier (durable s) → AreTrueThrough later (passed earlier (durable s))
+pub commits_same : (s : Network) (earlier later : List Occurrence) (j k i : ℕ) (n m : PlainNode) → IsRestartingNetwork s earlier later
     → slice_get (passed earlier (durable s)).network.nodes j ≡ Some n → slice_get (passed later (passed earlier (durable s))).network.nodes k ≡ Some m → i ≤ n.commit → i ≤ m.commit → n.log.base < i → m.log.base < i → entry_at n.log i ≡ entry_at m.log i
-commits_same members index term content s earlier later j k i n m single low begun alike honest honest_still true_calls true_still at there low_n low_m above_n above_m =
-    let x = tells_then members single index term content s earlier later j k n m low begun alike honest honest_still true_calls true_still at there in
-    commits_agree (ground members single index term content) x.heard x.history n m i x.whole x.earlier x.later low_n low_m above_n above_m
+commits_same s earlier later j k i n m net at there low_n low_m above_n above_m =
+    let x = tells_then s earlier later j k n m net at there in
+    commits_agree (ground_of s net.starts) x.heard x.history n m i x.whole x.earlier x.later low_n low_m above_n above_m
 
-pub applied_same : (members : ConfState) (index term : ℕ) (content : List ℕ) (s : Network) (earlier later : List Occurrence) (j k i : ℕ) (n m : PlainNode) → members.outgoing ≡ [] → term ≤ 1 → IsBegun members s → BeginAt index term content s.nodes → AreHonestThrough (config_of members) earlier (durable s) → AreHonestThrough (config_of members) later (passed earlier (durable s)) → AreTrueThrough earlier (durable s) → AreTrueThrough later (passed earlier (durable s))
+pub applied_same : (s : Network) (earlier later : List Occurrence) (j k i : ℕ) (n m : PlainNode) → IsRestartingNetwork s earlier later
     → slice_get (passed earlier (durable s)).network.nodes j ≡ Some n → slice_get (passed later (passed earlier (durable s))).network.nodes k ≡ Some m → i ≤ n.applied → i ≤ m.applied → n.log.base < i → m.log.base < i → entry_at n.log i ≡ entry_at m.log i
-applied_same members index term content s earlier later j k i n m single low begun alike honest honest_still true_calls true_still at there low_n low_m above_n above_m =
-    let x = tells_then members single index term content s earlier later j k n m low begun alike honest honest_still true_calls true_still at there in
-    let known_n = x.applied_earlier in
-    let known_m = x.applied_later in
-    commits_agree (ground members single index term content) x.heard x.history n m i x.whole x.earlier x.later (omega (arith, low_n, known_n)) (omega (arith, low_m, known_m)) above_n above_m
+applied_same s earlier later j k i n m net at there low_n low_m above_n above_m =
+    let x = tells_then s earlier later j k n m net at there in
+    let known_n = x.sound_earlier.is_committed in
+    let known_m = x.sound_later.is_committed in
+    commits_agree (ground_of s net.starts) x.heard x.history n m i x.whole x.earlier x.later (omega (arith, low_n, known_n)) (omega (arith, low_m, known_m)) above_n above_m
 
-pub contents_agree : (members : ConfState) (index term : ℕ) (content : List ℕ) (s : Network) (earlier later : List Occurrence) (j k : ℕ) (n m : PlainNode) → members.outgoing ≡ [] → term ≤ 1 → IsBegun members s → BeginAt index term content s.nodes → AreHonestThrough (config_of members) earlier (durable s) → AreHonestThrough (config_of members) later (passed earlier (durable s)) → AreTrueThrough earlier (durable s) → AreTrueThrough later (passed earlier (durable s))
+pub contents_agree : (s : Network) (earlier later : List Occurrence) (j k : ℕ) (n m : PlainNode) → IsRestartingNetwork s earlier later
     → slice_get (passed earlier (durable s)).network.nodes j ≡ Some n → slice_get (passed later (passed earlier (durable s))).network.nodes k ≡ Some m → n.applied ≡ m.applied → n.content ≡ m.content
-contents_agree members index term content s earlier later j k n m single low begun alike honest honest_still true_calls true_still at there same =
-    let x = tells_then members single index term content s earlier later j k n m low begun alike honest honest_still true_calls true_still at there in
-    contents_same (ground members single index term content) x.heard x.history n m x.whole x.earlier x.later x.applied_earlier x.applied_later same
+contents_agree s earlier later j k n m net at there same =
+    let x = tells_then s earlier later j k n m net at there in
+    contents_same (ground_of s net.starts) x.heard x.history n m x.whole x.earlier x.later x.sound_earlier.is_committed x.sound_later.is_committed same

@@ -1,5 +1,5 @@
 -- A snapshot that comes: it is restored whole, or leaves the log, the applied index, the content and the configuration (Ongaro's thesis, section 5.3)
-use Rattle.std.proofs.Common.{◌≡◌, ◌⊎◌, ℕ, ◌<◌, ◌≤◌, true, false, refl, sym, ap, subst, ◌∙◌, arith, inl, inr, nat_le, Some, None}
+use Rattle.std.proofs.Common.{[], ◌∷◌, ◌++◌, ◌≡◌, ◌⊎◌, ℕ, ◌<◌, ◌≤◌, true, false, refl, sym, ap, subst, ◌∙◌, arith, inl, inr, nat_le, Some, None}
 use Rattle.std.proofs.lemmas.Bool.{leb-true, cond-true, false≢true}
 use Rattle.rb_raftlog.specs.declared.snapshot.Snapshot.{Snapshot}
 use Rattle.rb_raftlog.specs.Log.{term_at, is_term}
@@ -13,7 +13,7 @@ use Rattle.rb_message.specs.declared.message.Message.{Message}
 use Rattle.rb_message.specs.declared.role.Role.{Role}
 use Rattle.rb_message.specs.declared.role.Role.TheVariants as role
 use Rattle.rb_node.specs.Following.{snapshot_handled, new_snapshot_handled, leader_contact_recorded}
-use Rattle.rb_node.specs.Node.{PlainNode, NodeStep, with_node, ignored}
+use Rattle.rb_node.specs.Node.{PlainNode, NodeStep, with_node, ignored, message}
 use Rattle.rb_node.specs.Readying.{ready}
 use Rattle.rb_node.specs.Step.{as_follower, as_precandidate, as_candidate, as_leader, by_role_of, at_term_by, stepped}
 use Rattle.rb_node.specs.Terms.{became_follower, stepped_later_by, stepped_earlier_by, ignores_campaign}
@@ -22,6 +22,10 @@ use Rattle.rb_laws.proofs.StepCases.{by_term}
 
 abbrev TakesSnapshot : PlainNode → Snapshot → NodeStep → Type 0
 TakesSnapshot old s t = IsRestored t.node s ⊎ KeepsState old t.node
+
+-- one more answer waits, with the commit that the node then has
+abbrev AnswersCommit : PlainNode → ℕ → NodeStep → Type 0
+AnswersCommit old from t = t.node.waiting ≡ old.waiting ++ message old.id from t.node.term (kind.AppendResponse t.node.commit) ∷ []
 
 kept : (n : PlainNode) → KeepsState n n
 kept n = record { log = refl; applied = refl; content = refl; config = refl }
@@ -99,6 +103,26 @@ news_restored t m s is reached steps_down past other =
     (taken_news (with_node (became_follower t t.node.term m.from) (leader_contact_recorded (became_follower t t.node.term m.from).node m.from)) m.from s past other)
     (taken_news (with_node (became_follower t m.term m.from) (leader_contact_recorded (became_follower t m.term m.from).node m.from)) m.from s past other)
     (λ why passes. elim passes as (λ _. IsRestored (ignored t m why).node s) [
+      | inl leads ↦ (let later = steps_down leads.0 in let same = leads.1 in absurd (omega (arith, later, same)))
+      | inr low ↦ absurd (omega (arith, low, reached))
+    ])
+
+-- and answers with its commit
+taken_answers : (t : NodeStep) (from : ℕ) (s : Snapshot) → AnswersCommit t.node from (snapshot_handled t from s)
+unfolding snapshot_handled
+taken_answers t from s =
+    let P : NodeStep → Type 0 = AnswersCommit t.node from in
+    if_both P (nat_le s.index t.node.commit) _ _ (λ _. refl)
+    (λ _. if_both P (is_term (term_at t.node.log s.index) s.term) _ (new_snapshot_handled t from s) (λ _. refl) (λ _. refl))
+
+pub snapshot_answered : (t : NodeStep) (m : Message) (s : Snapshot) → m.kind ≡ kind.Snapshot s → t.node.term ≤ m.term → (t.node.role ≡ role.Leader → t.node.term < m.term)
+    → AnswersCommit t.node m.from (stepped t m)
+snapshot_answered t m s is reached steps_down =
+    by_snapshot (AnswersCommit t.node m.from) t m s is
+    (taken_answers (with_node t (leader_contact_recorded t.node m.from)) m.from s)
+    (taken_answers (with_node (became_follower t t.node.term m.from) (leader_contact_recorded (became_follower t t.node.term m.from).node m.from)) m.from s)
+    (taken_answers (with_node (became_follower t m.term m.from) (leader_contact_recorded (became_follower t m.term m.from).node m.from)) m.from s)
+    (λ why passes. elim passes as (λ _. AnswersCommit t.node m.from (ignored t m why)) [
       | inl leads ↦ (let later = steps_down leads.0 in let same = leads.1 in absurd (omega (arith, later, same)))
       | inr low ↦ absurd (omega (arith, low, reached))
     ])

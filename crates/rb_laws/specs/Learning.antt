@@ -1,11 +1,14 @@
 -- What a node learns from its leader: a commit (Ongaro's thesis, section 3.5 and figure 3.1), and a snapshot (section 5.3)
-use Rattle.std.specs.Prelude.{◌≡◌, ◌+◌, ◌≤◌, true, min, length, Ok, []}
+use Rattle.std.specs.Prelude.{ℕ, ◌≡◌, ◌+◌, ◌<◌, ◌≤◌, true, max, min, length, Ok, Some, [], ◌∷◌, ◌++◌, slice_get}
+use Rattle.rb_raftlog.specs.declared.entry.Entry.{Entry}
 use Rattle.rb_raftlog.specs.declared.snapshot.Snapshot.{Snapshot}
 use Rattle.rb_raftlog.specs.Log.{last, term_at}
 use Rattle.rb_tracker.specs.Configs.{config_of}
+use Rattle.rb_message.specs.Appends.{PlainAppend}
 use Rattle.rb_message.specs.declared.kind.MessageKind.{MessageKind}
 use Rattle.rb_message.specs.declared.kind.MessageKind.TheVariants as kind
-use Rattle.rb_node.specs.Node.{PlainNode}
+use Rattle.rb_message.specs.declared.role.Role.TheVariants.{Leader}
+use Rattle.rb_node.specs.Node.{PlainNode, message}
 
 -- only a leader sends these
 abbrev pub IsLeaders : MessageKind → Type 0
@@ -40,3 +43,14 @@ pub record KeepsState (old new : PlainNode) : Type 0 where
   pub applied : new.applied ≡ old.applied
   pub content : new.content ≡ old.content
   pub config : new.tracker.config ≡ old.tracker.config
+
+-- who takes a message of a leader of its term or a later one: any node but a leader of that term
+pub record MayFollow (n : PlainNode) (term : ℕ) : Type 0 where
+  pub reached : n.term ≤ term
+  pub steps_down : n.role ≡ Leader → n.term < term
+
+-- A node has taken an append: its log has the entries, its commit is at least the append's as far as they go, and an answer waits that it has them.
+pub record HasTaken (old new : PlainNode) (append : PlainAppend) (from : ℕ) : Type 0 where
+  pub term : (k : ℕ) (e : Entry) → slice_get append.entries k ≡ Some e → term_at new.log (append.prev + 1 + k) ≡ Ok e.term
+  pub commit : new.commit ≡ max old.commit (min append.commit (append.prev + length append.entries))
+  pub says : new.waiting ≡ old.waiting ++ message old.id from new.term (kind.AppendResponse (append.prev + length append.entries)) ∷ []

@@ -2,8 +2,10 @@ pub mod Network
 pub mod Honesty
 pub mod Votes
 pub mod Clusters
+pub mod Printing
 pub mod Safety
 pub mod Restarts
+pub mod Configurations
 pub mod Sound
 pub mod Calling
 pub mod Elections
@@ -13,3 +15,10 @@ pub mod Matches
 pub mod Events
 pub mod Learning
 pub mod Rules
+pub mod Proposals
+pub mod Outgoing
+pub mod Timing
+pub mod Winning
+pub mod Committing
+pub mod Activity
+pub mod Lines

@@ -11,7 +11,7 @@ use Rattle.rb_node.specs.Readying.{hard_state}
 use Rattle.rb_laws.specs.Calling.{Call, Advance}
 use Rattle.rb_laws.specs.Honesty.{IsHonestCall}
 use Rattle.rb_laws.specs.Network.{Network, Happening, happened}
-use Rattle.rb_laws.specs.Safety.{IsTrueCall, IsStateCall}
+use Rattle.rb_laws.specs.Safety.{IsTrueCall, IsStateCall, StartsAlike}
 
 -- a network, and for each node the one that it starts again as
 pub record Durable : Type 0 where
@@ -87,3 +87,9 @@ IsTrueOccurrence x (Restarted place) = Unit {0}
 abbrev pub AreTrueThrough : List Occurrence → Durable → Type 0
 AreTrueThrough [] x = Unit {0}
 AreTrueThrough (o ∷ os) x = IsTrueOccurrence x o × AreTrueThrough os (occurred x o)
+
+-- the same network of Raft's nodes, where they may start again
+pub record IsRestartingNetwork (s : Network) (earlier later : List Occurrence) : Type 0 where
+  pub starts : StartsAlike s
+  pub before : AreTrueThrough earlier (durable s)
+  pub since : AreTrueThrough later (passed earlier (durable s))

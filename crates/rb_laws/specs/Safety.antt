@@ -10,9 +10,7 @@ use Rattle.rb_message.specs.declared.message.Message.{Message}
 use Rattle.rb_node.specs.Node.{PlainNode}
 use Rattle.rb_node.specs.Sends.{snapshot_of}
 use Rattle.rb_laws.specs.Calling.{Call, Step, Propose}
-use Rattle.rb_machine.specs.Cluster.{Cluster}
-use Rattle.rb_laws.specs.Clusters.{IsNew}
-use Rattle.rb_laws.specs.Network.{Network, Happening, happened}
+use Rattle.rb_laws.specs.Network.{Network, Happening, happened, run, IsBegun}
 
 -- ---- premises
 
@@ -59,10 +57,22 @@ abbrev pub AreTrue : List Happening → Network → Type 0
 AreTrue [] s = Unit {0}
 AreTrue (h ∷ hs) s = (IsTrueCall s.said (h.place + 1) h.call ⊎ IsStateCall s.nodes (h.place + 1) h.call) × AreTrue hs (happened s h)
 
--- nodes of a cluster of the bench start with the same members, and at one base
-pub record IsNewAt (members : ConfState) (index term : ℕ) (content : List ℕ) (c : Cluster) : Type 0 where
-  pub new : IsNew members c
-  pub begins : BeginAt index term content c.nodes
+-- All nodes start alike: with the same members, not joint, and at one index, of one term, which is at most 1, with one content.
+pub record StartsAlike (s : Network) : Type 0 where
+  pub members : ConfState
+  pub index : ℕ
+  pub term : ℕ
+  pub content : List ℕ
+  pub single : members.outgoing ≡ []
+  pub low : term ≤ 1
+  pub begun : IsBegun members s
+  pub begins : BeginAt index term content s.nodes
+
+-- a network of Raft's nodes, at two moments of a run: its nodes start alike, and all that happens up to each moment is true
+pub record IsRaftNetwork (s : Network) (earlier later : List Happening) : Type 0 where
+  pub starts : StartsAlike s
+  pub before : AreTrue earlier s
+  pub since : AreTrue later (run earlier s)
 
 -- ---- the theorems
 

@@ -2,4 +2,5 @@
 #![tactic(auto)]
 
 pub mod cluster;
+pub mod lines;
 pub mod node;

@@ -4,9 +4,19 @@
 //! single node, whatever messages it gets and in whatever order it is called. None of them is run. They are about one node: that a
 //! cluster of nodes is safe does not follow from them alone (docs/NODE.md).
 
+mod actions;
+mod activity;
+mod committing;
+mod following;
 mod laws;
 mod rules;
+mod timing;
+mod winning;
 
+pub use actions::{messages_go_out_once, proposals_are_appended, proposals_are_passed_on};
+pub use activity::members_are_active_by_their_answers;
+pub use committing::leaders_commit_all_that_they_may;
+pub use following::followers_take_what_leaders_send;
 pub use laws::{
     answers_tell_what_is_held, calls_are_these, campaigns_are_of_voters, candidates_disturb_nobody,
     changes_go_one_at_a_time, commit_never_falls, committed_entries_stay,
@@ -25,3 +35,5 @@ pub use rules::{
     leaders_know_of_changes, pre_votes_look_at_logs, ready_is_the_state,
     snapshots_are_restored_whole, tests_mean_their_names, timers_start_again, transfers_time_out,
 };
+pub use timing::{leaders_send_heartbeats, silence_ends_in_a_campaign};
+pub use winning::elections_are_won;

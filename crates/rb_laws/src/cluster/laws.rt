@@ -1,18 +1,12 @@
 //! What the nodes of a cluster keep together, whatever happens.
-ghost use Rattle.std.specs.Prelude.{◌≡◌, ℕ, List, [], Ok, Some, slice_get};
-ghost use Rattle.rb_script.specs.Directive.{PlainDirective};
-ghost use Rattle.rb_directive.specs.declared.requests.AddNodes.{AddNodes};
-ghost use Rattle.rb_directive.specs.declared.requests.Request.TheVariants as requests;
-ghost use Rattle.rb_directive.specs.declared.build.Asked.{Asked};
-ghost use Rattle.rb_directive.specs.Requests.{request};
+ghost use Rattle.std.specs.Prelude.{◌≡◌, ℕ, List, [], Some, slice_get};
+ghost use Rattle.rb_script.specs.Script.{PlainScript};
 ghost use Rattle.rb_vocab.specs.declared.conf_state.ConfState.{ConfState};
 ghost use Rattle.rb_raftlog.specs.Laws.{AreMatching};
 ghost use Rattle.rb_tracker.specs.Configs.{config_of};
 ghost use Rattle.rb_node.specs.Node.{PlainNode};
-ghost use Rattle.rb_machine.specs.AddNodes.{start};
-ghost use Rattle.rb_machine.specs.Cluster.{Cluster, empty};
-ghost use Rattle.rb_machine.specs.Outcome.{outcome};
-ghost use Rattle.rb_laws.specs.Clusters.{AreSteady, led, IsNew};
+ghost use Rattle.rb_replay.specs.Run.{state};
+ghost use Rattle.rb_laws.specs.Clusters.{HasSameMembers};
 ghost use Rattle.rb_laws.specs.Network.{Network, Happening, run, IsBegun, Leads};
 ghost use Rattle.rb_laws.specs.Honesty.{AreHonest, AreGenuine};
 ghost use Rattle.rb_laws.specs.Votes.{IsCast, IsChosen};
@@ -34,13 +28,10 @@ pub fn elections_are_safe()
     ensures { (members : ConfState) (s : Network) (earlier later : List Happening) (first second term : ℕ) → members.outgoing ≡ [] → IsBegun members s → AreHonest (config_of members) earlier s → AreHonest (config_of members) later (run earlier s) → Leads (run earlier s).nodes first term → Leads (run later (run earlier s)).nodes second term → second ≡ first }
 {}
 
-/// The same of a cluster of the bench, whatever directives it is given but `add-nodes` and `propose-conf-change`: two nodes that lead in
-/// one term, at whatever points of the script, are one node. The nodes come by `add-nodes`, each with the same voters and learners.
+/// The same of scripts: two nodes that lead in one term, at whatever points of a script, are one node. All nodes are added with the same voters and
+/// learners, whenever they are, and nobody proposes a change.
 pub fn clusters_elect_one_leader()
-    ensures leader { (members : ConfState) (c : Cluster) (earlier later : List PlainDirective) (first second term : ℕ) → members.outgoing ≡ [] → IsNew members c → AreSteady earlier → AreSteady later → Leads (led c earlier).nodes first term → Leads (led (led c earlier) later).nodes second term → second ≡ first }
-    ensures empty { (members : ConfState) → IsNew members empty }
-    ensures added { (members : ConfState) (c : Cluster) (d : PlainDirective) (a : Asked) (r : AddNodes) → request d ≡ Ok a → a.request ≡ requests.AddNodes r → (start r).config ≡ members → IsNew members c → IsNew members (outcome c d).cluster }
-    ensures single { (r : AddNodes) → (start r).config.outgoing ≡ [] }
+    ensures { (s : PlainScript) (p q first second term : ℕ) → HasSameMembers s → Leads (state s p).nodes first term → Leads (state s q).nodes second term → second ≡ first }
 {}
 
 /// Log matching: the logs of two nodes, or of one, at whatever points of a run, are the same up to an index at which both have an entry of
@@ -50,8 +41,8 @@ pub fn logs_match()
     ensures { (members : ConfState) (s : Network) (earlier later : List Happening) (j k : ℕ) (first second : PlainNode) → members.outgoing ≡ [] → IsBegun members s → AreHonest (config_of members) earlier s → AreHonest (config_of members) later (run earlier s) → AreGenuine earlier s → AreGenuine later (run earlier s) → slice_get (run earlier s).nodes j ≡ Some first → slice_get (run later (run earlier s)).nodes k ≡ Some second → AreMatching first.log second.log }
 {}
 
-/// The same of a cluster of the bench, whatever directives it is given but `add-nodes` and `propose-conf-change`: logs of its nodes, at
-/// whatever points of the script, match.
+/// The same of scripts: logs of a script's nodes, at whatever points, match. All nodes are added with the same voters and learners, and nobody proposes
+/// a change.
 pub fn clusters_keep_logs_matching()
-    ensures { (members : ConfState) (c : Cluster) (earlier later : List PlainDirective) (j k : ℕ) (first second : PlainNode) → members.outgoing ≡ [] → IsNew members c → AreSteady earlier → AreSteady later → slice_get (led c earlier).nodes j ≡ Some first → slice_get (led (led c earlier) later).nodes k ≡ Some second → AreMatching first.log second.log }
+    ensures { (s : PlainScript) (p q j k : ℕ) (first second : PlainNode) → HasSameMembers s → slice_get (state s p).nodes j ≡ Some first → slice_get (state s q).nodes k ≡ Some second → AreMatching first.log second.log }
 {}

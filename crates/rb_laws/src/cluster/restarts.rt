@@ -12,8 +12,8 @@ ghost use Rattle.rb_message.specs.declared.role.Role.TheVariants.{Leader};
 ghost use Rattle.rb_tracker.specs.Configs.{config_of};
 ghost use Rattle.rb_node.specs.Node.{PlainNode};
 ghost use Rattle.rb_laws.specs.Network.{Network, IsBegun, Leads};
-ghost use Rattle.rb_laws.specs.Restarts.{Occurrence, durable, passed, AreHonestThrough, AreTrueThrough};
-ghost use Rattle.rb_laws.specs.Safety.{BeginAt, HasCommitted};
+ghost use Rattle.rb_laws.specs.Restarts.{Occurrence, durable, passed, AreHonestThrough, IsRestartingNetwork};
+ghost use Rattle.rb_laws.specs.Safety.{HasCommitted};
 
 /// Election safety: two nodes that lead in one term, at whatever points of a run, are one node.
 pub fn elections_are_safe_with_restarts()
@@ -23,26 +23,26 @@ pub fn elections_are_safe_with_restarts()
 /// Log matching: logs with an entry of the same index and term are the same up to it, as far as both still have it. An entry that was not saved
 /// counts as well: no entry with its index and term comes in its place.
 pub fn logs_match_with_restarts()
-    ensures { (members : ConfState) (index term : ℕ) (content : List ℕ) (s : Network) (earlier later : List Occurrence) (j k : ℕ) (n m : PlainNode) → members.outgoing ≡ [] → term ≤ 1 → IsBegun members s → BeginAt index term content s.nodes → AreHonestThrough (config_of members) earlier (durable s) → AreHonestThrough (config_of members) later (passed earlier (durable s)) → AreTrueThrough earlier (durable s) → AreTrueThrough later (passed earlier (durable s)) → slice_get (passed earlier (durable s)).network.nodes j ≡ Some n → slice_get (passed later (passed earlier (durable s))).network.nodes k ≡ Some m → AreMatching n.log m.log }
+    ensures { (s : Network) (earlier later : List Occurrence) (j k : ℕ) (n m : PlainNode) → IsRestartingNetwork s earlier later → slice_get (passed earlier (durable s)).network.nodes j ≡ Some n → slice_get (passed later (passed earlier (durable s))).network.nodes k ≡ Some m → AreMatching n.log m.log }
 {}
 
 /// Leader completeness: if a node knows an entry to be committed, each leader of a later term has it, whether the leader led before or after.
 pub fn leaders_have_what_is_committed_with_restarts()
-    ensures after { (members : ConfState) (index term : ℕ) (content : List ℕ) (s : Network) (earlier later : List Occurrence) (j k : ℕ) (n l : PlainNode) → members.outgoing ≡ [] → term ≤ 1 → IsBegun members s → BeginAt index term content s.nodes → AreHonestThrough (config_of members) earlier (durable s) → AreHonestThrough (config_of members) later (passed earlier (durable s)) → AreTrueThrough earlier (durable s) → AreTrueThrough later (passed earlier (durable s)) → slice_get (passed earlier (durable s)).network.nodes j ≡ Some n → slice_get (passed later (passed earlier (durable s))).network.nodes k ≡ Some l → l.role ≡ Leader → n.term < l.term → HasCommitted n l }
-    ensures before { (members : ConfState) (index term : ℕ) (content : List ℕ) (s : Network) (earlier later : List Occurrence) (j k : ℕ) (l n : PlainNode) → members.outgoing ≡ [] → term ≤ 1 → IsBegun members s → BeginAt index term content s.nodes → AreHonestThrough (config_of members) earlier (durable s) → AreHonestThrough (config_of members) later (passed earlier (durable s)) → AreTrueThrough earlier (durable s) → AreTrueThrough later (passed earlier (durable s)) → slice_get (passed earlier (durable s)).network.nodes j ≡ Some l → slice_get (passed later (passed earlier (durable s))).network.nodes k ≡ Some n → l.role ≡ Leader → n.term < l.term → HasCommitted n l }
+    ensures after { (s : Network) (earlier later : List Occurrence) (j k : ℕ) (n l : PlainNode) → IsRestartingNetwork s earlier later → slice_get (passed earlier (durable s)).network.nodes j ≡ Some n → slice_get (passed later (passed earlier (durable s))).network.nodes k ≡ Some l → l.role ≡ Leader → n.term < l.term → HasCommitted n l }
+    ensures before { (s : Network) (earlier later : List Occurrence) (j k : ℕ) (l n : PlainNode) → IsRestartingNetwork s earlier later → slice_get (passed earlier (durable s)).network.nodes j ≡ Some l → slice_get (passed later (passed earlier (durable s))).network.nodes k ≡ Some n → l.role ≡ Leader → n.term < l.term → HasCommitted n l }
 {}
 
 /// Of two nodes, or of one at two moments, the entries that both know to be committed are the same, also where a node forgets that they are.
 pub fn committed_entries_agree_with_restarts()
-    ensures { (members : ConfState) (index term : ℕ) (content : List ℕ) (s : Network) (earlier later : List Occurrence) (j k i : ℕ) (n m : PlainNode) → members.outgoing ≡ [] → term ≤ 1 → IsBegun members s → BeginAt index term content s.nodes → AreHonestThrough (config_of members) earlier (durable s) → AreHonestThrough (config_of members) later (passed earlier (durable s)) → AreTrueThrough earlier (durable s) → AreTrueThrough later (passed earlier (durable s)) → slice_get (passed earlier (durable s)).network.nodes j ≡ Some n → slice_get (passed later (passed earlier (durable s))).network.nodes k ≡ Some m → i ≤ n.commit → i ≤ m.commit → n.log.base < i → m.log.base < i → entry_at n.log i ≡ entry_at m.log i }
+    ensures { (s : Network) (earlier later : List Occurrence) (j k i : ℕ) (n m : PlainNode) → IsRestartingNetwork s earlier later → slice_get (passed earlier (durable s)).network.nodes j ≡ Some n → slice_get (passed later (passed earlier (durable s))).network.nodes k ≡ Some m → i ≤ n.commit → i ≤ m.commit → n.log.base < i → m.log.base < i → entry_at n.log i ≡ entry_at m.log i }
 {}
 
 /// State machine safety: no two nodes apply different entries at one index, and no node applies another when it applies one again.
 pub fn applied_entries_agree_with_restarts()
-    ensures { (members : ConfState) (index term : ℕ) (content : List ℕ) (s : Network) (earlier later : List Occurrence) (j k i : ℕ) (n m : PlainNode) → members.outgoing ≡ [] → term ≤ 1 → IsBegun members s → BeginAt index term content s.nodes → AreHonestThrough (config_of members) earlier (durable s) → AreHonestThrough (config_of members) later (passed earlier (durable s)) → AreTrueThrough earlier (durable s) → AreTrueThrough later (passed earlier (durable s)) → slice_get (passed earlier (durable s)).network.nodes j ≡ Some n → slice_get (passed later (passed earlier (durable s))).network.nodes k ≡ Some m → i ≤ n.applied → i ≤ m.applied → n.log.base < i → m.log.base < i → entry_at n.log i ≡ entry_at m.log i }
+    ensures { (s : Network) (earlier later : List Occurrence) (j k i : ℕ) (n m : PlainNode) → IsRestartingNetwork s earlier later → slice_get (passed earlier (durable s)).network.nodes j ≡ Some n → slice_get (passed later (passed earlier (durable s))).network.nodes k ≡ Some m → i ≤ n.applied → i ≤ m.applied → n.log.base < i → m.log.base < i → entry_at n.log i ≡ entry_at m.log i }
 {}
 
 /// Two nodes that have applied up to the same index have the same content.
 pub fn contents_agree_with_restarts()
-    ensures { (members : ConfState) (index term : ℕ) (content : List ℕ) (s : Network) (earlier later : List Occurrence) (j k : ℕ) (n m : PlainNode) → members.outgoing ≡ [] → term ≤ 1 → IsBegun members s → BeginAt index term content s.nodes → AreHonestThrough (config_of members) earlier (durable s) → AreHonestThrough (config_of members) later (passed earlier (durable s)) → AreTrueThrough earlier (durable s) → AreTrueThrough later (passed earlier (durable s)) → slice_get (passed earlier (durable s)).network.nodes j ≡ Some n → slice_get (passed later (passed earlier (durable s))).network.nodes k ≡ Some m → n.applied ≡ m.applied → n.content ≡ m.content }
+    ensures { (s : Network) (earlier later : List Occurrence) (j k : ℕ) (n m : PlainNode) → IsRestartingNetwork s earlier later → slice_get (passed earlier (durable s)).network.nodes j ≡ Some n → slice_get (passed later (passed earlier (durable s))).network.nodes k ≡ Some m → n.applied ≡ m.applied → n.content ≡ m.content }
 {}

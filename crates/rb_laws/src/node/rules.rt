@@ -74,10 +74,11 @@ pub fn leaders_are_known_by_their_messages()
 {}
 
 /// A snapshot is restored whole, or changes neither the log nor what is applied. A node that doesn't lead in the snapshot's term restores
-/// one that is past its commit and whose entry it lacks, and hands it over to be saved.
+/// one that is past its commit and whose entry it lacks, and hands it over to be saved. It answers with its commit, whichever snapshot it is.
 pub fn snapshots_are_restored_whole()
     ensures all { (t : NodeStep) (m : Message) (s : Snapshot) → m.kind ≡ kinds.Snapshot s → IsRestored (stepped t m).node s ⊎ KeepsState t.node (stepped t m).node }
     ensures news { (t : NodeStep) (m : Message) (s : Snapshot) → m.kind ≡ kinds.Snapshot s → t.node.term ≤ m.term → (t.node.role ≡ Leader → t.node.term < m.term) → t.node.commit < s.index → is_term (term_at t.node.log s.index) s.term ≡ false → IsRestored (stepped t m).node s }
+    ensures answered { (t : NodeStep) (m : Message) (s : Snapshot) → m.kind ≡ kinds.Snapshot s → t.node.term ≤ m.term → (t.node.role ≡ Leader → t.node.term < m.term) → (stepped t m).node.waiting ≡ t.node.waiting ++ message t.node.id m.from (stepped t m).node.term (kinds.AppendResponse (stepped t m).node.commit) ∷ [] }
     ensures handed { (n : PlainNode) → n.restored ≡ true → (ready n).snapshot ≡ Some (n.log.base_term, n.log.base) }
 {}
 

@@ -1,0 +1,106 @@
+-- A follower takes what its leader sends (Ongaro's thesis, section 3.5)
+use Rattle.std.proofs.Common.{◌≡◌, ℕ, ◌+◌, ◌<◌, ◌≤◌, Bool, true, false, if◌then◌else◌, nat_lt, max, min, List, [], ◌∷◌, ◌++◌, length, Ok, refl, sym, ap, subst, ◌∙◌, arith, inl, inr}
+use Rattle.std.proofs.lemmas.Bool.{false≢true, cases_Bool, ltb-true}
+use Rattle.rb_raftlog.proofs.AppendLaws.{matched-term}
+use Rattle.rb_raftlog.proofs.TermLaws.{is_term_from}
+use Rattle.rb_raftlog.specs.declared.entry.Entry.{Entry}
+use Rattle.rb_raftlog.specs.declared.raft_log.Appended.{Appended}
+use Rattle.rb_raftlog.specs.declared.raft_log.Appended.TheVariants.{Matched, Refused}
+use Rattle.rb_raftlog.specs.Log.{LogValue, last, term_at, is_term, answer, answer_below, conflict, hint}
+use Rattle.rb_message.specs.Appends.{PlainAppend}
+use Rattle.rb_message.specs.Messages.{has_term}
+use Rattle.rb_message.specs.declared.kind.MessageKind.{MessageKind}
+use Rattle.rb_message.specs.declared.kind.MessageKind.TheVariants as kind
+use Rattle.rb_message.specs.declared.message.Message.{Message}
+use Rattle.rb_message.specs.declared.role.Role.{Role}
+use Rattle.rb_message.specs.declared.role.Role.TheVariants as role
+use Rattle.rb_node.specs.Following.{after_log, with_appended, removal_reported, append_entries_handled}
+use Rattle.rb_node.specs.Node.{PlainNode, NodeStep, with_node, message}
+use Rattle.rb_node.specs.Step.{as_follower, as_precandidate, as_candidate, by_role_of, at_term_by, stepped}
+use Rattle.rb_node.specs.Terms.{became_follower, stepped_later_by, ignores_campaign}
+use Rattle.rb_laws.specs.Learning.{HasTaken, MayFollow}
+use Rattle.rb_laws.proofs.StepCases.{by_term}
+
+-- ---- a message of a leader comes to who follows it
+
+append_role : (P : NodeStep → Type 0) (r : Role) (t : NodeStep) (m : Message) (append : PlainAppend) → m.kind ≡ kind.Append append → P (as_follower (kind.Append append) t m) → P (as_follower (kind.Append append) (became_follower t t.node.term m.from) m)
+    → (r ≡ role.Leader → ⊥) → P (by_role_of r t m)
+append_role P role.Follower t m append is taken followed never = subst (λ (k : MessageKind). P (as_follower k t m)) (sym is) taken
+append_role P role.Precandidate t m append is taken followed never =
+    subst (λ (k : MessageKind). P (as_precandidate k t m)) (sym is) (subst (λ (k : MessageKind). P (as_follower k (became_follower t t.node.term m.from) m)) (sym is) followed)
+append_role P role.Candidate t m append is taken followed never =
+    subst (λ (k : MessageKind). P (as_candidate k t m)) (sym is) (subst (λ (k : MessageKind). P (as_follower k (became_follower t t.node.term m.from) m)) (sym is) followed)
+append_role P role.Leader t m append is taken followed never = absurd (never refl)
+
+by_append : (P : NodeStep → Type 0) (t : NodeStep) (m : Message) (append : PlainAppend) → m.kind ≡ kind.Append append → MayFollow t.node m.term → P (as_follower (kind.Append append) t m) → P (as_follower (kind.Append append) (became_follower t t.node.term m.from) m)
+    → P (as_follower (kind.Append append) (became_follower t m.term m.from) m) → P (stepped t m)
+by_append P t m append is may taken followed raised =
+    let reached = may.reached in
+    by_term P t m
+    (λ same. subst (λ (k : MessageKind). P (at_term_by k t m)) (sym is)
+    (append_role P t.node.role t m append is taken followed (λ leads. (let now = same (ap has_term is) in let later = may.steps_down leads in omega (arith, now, later)))))
+    (λ low. absurd (omega (arith, low, reached)))
+    (λ _ disturbs. absurd (false≢true (sym (ap (λ (k : MessageKind). ignores_campaign k t.node) is) ∙ disturbs)))
+    (λ _ _. subst (λ (k : MessageKind). P (at_term_by k (stepped_later_by k t m) m)) (sym is)
+    (subst (λ (k : MessageKind). P (as_follower k (became_follower t m.term m.from) m)) (sym is) raised))
+
+heartbeat_role : (P : NodeStep → Type 0) (r : Role) (t : NodeStep) (m : Message) (commit : ℕ) → m.kind ≡ kind.Heartbeat commit → P (as_follower (kind.Heartbeat commit) t m) → P (as_follower (kind.Heartbeat commit) (became_follower t t.node.term m.from) m)
+    → (r ≡ role.Leader → ⊥) → P (by_role_of r t m)
+heartbeat_role P role.Follower t m commit is taken followed never = subst (λ (k : MessageKind). P (as_follower k t m)) (sym is) taken
+heartbeat_role P role.Precandidate t m commit is taken followed never =
+    subst (λ (k : MessageKind). P (as_precandidate k t m)) (sym is) (subst (λ (k : MessageKind). P (as_follower k (became_follower t t.node.term m.from) m)) (sym is) followed)
+heartbeat_role P role.Candidate t m commit is taken followed never =
+    subst (λ (k : MessageKind). P (as_candidate k t m)) (sym is) (subst (λ (k : MessageKind). P (as_follower k (became_follower t t.node.term m.from) m)) (sym is) followed)
+heartbeat_role P role.Leader t m commit is taken followed never = absurd (never refl)
+
+by_heartbeat : (P : NodeStep → Type 0) (t : NodeStep) (m : Message) (commit : ℕ) → m.kind ≡ kind.Heartbeat commit → MayFollow t.node m.term → P (as_follower (kind.Heartbeat commit) t m) → P (as_follower (kind.Heartbeat commit) (became_follower t t.node.term m.from) m)
+    → P (as_follower (kind.Heartbeat commit) (became_follower t m.term m.from) m) → P (stepped t m)
+by_heartbeat P t m commit is may taken followed raised =
+    let reached = may.reached in
+    by_term P t m
+    (λ same. subst (λ (k : MessageKind). P (at_term_by k t m)) (sym is)
+    (heartbeat_role P t.node.role t m commit is taken followed (λ leads. (let now = same (ap has_term is) in let later = may.steps_down leads in omega (arith, now, later)))))
+    (λ low. absurd (omega (arith, low, reached)))
+    (λ _ disturbs. absurd (false≢true (sym (ap (λ (k : MessageKind). ignores_campaign k t.node) is) ∙ disturbs)))
+    (λ _ _. subst (λ (k : MessageKind). P (at_term_by k (stepped_later_by k t m) m)) (sym is)
+    (subst (λ (k : MessageKind). P (as_follower k (became_follower t m.term m.from) m)) (sym is) raised))
+
+-- ---- an append
+
+matches : (v : LogValue) (append : PlainAppend) (commit : ℕ) → commit ≤ append.prev → term_at v append.prev ≡ Ok append.prev_term → answer v append.prev append.prev_term append.entries commit ≡ Matched (append.prev + length append.entries)
+matches v append commit over at =
+    let prev = append.prev in
+    let es = append.entries in
+    let past : nat_lt prev commit ≡ false = elim (cases_Bool (nat_lt prev commit)) as (λ _. nat_lt prev commit ≡ false) [ inl low ↦ absurd (let under = ltb-true prev commit low in omega (arith, under, over)) | inr fine ↦ fine ] in
+    let holds : is_term (term_at v prev) append.prev_term ≡ true = is_term_from (term_at v prev) append.prev_term at in
+    ap (λ (b : Bool). if b then answer_below (conflict v (prev + 1) es commit) commit else (if is_term (term_at v prev) append.prev_term then Matched (prev + length es) else Refused (hint v prev append.prev_term))) past
+    ∙ ap (λ (b : Bool). if b then Matched (prev + length es) else Refused (hint v prev append.prev_term)) holds
+
+follower_takes : (old : PlainNode) (t : NodeStep) (from : ℕ) (append : PlainAppend) → t.node.log ≡ old.log → t.node.commit ≡ old.commit → t.node.waiting ≡ old.waiting → t.node.id ≡ old.id → old.commit ≤ append.prev → term_at old.log append.prev ≡ Ok append.prev_term
+    → HasTaken old (append_entries_handled t from append).node append from
+unfolding append_entries_handled
+follower_takes old t from append log commit waiting id over at =
+    let n = t.node in
+    let upto = append.prev + length append.entries in
+    let past : n.commit ≤ append.prev = omega (arith, commit, over) in
+    let held : term_at n.log append.prev ≡ Ok append.prev_term = ap (λ (v : LogValue). term_at v append.prev) log ∙ at in
+    let u : NodeStep = with_node (removal_reported t append) (with_appended n from append) in
+    subst (λ (a : Appended). HasTaken old (after_log a u from append).node append from) (sym (matches n.log append n.commit past held))
+    (record {
+      term = λ k e is. matched-term n.log append.prev append.prev_term n.commit k append.entries e past held is;
+      commit = ap (λ (i : ℕ). max i (min append.commit upto)) commit;
+      says = ap (λ (ms : List Message). ms ++ message n.id from n.term (kind.AppendResponse upto) ∷ []) waiting
+          ∙ ap (λ (i : ℕ). old.waiting ++ message i from n.term (kind.AppendResponse upto) ∷ []) id;
+    })
+
+pub append_taken : (t : NodeStep) (m : Message) (append : PlainAppend) → m.kind ≡ kind.Append append → MayFollow t.node m.term → t.node.commit ≤ append.prev → term_at t.node.log append.prev ≡ Ok append.prev_term → HasTaken t.node (stepped t m).node append m.from
+append_taken t m append is may over at =
+    let by : (u : NodeStep) → u.node.log ≡ t.node.log → u.node.commit ≡ t.node.commit → u.node.waiting ≡ t.node.waiting → u.node.id ≡ t.node.id → HasTaken t.node (append_entries_handled u m.from append).node append m.from =
+    λ u log commit waiting id. follower_takes t.node u m.from append log commit waiting id over at in
+    by_append (λ (u : NodeStep). HasTaken t.node u.node append m.from) t m append is may (by t refl refl refl refl)
+    (by (became_follower t t.node.term m.from) refl refl refl refl) (by (became_follower t m.term m.from) refl refl refl refl)
+
+-- ---- a heartbeat
+
+pub heartbeat_taken : (t : NodeStep) (m : Message) (commit : ℕ) → m.kind ≡ kind.Heartbeat commit → MayFollow t.node m.term → (stepped t m).node.commit ≡ max t.node.commit (min commit (last t.node.log))
+heartbeat_taken t m commit is may = by_heartbeat (λ (u : NodeStep). u.node.commit ≡ max t.node.commit (min commit (last t.node.log))) t m commit is may refl refl refl

@@ -1,0 +1,38 @@
+-- Each node's configuration as members change: a change counts once it is applied (Ongaro's thesis, section 4.1, has it count once it is appended; etcd
+-- raft documentation, "Membership Changes")
+use Rattle.std.specs.Prelude.{ℕ, zero, suc, ◌≡◌, ◌+◌, ◌-◌, ◌<◌, ◌≤◌, ◌⊎◌, List, [], ◌∷◌, Contains, Ok, Some, slice_get}
+use Rattle.rb_raftlog.specs.declared.entry.Entry.{Entry}
+use Rattle.rb_raftlog.specs.Log.{entry_at}
+use Rattle.rb_tracker.specs.declared.config.Config.{Config}
+use Rattle.rb_message.specs.declared.kind.MessageKind.{MessageKind}
+use Rattle.rb_message.specs.declared.kind.MessageKind.TheVariants as kind
+use Rattle.rb_message.specs.declared.message.Message.{Message}
+use Rattle.rb_node.specs.Node.{PlainNode}
+use Rattle.rb_laws.specs.Calling.{Call, Step}
+use Rattle.rb_laws.specs.Network.{Network, Happening, happened}
+use Rattle.rb_laws.specs.Rules.{config_with}
+use Rattle.rb_laws.specs.Safety.{IsStateOf}
+
+-- what the entries of some indexes after a base make of a configuration, one after another
+abbrev pub config_after_all : (ℕ → Entry) → Config → ℕ → ℕ → Config
+config_after_all chosen c base zero = c
+config_after_all chosen c base (suc k) = config_with (chosen (base + suc k)).body (config_after_all chosen c base k)
+
+-- What each node knows to be committed is the entry that is chosen for its index, as far as the log still has it. So committed entries agree.
+abbrev pub AreChosen : (ℕ → Entry) → List PlainNode → Type 0
+AreChosen chosen nodes =
+    (k i : ℕ) (n : PlainNode) → slice_get nodes k ≡ Some n → n.log.base < i → i ≤ n.commit → entry_at n.log i ≡ Ok (chosen i)
+
+abbrev pub BringsNoState : MessageKind → Type 0
+BringsNoState (kind.Snapshot snapshot) = ⊥
+BringsNoState _ = Unit {0}
+
+-- A snapshot that comes was put out by a node, or is of the state that a node has; all other messages may be made up.
+abbrev pub IsStateKnown : Network → Call → Type 0
+IsStateKnown s (Step m) = Contains s.said m ⊎ (IsStateOf s.nodes m ⊎ BringsNoState m.kind)
+IsStateKnown s _ = Unit {0}
+
+-- both, at each step
+abbrev pub AreAgreed : (ℕ → Entry) → List Happening → Network → Type 0
+AreAgreed chosen [] s = Unit {0}
+AreAgreed chosen (h ∷ hs) s = AreChosen chosen s.nodes × IsStateKnown s h.call × AreAgreed chosen hs (happened s h)

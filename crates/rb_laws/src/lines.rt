@@ -1,0 +1,43 @@
+//! A line says what its item is: each value stands under its name, and each event and each error in its own words.
+ghost use Rattle.std.specs.Prelude.{◌≡◌, ◌++◌, ℕ, true, codes, decimal};
+ghost use Rattle.rb_vocab.specs.MessageTypes.{type_text};
+ghost use Rattle.rb_vocab.specs.declared.directive_error.DirectiveError.{DirectiveError};
+ghost use Rattle.rb_tracker.specs.Progresses.{PlainProgress};
+ghost use Rattle.rb_message.specs.Messages.{has_term, type_of};
+ghost use Rattle.rb_message.specs.declared.event.Event.{Event};
+ghost use Rattle.rb_message.specs.declared.hard_state.HardState.{HardState};
+ghost use Rattle.rb_message.specs.declared.message.Message.{Message};
+ghost use Rattle.rb_texts.specs.Errors.{error_text};
+ghost use Rattle.rb_texts.specs.Events.{event_text};
+ghost use Rattle.rb_texts.specs.Items.{PlainNodeLine};
+ghost use Rattle.rb_texts.specs.Messages.{message_text};
+ghost use Rattle.rb_texts.specs.States.{hard_state_text, log_text, node_text, progress_text};
+ghost use Rattle.rb_texts.specs.declared.item.LogLine.{LogLine};
+ghost use Rattle.rb_laws.specs.Lines.{Has, Names, NamesHardState, NamesKind, NamesLog, NamesNode, NamesView, SaysError, SaysEvent};
+
+/// Of a node, of what it saves, of its log and of its views, each number stands after its name.
+pub fn states_are_shown_by_name()
+    ensures hard { (h : HardState) → NamesHardState (hard_state_text h) h }
+    ensures log { (v : LogLine) → NamesLog (log_text v) v }
+    ensures node { (n : PlainNodeLine) → NamesNode (node_text n) n }
+    ensures view { (id : ℕ) (p : PlainProgress) → NamesView (progress_text id p) id p }
+{}
+
+/// A message's line says from whom it is and for whom, its type, its term, if it is of one, and each of its values after its name.
+pub fn messages_are_shown_by_name()
+    ensures ends { (m : Message) → Has (message_text m) (decimal m.from ++ codes "->" ++ decimal m.to) }
+    ensures named { (m : Message) → Has (message_text m) (codes " " ++ type_text (type_of m.kind)) }
+    ensures term { (m : Message) → has_term m.kind ≡ true → Names (message_text m) (codes " term=") m.term }
+    ensures values { (m : Message) → NamesKind (message_text m) m.kind }
+{}
+
+/// An event's line names the node and says what happened.
+pub fn events_are_told()
+    ensures node { (e : Event) → Has (event_text e) (decimal e.id) }
+    ensures what { (e : Event) → SaysEvent (event_text e) e.kind }
+{}
+
+/// An error's line says what is wrong.
+pub fn errors_say_what_is_wrong()
+    ensures { (e : DirectiveError) → SaysError (error_text e) e }
+{}
