@@ -102,6 +102,8 @@ class Node:
         self.under_way: Accepted | None = None
         self.reads: dict[int, Asked] = {}
         self.served: list[Read] = []
+        self.uncommitted = 0  # bytes of payloads that it appended as the leader, and hasn't applied
+        self.unlimited: set[int] = set()  # entries that don't count for these: by which it leaves joint configurations by itself
 
     def frozen(self) -> tuple[object, ...]:
         """All of the state, as a value that can be compared; events are none of it."""
@@ -109,7 +111,7 @@ class Node:
             self.id, self.config, self.content, self.options, self.base, self.base_term, tuple(self.entries), self.durable,
             self.commit, self.applied, self.term, self.vote, self.lead, self.role, self.timeout,
             tuple((id, self.views[id].frozen()) for id in sorted(self.views)), frozenset(self.votes.items()),
-            self.elapsed, self.beat_elapsed, self.transferee, self.pending_change, self.saved, self.restored,
+            self.elapsed, self.beat_elapsed, self.transferee, self.pending_change, self.saved, self.restored, self.uncommitted,
             tuple(self.sent), tuple(self.waiting),
         )
 
@@ -198,6 +200,7 @@ class Node:
             self.vote = 0
         self.term, self.lead, self.elapsed, self.beat_elapsed, self.timeout = term, 0, 0, 0, TIMEOUT
         self.votes, self.views, self.transferee, self.pending_change, self.reads = {}, {}, 0, 0, {}
+        self.uncommitted, self.unlimited = 0, set()
 
     def become(self, role: str) -> None:
         self.role = role
@@ -270,8 +273,19 @@ class Node:
             self.tell("WARN", "appends nothing: index limit")
             return False
         self.entries.append(Entry(self.term, body))
+        self.uncommitted += self.size_of(body)
         self.send("MsgAppResp", self.id, index=self.last())
         return True
+
+    @staticmethod
+    def size_of(body: Body) -> int:
+        """The bytes of a payload. Those of a change are up to its encoding: here they are etcd's."""
+        return len(body) if isinstance(body, bytes) else 2 + 6 * len(body.words)
+
+    def exceeds(self, body: Body) -> bool:
+        """Whether a payload is more than a leader may have that isn't applied. It always may have one; what is empty doesn't count."""
+        size, most = self.size_of(body), self.options.max_uncommitted_size
+        return most > 0 and size > 0 and self.uncommitted > 0 and self.uncommitted + size > most
 
     # What a leader sends
 
@@ -501,8 +515,9 @@ class Node:
             self.drop(m)
         elif isinstance(m.body, Change):
             self.append_change(m.body)
+        elif m.body is None or self.exceeds(m.body):
+            self.drop(m)
         else:
-            assert m.body is not None
             self.append(m.body)
             self.tell_all()
 
@@ -512,13 +527,18 @@ class Node:
         why = next((why for why, holds in reasons if holds), None)
         if self.last() >= INDEX_LIMIT:
             self.append(change)
+        elif self.exceeds(b"" if why else change):
+            return self.decline_change(change)
         elif why:
             self.tell("INFO", f"replaced change at {self.last() + 1} by an empty entry: {why}")
             self.append(b"")
         else:
             self.append(change)
             self.pending_change = self.last()
-        self.tell_all()
+        return self.tell_all()
+
+    def decline_change(self, change: Change) -> None:
+        self.tell("WARN", "dropped a proposal")
 
     def take_answer(self, m: Message) -> None:
         view = self.views.get(m.sender)
@@ -653,14 +673,18 @@ class Node:
         self.save(done)
         self.sent, self.waiting, self.served = self.sent[done.sent:], self.waiting[done.waiting:], []
         for index, entry in self.entries_from(self.applied + 1, max(self.applied, done.commit)):
-            self.applied = index
-            if isinstance(entry.body, Change):
-                self.apply_change(index, entry.body)
-            else:
-                self.content += entry.body
+            self.apply(index, entry.body)
         self.leave_by_itself()
         for m in own:
             self.step(m)
+
+    def apply(self, index: int, body: Body) -> None:
+        self.applied = index
+        self.uncommitted -= min(self.uncommitted, 0 if index in self.unlimited else self.size_of(body))
+        if isinstance(body, Change):
+            self.apply_change(index, body)
+        else:
+            self.content += body
 
     def save(self, done: Accepted) -> None:
         self.disk, self.saved = done.disk, done.disk.hard
@@ -682,9 +706,17 @@ class Node:
 
     def leave_by_itself(self) -> None:
         leaves = self.role == "leader" and self.config.is_joint() and self.config.auto
-        if leaves and not self.transferee and self.applied >= self.pending_change and self.append(Change("auto", ())):
+        if leaves and not self.transferee and self.applied >= self.pending_change and self.append_leaving(Change("auto", ())):
             self.pending_change = self.last()
             self.tell_all()
+
+    def append_leaving(self, change: Change) -> bool:
+        """No limit declines it, or counts it."""
+        if not self.append(change):
+            return False
+        self.uncommitted -= self.size_of(change)
+        self.unlimited.add(self.last())
+        return True
 
     def config_after(self, change: Change) -> Config:
         return changed(self.config, change)

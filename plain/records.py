@@ -52,6 +52,7 @@ class Options(NamedTuple):
     checkquorum: bool = False
     step_down_on_removal: bool = False
     max_size_per_msg: int = 0  # bytes of payloads in an append with more than one entry; 0 is no limit
+    max_uncommitted_size: int = 0  # bytes of payloads that a leader may have appended and not applied, if it has any; 0 is no limit
 
 
 class Hard(NamedTuple):

@@ -10,13 +10,15 @@ import (
 	"go.etcd.io/etcd/raft/v3"
 	pb "go.etcd.io/etcd/raft/v3/raftpb"
 	"go.etcd.io/etcd/raft/v3/tracker"
+
+	"raftbench"
 )
 
 // etcd's values as the protocol has them.
 
-var roles = map[raft.StateType]string{
-	raft.StateFollower: "follower", raft.StatePreCandidate: "precandidate",
-	raft.StateCandidate: "candidate", raft.StateLeader: "leader",
+var roles = map[raft.StateType]raftbench.Role{
+	raft.StateFollower: raftbench.Follower, raft.StatePreCandidate: raftbench.PreCandidate,
+	raft.StateCandidate: raftbench.Candidate, raft.StateLeader: raftbench.Leader,
 }
 
 var viewStates = map[tracker.StateType]string{
@@ -31,91 +33,91 @@ var transitions = map[string]pb.ConfChangeTransition{
 // What a MsgVote has as its context where the leader asked for the campaign.
 var byTransfer = []byte("CampaignTransfer")
 
-func (n *node) shownState() state {
+func (n *node) State() raftbench.State {
 	now := n.raw.BasicStatus()
-	return state{
+	// By a new role or leader alone etcd is ready too, though there is nothing to save, apply or send.
+	*n.private.soft = &now.SoftState
+	return raftbench.State{
 		Role: roles[now.RaftState], Term: now.Term, Vote: now.Vote, Lead: now.Lead, Commit: now.Commit, Applied: now.Applied,
 		Content: n.store.applied.Data, Config: shownConfig(&n.private.tracker.Config), Ready: n.raw.HasReady(),
 	}
 }
 
-func (n *node) whatIsReady(given int) ready {
+func (n *node) Ready() raftbench.Ready {
 	n.ready = n.raw.Ready()
-	shown := ready{
-		Entries: shownEntries(n.ready.Entries), Committed: shownEntries(n.ready.CommittedEntries), Messages: make([]message, 0, len(n.ready.Messages)),
-	}
+	shown := raftbench.Ready{Entries: shownEntries(n.ready.Entries), Committed: shownEntries(n.ready.CommittedEntries), Sync: n.ready.MustSync}
 	if now := n.ready.HardState; !raft.IsEmptyHardState(now) {
-		shown.Hard = &hard{now.Term, now.Vote, now.Commit}
+		shown.Hard = &raftbench.Hard{Term: now.Term, Vote: now.Vote, Commit: now.Commit}
 	}
 	if at := n.ready.Snapshot.Metadata; at.Index > 0 {
-		shown.Snapshot = &stamp{at.Index, at.Term}
+		shown.Snapshot = &raftbench.Position{Index: at.Index, Term: at.Term}
 	}
-	for at, m := range n.ready.Messages {
-		shown.Messages = append(shown.Messages, shownMessage(m, given+at))
+	for _, m := range n.ready.Messages {
+		message := shownMessage(m)
+		message.From = n.sender(m)
+		shown.Messages = append(shown.Messages, message)
 	}
-	shown.Sync = n.ready.MustSync
 	for _, r := range n.ready.ReadStates {
 		id, err := strconv.ParseUint(string(r.RequestCtx), 10, 64)
-		if err != nil {
-			panic(err)
-		}
-		shown.Reads = append(shown.Reads, read{id, r.Index})
+		must(err)
+		shown.Reads = append(shown.Reads, raftbench.Read{ID: id, Index: r.Index})
 	}
 	return shown
 }
 
-// logEnd is where the log ends, with what isn't saved.
-func (n *node) logEnd() logEnd {
-	unsavedFrom, unsaved, snapshot := *n.private.unsavedFrom, *n.private.unsaved, *n.private.restored
+// sender is who sends a message: 3.5 has in `From` of a MsgTransferLeader whom the lead goes to, and of a MsgProp who passed it on first.
+func (n *node) sender(m pb.Message) uint64 {
+	if m.Type == pb.MsgTransferLeader {
+		return n.id
+	}
+	return m.From
+}
+
+// LogEnd is where the log ends, with what isn't saved.
+func (n *node) LogEnd() raftbench.LogEnd {
+	unsaved, snapshot, durable := *n.private.unsaved, *n.private.restored, *n.private.unsavedFrom-1
 	if len(unsaved) > 0 {
 		last := unsaved[len(unsaved)-1]
-		return logEnd{last.Index, last.Term, unsavedFrom - 1}
+		return raftbench.LogEnd{Last: last.Index, Term: last.Term, Durable: durable}
 	}
 	if snapshot != nil {
-		return logEnd{snapshot.Metadata.Index, snapshot.Metadata.Term, unsavedFrom - 1}
+		return raftbench.LogEnd{Last: snapshot.Metadata.Index, Term: snapshot.Metadata.Term, Durable: durable}
 	}
 	last, err := n.store.LastIndex()
-	if err != nil {
-		panic(err)
-	}
-	term, err := n.store.Term(last)
-	if err != nil {
-		panic(err)
-	}
-	return logEnd{last, term, unsavedFrom - 1}
+	must(err)
+	return raftbench.LogEnd{Last: last, Term: n.savedTerm(last), Durable: durable}
 }
 
-// shownLog has the entries that aren't saved too, which the storage lacks.
-func (n *node) shownLog(put line) (line, error) {
-	unsavedFrom, unsaved, snapshot := *n.private.unsavedFrom, *n.private.unsaved, *n.private.restored
-	if snapshot != nil {
+func (n *node) savedTerm(index uint64) uint64 {
+	term, err := n.store.Term(index)
+	must(err)
+	return term
+}
+
+// Log has the entries that aren't saved too, which the storage lacks.
+func (n *node) Log() raftbench.Log {
+	from, unsaved := *n.private.unsavedFrom, *n.private.unsaved
+	if snapshot := *n.private.restored; snapshot != nil {
 		at := snapshot.Metadata
-		return put.log(stamp{at.Index, at.Term}, unsavedFrom-1, shownEntries(unsaved)), nil
+		return raftbench.Log{Base: raftbench.Position{Index: at.Index, Term: at.Term}, Durable: from - 1, Entries: shownEntries(unsaved)}
 	}
 	first, err := n.store.FirstIndex()
-	if err != nil {
-		return nil, err
-	}
-	term, err := n.store.Term(first - 1)
-	if err != nil {
-		return nil, err
-	}
+	must(err)
+	base := raftbench.Position{Index: first - 1, Term: n.savedTerm(first - 1)}
 	var saved []pb.Entry
-	if unsavedFrom > first {
-		if saved, err = n.store.Entries(first, unsavedFrom, math.MaxUint64); err != nil {
-			return nil, err
-		}
+	if from > first {
+		saved, err = n.store.Entries(first, from, math.MaxUint64)
+		must(err)
 	}
-	all := append(shownEntries(saved), shownEntries(unsaved)...)
-	return put.log(stamp{first - 1, term}, unsavedFrom-1, all), nil
+	return raftbench.Log{Base: base, Durable: from - 1, Entries: append(shownEntries(saved), shownEntries(unsaved)...)}
 }
 
-func (n *node) shownViews() []view {
-	views := []view{}
+func (n *node) Views() []raftbench.View {
+	views := []raftbench.View{}
 	for id, p := range n.raw.Status().Progress {
 		// etcd marks whom it heard of also where nothing looks at that.
 		active := p.RecentActive || !n.checksQuorum
-		views = append(views, view{
+		views = append(views, raftbench.View{
 			Node: id, State: viewStates[p.State], Match: p.Match, Next: p.Next, Inflight: p.Inflights.Count(),
 			Waiting: p.ProbeSent && p.State == tracker.StateProbe, Active: active, Snapshot: p.PendingSnapshot,
 		})
@@ -124,8 +126,8 @@ func (n *node) shownViews() []view {
 	return views
 }
 
-func shownConfig(c *tracker.Config) config {
-	return config{
+func shownConfig(c *tracker.Config) raftbench.Config {
+	return raftbench.Config{
 		Voters: ascending(c.Voters[0]), Outgoing: ascending(c.Voters[1]),
 		Learners: ascending(c.Learners), Next: ascending(c.LearnersNext), Auto: c.AutoLeave,
 	}
@@ -146,26 +148,22 @@ func ascending(set map[uint64]struct{}) []uint64 {
 	return ids
 }
 
-func shownEntries(all []pb.Entry) []entry {
-	shown := make([]entry, 0, len(all))
+func shownEntries(all []pb.Entry) []raftbench.Entry {
+	shown := make([]raftbench.Entry, 0, len(all))
 	for _, e := range all {
 		shown = append(shown, shownEntry(e))
 	}
 	return shown
 }
 
-func shownEntry(e pb.Entry) entry {
-	shown := entry{Term: e.Term, Index: e.Index}
+func shownEntry(e pb.Entry) raftbench.Entry {
+	shown := raftbench.Entry{Term: e.Term, Index: e.Index}
 	if e.Type == pb.EntryNormal {
 		shown.Data = e.Data
 		return shown
 	}
-	read, err := changeOf(e)
-	if err != nil {
-		panic(err)
-	}
-	asked := read.AsV2()
-	shown.Change = &change{Words: strings.Fields(pb.ConfChangesToString(asked.Changes))}
+	asked := changeOf(e).AsV2()
+	shown.Change = &raftbench.Change{Words: strings.Fields(pb.ConfChangesToString(asked.Changes))}
 	for name, transition := range transitions {
 		if transition == asked.Transition {
 			shown.Change.Transition = name
@@ -179,18 +177,16 @@ func isOfRead(of pb.MessageType) bool {
 	return of == pb.MsgReadIndex || of == pb.MsgReadIndexResp
 }
 
-// shownMessage is a message; its `own` is its number, under which this process keeps it.
-func shownMessage(m pb.Message, own int) message {
-	shown := message{
+func shownMessage(m pb.Message) raftbench.Message {
+	shown := raftbench.Message{
 		Type: m.Type.String(), From: m.From, To: m.To, Term: m.Term, LogTerm: m.LogTerm, Index: m.Index, Commit: m.Commit,
-		Entries: shownEntries(m.Entries), Reject: m.Reject, RejectHint: m.RejectHint, Transfer: bytes.Equal(m.Context, byTransfer),
-		Own: own,
+		Reject: m.Reject, RejectHint: m.RejectHint, Transfer: bytes.Equal(m.Context, byTransfer), Own: m,
 	}
-	if isOfRead(m.Type) {
-		shown.Entries = nil
+	if !isOfRead(m.Type) {
+		shown.Entries = shownEntries(m.Entries)
 	}
 	if s := m.Snapshot; m.Type == pb.MsgSnap {
-		shown.Snapshot = &base{s.Metadata.Index, s.Metadata.Term, s.Data, shownConfState(s.Metadata.ConfState)}
+		shown.Snapshot = &raftbench.Snapshot{Index: s.Metadata.Index, Term: s.Metadata.Term, Content: s.Data, Config: shownConfState(s.Metadata.ConfState)}
 	}
 	// Whom the lead goes to is in `From`, and 3.5 gives it a term that the request doesn't have.
 	if m.Type == pb.MsgTransferLeader {
@@ -199,6 +195,6 @@ func shownMessage(m pb.Message, own int) message {
 	return shown
 }
 
-func shownConfState(c pb.ConfState) config {
-	return config{Voters: c.Voters, Outgoing: c.VotersOutgoing, Learners: c.Learners, Next: c.LearnersNext, Auto: c.AutoLeave}
+func shownConfState(c pb.ConfState) raftbench.Config {
+	return raftbench.Config{Voters: c.Voters, Outgoing: c.VotersOutgoing, Learners: c.Learners, Next: c.LearnersNext, Auto: c.AutoLeave}
 }

@@ -7,13 +7,13 @@ import (
 	"strings"
 
 	"github.com/hashicorp/raft"
+
+	"raftbench"
 )
 
 // The library's values as the protocol has them.
 
-type object map[string]interface{}
-
-func (n *node) shownState() object {
+func (n *node) State() raftbench.State {
 	term, commit, vote := n.stat("term"), n.stat("commit_index"), uint64(0)
 	// A node that starts from a snapshot doesn't count it as committed until it hears a leader.
 	if restored := n.stat("last_snapshot_index"); commit < restored {
@@ -23,27 +23,26 @@ func (n *node) shownState() object {
 		candidate, _ := n.store.Get([]byte("LastVoteCand"))
 		vote = number(candidate)
 	}
-	return object{
-		"role": strings.ToLower(n.State().String()), "term": term, "vote": vote, "lead": number(n.Leader()), "commit": commit,
-		"applied": n.applied, "content": n.content, "config": shownConfig(n.GetConfiguration().Configuration()),
-		"ready": len(n.outbox) > 0 || n.applied != n.AppliedIndex(),
+	return raftbench.State{
+		Role: raftbench.Role(strings.ToLower(n.Raft.State().String())), Term: term, Vote: vote, Lead: number(n.Leader()), Commit: commit,
+		Applied: n.applied, Content: n.content, Config: shownConfig(n.GetConfiguration().Configuration()),
+		Ready: len(n.outbox) > 0 || n.applied != n.AppliedIndex(),
 	}
 }
 
-// takeOutbox is what was sent, ordered by receivers: the library's goroutines send to each of them on their own.
-func (n *node) takeOutbox() []object {
-	sent, messages := n.outbox, []object{}
+// Ready is what was sent, ordered by receivers: the library's goroutines send to each of them on their own.
+func (n *node) Ready() (ready raftbench.Ready) {
+	sent := n.outbox
 	n.outbox = nil
 	sort.SliceStable(sent, func(i, j int) bool { return sent[i].receiver < sent[j].receiver })
 	for _, one := range sent {
-		messages = append(messages, shownLetter(one, len(letters)))
-		letters = append(letters, one)
+		ready.Messages = append(ready.Messages, shownLetter(one))
 	}
-	return messages
+	return ready
 }
 
-// shownLog is the end of the log that has no holes, or the last snapshot if that is newer.
-func (n *node) shownLog() object {
+// Log is the end of the log that has no holes, or the last snapshot if that is newer.
+func (n *node) Log() raftbench.Log {
 	index, term, logs := n.stat("last_snapshot_index"), n.stat("last_snapshot_term"), []*raft.Log{}
 	for at, _ := n.store.LastIndex(); at > 0 && at >= index; at-- {
 		log := new(raft.Log)
@@ -55,7 +54,7 @@ func (n *node) shownLog() object {
 	if len(logs) > 0 && logs[0].Index-1 != index {
 		index, term = logs[0].Index-1, 0
 	}
-	return object{"base": object{"index": index, "term": term}, "durable": n.LastIndex(), "entries": shownEntries(logs)}
+	return raftbench.Log{Base: raftbench.Position{Index: index, Term: term}, Durable: n.LastIndex(), Entries: shownEntries(logs)}
 }
 
 // changes has the words of each change that was appended. The library's entry has the whole configuration.
@@ -69,69 +68,68 @@ type written struct {
 
 func writtenIn(log *raft.Log) written { return written{log.Term, log.Index, string(log.Data)} }
 
-func shownEntries(logs []*raft.Log) []object {
-	shown := []object{}
+func shownEntries(logs []*raft.Log) (shown []raftbench.Entry) {
 	for _, log := range logs {
-		entry := object{"index": log.Index, "term": log.Term, "data": log.Data}
+		entry := raftbench.Entry{Index: log.Index, Term: log.Term, Data: log.Data}
 		if log.Type == raft.LogConfiguration {
-			words := append([]string{}, changes[writtenIn(log)]...)
-			entry = object{"index": log.Index, "term": log.Term, "change": object{"transition": "auto", "words": words}}
+			entry.Change = &raftbench.Change{Transition: "auto", Words: append([]string{}, changes[writtenIn(log)]...)}
 		}
 		shown = append(shown, entry)
 	}
 	return shown
 }
 
-// shownLetter is a message; its `own` is the number of the letter, which this process keeps.
-func shownLetter(given letter, own int) object {
+func shownLetter(given letter) raftbench.Message {
 	shown := shownRequest(given)
-	shown["own"], shown["from"], shown["to"] = own, number(given.from), number(given.to)
+	shown.Own, shown.From, shown.To = given, number(given.from), number(given.to)
 	if given.answer == nil {
 		return shown
 	}
-	shown = object{"own": own, "from": shown["to"], "to": shown["from"], "type": shown["type"].(string) + "Resp", "reject": given.answer.Error != nil}
+	shown = raftbench.Message{Own: given, From: shown.To, To: shown.From, Type: shown.Type + "Resp", Reject: given.answer.Error != nil}
 	switch said := given.answer.Response.(type) {
 	case *raft.RequestVoteResponse:
-		shown["term"], shown["reject"] = said.Term, !said.Granted
+		shown.Term, shown.Reject = said.Term, !said.Granted
 	case *raft.AppendEntriesResponse:
 		request := given.request.(*raft.AppendEntriesRequest)
-		shown["term"], shown["reject"], shown["index"] = said.Term, !said.Success, request.PrevLogEntry+uint64(len(request.Entries))
+		shown.Term, shown.Reject, shown.Index = said.Term, !said.Success, request.PrevLogEntry+uint64(len(request.Entries))
 		if !said.Success && !isOnlyHeartbeat(request) {
-			shown["index"], shown["rejectHint"] = request.PrevLogEntry, said.LastLog
+			shown.Index, shown.RejectHint = request.PrevLogEntry, said.LastLog
 		}
 	case *raft.InstallSnapshotResponse:
-		shown["type"], shown["term"], shown["reject"] = "MsgAppResp", said.Term, !said.Success
-		shown["index"] = given.request.(*raft.InstallSnapshotRequest).LastLogIndex
+		shown.Type, shown.Term, shown.Reject = "MsgAppResp", said.Term, !said.Success
+		shown.Index = given.request.(*raft.InstallSnapshotRequest).LastLogIndex
 	}
 	return shown
 }
 
-func shownRequest(given letter) object {
+func shownRequest(given letter) raftbench.Message {
 	switch asked := given.request.(type) {
 	case *raft.RequestVoteRequest:
-		return object{"type": "MsgVote", "term": asked.Term, "index": asked.LastLogIndex, "logTerm": asked.LastLogTerm, "transfer": asked.LeadershipTransfer}
+		return raftbench.Message{Type: "MsgVote", Term: asked.Term, Index: asked.LastLogIndex, LogTerm: asked.LastLogTerm, Transfer: asked.LeadershipTransfer}
 	case *raft.AppendEntriesRequest:
 		kind := map[bool]string{true: "MsgHeartbeat", false: "MsgApp"}[isOnlyHeartbeat(asked)]
-		return object{"type": kind, "term": asked.Term, "index": asked.PrevLogEntry, "logTerm": asked.PrevLogTerm, "commit": asked.LeaderCommitIndex, "entries": shownEntries(asked.Entries)}
+		return raftbench.Message{
+			Type: kind, Term: asked.Term, Index: asked.PrevLogEntry, LogTerm: asked.PrevLogTerm, Commit: asked.LeaderCommitIndex, Entries: shownEntries(asked.Entries),
+		}
 	case *raft.InstallSnapshotRequest:
 		config := shownConfig(raft.DecodeConfiguration(asked.Configuration))
-		snapshot := object{"index": asked.LastLogIndex, "term": asked.LastLogTerm, "content": given.snapshot, "config": config}
-		return object{"type": "MsgSnap", "term": asked.Term, "snapshot": snapshot}
+		snapshot := &raftbench.Snapshot{Index: asked.LastLogIndex, Term: asked.LastLogTerm, Content: given.snapshot, Config: config}
+		return raftbench.Message{Type: "MsgSnap", Term: asked.Term, Snapshot: snapshot}
 	default:
-		return object{"type": "MsgTimeoutNow"}
+		return raftbench.Message{Type: "MsgTimeoutNow"}
 	}
 }
 
-func shownConfig(c raft.Configuration) object {
-	ids := map[raft.ServerSuffrage][]uint64{raft.Voter: {}, raft.Nonvoter: {}}
+func shownConfig(c raft.Configuration) raftbench.Config {
+	ids := map[raft.ServerSuffrage][]uint64{}
 	for _, server := range c.Servers {
 		ids[server.Suffrage] = append(ids[server.Suffrage], number(server.ID))
 	}
-	return object{"voters": ids[raft.Voter], "learners": ids[raft.Nonvoter]}
+	return raftbench.Config{Voters: ids[raft.Voter], Learners: ids[raft.Nonvoter]}
 }
 
-func configurationOf(c call) (made raft.Configuration) {
-	for suffrage, ids := range [][]uint64{raft.Voter: c.Base.Config.Voters, raft.Nonvoter: c.Base.Config.Learners} {
+func configurationOf(c raftbench.Config) (made raft.Configuration) {
+	for suffrage, ids := range [][]uint64{raft.Voter: c.Voters, raft.Nonvoter: c.Learners} {
 		for _, id := range ids {
 			made.Servers = append(made.Servers, raft.Server{Suffrage: raft.ServerSuffrage(suffrage), ID: idOf(id), Address: raft.ServerAddress(idOf(id))})
 		}
@@ -139,13 +137,12 @@ func configurationOf(c call) (made raft.Configuration) {
 	return made
 }
 
-var logged = regexp.MustCompile(`(?m)^\. \[([A-Z]+)\] *(.*)$`)
+var logged, pointer = regexp.MustCompile(`(?m)^\. \[([A-Z]+)\] *(.*)$`), regexp.MustCompile(`0x[0-9a-f]+`)
 
-// events is what the library logged since they were asked for last.
-func (n *node) events() [][2]string {
-	events := [][2]string{}
+// Events is what the library logged since they were asked for last, without the addresses that it prints.
+func (n *node) Events() (events []raftbench.Event) {
 	for _, line := range logged.FindAllStringSubmatch(n.said.String(), -1) {
-		events = append(events, [2]string{line[1], line[2]})
+		events = append(events, raftbench.Event{line[1], pointer.ReplaceAllString(line[2], "0x..")})
 	}
 	n.said.Reset()
 	return events

@@ -10,6 +10,8 @@ import (
 	"time"
 
 	pb "go.etcd.io/etcd/raft/v3/raftpb"
+
+	"raftbench"
 )
 
 // A cluster of etcd's nodes that runs by the real clock: a goroutine a node, ticks of 10 ms, timeouts that are drawn, and a network that loses and
@@ -32,9 +34,7 @@ type member struct {
 
 func main() {
 	seconds, err := strconv.Atoi(os.Args[2])
-	if err != nil {
-		fail(err)
-	}
+	must(err)
 	members := map[uint64]*member{}
 	ids := []uint64{1, 2, 3}
 	for _, id := range ids {
@@ -55,19 +55,13 @@ func main() {
 
 func begin(folder string, id uint64, ids []uint64) *member {
 	out, err := os.Create(filepath.Join(folder, fmt.Sprint("node", id, ".txt")))
-	if err != nil {
-		fail(err)
-	}
+	must(err)
 	m := &member{out: out, inbox: make(chan pb.Message, 1000), propose: make(chan []byte, 1000)}
-	c := call{Call: "start", Node: id, Base: base{Index: 10, Term: 1, Config: config{Voters: ids}}}
-	c.Options.Inflight = 256
-	if m.node, err = start(&c); err != nil {
-		fail(err)
-	}
-	m.write(answer{"call": "hello", "protocol": protocol}, answer{"name": "live cluster", "protocol": protocol, "without": []string{"status", "sync"}})
-	options := answer{"inflight": 256}
-	m.settle()
-	m.write(answer{"call": "start", "node": id, "at": seconds(), "base": c.Base, "options": options}, m.said())
+	base := raftbench.Snapshot{Index: 10, Term: 1, Config: raftbench.Config{Voters: ids}}
+	m.node = start(raftbench.Start{Node: id, Base: base, Options: raftbench.Options{Inflight: 256}})
+	m.write(answer{"call": "hello", "protocol": 1}, answer{"name": "live cluster", "protocol": 1, "without": []string{"status", "sync"}})
+	m.Settle()
+	m.write(answer{"call": "start", "node": id, "at": seconds(), "base": base, "options": answer{"inflight": 256}}, m.said())
 	return m
 }
 
@@ -83,7 +77,7 @@ func (m *member) run(members map[uint64]*member, done chan struct{}) {
 		case data := <-m.propose:
 			m.call("propose", answer{"data": data}, func() { m.declined(m.raw.Propose(data)) })
 		case message := <-m.inbox:
-			m.call("step", answer{"message": shownMessage(message, 0)}, func() { m.declined(m.raw.Step(message)) })
+			m.call("step", answer{"message": shownMessage(message)}, func() { m.declined(m.raw.Step(message)) })
 		}
 		for m.raw.HasReady() {
 			m.handleReady(members)
@@ -93,10 +87,10 @@ func (m *member) run(members map[uint64]*member, done chan struct{}) {
 
 // tick writes a tick; if it ended a random timeout, it is a campaign.
 func (m *member) tick() {
-	at, term := seconds(), m.shownState().Term
+	at, term := seconds(), m.State().Term
 	m.raw.Tick()
 	name := "tick"
-	if m.shownState().Term > term {
+	if m.State().Term > term {
 		name = "campaign"
 	}
 	m.draw()
@@ -108,18 +102,14 @@ func (m *member) call(name string, parts answer, carryOut func()) {
 	carryOut()
 	m.draw()
 	m.write(parts, m.said())
-	log, err := m.shownLog(line{'{'})
-	if err != nil {
-		fail(err)
-	}
-	m.write(answer{"call": "log", "node": m.id, "at": seconds()}, json.RawMessage(append(log, '}')))
+	m.write(answer{"call": "log", "node": m.id, "at": seconds()}, m.Log())
 }
 
 // draw draws a timeout where a role begins. The log of etcd tells where.
 func (m *member) draw() {
 	if m.log.drewTimeout {
 		m.log.drewTimeout = false
-		*m.private.timeout = electionTicks + rand.Intn(electionTicks)
+		m.SetTimeout(electionTicks + rand.Intn(electionTicks))
 	}
 }
 
@@ -132,14 +122,10 @@ func (m *member) declined(err error) {
 // handleReady saves and applies, and then sends: a tenth of the messages is lost, and all are late.
 func (m *member) handleReady(members map[uint64]*member) {
 	at := seconds()
-	shown := m.whatIsReady(0)
+	shown := m.Ready()
 	messages := m.ready.Messages
 	m.write(answer{"call": "ready", "node": m.id, "at": at}, answer{"ready": shown})
-	m.call("advance", answer{}, func() {
-		if err := m.advance(); err != nil {
-			fail(err)
-		}
-	})
+	m.call("advance", answer{}, m.Advance)
 	for _, message := range messages {
 		message := message
 		if rand.Intn(10) > 0 {
@@ -157,19 +143,15 @@ func seconds() float64 { return time.Since(begun).Seconds() }
 func (m *member) said() answer {
 	events := m.log.taken()
 	if events == nil {
-		events = []event{}
+		events = []raftbench.Event{}
 	}
-	return answer{"state": m.shownState(), "events": events}
+	return answer{"state": m.State(), "events": events}
 }
 
 func (m *member) write(asked answer, said interface{}) {
 	one, err := json.Marshal(asked)
-	if err != nil {
-		fail(err)
-	}
+	must(err)
 	other, err := json.Marshal(said)
-	if err != nil {
-		fail(err)
-	}
+	must(err)
 	fmt.Fprintf(m.out, "> %s\n< %s\n", one, other)
 }

@@ -1,1 +1,0 @@
-"""Nodes of other people under the bench."""

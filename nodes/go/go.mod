@@ -1,0 +1,3 @@
+module raftbench
+
+go 1.18

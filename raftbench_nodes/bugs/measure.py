@@ -1,0 +1,127 @@
+"""How soon explore finds each planted bug: the script that first shows it by the default search, what it shows there, and the seconds of processor that
+the bench and the nodes took until then, calibrating not counted; in the form of tests/nodes/bugs.txt. The last line has the counts of docs/MEASURES.md.
+
+    python3 -m raftbench_nodes.bugs.measure [--most N] [--jobs N] [--compare WORDS] [--without-classics] [BUG ..]
+"""
+from __future__ import annotations
+
+import argparse
+import multiprocessing
+import pathlib
+import resource
+import time
+from typing import NamedTuple, Sequence
+
+from ..compare.comparison import Comparison
+from ..compare.exceptions import AcceptedKinds
+from ..compare.judge import Judge
+from ..explore.explorer import Explorer, ScriptResult, Settings, strictest
+from ..explore.library import classics, distilled
+from ..explore.search import Library, Limits, Search, surprise
+from ..process.process import Process
+from ..tools.explore import ALONE
+from .registry import BUGS
+
+TOP = pathlib.Path(__file__).resolve().parents[2]
+PLAIN = [str(TOP / "raftbench-nodes"), "plain"]
+# The time for an answer and for a script: no bug makes a node slow, but a machine may be busy.
+SECONDS, SCRIPT_SECONDS = 60.0, 600.0
+
+
+class Shows(Exception):
+    """A script shows a bug: its number, and the kind."""
+
+
+class InPlace:
+    """A fleet of one, which works when it is asked."""
+
+    def __init__(self, explorer: Explorer) -> None:
+        self.explorer = explorer
+        self.chunks: list[object] = []
+
+    def give(self, task: object, chunk: object) -> None:
+        self.chunks.append(chunk)
+
+    def drop(self) -> None:
+        self.chunks = [[] for _ in self.chunks]
+
+    def take(self) -> list[ScriptResult]:
+        found = []
+        for spec in self.chunks.pop(0):  # type: ignore[attr-defined]
+            found.append(self.explorer.explore(spec))
+            shown = next((shown.kind for shown in found[-1].kinds if surprise(shown.kind) < 4 and "took more than" not in shown.kind), None)
+            if shown:
+                raise Shows(spec.number, shown)
+        return found
+
+
+class Row(NamedTuple):
+    """Where a bug is found."""
+
+    bug: str
+    script: int  # its number, from 1 on, the classics included; 0 where it isn't found
+    seconds: float
+    kind: str
+
+    def text(self) -> str:
+        return f"{self.bug} {self.script} {self.seconds:.1f} {self.kind}" if self.script else f"# {self.bug}: not found, {self.seconds:.1f} s"
+
+
+# The columns of the table: so many scripts.
+WITHIN = (10, 30, 100, 300, 1000)
+
+
+def summary(rows: Sequence[Row], has_classics: bool) -> str:
+    """A row of the table: how many bugs the classics show, or each number of scripts without them; and which none shows."""
+    found = [row.script for row in rows if row.script]
+    counts = [len(found)] if has_classics else [sum(script <= most for script in found) for most in WITHIN]
+    never = ", ".join(row.bug for row in rows if not row.script)
+    return f"| {len(rows)} bugs | {' | '.join(map(str, counts))} | {never or 'none'} |"
+
+
+def processor_seconds() -> float:
+    own, children = resource.getrusage(resource.RUSAGE_SELF), resource.getrusage(resource.RUSAGE_CHILDREN)
+    return own.ru_utime + own.ru_stime + children.ru_utime + children.ru_stime
+
+
+def first_found(bug: str, most: int, compare: str, has_classics: bool = True) -> Row:
+    """The first script of the default search that shows a bug, but by a promise that any Raft breaks in clusters joined by hand."""
+    process = Process([*PLAIN, "--bug", bug] if bug else PLAIN, SECONDS, SCRIPT_SECONDS)
+    comparison = Comparison()
+    try:
+        aspects = strictest(process, comparison)[0] if compare == "auto" else frozenset(compare.split(","))
+        process.close()
+        begun = processor_seconds()
+        explorer = Explorer(process, Judge(is_asked=False), Settings(comparison._replace(aspects=aspects), "mixed", ALONE, AcceptedKinds()))
+        library = Library(classics() if has_classics else (), distilled())
+        search = Search(InPlace(explorer), Limits(0, 1, most, time.monotonic() + 3600), ALONE, library)  # type: ignore[arg-type]
+        number, kind = -1 - len(library.classics), ""
+        try:
+            search.run(lambda: False, lambda _: None)
+        except Shows as shown:
+            number, kind = shown.args
+        process.close()
+        return Row(bug, number + 1 + len(library.classics), processor_seconds() - begun, kind)
+    finally:
+        process.close()
+
+
+def main() -> None:
+    parser = argparse.ArgumentParser()
+    parser.add_argument("bugs", nargs="*", metavar="BUG")
+    parser.add_argument("--most", type=int, default=3000)
+    parser.add_argument("--compare", default="auto")
+    parser.add_argument("--jobs", type=int, default=2)
+    parser.add_argument("--without-classics", action="store_true", help="measures what comes after them")
+    chosen = parser.parse_args()
+    with multiprocessing.Pool(chosen.jobs, maxtasksperchild=1) as pool:
+        asked = [pool.apply_async(first_found, (bug, chosen.most, chosen.compare, not chosen.without_classics)) for bug in chosen.bugs or BUGS]
+        rows = []
+        for each in asked:
+            rows.append(each.get())
+            print(rows[-1].text(), flush=True)
+    print(summary(rows, not chosen.without_classics))
+
+
+if __name__ == "__main__":
+    main()

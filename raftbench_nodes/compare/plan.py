@@ -1,0 +1,321 @@
+"""A script run on the reference alone, with the calls that nodes which behave alike are asked, and what they have to answer. A library that takes
+batches is asked all of them at once: if every answer is the expected one the script agrees, and nothing else has to be looked at.
+"""
+from __future__ import annotations
+
+from typing import Any, Callable, NamedTuple, Sequence
+
+from plain.config import Config
+from plain.node import Node
+from plain.records import Message, Options, Ready
+from plain.script import Block
+
+from ..explore.coverage import effect, message_relation, number_of, situation, view_relation
+from ..process.node import options_out
+from ..process.process import Failed, Process
+from ..promises.checker import Promises
+from ..promises.clusters import Watching
+from ..promises.run import PromiseResult, PromiseRun
+from ..protocol.capabilities import reduced
+from ..protocol.encoding import Hello, Json, change_out, config_out, data_out
+from ..rules.lists import Switched
+from .answers import SETTLED, Checker, ExpectedState, NumberedMessage, PlannedCall, View
+from .comparison import Comparison, Difference, failure
+from .runner_steps import steps_above
+from .script import directive_of
+from .stage import NEVER, Reference, allowed
+
+PARTS: dict[str, Callable[..., Json]] = {
+    "campaign": dict, "tick": dict, "forget_leader": dict,
+    "propose": lambda body: {"data": data_out(body)},
+    "propose_change": lambda change, is_v1=False: {"change": change_out(change), "v1": is_v1},
+    "transfer": lambda to: {"to": to}, "report_unreachable": lambda to: {"to": to},
+    "report_snapshot": lambda to, is_lost: {"to": to, "failed": is_lost},
+    "set_timeout": lambda ticks: {"ticks": ticks}, "compact": lambda index: {"index": index},
+    "restart": lambda saved="nothing": {"saved": saved}, "read": lambda id: {"id": id},
+}
+
+
+class PlanningReference(Reference):
+    """The reference, which notes the calls that it gets and what it met. It prints nothing."""
+
+    def __init__(self, kind: type[Node], begins_at_0: bool, hello: Hello, has_views: bool) -> None:
+        super().__init__(kind, begins_at_0)
+        self.hello, self.has_views = hello, has_views
+        self.asked: list[PlannedCall] = []
+        self.met: set[int] = set()
+        self.notes_where = True  # where the script leads
+        self.number = 0
+        self.steps_to = 0  # the node that the last call is a step of, if more may join it
+
+    def node(self, id: int) -> Node:
+        node = self.nodes[id]
+        assert isinstance(node, Node)
+        return node
+
+    def expected(self, node: Node) -> ExpectedState:
+        skipped = node.unsettled() if isinstance(node, Switched) else SETTLED
+        is_ready = None if node.id in self.under_way else node.has_ready()
+        return ExpectedState(node.role, node.term, node.vote, node.lead, node.commit, node.applied, node.content, node.config, skipped, is_ready)
+
+    def ask(self, node_id: int, call: str, **parts: Any) -> None:
+        self.steps_to = 0
+        self.asked.append(PlannedCall({"call": call, "node": node_id, **parts}, [self.expected(self.node(node_id))], role=self.role_before))
+
+    # Nothing is printed
+
+    def put(self, line: str) -> None:
+        self.is_stuck = self.is_stuck or line == NEVER
+
+    def put_message(self, verb: str, message: Message) -> None:
+        pass
+
+    def put_events(self, node: Any) -> None:
+        node.events = []
+
+    def show_ready(self, id: int, ready: Ready) -> None:
+        pass
+
+    def do_raft_state(self, *_: object) -> None:
+        pass
+
+    def do_raft_log(self, *_: object) -> None:
+        pass
+
+    def do_status(self, *_: object) -> None:
+        pass
+
+    # Calls
+
+    def make_node(self, id: int, config: Config, index: int, content: bytes, options: Options) -> Node:
+        node = super().make_node(id, config, index, content, options)
+        base = {"index": index, "term": 1 if index else 0, "content": data_out(content), "config": config_out(config)}
+        self.nodes[id] = node
+        self.ask(id, "start", base=base, options=options_out(options, self.hello.limits))
+        return node
+
+    def touch(self, id: int) -> None:
+        self.touched.add(id)
+
+    def call(self, id: int, name: str, *parts: Any) -> None:
+        if self.notes_where:
+            node = self.node(id)
+            before = situation(node, id in self.restarted, id in self.under_way)
+            relation = (*message_relation(node, parts[0]), *view_relation(node, parts[0])) if name == "step" else ()
+            role, term, commit, last = node.role, node.term, node.commit, node.last()
+            super().call(id, name, *parts)
+            self.met.add(number_of((self.what, before, relation, effect(node, role, term, commit, last))))
+        else:
+            super().call(id, name, *parts)
+        if name == "step":
+            self.ask_step(id, parts[0])
+        else:
+            self.ask(id, name, **PARTS[name](*parts))
+
+    def ask_step(self, id: int, m: Message) -> None:
+        assert isinstance(m, NumberedMessage)
+        if m.is_cut():
+            self.ask(id, "step")
+            self.asked[-1] = self.asked[-1]._replace(cut=m)
+        elif self.steps_to == id:
+            self.asked[-1].call["numbers"].append(m.number)
+            self.asked[-1].states.append(self.expected(self.node(id)))
+            self.asked[-1].whats.append((m.kind, self.role_before))
+        else:
+            self.ask(id, "step", numbers=[m.number])
+            self.asked[-1] = self.asked[-1]._replace(whats=[(m.kind, self.role_before)])
+            self.steps_to = id
+
+    def numbered(self, message: Message) -> NumberedMessage:
+        sent = NumberedMessage(*message)
+        sent.number, sent.given = self.number, len(message.entries)
+        self.number += 1
+        return sent
+
+    def cut(self, m: Message, most: int) -> Message:
+        less = super().cut(m, most)
+        if less is not m and isinstance(m, NumberedMessage) and isinstance(less, NumberedMessage):
+            less.number, less.given = m.number, m.given
+        return less
+
+    def take_ready(self, id: int) -> Ready:
+        ready = super().take_ready(id)
+        ready = ready._replace(messages=[self.numbered(m) for m in ready.messages])
+        self.steps_to = 0
+        self.asked.append(PlannedCall({"call": "ready", "node": id}, [], ready, role=self.role_before))
+        return ready
+
+    def finish(self, id: int) -> bool:
+        if id not in self.under_way:
+            return False
+        node = self.node(id)
+        if self.notes_where:
+            before, role, term, commit, last = situation(node, id in self.restarted, False), node.role, node.term, node.commit, node.last()
+            super().finish(id)
+            self.met.add(number_of(("advance", before, effect(node, role, term, commit, last))))
+        else:
+            super().finish(id)
+        self.ask(id, "advance")
+        self.asked[-1] = self.asked[-1]._replace(end=(node.last(), node.last_term(), node.durable))
+        return True
+
+    def do_send_snapshot(self, words: Sequence[Any], *_: object) -> None:
+        message = self.numbered(self.nodes[words[0]].snapshot_for(words[1]))
+        self.steps_to = 0
+        self.asked.append(PlannedCall({"call": "snapshot", "node": words[0], "to": words[1]}, [], message=message))
+        self.queue(message, "queue")
+
+    def drop(self, message: Message) -> None:
+        super().drop(message)
+        if "lost" not in self.hello.calls or message.sender not in self.nodes:
+            return
+        assert isinstance(message, NumberedMessage)
+        self.ask(message.sender, "lost", number=message.number)
+
+    # A script
+
+    def ask_views(self) -> None:
+        for id in sorted(self.touched) if self.has_views else []:
+            node = self.node(id)
+            if node.role == "leader":
+                views = {to: View(v.state, v.match, v.next, v.inflight, v.waiting, v.active, v.pending) for to, v in node.views.items() if to != id}
+                self.asked.append(PlannedCall({"call": "status", "node": id}, [], views=views))
+        self.steps_to = 0
+
+    def ask_logs(self) -> None:
+        for id in self.nodes if "log" not in self.hello.without else []:
+            node = self.node(id)
+            end = node.base, node.base_term, node.durable
+            self.asked.append(PlannedCall({"call": "log", "node": id}, [], entries=node.entries_from(node.base + 1), end=end))
+
+
+class Plan(NamedTuple):
+    """What a script asks: `places` are those of the directives of its calls, from 1 on."""
+
+    directives: int
+    left_out: int
+    asked: list[PlannedCall]
+    places: list[tuple[int, Block]]
+    met: set[int]
+    comes_to_rest: bool
+    made: tuple[tuple[str, int], ...] = ()  # what it makes the nodes do
+
+
+def plan_of(blocks: Sequence[Block], process: Process, chosen: Comparison) -> Plan:
+    """Runs a script on the reference."""
+    kept = [(place, less) for place, block in enumerate(blocks, 1) if (less := reduced(block, process.hello)) is not None]
+    cluster = PlanningReference(chosen.kind, chosen.begins_at_0, process.hello, "views" in chosen.aspects and "status" not in process.without)
+    places: list[tuple[int, Block]] = []
+    is_at_rest = True
+    for place, block in kept:
+        if block.lead and chosen.has_steps:
+            cluster.carry_out(allowed(steps_above(block), process))
+            cluster.ask_views()
+        cluster.run(directive_of(block))
+        is_at_rest = is_at_rest and not cluster.is_stuck
+        cluster.ask_views()
+        places += [(place, block)] * (len(cluster.asked) - len(places))
+    cluster.ask_logs()
+    return Plan(len(kept), len(blocks) - len(kept), cluster.asked, places, cluster.met, is_at_rest, tuple(cluster.made.items()))
+
+
+# Asking at once
+
+
+def answers_at_once(asked: Sequence[PlannedCall], process: Process) -> list[Json]:
+    """The answers to all calls. A message that the network cut is made from what the process gave, so its call has to wait for that."""
+    process.reset()
+    answers: list[Json] = []
+    given: list[Json] = []
+    begun = 0
+    for at in [at for at, each in enumerate(asked) if each.cut] + [len(asked)]:
+        calls = [call_of(each, given) for each in asked[begun:at]]
+        if calls:
+            answers += process.ask_all(calls, begun)
+            given += [message for answer in answers[begun:] for message in messages_of(answer)]
+        begun = at
+    return answers
+
+
+def call_of(asked: PlannedCall, given: Sequence[Json]) -> Json:
+    if asked.cut is None:
+        return asked.call
+    whole = given[asked.cut.number] if asked.cut.number < len(given) else {}
+    return {**asked.call, "message": {**whole, "entries": (whole.get("entries") or [])[:len(asked.cut.entries)]}}
+
+
+def messages_of(answer: Json) -> list[Json]:
+    """The messages that an answer gives; what isn't such an answer gives none, and is found by the checker."""
+    ready = answer.get("ready")
+    messages = [answer["message"]] if "message" in answer else (ready.get("messages") or []) if isinstance(ready, dict) else []
+    return [message for message in messages if isinstance(message, dict)]
+
+
+class AtOnce(NamedTuple):
+    """What asking all calls at once came to: whether all answers are the expected ones; the failure of a call, where one fails by an error; how the first
+    state differs, where it is the first answer that does.
+    """
+
+    agrees: bool
+    failure: Difference | None = None
+    state: Difference | None = None
+
+
+def asked_at_once(plan: Plan, process: Process, chosen: Comparison) -> AtOnce:
+    """Asks nodes that take batches. They are asked anew if they don't agree."""
+    if not plan.comes_to_rest:
+        return AtOnce(False)
+    try:
+        return compared_at_once(plan.asked, answers_at_once(plan.asked, process), Checker(process.hello, chosen.aspects), plan.places)
+    except Failed as failed:
+        if failed.number >= len(plan.places):
+            return AtOnce(False)
+        place, block = plan.places[failed.number]
+        return AtOnce(False, failure(place, directive_of(block).name.decode("latin-1"), failed, plan.asked[failed.number].role))
+
+
+def compared_at_once(asked: Sequence[PlannedCall], answers: Sequence[Json], checker: Checker, places: Sequence[tuple[int, Block]]) -> AtOnce:
+    other = checker.first_other(asked, answers) if len(asked) == len(answers) else 0
+    if other is None:
+        return AtOnce(True)
+    if other >= len(places) or other >= len(answers) or not asked[other].states:
+        return AtOnce(False)
+    place, block = places[other]
+    return AtOnce(False, None, checker.other_state(asked[other], answers[other], place, directive_of(block).name.decode("latin-1")))
+
+
+class PlanningAlone(Watching, PlanningReference):
+    """The reference, held to the promises, which notes the calls that it gets."""
+
+    def __init__(self, kind: type[Node], begins_at_0: bool, hello: Hello) -> None:
+        super().__init__(kind, begins_at_0, hello, False)
+        self.promises, self.notes_where = Promises(), False
+
+
+def keeps_promises_at_once(
+    blocks: Sequence[Block], process: Process, chosen: Comparison, has_all_reads: bool,
+) -> tuple[PromiseResult | None, Difference | None]:
+    """What a script comes to with nodes that do as a reference that keeps all promises, also while it heals. If they do otherwise there is None, and how the
+    first state differs, where it is the first answer that does.
+    """
+    cluster = PlanningAlone(chosen.kind, chosen.begins_at_0, process.hello)
+    cluster.has_all_reads = has_all_reads
+    result = PromiseRun(blocks, process, chosen, cluster).result()
+    if result.broken or result.failed:
+        return None, None
+    result = result._replace(made=tuple(cluster.made.items()))
+    cluster.ask_logs()
+    try:
+        answers = answers_at_once(cluster.asked, process)
+    except Failed:
+        return None, None
+    places = [(len(blocks), blocks[-1])] * len(cluster.asked) if blocks else []
+    at_once = compared_at_once(cluster.asked, answers, Checker(process.hello, chosen.aspects | {"ready"}), places)
+    is_kept = at_once.agrees and all(are_linearizable(answer, cluster.promises) for answer in answers)
+    return result if is_kept else None, at_once.state
+
+
+def are_linearizable(answer: Json, promises: Promises) -> bool:
+    """Whether the reads that an answer serves, if any, see what was committed when they were asked for."""
+    reads = (answer.get("ready") or {}).get("reads") or []
+    return all(read.get("index", 0) >= promises.asked.get(read.get("id", 0), (0, 0))[1] for read in reads)

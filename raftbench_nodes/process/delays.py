@@ -1,0 +1,32 @@
+"""How long processes waited for a processor: on a busy machine that is no fault of who doesn't answer, so it doesn't count."""
+from __future__ import annotations
+
+import os
+import pathlib
+from typing import Iterator
+
+
+def waited(group: int) -> float:
+    """The seconds for which this process and those of a group could run and had no processor, as far as Linux tells."""
+    return sum(map(waited_of, [os.getpid(), *processes_of(group)]))
+
+
+def waited_of(process: int) -> float:
+    """The longest wait of a process's threads: they wait side by side."""
+    waits = []
+    for path in pathlib.Path(f"/proc/{process}/task").glob("*/schedstat"):
+        try:
+            waits.append(int(path.read_text().split()[1]) / 1e9)
+        except (OSError, ValueError, IndexError):
+            continue
+    return max(waits, default=0.0)
+
+
+def processes_of(group: int) -> Iterator[int]:
+    for path in pathlib.Path("/proc").glob("[0-9]*/stat"):
+        try:
+            parts = path.read_text(errors="replace").rpartition(")")[2].split()
+        except OSError:
+            continue
+        if len(parts) > 2 and parts[2] == str(group):
+            yield int(path.parent.name)

@@ -1,0 +1,1 @@
+"""Raft's promises, checked on what nodes report."""

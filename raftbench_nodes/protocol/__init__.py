@@ -1,0 +1,1 @@
+"""The protocol of docs/OWN-NODES.md: its values in JSON, what nodes may lack, and an adapter for the reference."""

@@ -1,0 +1,365 @@
+"""The protocol of docs/OWN-NODES.md: its records, and how they are written in JSON, both ways. Each part of an answer is checked before it is
+used: what is missing or of another type is a `Wrong` that names its place and value.
+"""
+from __future__ import annotations
+
+import base64
+import binascii
+import json
+import re
+from typing import Any, Iterable, NamedTuple, Sequence
+
+from plain.config import Change, Config
+from plain.records import Body, Entry, Event, Hard, Message, Numbered, Read, Ready, ShownView, Snapshot
+
+VERSION = 1
+GREATEST = (1 << 63) - 1
+MOST_SHOWN = 80
+ROLES = ("follower", "precandidate", "candidate", "leader")
+TRANSITIONS = ("auto", "explicit", "implicit")
+LEVELS = ("DEBUG", "INFO", "WARN", "ERROR", "FATAL")
+# Calls that a library may lack, and those that it may have.
+CALLS = ("campaign", "tick", "forget_leader", "propose_change", "set_timeout", "transfer", "report_unreachable", "compact", "snapshot", "status")
+OPTIONAL_CALLS = ("restart", "lost", "read", "report_snapshot")
+OPTIONS = ("inflight", "prevote", "checkquorum", "step_down_on_removal")
+CHANGES = ("learners", "joint")
+# The parts of a state, in the order in which a difference is named: the role, numbers, and what was applied. All but the role, the term and `ready` may lack.
+STATE = ("role", "term", "vote", "lead", "commit", "applied", "content", "config", "ready")
+OPTIONAL = STATE[2:8]
+STATES = (*OPTIONAL, "log", "durable", "auto")
+READY = ("ready", "sync", "torn")
+ALWAYS = ("prevote", "checkquorum", "step_down_on_removal", "inflight=1")
+LIMITS = ("max_size_per_msg", "max_uncommitted_size")
+# What of a ready that wasn't advanced is saved at a restart.
+SAVED = ("nothing", "entries", "all")
+
+Json = dict[str, Any]
+
+
+class Wrong(Exception):
+    """What is wrong with an answer, in words."""
+
+
+class Hello(NamedTuple):
+    """What a library says of itself: the table `hello` of the document has the parts."""
+
+    name: str = ""
+    without: frozenset[str] = frozenset()
+    calls: frozenset[str] = frozenset()
+    always: frozenset[str] = frozenset()
+    limits: frozenset[str] = frozenset()
+    is_open: bool = False
+    is_ordered: bool = False
+    is_apart: bool = False
+    has_batch: bool = False
+    has_digest: bool = False
+
+
+class State(NamedTuple):
+    role: str
+    term: int
+    vote: int
+    lead: int
+    commit: int
+    applied: int
+    content: bytes
+    config: Config
+    is_ready: bool
+
+
+class Log(NamedTuple):
+    base: int
+    base_term: int
+    durable: int
+    entries: list[Numbered]
+
+
+class LogEnd(NamedTuple):
+    """Index and term of the last entry, and the last index that is saved."""
+
+    last: int
+    term: int
+    durable: int
+
+
+class HostedView(NamedTuple):
+    """What a leader says of a member."""
+
+    state: str
+    match: int
+    next: int
+    inflight: int
+    waiting: bool
+    active: bool
+    pending: int
+
+
+def shown(value: object) -> str:
+    """A value as JSON, cut to a length that fits into a line."""
+    text = json.dumps(value)
+    return text if len(text) <= MOST_SHOWN else text[:MOST_SHOWN] + ".."
+
+
+def printable(text: str) -> str:
+    """A text in printable ASCII, whatever it has."""
+    return "".join(c if " " <= c <= "~" else c.encode("unicode_escape", "backslashreplace").decode() for c in text)
+
+
+class Parts:
+    """An object of an answer: its parts, read by name. A part that is left out is 0, false or empty, but for one that is `needed`."""
+
+    def __init__(self, value: object, path: str) -> None:
+        if not isinstance(value, dict):
+            raise Wrong(f"{path}: {shown(value)} is not an object")
+        self.value: Json = value
+        self.path = path
+
+    def where(self, name: str) -> str:
+        return f"{self.path}.{name}" if self.path else name
+
+    def part(self, name: str, kind: type, what: str, default: Any, needed: bool = False) -> Any:
+        value = self.value.get(name)
+        if value is None:
+            if needed and name not in self.value:
+                raise Wrong(f"{self.where(name)} is missing")
+            return default
+        if type(value) is not kind:
+            raise Wrong(f"{self.where(name)}: {shown(value)} is not {what}")
+        return value
+
+    def number(self, name: str, needed: bool = False) -> int:
+        value: int = self.part(name, int, "a number", 0, needed)
+        if not 0 <= value <= GREATEST:
+            raise Wrong(f"{self.where(name)}: {shown(value)} is not a number from 0 to {GREATEST}")
+        return value
+
+    def truth(self, name: str, needed: bool = False) -> bool:
+        return bool(self.part(name, bool, "true or false", False, needed))
+
+    def text(self, name: str, needed: bool = False) -> str:
+        return str(self.part(name, str, "a text", "", needed))
+
+    def word(self, name: str, words: Sequence[str]) -> str:
+        value = self.text(name, needed=True)
+        if value not in words:
+            raise Wrong(f"{self.where(name)}: {shown(value)} is not one of {', '.join(words)}")
+        return value
+
+    def data(self, name: str, needed: bool = False) -> bytes:
+        """Bytes, which are written in base64."""
+        value = self.text(name, needed)
+        try:
+            return base64.b64decode(value.encode(), validate=True)
+        except (binascii.Error, UnicodeEncodeError):
+            raise Wrong(f"{self.where(name)}: {shown(value)} is not base64") from None
+
+    def items(self, name: str) -> list[Any]:
+        return list(self.part(name, list, "a list", []))
+
+    def words(self, name: str, known: Iterable[str], what: str) -> frozenset[str]:
+        """A list of known words."""
+        words = self.items(name)
+        for word in words:
+            if word not in known:
+                raise Wrong(f"{self.where(name)}: {shown(word)} is not {what}")
+        return frozenset(words)
+
+    def ids(self, name: str) -> frozenset[int]:
+        values = self.items(name)
+        if any(type(id) is not int or not 0 <= id <= GREATEST for id in values):
+            raise Wrong(f"{self.where(name)}: {shown(values)} is not a list of ids")
+        return frozenset(values)
+
+    def needed_object(self, name: str) -> Parts:
+        found = self.object(name)
+        if found is None:
+            raise Wrong(f"{self.where(name)} is missing")
+        return found
+
+    def object(self, name: str) -> Parts | None:
+        """The parts of an object in this one, or None."""
+        value = self.value.get(name)
+        return None if value is None else Parts(value, self.where(name))
+
+    def objects(self, name: str) -> list[Parts]:
+        return [Parts(value, f"{self.where(name)}[{at}]") for at, value in enumerate(self.items(name))]
+
+
+# Out: what the bench and the plain node's adapter write
+
+
+def data_out(data: bytes) -> str:
+    return base64.b64encode(data).decode()
+
+
+def config_out(config: Config) -> Json:
+    sets = {"voters": config.incoming, "outgoing": config.outgoing, "learners": config.learners, "next": config.next}
+    out: Json = {name: sorted(ids) for name, ids in sets.items() if ids or name == "voters"}
+    return {**out, "auto": True} if config.auto else out
+
+
+def change_out(change: Change) -> Json:
+    return {"transition": change.transition, "words": [f"{letter}{id}" for letter, id in change.words]}
+
+
+def body_out(body: Body) -> Json:
+    return {"data": data_out(body)} if isinstance(body, bytes) else {"change": change_out(body)}
+
+
+def entries_out(pairs: Iterable[Numbered]) -> list[Json]:
+    return [{"term": entry.term, "index": index, **body_out(entry.body)} for index, entry in pairs]
+
+
+# Parts of a message that are numbers or truths: the name in JSON, and in plain.records.Message.
+NUMBERS = {"term": "term", "logTerm": "log_term", "index": "index", "commit": "commit", "rejectHint": "hint", "target": "target", "context": "context"}
+TRUTHS = {"reject": "refused", "transfer": "by_transfer"}
+
+
+def message_out(m: Message) -> Json:
+    out: Json = {"type": m.kind, "from": m.sender, "to": m.to}
+    out.update((name, getattr(m, part)) for name, part in {**NUMBERS, **TRUTHS}.items() if getattr(m, part))
+    if m.entries:
+        out["entries"] = entries_out(enumerate(m.entries, m.index + 1))
+    if m.body is not None:
+        out["entries"] = [body_out(m.body)]
+    if m.snapshot:
+        s = m.snapshot
+        out["snapshot"] = {"index": s.index, "term": s.term, "content": data_out(s.content), "config": config_out(s.config)}
+    return out
+
+
+def ready_out(ready: Ready) -> Json:
+    return {
+        "hard": ready.hard and ready.hard._asdict(), "snapshot": ready.snapshot and dict(zip(("index", "term"), ready.snapshot)),
+        "entries": entries_out(ready.entries), "committed": entries_out(ready.committed), "messages": [message_out(m) for m in ready.messages],
+        "sync": ready.sync, **({"reads": [read._asdict() for read in ready.reads]} if ready.reads else {}),
+    }
+
+
+def view_out(id: int, view: ShownView) -> Json:
+    return {
+        "node": id, "state": view.state, "match": view.match, "next": view.next, "inflight": view.inflight, "waiting": view.waiting,
+        "active": view.active, "snapshot": view.pending,
+    }
+
+
+# In: what nodes answer
+
+
+def hello_in(parts: Parts) -> Hello:
+    if parts.number("protocol", needed=True) != VERSION:
+        raise Wrong(f"protocol: this bench speaks {VERSION}, and not {shown(parts.value['protocol'])}")
+    return Hello(
+        printable(parts.text("name", needed=True)), parts.words("without", CALLS + OPTIONS + CHANGES + STATES + READY, "something that nodes may be without"),
+        parts.words("calls", OPTIONAL_CALLS, "an optional call"), parts.words("always", ALWAYS, "something that nodes may always do"),
+        parts.words("limits", LIMITS, "a limit that nodes may have"), parts.truth("open"), parts.truth("ordered"), parts.truth("apart"), parts.truth("batch"),
+        parts.truth("batch") and parts.truth("digest"),
+    )
+
+
+def config_in(parts: Parts | None) -> Config:
+    if parts is None:
+        return Config(frozenset())
+    return Config(parts.ids("voters"), parts.ids("outgoing"), parts.ids("learners"), parts.ids("next"), parts.truth("auto"))
+
+
+def change_in(parts: Parts) -> Change:
+    words = parts.items("words")
+    for word in words:
+        if not isinstance(word, str) or not re.fullmatch("[vlru][0-9]{1,10}", word):
+            raise Wrong(f"{parts.where('words')}: {shown(word)} is not a word of a change")
+    return Change(parts.word("transition", TRANSITIONS), tuple((word[0], int(word[1:])) for word in words))
+
+
+def body_in(parts: Parts) -> Body:
+    change = parts.object("change")
+    return change_in(change) if change else parts.data("data")
+
+
+def entries_in(all_parts: Iterable[Parts]) -> list[Numbered]:
+    """Pairs of an index and an entry."""
+    return [(parts.number("index"), Entry(parts.number("term"), body_in(parts))) for parts in all_parts]
+
+
+class WireMessage(Message):
+    """A message of somebody else's node: what is known of it, and `json`, which goes to its receiver unchanged."""
+
+    json: Json
+
+
+def message_in(parts: Parts) -> WireMessage:
+    kind = parts.text("type", needed=True)
+    if not re.fullmatch("[A-Za-z0-9_]{1,40}", kind):
+        raise Wrong(f"{parts.where('type')}: {shown(kind)} is not a type of a message")
+    known: Json = {name: parts.number(json_name) for json_name, name in NUMBERS.items()}
+    known.update((name, parts.truth(json_name)) for json_name, name in TRUTHS.items())
+    entries = tuple(entry for _, entry in entries_in(parts.objects("entries")))
+    if kind == "MsgProp":
+        known["body"] = entries[0].body if entries else b""
+    else:
+        known["entries"] = entries
+    if kind == "MsgSnap":
+        s = parts.needed_object("snapshot")
+        known["snapshot"] = Snapshot(s.number("index", True), s.number("term", True), s.data("content"), config_in(s.object("config")))
+    parts.truth("before_save")
+    message = WireMessage(kind, parts.number("from", True), parts.number("to", True), **known)
+    message.json = parts.value
+    return message
+
+
+def is_early(message: Message) -> bool:
+    """Whether a message goes out before what was ready with it is saved."""
+    return isinstance(message, WireMessage) and message.json.get("before_save") is True
+
+
+def state_in(parts: Parts, without: frozenset[str]) -> State:
+    if missing := [name for name in OPTIONAL if name not in parts.value and name not in without]:
+        raise Wrong(f"parts of {parts.path} are missing, and not in `without`: {', '.join(missing)}")
+    numbers = (parts.number(name, needed=name not in without) for name in STATE[2:6])
+    role, term = parts.word("role", ROLES), parts.number("term", needed=True)
+    vote, lead, commit, applied = numbers
+    content, config = parts.data("content", needed="content" not in without), parts.object("config")
+    if config is None and "config" not in without:
+        raise Wrong(f"{parts.where('config')} is missing")
+    return State(role, term, vote, lead, commit, applied, content, config_in(config), parts.truth("ready", needed=True))
+
+
+def log_in(parts: Parts, without: frozenset[str]) -> Log:
+    base, entries = parts.needed_object("base"), entries_in(parts.objects("entries"))
+    for at, (index, _) in enumerate(entries, base.number("index", needed=True) + 1):
+        if index != at:
+            raise Wrong(f"entries: index {index}, where {at} is due")
+    return Log(base.number("index"), base.number("term", needed=True), parts.number("durable", needed="durable" not in without), entries)
+
+
+def log_end_in(parts: Parts) -> LogEnd | None:
+    end = parts.object("log")
+    return LogEnd(end.number("last", needed=True), end.number("term", needed=True), end.number("durable")) if end else None
+
+
+def views_in(parts: Parts) -> dict[int, HostedView]:
+    return {
+        view.number("node", needed=True): HostedView(
+            view.word("state", ("probe", "replicate", "snapshot")), view.number("match"), view.number("next", needed=True), view.number("inflight"),
+            view.truth("waiting"), view.truth("active"), view.number("snapshot"),
+        )
+        for view in parts.objects("views")
+    }
+
+
+def ready_in(parts: Parts) -> Ready:
+    hard, snapshot = parts.object("hard"), parts.object("snapshot")
+    return Ready(
+        Hard(hard.number("term"), hard.number("vote"), hard.number("commit")) if hard else None,
+        (snapshot.number("index"), snapshot.number("term")) if snapshot else None,
+        entries_in(parts.objects("entries")), entries_in(parts.objects("committed")), [message_in(m) for m in parts.objects("messages")],
+        parts.truth("sync"), tuple(Read(read.number("id"), read.number("index")) for read in parts.objects("reads")),
+    )
+
+
+def events_in(parts: Parts) -> list[Event]:
+    events = parts.items("events")
+    for event in events:
+        if not (isinstance(event, list) and len(event) == 2 and all(isinstance(it, str) for it in event) and event[0] in LEVELS):
+            raise Wrong(f"{parts.where('events')}: {shown(event)} is not a pair of a level and a line")
+    return [(level, printable(line)) for level, line in events]

@@ -1,0 +1,1 @@
+"""The reference with other rules: switches, their rules, and lists of known libraries."""

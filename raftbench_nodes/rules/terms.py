@@ -1,0 +1,259 @@
+"""Rules of campaigns, votes, terms, time, and of what is passed on to a leader."""
+from __future__ import annotations
+
+from typing import Any
+
+from plain.config import both
+from plain.node import Disk
+from plain.records import Message
+
+from .own import Ruled
+
+FROM_LEADERS = ("MsgApp", "MsgHeartbeat", "MsgSnap")
+ASKING = ("candidate", "precandidate")
+ANSWERS = ("MsgAppResp", "MsgVoteResp", "MsgPreVoteResp", "MsgHeartbeatResp")
+# The roles in which the later term of an answer counts, if it needs one.
+ASKERS = {"MsgVoteResp": ("candidate",), "MsgPreVoteResp": ASKING}
+
+
+class TermRules(Ruled):
+    """Campaigns, terms, time, transfers."""
+
+    led_at = 0
+    asked_term = 0  # of the message that is handled
+    was_told = False  # to campaign, by a leader
+    has_handed_over = False  # the transfer that is under way
+    heard: dict[int, int] = {}
+
+    def start_from(self, disk: Disk) -> None:
+        super().start_from(disk)
+        if self.is_lone_leader():
+            self.lead_on()
+
+    def is_lone_leader(self) -> bool:
+        return self.on("lone-voter-leads") and self.config.voters() == {self.id}
+
+    def why_not(self) -> str | None:
+        why = super().why_not()
+        is_free = self.on("pending-change-campaigns") and not self.has_first_form_pending() or self.on("change-counts-when-appended")
+        if why == "change pending" and is_free or why == "snapshot pending" and self.on("snapshot-always-installed"):
+            return None
+        may = self.on("unstable-member-campaigns") and self.is_unstable() or self.on("nonvoter-times-out") and self.role == "candidate"
+        return None if why == "not a voter" and may else why
+
+    def why_not_now(self, kind: str) -> str | None:
+        return None if self.on("won-question-campaigns") and kind == "elected" else super().why_not_now(kind)
+
+    def answer_older(self, m: Message) -> None:
+        if self.on("earlier-vote-refused") and m.kind == "MsgVote":
+            return self.send("MsgVoteResp", m.sender, refused=True)
+        if self.on("earlier-append-refused") and m.kind == "MsgApp":
+            return self.send("MsgAppResp", m.sender, refused=True, index=m.index, hint=self.last())
+        return super().answer_older(m)
+
+    def count_vote(self, m: Message) -> None:
+        if self.on("refused-candidate-stays") and m.refused:
+            return self.ignore(m)
+        return super().count_vote(m)
+
+    def raise_term(self, m: Message) -> None:
+        if self.on("heartbeat-answers-have-no-term") and m.kind == "MsgHeartbeatResp":
+            return
+        if self.on("answers-need-their-role") and m.kind in ANSWERS and self.role not in ASKERS.get(m.kind, ("leader",)):
+            return
+        if self.on("stale-leader-keeps-term") and m.kind == "MsgAppResp":
+            if self.role == "leader":
+                self.follow(self.term, 0)
+            return
+        lead = self.lead if self.role == "follower" and self.on("lead-is-kept") and m.kind not in FROM_LEADERS else 0
+        clock = self.elapsed, self.timeout
+        keeps_clock = self.role == "follower" and self.on("later-term-keeps-clock")
+        super().raise_term(m)
+        if keeps_clock:
+            self.elapsed, self.timeout = clock
+        if lead and m.term == self.term:
+            self.lead = lead
+
+    def by_role(self, m: Message) -> None:
+        if self.role == "leader" and m.kind in ("MsgApp", "MsgHeartbeat") and self.on("leader-follows-another"):
+            self.follow(self.term, m.sender)
+        super().by_role(m)
+
+    def answer_candidate(self, m: Message) -> None:
+        lead, vote = self.lead, self.vote
+        if self.on("nonvoter-refuses") and self.id not in self.config.voters():
+            return self.send(f"{m.kind}Resp", m.sender, refused=True)
+        if self.on("pre-vote-ignores-vote") and m.kind == "MsgPreVote":
+            self.lead = self.vote = 0
+            super().answer_candidate(m)
+            self.lead, self.vote = lead, vote
+            return None
+        if self.on("lead-is-kept") and self.vote == 0 and m.kind == "MsgVote":
+            self.lead = 0
+        super().answer_candidate(m)
+        self.lead = lead if self.on("lead-is-kept") else self.lead
+        return None
+
+    def is_undisturbed(self, m: Message) -> bool:
+        if self.on("known-leader-may-ask") and m.sender == self.lead:
+            return False
+        asks = m.kind in ("MsgVote", "MsgPreVote") and not m.by_transfer and self.lead not in (0, m.sender)
+        if not self.on("known-leader-refuses"):
+            return super().is_undisturbed(m)
+        is_it = asks or super().is_undisturbed(m)
+        if is_it:
+            self.send(f"{m.kind}Resp", m.sender, refused=True)
+        return is_it
+
+    def campaign(self, kind: str = "usual") -> None:
+        if self.is_lone_leader() and self.why_not_now(kind) is None:
+            return self.lead_on()
+        timeout = self.timeout
+        if self.role == "candidate" and kind == "usual":
+            kind = self.kind_again()
+        self.was_told = kind == "transfer"
+        if self.on("declined-campaign-forgets-leader") and self.why_not_now(kind) == "not a voter":
+            self.lead = 0
+        super().campaign(kind)
+        if (self.on("unstable-member-campaigns") or self.on("messages-are-calls")) and self.role == "candidate" and self.id not in self.config.voters():
+            self.vote = 0
+        if self.on("pre-vote-restarts-clock") and self.role == "precandidate" and kind == "usual" and self.why_not_now(kind) is None:
+            self.elapsed = 0
+        if self.on("pre-vote-keeps-timeout") and self.role == "precandidate" and kind == "usual":
+            self.timeout = timeout
+        return None
+
+    def kind_again(self) -> str:
+        """The kind of a candidate's next campaign."""
+        if self.on("told-candidate-stays-told") and self.was_told:
+            return "transfer"
+        return "elected" if self.on("candidate-asks-once") else "usual"
+
+    def tick(self) -> None:
+        self.ticks += 1
+        if self.on("unsaved-snapshot-waits") and self.role != "leader" and self.restored:
+            self.elapsed += 1
+        elif self.has_lost_quorum():
+            self.follow(self.term, 0)
+        else:
+            super().tick()
+            self.time_out_nonvoter()
+            self.beat_snapshots()
+            again, self.lost = frozenset(self.views) - {self.id} if self.on("heartbeats-append") else self.lost, frozenset()
+            for id in sorted(again & self.views.keys() if self.role == "leader" else ()):
+                self.views[id].waiting = False
+                self.sends(id, "tell")
+
+    def beat_snapshots(self) -> None:
+        """Heartbeats that are appends have no entries while a snapshot is on its way."""
+        for id in self.others() if self.on("heartbeats-append") else ():
+            if self.views[id].state == "snapshot":
+                self.send("MsgApp", id, index=self.last(), log_term=self.last_term(), commit=self.commit, entries=())
+
+    def time_out_nonvoter(self) -> None:
+        """The timeout of a node that doesn't vote may pass too."""
+        is_due = self.role != "leader" and self.id not in self.config.voters() and self.elapsed >= self.timeout
+        if self.on("nonvoter-times-out") and is_due:
+            self.elapsed = 0
+            self.campaign()
+
+    def send(self, kind: str, to: int, **parts: Any) -> None:
+        """Heartbeats that are appends have no message of their own. Those that a read asks for have a context."""
+        if kind == "MsgHeartbeat" and "context" not in parts and self.on("heartbeats-append"):
+            return
+        if kind == "MsgTimeoutNow" and self.on("transfer-goes-by-sent"):
+            if self.has_handed_over:
+                return
+            self.has_handed_over = True
+        if kind == "MsgPreVoteResp" and to != self.id and self.on("pre-vote-answer-has-asked-term"):
+            parts["term"] = self.asked_term
+        super().send(kind, to, **parts)
+
+    def lose(self, m: Message) -> None:
+        """What is in flight is forgotten, and what the member lacks goes again."""
+        is_mine = m.kind == "MsgApp" and m.term == self.term and self.role == "leader" and m.to in self.views
+        if self.on("lost-append-goes-again") and is_mine:
+            self.report_unreachable(m.to)
+            self.views[m.to].waiting = True
+            self.lost |= {m.to}
+
+    def lead_on(self) -> None:
+        self.led_at, self.heard = self.ticks, {}
+        self.commit = max(self.commit, self.durable) if self.is_lone_leader() else self.commit
+        super().lead_on()
+
+    def new_view(self, id: int, active: bool) -> None:
+        super().new_view(id, active)
+        self.heard[id] = self.ticks
+
+    def hear(self, m: Message) -> None:
+        """Notes an answer of this leadership. A heartbeat's is one whatever its term is, if that isn't looked at."""
+        is_beat = m.kind == "MsgHeartbeatResp" and m.term > self.term and self.on("heartbeat-answers-have-no-term")
+        if self.role == "leader" and (is_beat or m.kind in ("MsgAppResp", "MsgHeartbeatResp") and m.term == self.term):
+            self.heard[m.sender] = self.ticks
+
+    def has_lost_quorum(self) -> bool:
+        looks = self.on("quorum-by-last-answers") and self.role == "leader" and self.options.checkquorum
+        return looks and not both(self.config, lambda id: id == self.id or self.ticks - self.heard.get(id, self.led_at) <= 3)
+
+    def keeps_lead(self) -> bool:
+        if self.on("quorum-by-last-answers"):
+            self.elapsed = 0
+            self.end_transfer()
+        return self.on("quorum-by-last-answers") or super().keeps_lead()
+
+    def is_of_next_term(self, m: Message) -> bool:
+        """Whether a precandidate is refused in the term that it asks for."""
+        return self.role == "precandidate" and m.kind == "MsgPreVoteResp" and m.refused and m.term == self.term + 1
+
+    def step(self, m: Message) -> None:
+        self.hear(m)
+        self.asked_term = m.term
+        if self.on("pre-vote-refusal-keeps-term") and self.is_of_next_term(m):
+            return self.ignore(m)
+        if self.on("stranger-ignored") and m.kind in ANSWERS and m.sender not in self.config.members():
+            return self.ignore(m)
+        if m.kind == "MsgTransferLeader" and m.term:
+            if m.term < self.term:
+                return self.ignore(m)
+            if m.term > self.term:
+                self.raise_term(m)
+        if self.on("term-0-is-taken") and m.term == 0:
+            if self.role in ("candidate", "precandidate") and m.kind in FROM_LEADERS:
+                self.follow(0, m.sender)
+            m = m._replace(term=self.term)
+        return super().step(m)
+
+    def pass_proposal(self, m: Message) -> None:
+        if self.on("proposal-refused"):
+            return self.drop(m)
+        super().pass_proposal(m)
+        if self.on("proposal-keeps-sender") and self.lead:
+            self.sent[-1] = self.sent[-1]._replace(sender=m.sender)
+        return None
+
+    def pass_transfer(self, m: Message) -> None:
+        if self.on("transfer-refused"):
+            return self.ignore(m)
+        super().pass_transfer(m._replace(target=self.id) if self.on("transfer-to-passer") else m)
+        if self.on("transfer-has-term") and self.lead:
+            self.sent[-1] = self.sent[-1]._replace(term=self.term)
+
+    def campaign_by_transfer(self, m: Message) -> None:
+        """Told of the last entry of the leader's log, a node may compare it with its own."""
+        is_whole = m.sender == self.lead and (m.index, m.log_term) == (self.last(), self.last_term())
+        if self.on("transfer-needs-whole-log") and not is_whole:
+            return self.ignore(m)
+        return super().campaign_by_transfer(m)
+
+    def start_transfer(self, m: Message) -> None:
+        if self.on("transfer-to-itself-ends") and m.target == self.id and self.transferee and m.target in self.config.voters():
+            return self.end_transfer()
+        if self.on("one-transfer-at-a-time") and self.transferee:
+            return self.ignore(m)
+        view, self.has_handed_over = self.views.get(m.target), False
+        if view and self.on("transfer-goes-by-sent") and m.target in self.config.voters() - {self.id, self.transferee} and view.next > self.last():
+            self.end_transfer()
+            self.elapsed, self.transferee = 0, m.target
+            return self.send("MsgTimeoutNow", m.target)
+        return super().start_transfer(m)

@@ -1,0 +1,386 @@
+"""raftbench-nodes explore, and promises without a PATH: the arguments, the search, the shrinking of what it finds, and the result."""
+from __future__ import annotations
+
+import argparse
+import dataclasses
+import functools
+import pathlib
+import sys
+import time
+from typing import Callable, NamedTuple, Sequence
+
+from plain.script import Fault, read_script
+
+from ..compare.exceptions import AcceptedKinds
+from ..compare.judge import Judge, Unjudged
+from ..compare.report import difference_lines
+from ..compare.script import Step, blocks_of
+from ..compare.made import THINGS
+from ..explore.costs import REPAIR, repair_of
+from ..explore.explorer import MOST_RUNS, WITHIN, Explorer, Settings, strictest
+from ..explore.library import classics, distilled
+from ..explore.remake import Remaker, remade, text_of
+from ..explore.results import KindResult, Result, order_of
+from ..explore.search import Candidate, Kind, Library, Limits, Search, contains, surprise
+from ..explore.shrinker import Budget
+from ..page.page import Mark, NoViewer, PageWriter
+from ..process.cache import default_folder
+from ..process.process import Failed, Process
+from ..process.workers import Broken, Fleet, interruptible
+from ..promises.run import run_alone
+from .arguments import MINUTES, add_common, add_comparing, add_exploring, checked, comparison_of, complain, parser_for
+
+# Kinds that are shrunk besides broken promises, all of which are; the others are counted.
+MOST_SHRUNK = 12
+# Shrinking a kind may carry out this many directives in any case, and else its share of what finding did; of the minutes it has this part.
+LEAST_DIRECTIVES, SHRINKS = 4000, 1 / 3
+# So many scripts of other kinds are tried for one.
+MOST_SHORTER = 3
+# Shrinking some kinds on each processor takes about this many seconds, twice: with what others show, and again.
+SECONDS_OF_SHRINKING = 5.0
+# So many failures of the reference are shown.
+MOST_FAULTS = 3
+# Of how many scripts of explore one is held to promises alone, with reads and healing.
+ALONE = 6
+
+
+class Words(NamedTuple):
+    """The arguments of a call, read."""
+
+    command: str
+    seconds: float
+    chosen: Settings
+    compare: str  # "auto", or what is compared
+    limits: Limits
+    jobs: int
+    remembers_in: pathlib.Path | None
+    out: pathlib.Path | None
+    json: pathlib.Path | None
+    junit: pathlib.Path | None
+    library: Library
+    is_first: bool  # ends at the first kind
+    at_least: int
+    shard: str = ""  # of several, as it was given
+    script: int | None = None  # the number of one that is wanted again
+    dropped: dict[str, str] = {}  # what isn't compared, since it differed too often
+    is_calibrated: bool = True  # whether what differs too often isn't compared
+
+
+def words_of(program: str, given: argparse.Namespace) -> Words:
+    """The arguments, read. Unknown for words that aren't known."""
+    comparison = comparison_of(given)
+    minutes = given.minutes if given.minutes is not None else MINUTES if given.count is None else float("inf")
+    shard, shards = given.shard
+    library = Library(classics()[shard - 1::shards], distilled()[shard - 1::shards]) if given.seed is None and given.dice == "mixed" else Library()
+    search = f"{given.seed} {shard}/{shards} {given.dice} {program}"
+    return Words(
+        given.command, given.seconds, Settings(comparison, given.dice, ALONE if program == "explore" else 1, AcceptedKinds(given.accepted), program, search),
+        getattr(given, "compare", "states"), Limits((given.seed or 0) + shard - 1, shards, given.count, time.monotonic() + 60 * minutes), max(1, given.jobs),
+        None if given.fresh else default_folder(), given.out, given.json, given.junit, library, given.first, given.at_least,
+        f"{shard}/{shards}" if shards > 1 else "", given.script, is_calibrated=program == "explore" and not given.like,
+    )
+
+
+class Progress:
+    """How far it is, in one line on a terminal."""
+
+    def __init__(self) -> None:
+        self.is_shown = sys.stderr.isatty()
+
+    def look(self, search: Search) -> None:
+        if self.is_shown:
+            print(f"\r{search.scripts} scripts, {len(search.corpus)} kept, {len(search.kinds)} kinds ", end="", file=sys.stderr, flush=True)
+
+    def end(self) -> None:
+        if self.is_shown:
+            print("\r\x1b[K", end="", file=sys.stderr, flush=True)
+
+
+@dataclasses.dataclass(frozen=True)
+class ShrinkTask:
+    """A kind with the script to shrink."""
+
+    kind: str
+    count: int
+    first: str
+    candidate: Candidate
+    budget: Budget
+
+
+class ShrunkKind(NamedTuple):
+    """A kind with its shortest script, and how many kinds that script shows before it."""
+
+    result: KindResult
+    steps: list[Step]
+    rank: int
+
+
+class AdoptTask(NamedTuple):
+    """A kind, and scripts of others that are shorter than its own."""
+
+    item: ShrinkTask
+    shrunk: ShrunkKind
+    shorter: list[list[Step]]
+
+
+def shrink(explorer: Explorer, item: ShrinkTask) -> ShrunkKind:
+    return shown_by(explorer, item, explorer.shrunk(item.candidate.steps, item.kind, item.candidate.is_alone, item.budget))
+
+
+def adopt(explorer: Explorer, compared: AdoptTask) -> ShrunkKind:
+    """The kind with the shortest of the other scripts, if that shows it too."""
+    item = compared.item
+    found = next((steps for steps in compared.shorter if explorer.has(steps, item.kind, item.candidate.is_alone)), None)
+    return shown_by(explorer, item, found) if found else compared.shrunk
+
+
+def shown_by(explorer: Explorer, item: ShrinkTask, steps: list[Step]) -> ShrunkKind:
+    """A kind with a script that shows it."""
+    kind, candidate = item.kind, item.candidate
+    shown = shown_of(explorer, kind, steps, candidate.is_alone)
+    if shown is None:
+        shown = ["    it didn't show again: these nodes don't always do the same"]
+    first_line = f"{kind}: {candidate.origin}"
+    text = explorer.script(steps, [first_line, *(line for line in shown if line[:2] in ("- ", "+ "))])
+    texts = [step.text() for step in steps]
+    result = KindResult(kind, item.count, candidate.seed, candidate.place, texts, shown, text.decode("latin-1"), first=item.first, origin=candidate.origin)
+    kinds = [name for name, _ in explorer.kinds_of(steps, candidate.is_alone)]
+    return ShrunkKind(result, steps, kinds.index(kind) if kind in kinds else len(kinds))
+
+
+def shown_of(explorer: Explorer, kind: str, steps: Sequence[Step], is_alone: bool) -> list[str] | None:
+    """The lines that show a kind, with what the nodes said last; None where it isn't shown."""
+    if kind.endswith(WITHIN):
+        state = explorer.other_state(steps, is_alone)
+        return list(difference_lines(f"    directive {state.place}", state)) if state and state.kind() == kind else None
+    if is_alone:
+        alone = run_alone(blocks_of(steps), explorer.process, explorer.chosen.comparison)
+        if alone.failed and alone.failed.kind() == kind:
+            return list(difference_lines(f"    directive {alone.failed.place}", alone.failed))
+        return next(([f"    directive {broken.place}: {broken.text}"] for broken in alone.broken if broken.kind() == kind), None)
+    outcome = explorer.outcome(steps)
+    said = [f"    {line}" for line in (outcome.came[-1] if outcome.came else []) if line.startswith(("INFO ", "WARN ", "ERROR "))][-4:]
+    if outcome.first and outcome.first.kind() == kind:
+        return [*difference_lines(f"    directive {outcome.first.place}", outcome.first), *(["    the nodes said:"] if said else []), *said]
+    return next(([f"    directive {broken.place}: {broken.text}"] for broken in outcome.broken if broken.kind() == kind), None)
+
+
+def unshrunk(kind: Kind) -> KindResult:
+    shortest = kind.candidates[0]
+    return KindResult(kind.name, kind.count, shortest.seed, shortest.place, [], [], "", first=kind.origin())
+
+
+def chosen_of(kinds: Sequence[Kind]) -> list[Kind]:
+    """The kinds that are shrunk: each broken promise, and some more."""
+    promises = [kind for kind in kinds if kind.name.startswith("promise broken: ")]
+    more = [kind for kind in kinds if kind not in promises][:max(0, MOST_SHRUNK - len(promises))]
+    return [kind for kind in kinds if kind in promises or kind in more]
+
+
+def shrunk_kinds(fleet: Fleet, kinds: Sequence[Kind], directives: int, until: float) -> list[KindResult]:
+    """The kinds with their shortest scripts, which cost no more than finding them did. One whose script has another's in it is shrunk once more from a script
+    that hasn't, if there is one.
+    """
+    chosen = chosen_of(kinds)
+    budget = Budget(MOST_RUNS, max(LEAST_DIRECTIVES, directives // max(1, len(chosen))), until)
+    for kind in chosen:
+        fleet.give(shrink, [ShrinkTask(kind.name, kind.count, kind.origin(), kind.candidates[0], budget)])
+    results: list[ShrunkKind] = [fleet.take()[0] for _ in chosen]
+    again = {}
+    for at, kind in enumerate(chosen):
+        own = results[at].steps
+        shorter = [other.steps for other in results if len(other.steps) < len(own)]
+        hidden = next((steps for steps in shorter if contains(own, steps)), None)
+        free = next((each for each in kind.candidates[1:] if hidden and not contains(each.steps, hidden)), None)
+        if free:
+            again[at] = free
+            fleet.give(shrink, [ShrinkTask(kind.name, kind.count, kind.origin(), free, budget)])
+    for at in again:
+        results[at] = fleet.take()[0]
+    results = with_shorter(fleet, chosen, results, budget)
+    rest = [unshrunk(kind) for kind in kinds if kind not in chosen]
+    return by_cause(sorted(joined(results), key=lambda shrunk: order_of(shrunk.result))) + rest
+
+
+def with_shorter(fleet: Fleet, kinds: Sequence[Kind], results: list[ShrunkKind], budget: Budget) -> list[ShrunkKind]:
+    """Kinds that a shorter script of another shows too have that."""
+    scripts = sorted({tuple(result.steps) for result in results}, key=lambda steps: (len(steps), [step.text() for step in steps]))[:MOST_SHORTER]
+    for kind, result in zip(kinds, results):
+        item = ShrinkTask(kind.name, kind.count, kind.origin(), kind.candidates[0], budget)
+        fleet.give(adopt, [AdoptTask(item, result, [list(steps) for steps in scripts if len(steps) < len(result.steps)])])
+    return [fleet.take()[0] for _ in kinds]
+
+
+def by_cause(results: Sequence[ShrunkKind]) -> list[KindResult]:
+    """Kinds that probably have one cause stand together: a script has another's in it, or the same steps of the runner. The first is to be mended first."""
+    groups: list[list[ShrunkKind]] = []
+    for shrunk in results:
+        group = next((group for group in groups if has_cause(shrunk.steps, group[0].steps)), None)
+        if group:
+            cause = group[0].result.kind
+            group.append(shrunk._replace(result=dataclasses.replace(shrunk.result, cause=cause)))
+        else:
+            groups.append([shrunk])
+    return [shrunk.result for group in groups for shrunk in group]
+
+
+def has_cause(steps: Sequence[Step], short: Sequence[Step]) -> bool:
+    names, others = ({each.name for step in script for each in step.before} for script in (steps, short))
+    return bool(others) and names == others or len(steps) > len(short) and contains(steps, short)
+
+
+def joined(results: Sequence[ShrunkKind]) -> list[ShrunkKind]:
+    """Kinds with the same script as one: the one that the script shows first, with the names of the others."""
+    same: dict[tuple[Step, ...], list[ShrunkKind]] = {}
+    for result in results:
+        same.setdefault(tuple(result.steps), []).append(result)
+    groups = (sorted(group, key=lambda shrunk: (surprise(shrunk.result.kind), shrunk.rank)) for group in same.values())
+    return [
+        first._replace(result=dataclasses.replace(first.result, also=[other.result.kind for other in others])) for first, *others in groups
+    ]
+
+
+def make_explorer(words: Words) -> Explorer:
+    return Explorer(Process(words.command, words.seconds), Judge(), words.chosen, words.remembers_in)
+
+
+def make_remaker(words: Words) -> Remaker:
+    return Remaker(Process(words.command, words.seconds), Judge(), words.chosen, words.remembers_in)
+
+
+def calibrated(words: Words) -> Words:
+    """With what is compared, where that is to be found out."""
+    if words.compare != "auto" or not words.is_calibrated:
+        return words
+    process = Process(words.command, words.seconds)
+    try:
+        aspects, dropped = strictest(process, words.chosen.comparison)
+    finally:
+        process.close()
+    return words._replace(chosen=words.chosen._replace(comparison=words.chosen.comparison._replace(aspects=aspects)), dropped=dropped)
+
+
+def explored(words: Words) -> Result:
+    """Explores and shrinks; Broken or Failed where the nodes don't start, KeyboardInterrupt at a second interrupt."""
+    with interruptible() as is_stopped:
+        return searched(calibrated(words), is_stopped)
+
+
+def searched(words: Words, is_stopped: Callable[[], bool]) -> Result:
+    begun, progress = time.monotonic(), Progress()
+    jobs = words.jobs if words.limits.most is None else max(1, min(words.jobs, words.limits.most))
+    fleet, is_through = Fleet(jobs, functools.partial(make_explorer, words)), False
+    search = Search(fleet, words.limits, words.chosen.alone, words.library, asks_early=words.remembers_in is not None)
+    try:
+        search.run(lambda: is_stopped() or is_enough(search, words, begun), progress.look)
+        dropped = words.dropped | search.drop_loud_states() if words.is_calibrated else words.dropped
+        kinds = shrunk_kinds(fleet, chosen_first(search.sorted_kinds(), words.is_first), search.compared, words.limits.until)
+        notes = costs(fleet, words.library)
+        seconds = time.monotonic() - begun
+        is_through = True
+    except KeyboardInterrupt:
+        seconds, dropped, notes = time.monotonic() - begun, words.dropped, []
+        kinds = [unshrunk(kind) for kind in search.sorted_kinds()]
+    finally:
+        progress.end()
+        fleet.end(is_through)
+        print(*search.faults[:MOST_FAULTS], sep="\n", end="", file=sys.stderr)
+    kinds = [kind.in_shard(words.shard) for kind in kinds] if words.shard else kinds
+    return Result(
+        words.chosen.program, fleet.name, sorted(words.chosen.comparison.aspects), search.scripts, search.same, search.compared, search.agreed, search.left_out,
+        seconds, search.wrong, kinds, search.classics_tried, search.classics_same, {what: search.made[what] for what in THINGS}, dropped, notes,
+    )
+
+
+def costs(fleet: Fleet, library: Library) -> list[str]:
+    """What it costs to repair a log, if the search began with the classic for that."""
+    given = [each for each in library.classics if each.title == REPAIR]
+    for each in given:
+        fleet.give(repair_of, [each])
+    return [line for _ in given for line in fleet.take() if line]
+
+
+def write_again(words: Words, number: int) -> int:
+    """Writes a script of this search to standard output, before it was shrunk."""
+    fleet, is_through = Fleet(words.jobs, functools.partial(make_remaker, words)), False
+    try:
+        found = remade(fleet, words.limits, words.chosen.alone, words.library, number)
+        fleet.give(text_of, [found] if found else [])
+        for text in fleet.take():
+            sys.stdout.buffer.write(text)
+        is_through = True
+    finally:
+        fleet.end(is_through)
+    return 0
+
+
+def is_enough(search: Search, words: Words, begun: float) -> bool:
+    """Whether the search ends before its time: what is left of that is for shrinking; or one kind was asked for."""
+    if not search.kinds:
+        return False
+    if words.is_first and any(surprise(name) < 4 for name in search.kinds):
+        return True
+    rounds = 1 + -(-len(chosen_of(list(search.kinds.values()))) // words.jobs)
+    return time.monotonic() >= words.limits.until - min(rounds * SECONDS_OF_SHRINKING, (words.limits.until - begun) * SHRINKS)
+
+
+def chosen_first(kinds: list[Kind], is_first: bool) -> list[Kind]:
+    """All kinds, or the first that was met, of those that count."""
+    met = sorted((kind for kind in kinds if kind.first and surprise(kind.name) < 4), key=lambda kind: kind.first or (0, ""))
+    return met[:1] if is_first and met else kinds
+
+
+def write_pages(words: Words, result: Result) -> None:
+    """Next to each short script, the page of what the nodes did in it. Without raftbench there are no pages."""
+    judge, process = Judge(), Process(words.command, words.seconds)
+    try:
+        for file, kind in result.files(words.out) if words.out and judge.is_there else ():
+            writer = PageWriter(process, judge, words.chosen.comparison)
+            blocks = read_script(kind.script.encode("latin-1")).blocks
+            writer.write(file.with_suffix(".html"), file.name, blocks, [Mark(len(blocks), "; ".join([kind.kind, *(line.strip() for line in kind.shown)]))])
+    except (NoViewer, Failed, Fault) as fault:
+        complain(words.chosen.program, f"no page: {fault}")
+    finally:
+        process.close()
+
+
+def run(arguments: Sequence[str]) -> int:
+    """raftbench-nodes explore."""
+    parser = parser_for("explore", "Looks for differences between your own nodes and the reference, and for broken promises.")
+    add_common(parser)
+    add_comparing(parser, "auto")
+    add_exploring(parser)
+    given = parser.parse_args(arguments)
+    note = Judge().note()
+    if note:
+        complain("explore", note)
+    return checked("explore", lambda: explore(words_of("explore", given)))
+
+
+def explore(words: Words) -> int:
+    """The status: 0 if nothing is found, 1 if something is, 4 if the nodes don't start or the reference is wrong."""
+    program = words.chosen.program
+    try:
+        if words.script is not None:
+            return write_again(words, words.script)
+        result = explored(words)
+    except (Broken, Failed, Unjudged) as fault:
+        complain(program, fault)
+        return 4
+    except KeyboardInterrupt:
+        complain(program, "interrupted")
+        return 130
+    print(result.text(), end="")
+    for number in result.wrong:
+        print(f"script {number}: the reference is wrong here: it fails, or the proved program prints something else", file=sys.stderr)
+    try:
+        result.write(words.json, words.junit, words.out)
+        if words.out and result.kinds:
+            write_pages(words, result)
+    except OSError as fault:
+        complain(program, fault)
+        return 4
+    if result.scripts < words.at_least:
+        print(f"raftbench-nodes {program}: {result.scripts} scripts were run, and --at-least {words.at_least} were asked for", file=sys.stderr)
+        return max(result.status(), 3)
+    return result.status()

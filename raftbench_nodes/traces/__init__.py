@@ -1,0 +1,1 @@
+"""Traces: calls and answers of runs that took place elsewhere."""
