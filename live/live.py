@@ -1,0 +1,194 @@
+"""The script that is played with, in all its branches, beside its file. One request at a time changes it; others wait."""
+from __future__ import annotations
+
+import contextlib
+import json
+import pathlib
+import queue
+import threading
+from typing import Any
+
+from .blocks import joined
+from .branch import Branch
+from .edits import EDITS, Asked
+from .may import Offers
+from .program import Program, Refused
+from .rows import stretch
+from .scriptfile import ScriptFile, Theirs
+
+MOST_BRANCHES = 20
+UNPROVED = "the program isn't proved, so it doesn't write into scripts: RAFTBENCH_UNPROVED=1 in the environment allows it"
+
+
+class Stale(Refused):
+    """What was asked for is about a script that has changed since."""
+
+
+class Live:
+    """Branches of a script, the file that one of them (`home`) follows, and those who want to know when something changes."""
+
+    def __init__(self, path: pathlib.Path, program: Program) -> None:
+        self.program, self.names = program, program.names()
+        self.lock = threading.RLock()
+        self.watchers: list[queue.Queue[str]] = []
+        self.version, self.last = 0, 1
+        self.fault = ""
+        self.theirs: bytes | None = None
+        self.file = ScriptFile(path)
+        self.offers = Offers(program, self.names)
+        data = self.file.known or b""
+        try:
+            first = Branch(1, program, data)
+        except Refused as refused:
+            self.fault = f"the script can't be read: {refused}"
+            first = Branch(1, program, b"")
+        self.branches = {1: first}
+        self.home = 1
+        first.keep(0)
+
+    def close(self) -> None:
+        with self.lock:
+            for branch in self.branches.values():
+                branch.close()
+            self.offers.close()
+
+    def branch(self, asked: Asked) -> Branch:
+        number = asked.get("branch", self.home)
+        if not isinstance(number, int) or number not in self.branches:
+            raise Stale("this branch has been closed")
+        return self.branches[number]
+
+    # ---- what one does
+
+    def do(self, asked: Asked) -> Branch:
+        """Does what is asked for, and gives the branch that is shown then."""
+        with self.lock:
+            if asked.get("version") != self.version:
+                raise Stale("the script has changed meanwhile, so nothing was done: look again")
+            branch, kind = self.branch(asked), asked.get("do")
+            branch.notes, branch.ran = [], 0
+            if kind not in ("undo", "redo"):
+                branch.choose(asked.get("at"))
+            if kind in EDITS:
+                EDITS[str(kind)](branch, asked)
+            elif kind in ("undo", "redo"):
+                branch.go(kind == "undo")
+            elif kind in OTHERS:
+                branch = OTHERS[str(kind)](self, branch, asked)
+            else:
+                raise Refused("that isn't something that can be done here")
+            self.renew()
+        self.tell()
+        return branch
+
+    def renew(self) -> None:
+        """Begins another version."""
+        self.version += 1
+        for branch in self.branches.values():
+            branch.keep(self.version)
+
+    def save(self, branch: Branch, asked: Asked) -> Branch:
+        """Writes the file. It is followed by this branch from then on."""
+        if not self.program.may_save:
+            raise Refused(UNPROVED)
+        try:
+            self.file.save(branch.data, bool(asked.get("isSure")))
+        except Theirs:
+            self.see_disk()
+            raise
+        self.home, self.theirs, self.fault = branch.number, None, ""
+        return branch
+
+    def load(self, branch: Branch, _: Asked) -> Branch:
+        """Takes what somebody else wrote into the file; undo brings the own text back."""
+        data = self.file.read()
+        branch.change_text(data or b"", branch.chosen)
+        self.file.known, self.theirs, self.fault, self.home = data, None, "", branch.number
+        return branch
+
+    def fork(self, branch: Branch, asked: Asked) -> Branch:
+        """What if? Another branch goes on after a directive, and this one stays."""
+        if len(self.branches) >= MOST_BRANCHES:
+            raise Refused(f"there are {MOST_BRANCHES} branches: close one first")
+        place = asked.get("place", branch.chosen)
+        blocks, _tail = branch.blocks()
+        if not isinstance(place, int) or not 0 <= place <= len(blocks):
+            raise Refused("there is no such directive")
+        self.last += 1
+        made = Branch(self.last, self.program, joined(blocks[:place], ()))
+        self.branches[self.last] = made
+        return made
+
+    def drop(self, branch: Branch, asked: Asked) -> Branch:
+        """Closes a branch. The one that the file follows stays."""
+        if branch.number == self.home:
+            raise Refused("the file follows this branch: save another one first")
+        if branch.data != self.file.known and not asked.get("isSure"):
+            raise Refused("this branch isn't saved")
+        branch.close()
+        del self.branches[branch.number]
+        return self.branches[self.home]
+
+    # ---- the file
+
+    def see_disk(self) -> None:
+        """Takes over what another program wrote into the file, unless there is something of one's own that isn't saved."""
+        with self.lock:
+            home = self.branches[self.home]
+            was_saved = home.data == (self.file.known or b"") or not home.past and not home.future
+            self.fault = ""
+            try:
+                data = self.file.read()
+                if data == self.file.known or data == home.data:
+                    self.file.known, self.theirs = data, None
+                elif data is None:
+                    self.fault, self.file.known, self.theirs = "the file is gone; saving makes it again", None, None
+                elif was_saved:
+                    home.ran = 0
+                    home.change_text(data, home.chosen)
+                    self.file.known, self.theirs = data, None
+                else:
+                    self.theirs = data
+            except Refused as refused:
+                self.fault = f"the file as it is now can't be shown: {refused}"
+            self.renew()
+        self.tell()
+
+    def tell(self) -> None:
+        for watcher in list(self.watchers):
+            with contextlib.suppress(queue.Full):
+                watcher.put_nowait(f"version {self.version}")
+
+    # ---- what is shown
+
+    def about(self, branch: Branch) -> dict[str, Any]:
+        return {
+            "version": self.version, "branch": branch.number, "home": self.home, "chosen": branch.chosen, "name": self.file.path.name,
+            "branches": [{"number": it.number, "directives": it.count, "isSaved": self.is_saved(it)} for it in self.branches.values()],
+            "undo": len(branch.past), "redo": len(branch.future), "isSaved": self.is_saved(branch), "isTheirs": self.theirs is not None,
+            "fault": self.fault, "notes": branch.notes, "ran": branch.ran, "of": branch.count, "maySave": self.program.may_save,
+            "directives": self.names,
+        }
+
+    def is_saved(self, branch: Branch) -> bool:
+        return branch.data == (self.file.known or b"") and self.file.known is not None
+
+    def state(self, branch: Branch, has: object) -> bytes:
+        """What a page is made of: what is said of the script, and its rows; or of them only what has changed since the version that a page has."""
+        with self.lock:
+            was, now = branch.at(has), branch.shown
+            since = {"since": has} if was and was.blocks and now.blocks else {}
+            rows = b',"stretch":' + stretch(was, now) if was and since else b',"rows":' + now.rows.raw
+            return json.dumps({**self.about(branch), **since}).encode()[:-1] + rows + b"}"
+
+    def may(self, asked: Asked) -> bytes:
+        """What each node may do after a directive, and why not."""
+        with self.lock:
+            branch, place, version = self.branch(asked), asked.get("place"), self.version
+            if not isinstance(place, int) or not 0 < place <= branch.count:
+                raise Refused("there is no such directive")
+            blocks = branch.blocks()[0][:place]
+        return json.dumps({"version": version, "place": place, "nodes": self.offers.after(blocks)}).encode()
+
+
+OTHERS = {"save": Live.save, "load": Live.load, "fork": Live.fork, "close": Live.drop}

@@ -1,0 +1,469 @@
+// Plays with a script: shows what the server says of it, and asks the server for what one does.
+
+import { Bar } from "./bar.js";
+import { Beside } from "./beside.js";
+import { byId, element, withAttributes } from "./dom.js";
+import { begin, editChosen } from "./forms.js";
+import { makeLegend } from "./legend.js";
+import { LivePage } from "./livepage.js";
+import { Motion } from "./motion.js";
+import { Page, tellCounts } from "./page.js";
+import { instantAt } from "./position.js";
+import { Run } from "./run.js";
+import { Gone, Refusal, Talk } from "./talk.js";
+import { Theirs } from "./theirs.js";
+import { Ways } from "./ways.js";
+
+/** @typedef {import("./types.js").Message} Message */
+/** @typedef {import("./ways.js").Way} Way */
+/** @typedef {import("./types.js").Row} Row */
+/** @typedef {import("./run.js").Stretch} Stretch */
+/** @typedef {{ number: number, directives: number, isSaved: boolean }} Branch */
+
+/**
+ * What the server says of a script beside its rows.
+ * @typedef {object} About
+ * @property {number} version
+ * @property {number} branch
+ * @property {number} home the branch that the file follows
+ * @property {Branch[]} branches
+ * @property {number} chosen
+ * @property {string} name
+ * @property {number} undo
+ * @property {number} redo
+ * @property {boolean} isSaved
+ * @property {boolean} isTheirs whether somebody else changed the file
+ * @property {boolean} maySave
+ * @property {string} fault
+ * @property {string[]} notes
+ * @property {number} ran how many directives the last change ran
+ * @property {number} of how many there are
+ * @property {Record<string, string>} directives by name, the words and options
+ */
+
+/** @typedef {About & { rows?: Row[], since?: number, stretch?: Stretch }} Told all rows of a script, or what of it has changed since a version */
+
+// So many directives after an edit show at once; the rest follows when there is time, some at a time.
+const AT_ONCE = 200;
+const AT_A_TIME = 500;
+
+export class Live {
+  /** @param {Talk} talk */
+  constructor(talk) {
+    this.talk = talk;
+    /** @type {About | null} */
+    this.state = null;
+    /** @type {LivePage | null} */
+    this.page = null;
+    /** @type {LivePage | null} the page that was made, also while there is no directive to show */
+    this.made = null;
+    /** @type {Run | null} what the page shows, as it was read so far */
+    this.run = null;
+    /** @type {ReturnType<typeof setTimeout> | undefined} */
+    this.reading = undefined;
+    /** @type {Record<string, Record<string, string>>} by node, why it can't do what */
+    this.may = {};
+    /** @type {{ text: string, yes: string, does: () => void } | null} */
+    this.question = null;
+    this.hasGone = false;
+    this.placed = 0;
+    this.isAsking = false;
+    this.ways = new Ways("");
+    this.motion = new Motion();
+    this.beside = new Beside();
+    this.theirs = new Theirs(this);
+    this.bar = new Bar(this);
+    document.addEventListener("keydown", (event) => this.pressed(event));
+    window.addEventListener("beforeunload", (event) => this.state && this.state.branches.some(({ number, isSaved }) => number === this.state?.home && !isSaved) && event.preventDefault());
+  }
+
+  /** @param {KeyboardEvent} event */
+  pressed(event) {
+    if ((event.ctrlKey || event.metaKey) && event.key === "s") {
+      event.preventDefault();
+      this.save();
+    }
+  }
+
+  // ---- what the server says
+
+  /**
+   * Shows a script. What is chosen stays where somebody else changed it.
+   * @param {Told} told
+   * @param {boolean} isOwn
+   */
+  take(told, isOwn) {
+    const { rows, since, stretch, ...state } = told;
+    const isBased = since === this.state?.version && state.branch === this.state?.branch;
+    if (stretch && !(isBased && this.run?.change(stretch))) {
+      this.talk.post("state", { branch: state.branch }).then((whole) => this.take(whole, isOwn));
+      return;
+    }
+    this.run = rows ? new Run(rows) : this.run;
+    this.keepingFocus(() => {
+      const place = isOwn || !this.page ? state.chosen : Math.min(this.page.chosen.place, state.of);
+      const isOther = this.state?.branch !== state.branch;
+      this.state = state;
+      this.motion.stop();
+      this.ways = new Ways(state.directives["deliver-msgs"] ?? "");
+      this.may = {};
+      for (const id of ["panes", "keys", "search"]) {
+        byId(id).hidden = state.of === 0;
+      }
+      byId("notice").hidden = state.of > 0;
+      if (this.run && state.of > 0) {
+        this.showRun(this.run, stretch ? stretch.front : -1, place);
+      } else {
+        this.page = null;
+        begin(this, isOther);
+      }
+      this.bar.title(this.page?.model);
+      this.bar.draw();
+      this.beside.renew();
+    });
+    this.askMay();
+    this.theirs.renew();
+  }
+
+  /**
+   * @param {Run} run
+   * @param {number} front how many directives are shown as they are already, or -1
+   * @param {number} place what is chosen
+   */
+  showRun(run, front, place) {
+    const { model } = run;
+    this.placed = place;
+    const position = { place, event: 0 };
+    const shown = this.page && front >= 0 ? Math.min(front, run.count) : -1;
+    run.goOn(shown < 0 ? model.source.lines.length : Math.max(front, place) + AT_ONCE - run.count);
+    if (this.page && shown >= 0) {
+      this.page.showFrom(shown, position);
+    } else if (this.made) {
+      this.page = this.made;
+      this.page.replace(model, position);
+    } else {
+      makeLegend();
+      this.made = this.page = new LivePage(model, this);
+      this.page.choose(position);
+    }
+    this.readOn();
+  }
+
+  /** Reads what is left of a long run, some at a time. */
+  readOn() {
+    const { run, page } = this;
+    clearTimeout(this.reading);
+    if (run?.isWhole) {
+      tellCounts(run.model);
+    } else if (run && page) {
+      this.reading = setTimeout(() => {
+        const front = run.count;
+        run.goOn(AT_A_TIME);
+        page.goFurther(front);
+        if (run.isWhole) {
+          page.finish();
+          this.bar.draw();
+        }
+        this.readOn();
+      });
+    }
+  }
+
+  /**
+   * Asks for something. Answers whether it was done; what was refused is said, and may be asked for again.
+   * @param {Record<string, unknown>} what
+   * @param {string} [doubt] what is asked if it is refused
+   * @param {string} [yes]
+   */
+  async ask(what, doubt = "", yes = "") {
+    if (this.isAsking || !this.state) {
+      return false;
+    }
+    this.isAsking = true;
+    this.question = null;
+    try {
+      const told = await this.talk.post("do", { branch: this.state.branch, at: this.page?.chosen.place, ...what, version: this.state.version, has: this.state.version });
+      this.take(told, true);
+      return true;
+    } catch (fault) {
+      this.failed(fault, what, doubt, yes);
+      return false;
+    } finally {
+      this.isAsking = false;
+    }
+  }
+
+  /**
+   * @param {unknown} fault
+   * @param {Record<string, unknown>} what
+   * @param {string} doubt
+   * @param {string} yes
+   */
+  failed(fault, what, doubt, yes) {
+    if (fault instanceof Gone) {
+      this.hasGone = true;
+    } else if (fault instanceof Refusal) {
+      const asks = fault.asks ? "insert it all the same" : doubt && yes;
+      const does = () => this.ask({ ...what, isSure: true });
+      this.question = { text: doubt && !fault.asks ? doubt : fault.message, yes: asks, does };
+      this.bar.say(fault.message);
+      this.refresh();
+    } else {
+      throw fault;
+    }
+    this.bar.draw();
+  }
+
+  /** Looks again, as another window or another program has changed something. */
+  async refresh() {
+    if (this.state) {
+      const told = await this.talk.post("state", { branch: this.state.branch, has: this.state.version });
+      if (told.version !== this.state.version || told.branch !== this.state.branch) {
+        this.take(told, false);
+      }
+    }
+  }
+
+  answer() {
+    this.question = null;
+    this.bar.draw();
+  }
+
+  async askMay() {
+    const { state, page } = this;
+    if (!state || !page) {
+      return;
+    }
+    const { place } = page.chosen;
+    try {
+      const told = await this.talk.post("may", { branch: state.branch, place });
+      if (this.page && told.version === this.state?.version && told.place === this.page.chosen.place) {
+        this.may = told.nodes;
+        this.keepingFocus(() => this.page?.state.renewButtons());
+      }
+    } catch (fault) {
+      if (!(fault instanceof Refusal)) {
+        this.failed(fault, {}, "", "");
+      }
+    }
+  }
+
+  /** What follows where another directive or event is chosen. */
+  hasChosen() {
+    const place = this.page ? this.page.chosen.place : 0;
+    if (this.page && this.placed !== place) {
+      this.placed = place;
+      this.may = {};
+      this.bar.draw();
+      this.askMay();
+    }
+    if (this.page) {
+      this.beside.follow(this.page.chosen);
+    }
+  }
+
+  // ---- what one does
+
+  /** @param {string} text a directive */
+  async insert(text) {
+    const isDone = await this.ask({ do: "insert", place: this.page?.chosen.place ?? 0, text });
+    if (isDone && this.page) {
+      this.bar.say(`${text}: ${this.page.model.steps[this.page.chosen.place - 1].output.join(", ")}`);
+      this.motion.start(this.page, this.page.chosen.place);
+    }
+    return isDone;
+  }
+
+  /**
+   * @param {string} kind
+   * @param {Record<string, unknown>} [more]
+   */
+  ofChosen(kind, more = {}) {
+    return this.ask({ do: kind, place: this.page?.chosen.place ?? 0, ...more });
+  }
+
+  /** @param {Way} way */
+  takeWay(way) {
+    return way.why ? this.refuse(way.why) : this.insert(way.text);
+  }
+
+  /** @param {Way[]} ways */
+  async takeAll(ways) {
+    for (const way of ways) {
+      if (!(await this.takeWay(way))) {
+        return;
+      }
+    }
+  }
+
+  /** @param {string} why */
+  async refuse(why) {
+    this.question = { text: `That can't be done: ${why}.`, yes: "", does: () => {} };
+    this.bar.draw();
+    return false;
+  }
+
+  /**
+   * @param {string} name
+   * @param {number} id
+   * @param {string} why
+   */
+  ofNode(name, id, why) {
+    const { page } = this;
+    if (why || !page) {
+      return this.refuse(`${name} ${id}: ${why}`);
+    }
+    const instant = instantAt(page.model, { place: page.chosen.place, event: 0 });
+    const node = page.model.nodes[id - 1];
+    if (name === "propose" || name === "propose-conf-change") {
+      return this.bar.writeOf(name, id);
+    }
+    if (name === "compact") {
+      return this.insert(`compact ${id} ${node.numbersAt(instant.moment).applied}`);
+    }
+    if (name === "transfer-leadership") {
+      const leaders = page.model.nodes.filter((it) => it.isThereAt(instant.moment) && it.numbersAt(instant.moment).role === "leader");
+      const [leader] = leaders.sort((one, other) => other.numbersAt(instant.moment).term - one.numbersAt(instant.moment).term);
+      return this.insert(`transfer-leadership from=${leader.id} to=${id}`);
+    }
+    return this.insert(`${name} ${id}`);
+  }
+
+  edit() {
+    if (this.page) {
+      editChosen(this, this.page);
+    }
+  }
+
+  fork() {
+    return this.ask({ do: "fork", place: this.page?.chosen.place ?? 0 });
+  }
+
+  save() {
+    return this.ask({ do: "save" });
+  }
+
+  /** @param {number} number */
+  async show(number) {
+    const told = await this.talk.post("state", { branch: number });
+    if (this.beside.number === number) {
+      this.beside.toggle(number);
+    }
+    this.take(told, true);
+  }
+
+  /**
+   * What may be written in a directive that stands after the chosen one, or in its place.
+   * @param {string} text
+   * @param {number} line
+   * @param {number} character
+   * @param {boolean} isNew
+   * @returns {Promise<import("./writing.js").Offer>}
+   */
+  async offers(text, line, character, isNew) {
+    try {
+      return await this.talk.post("ask", { branch: this.state?.branch, place: this.page?.chosen.place ?? 0, text, line, character, isNew });
+    } catch {
+      return { items: [], hints: [] };
+    }
+  }
+
+  // ---- what is so
+
+  /** The messages that are on their way after the chosen directive. */
+  pending() {
+    return this.page ? this.page.pendingNow() : [];
+  }
+
+  /** @param {string} selector */
+  focus(selector) {
+    /** @type {HTMLElement | null} */ (document.querySelector(selector))?.focus({ preventScroll: false });
+  }
+
+  /**
+   * Draws something again, and has the focus stay on the same button, if that is there still.
+   * @param {() => void} draws
+   */
+  keepingFocus(draws) {
+    const key = document.activeElement instanceof HTMLElement ? document.activeElement.dataset.key : undefined;
+    draws();
+    if (key && !document.activeElement?.matches("button, input, select, textarea")) {
+      const same = /** @type {HTMLElement | null} */ (document.querySelector(`[data-key="${CSS.escape(key)}"]`));
+      (same ?? byId("directives")).focus({ preventScroll: true });
+    }
+  }
+
+  /** The script as it is here, to be copied. */
+  copied() {
+    const text = this.page?.model.source.lines.join("\n") ?? "";
+    const field = /** @type {HTMLTextAreaElement} */ (withAttributes(element("textarea", "live-copy"), { readonly: "", "aria-label": "The script" }));
+    field.value = new TextDecoder().decode(Uint8Array.from(text, (byte) => byte.charCodeAt(0)));
+    field.addEventListener("focus", () => field.select());
+    return field;
+  }
+}
+
+/**
+ * A branch beside another, which follows it.
+ * @param {Talk} talk
+ * @param {number} branch
+ */
+async function follow(talk, branch) {
+  document.body.classList.add("follows");
+  /** @type {Page | null} */
+  let page = null;
+  /** @type {Run | null} */
+  let run = null;
+  let version = -1;
+  const renew = async () => {
+    const told = await talk.post("state", { branch, has: version });
+    version = told.version;
+    if (!told.stretch || !run?.change(told.stretch)) {
+      run = new Run(told.rows ?? (await talk.post("state", { branch })).rows);
+    }
+    run.goOn(run.steps.length);
+    const { model } = run;
+    byId("panes").hidden = byId("notice").hidden = model.steps.length > 0;
+    byId("panes").hidden = model.steps.length === 0;
+    byId("name").textContent = branch === told.home ? `${told.name}, the file` : `${told.name}, branch ${branch}`;
+    if (page) {
+      page.replace(model, page.chosen);
+    } else if (model.steps.length > 0) {
+      makeLegend();
+      page = new Page(model);
+      page.choose({ place: model.steps.length, event: 0 });
+    }
+  };
+  await renew();
+  window.addEventListener("message", ({ origin, data }) => {
+    if (origin === location.origin && data === "renew") {
+      renew();
+    } else if (origin === location.origin && page) {
+      page.choose(data);
+    }
+  });
+}
+
+async function start() {
+  const talk = new Talk();
+  const beside = /^#branch=(\d+)$/.exec(location.hash)?.[1];
+  try {
+    await talk.enter();
+    if (beside) {
+      await follow(talk, Number(beside));
+      return;
+    }
+    const told = await talk.post("state", {});
+    const live = new Live(talk);
+    live.take(told, true);
+    talk.hear((version) => version !== live.state?.version && !live.isAsking && live.refresh()).catch((fault) => live.failed(fault, {}, "", ""));
+  } catch (fault) {
+    byId("notice").hidden = false;
+    byId("notice").textContent = fault instanceof Refusal ? fault.message : fault instanceof Gone ? "raftbench-live doesn't answer." : String(fault);
+    if (!(fault instanceof Refusal || fault instanceof Gone)) {
+      throw fault;
+    }
+  }
+}
+
+await start();

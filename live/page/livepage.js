@@ -1,0 +1,267 @@
+// The page of a run, in which each node's card says what the node may do, and each message on its way can be delivered or dropped.
+
+import { element, withAttributes } from "./dom.js";
+import { measureFrom, placeFrom } from "./further.js";
+import { Page } from "./page.js";
+import { instantAt } from "./position.js";
+import { State } from "./state.js";
+import { messageText } from "./words.js";
+
+/** @typedef {import("./types.js").Message} Message */
+/** @typedef {import("./types.js").Position} Position */
+/** @typedef {import("./live.js").Live} Live */
+/** @typedef {import("./picture.js").Picture} Picture */
+
+/** @type {[string, string][]} what a node may do: the directive, and the button's words */
+const OF_NODE = [
+  ["campaign", "campaign"], ["tick-election", "time out"], ["tick-heartbeat", "tick"], ["process-ready", "ready"], ["propose", "propose…"],
+  ["propose-conf-change", "change…"], ["transfer-leadership", "lead"], ["compact", "compact"], ["forget-leader", "forget leader"], ["restart", "restart"],
+];
+// How near to a line of the picture a click counts as one on it, in pixels.
+const NEAR = 7;
+
+/**
+ * A button that says why if it can't be used: it can be reached and read all the same.
+ * @param {string} text
+ * @param {string} key by which it is found again in another page
+ * @param {string} why
+ * @param {string} says
+ * @param {() => void} does
+ */
+export function button(text, key, why, says, does) {
+  const made = withAttributes(element("button", "", text), { type: "button", "data-key": key, title: why || says, "aria-label": why ? `${says || text}: can't, ${why}` : says || text });
+  if (why) {
+    made.setAttribute("aria-disabled", "true");
+  }
+  made.addEventListener("click", (event) => {
+    event.stopPropagation();
+    does();
+  });
+  return made;
+}
+
+class LiveState extends State {
+  /**
+   * @param {import("./rows.js").Model} model
+   * @param {import("./search.js").Search} search
+   * @param {(position: Position) => void} choose
+   * @param {Live} live
+   */
+  constructor(model, search, choose, live) {
+    super(model, search, choose);
+    this.live = live;
+  }
+
+  /**
+   * @param {import("./rows.js").Node} node
+   * @param {import("./position.js").Instant} instant
+   * @param {number} before
+   */
+  card(node, instant, before) {
+    const card = super.card(node, instant, before);
+    card.append(withAttributes(element("div", "live-does", ...this.buttonsOf(node.id)), { "data-node": node.id, role: "group", "aria-label": `What node ${node.id} may do` }));
+    return card;
+  }
+
+  /** @param {number} id */
+  buttonsOf(id) {
+    const { live } = this;
+    const why = live.may[id] ?? {};
+    const there = live.state?.directives ?? {};
+    const pending = live.pending();
+    const own = OF_NODE.filter(([name]) => name in there).map(([name, text]) => {
+      return button(text, `${name} ${id}`, why[name] ?? "", `${name} ${id}`, () => live.ofNode(name, id, why[name] ?? ""));
+    });
+    const [to, from] = [live.ways.allTo(id, pending), live.ways.allFrom(id, pending, this.model.nodes.map((node) => node.id))];
+    return [
+      ...own,
+      button(`all to it (${to.takes.length})`, `all-to ${id}`, to.why, to.text, () => live.takeWay(to)),
+      button(`all from it (${from.takes.length})`, `all-from ${id}`, from.why, from.text, () => live.takeWay(from)),
+    ];
+  }
+
+  /** Makes the buttons anew, once it is known what the nodes may do. */
+  renewButtons() {
+    for (const group of /** @type {NodeListOf<HTMLElement>} */ (this.pane.querySelectorAll("[data-node]"))) {
+      group.replaceChildren(...this.buttonsOf(Number(group.dataset.node)));
+    }
+  }
+
+  /** @param {Message} message */
+  message(message) {
+    const { live } = this;
+    const pending = live.pending();
+    const [deliver, drop] = [live.ways.one(message, pending, false), live.ways.one(message, pending, true)];
+    const why = this.model.nodes[message.to - 1] ? "" : `there is no node ${message.to}`;
+    /** @type {(word: string, count: number) => string} */
+    const words = (word, count) => (count > 1 ? `${word} ${count}` : word);
+    const key = `${message.from} ${message.to} ${message.type} ${pending.filter((it) => it.from === message.from && it.to === message.to && it.type === message.type).indexOf(message)}`;
+    return element(
+      "li", "live-message", element("span", "", messageText(message)),
+      button(words("deliver", deliver.takes.length), `deliver ${key}`, why, deliver.text, () => live.takeWay({ ...deliver, why })),
+      button(words("drop", drop.takes.length), `drop ${key}`, "", drop.text, () => live.takeWay(drop)),
+    );
+  }
+}
+
+export class LivePage extends Page {
+  /**
+   * @param {import("./rows.js").Model} model
+   * @param {Live} live
+   */
+  constructor(model, live) {
+    LivePage.made = live;
+    super(model);
+    this.live = live;
+    const { drawing } = this.picture;
+    drawing.addEventListener("click", (event) => this.clicked(event), { capture: true });
+    drawing.addEventListener("pointermove", (event) => drawing.classList.toggle("can-deliver", this.messageAt(event) !== null));
+    this.script.pane.addEventListener("dblclick", () => live.edit());
+  }
+
+  get picture() {
+    return /** @type {Picture} */ (this.parts[0]);
+  }
+
+  get state() {
+    return /** @type {LiveState} */ (this.parts[3]);
+  }
+
+  /** @param {(position: Position) => void} take */
+  makeState(take) {
+    return new LiveState(this.model, this.search, take, LivePage.made);
+  }
+
+  commands() {
+    const live = LivePage.made;
+    /** @type {[string[], string, () => void][]} */
+    const own = [
+      [["i"], "write a directive", () => live.bar.write()],
+      [["c"], "go to what the first node may do", () => live.focus("#state [data-node] button")],
+      [["d"], "go to the first message on its way", () => live.focus(".live-message button")],
+      [["s"], "stabilize", () => live.insert("stabilize")],
+      [["e"], "edit the directive", () => live.edit()],
+      [["u"], "undo", () => live.ask({ do: "undo" })],
+      [["r"], "redo", () => live.ask({ do: "redo" })],
+      [["a"], "accept the output", () => live.ofChosen("accept")],
+      [["A"], "accept all outputs", () => live.ask({ do: "accept", all: true })],
+      [["x", "Delete"], "remove the directive", () => live.ofChosen("remove")],
+      [["D"], "duplicate the directive", () => live.ofChosen("duplicate")],
+      [["["], "move the directive up", () => live.ofChosen("move", { by: -1 })],
+      [["]"], "move the directive down", () => live.ofChosen("move", { by: 1 })],
+      [["w"], "what if? go on from here in another branch", () => live.fork()],
+    ];
+    return [...super.commands(), ...own.map(([keys, says, does]) => ({ keys, says, does }))];
+  }
+
+  tell() {
+    super.tell();
+    this.live?.hasChosen();
+  }
+
+  /**
+   * Shows the same run, of which only the first directives are as they were.
+   * @param {number} front
+   * @param {Position} position
+   */
+  showFrom(front, position) {
+    this.player.stop();
+    this.chosen = this.within(position);
+    this.goFurther(front);
+    const { picture, script, chosen } = this;
+    Object.assign(picture, { chosen, painter: null, traced: null, described: "" });
+    picture.resized();
+    script.show();
+    script.draw();
+    this.parts.slice(2).forEach((part) => part.replace(this.model, chosen));
+    this.tell();
+  }
+
+  /**
+   * Gives the directives from one on their places in the picture and in the script.
+   * @param {number} front
+   */
+  goFurther(front) {
+    const { picture, script, model, chosen } = this;
+    this.search.replace(model);
+    if (!placeFrom(picture.layout, front)) {
+      picture.replace(model, chosen);
+    }
+    Object.assign(script, { isFolded: script.isFolded || chosen.place !== script.chosen.place, chosen });
+    measureFrom(script, this.live.run?.hasWarnings ? 0 : front);
+  }
+
+  /** What is only right once all directives have their places. */
+  finish() {
+    this.picture.resized();
+    this.script.draw();
+    this.tell();
+  }
+
+  /**
+   * Whether a node has started by the chosen directive.
+   * @param {number} id
+   */
+  isThere(id) {
+    return this.model.nodes[id - 1].isThereAt(instantAt(this.model, { place: this.chosen.place, event: 0 }).moment);
+  }
+
+  // ---- clicks on messages in the picture
+
+  /**
+   * The message on its way whose label or line is at a point of the picture.
+   * @param {MouseEvent} event
+   * @returns {Message | null}
+   */
+  messageAt({ offsetX, offsetY, target }) {
+    const { picture } = this;
+    const pending = this.live.pending();
+    const label = target instanceof Element ? target.closest("text") : null;
+    const own = label && picture.painter?.labels.get(label);
+    if (own) {
+      return pending.includes(own) ? own : null;
+    }
+    const at = [offsetX + picture.scroll.scrollLeft, offsetY + picture.top];
+    /** @type {Message | null} */
+    let best = null;
+    let least = NEAR;
+    for (const message of pending) {
+      const points = message.drawn?.points ?? [];
+      for (let end = 1; end < points.length; end += 1) {
+        const far = distance(at, points[end - 1], points[end]);
+        [best, least] = far < least ? [message, far] : [best, least];
+      }
+    }
+    return best;
+  }
+
+  /** @param {MouseEvent} event */
+  clicked(event) {
+    const message = this.messageAt(event);
+    if (message) {
+      event.stopPropagation();
+      const why = event.shiftKey || this.model.nodes[message.to - 1] ? "" : `there is no node ${message.to}`;
+      this.live.takeWay({ ...this.live.ways.one(message, this.live.pending(), event.shiftKey), why });
+    }
+  }
+
+  /** The messages that are on their way after the chosen directive. */
+  pendingNow() {
+    const { step, serial } = instantAt(this.model, { place: this.chosen.place, event: 0 });
+    return this.model.spans.pendingAfter(step.place, serial);
+  }
+}
+/** @type {Live} whose page is being made: a class that is extended calls what it is made of before it has fields of its own */
+LivePage.made = /** @type {any} */ (null);
+
+/**
+ * How far a point is from a line between two others.
+ * @param {number[]} point
+ * @param {number[]} start
+ * @param {number[]} end
+ */
+function distance([x, y], [ax, ay], [bx, by]) {
+  const [dx, dy] = [bx - ax, by - ay];
+  const part = Math.max(0, Math.min(1, ((x - ax) * dx + (y - ay) * dy) / (dx * dx + dy * dy || 1)));
+  return Math.hypot(x - ax - part * dx, y - ay - part * dy);
+}
