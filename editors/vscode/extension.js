@@ -1,183 +1,127 @@
 "use strict";
-// Takes plain text that is a script for one, also where a comment comes first, and shows what `raftbench lsp` says of each script.
+// Takes plain text that is a script for one, shows what `raftbench lsp` says of each script, and has commands.
 
 const vscode = require("vscode");
-const { Client } = require("./client.js");
-const { isScript } = require("./detect.js");
+const { checkFolder, Pages } = require("./commands.js");
+const { Plays } = require("./live.js");
+const { actionOf, editOf, itemOf, rangeOf, symbolOf } = require("./convert.js");
+const { MOST, isScript } = require("./detect.js");
+const { Server } = require("./server.js");
 
-// Behind these an option's values begin: typing one of them offers the values.
+// An option's values follow these: typing one of them offers the values.
 const BEFORE_VALUES = ["=", "(", ","];
-// The documents that the server has been told of.
-const served = new Set();
-let client;
-let shown;
-let output;
+/** @type {Server | undefined} */
+let server;
 
+/** @param {vscode.TextDocument} document */
 function look(document) {
-  if (document.languageId === "plaintext" && isScript(document.getText())) {
+  if (document.languageId === "plaintext" && isScript(document.getText(new vscode.Range(0, 0, MOST, 0)))) {
     vscode.languages.setTextDocumentLanguage(document, "raftbench");
   }
 }
 
-function rangeOf(range) {
-  return new vscode.Range(range.start.line, range.start.character, range.end.line, range.end.character);
+/**
+ * A text may have become a script once a line is complete, or lines are pasted.
+ * @param {vscode.TextDocumentChangeEvent} event
+ */
+function lookAtChange({ document, contentChanges }) {
+  if (contentChanges.some(({ text }) => text.includes("\n"))) look(document);
 }
 
-// What is said of another place.
-function relatedOf({ location, message }) {
-  return new vscode.DiagnosticRelatedInformation(new vscode.Location(vscode.Uri.parse(location.uri), rangeOf(location.range)), message);
+/**
+ * What the editor asks for, as the server answers it.
+ * @param {Server} from
+ */
+function providersOf(from) {
+  /** @type {(method: string, document: vscode.TextDocument, params: object) => Promise<any>} */
+  const ask = (method, document, params) => from.ask(method, document, params);
+  return {
+    /** @type {vscode.HoverProvider["provideHover"]} */
+    async provideHover(document, position) {
+      const found = await ask("hover", document, { position });
+      if (!found) return undefined;
+      return new vscode.Hover(new vscode.MarkdownString().appendCodeblock(found.contents.value, "plaintext"), rangeOf(found.range));
+    },
+    /** @type {vscode.CodeActionProvider["provideCodeActions"]} */
+    async provideCodeActions(document, { start, end }) {
+      const found = await ask("codeAction", document, { range: { start, end }, context: { diagnostics: [] } });
+      return (found ?? []).map((/** @type {import("./convert.js").ProtocolAction} */ it) => actionOf(document, it));
+    },
+    /** @type {vscode.CompletionItemProvider["provideCompletionItems"]} */
+    async provideCompletionItems(document, position) {
+      return ((await ask("completion", document, { position })) ?? []).map(itemOf);
+    },
+    /** @type {vscode.DocumentSymbolProvider["provideDocumentSymbols"]} */
+    async provideDocumentSymbols(document) {
+      return ((await ask("documentSymbol", document, {})) ?? []).map(symbolOf);
+    },
+    /** @type {vscode.FoldingRangeProvider["provideFoldingRanges"]} */
+    async provideFoldingRanges(document) {
+      const found = (await ask("foldingRange", document, {})) ?? [];
+      return found.map((/** @type {{ startLine: number, endLine: number }} */ it) => new vscode.FoldingRange(it.startLine, it.endLine));
+    },
+    /** @type {vscode.DocumentFormattingEditProvider["provideDocumentFormattingEdits"]} */
+    async provideDocumentFormattingEdits(document, { tabSize, insertSpaces }) {
+      return ((await ask("formatting", document, { options: { tabSize, insertSpaces } })) ?? []).map(editOf);
+    },
+  };
 }
 
-// The protocol's severities count from 1, the editor's from 0.
-function diagnosticOf(told) {
-  const diagnostic = new vscode.Diagnostic(rangeOf(told.range), told.message, told.severity - 1);
-  diagnostic.code = told.code;
-  diagnostic.source = told.source;
-  diagnostic.relatedInformation = told.relatedInformation?.map(relatedOf);
-  return diagnostic;
+/** @param {Server} it */
+function listen(it) {
+  const { workspace } = vscode;
+  return [
+    workspace.onDidOpenTextDocument(look),
+    workspace.onDidSaveTextDocument(look),
+    workspace.onDidChangeTextDocument(lookAtChange),
+    workspace.onDidOpenTextDocument((document) => it.open(document)),
+    workspace.onDidChangeTextDocument((event) => it.change(event)),
+    workspace.onDidCloseTextDocument((document) => it.close(document)),
+    workspace.onDidChangeConfiguration((event) => {
+      if (event.affectsConfiguration("raftbench.program") || event.affectsConfiguration("raftbench.lsp.softenLaterMismatches")) it.restart();
+    }),
+  ];
 }
 
-function hear(method, params) {
-  if (method === "textDocument/publishDiagnostics") {
-    shown.set(vscode.Uri.parse(params.uri), params.diagnostics.map(diagnosticOf));
-  }
+/** @param {ReturnType<typeof providersOf>} providers */
+function register(providers) {
+  const { languages } = vscode;
+  return [
+    languages.registerHoverProvider("raftbench", providers),
+    languages.registerCodeActionsProvider("raftbench", providers),
+    languages.registerCompletionItemProvider("raftbench", providers, ...BEFORE_VALUES),
+    languages.registerDocumentSymbolProvider("raftbench", providers),
+    languages.registerFoldingRangeProvider("raftbench", providers),
+    languages.registerDocumentFormattingEditProvider("raftbench", providers),
+  ];
 }
 
-function hasGone(why) {
-  client = undefined;
-  served.clear();
-  shown.clear();
-  vscode.window.showWarningMessage(why);
-}
-
-// Writes down what goes to the server and what comes, as the setting `lsp.trace` has it: nothing, the methods, or whole messages.
-function traced(arrow, message) {
-  const trace = vscode.workspace.getConfiguration("raftbench").get("lsp.trace");
-  if (trace === "messages") output.appendLine(`${arrow} ${message.method ?? "answer"} ${message.id ?? ""}`.trimEnd());
-  if (trace === "verbose") output.appendLine(`${arrow} ${JSON.stringify(message)}`);
-}
-
-function start() {
-  const settings = vscode.workspace.getConfiguration("raftbench");
-  client = new Client(settings.get("program"), { hear, hasGone, traced });
-  client.begin({ softenLaterMismatches: settings.get("lsp.softenLaterMismatches") });
-}
-
-// What the server answers to a request about a document, or undefined where it refuses.
-async function asked(method, document, params) {
-  if (!client) return undefined;
-  const answer = await client.request(`textDocument/${method}`, { textDocument: { uri: document.uri.toString() }, ...params });
-  return answer.result;
-}
-
-// What came of the directive at a position, and the cluster behind it.
-async function hover(document, position) {
-  const told = await asked("hover", document, { position });
-  if (!told) return undefined;
-  return new vscode.Hover(new vscode.MarkdownString().appendCodeblock(told.contents.value, "plaintext"), rangeOf(told.range));
-}
-
-function actionOf(document, { title, kind, edit }) {
-  const action = new vscode.CodeAction(title, kind === "quickfix" ? vscode.CodeActionKind.QuickFix : vscode.CodeActionKind.Source);
-  action.edit = new vscode.WorkspaceEdit();
-  for (const { range, newText } of Object.values(edit.changes).flat()) action.edit.replace(document.uri, rangeOf(range), newText);
-  return action;
-}
-
-// The actions that accept what came.
-async function actions(document, { start, end }) {
-  const told = await asked("codeAction", document, { range: { start, end }, context: { diagnostics: [] } });
-  return (told ?? []).map((action) => actionOf(document, action));
-}
-
-// The protocol's kinds of words and symbols count from 1, the editor's from 0.
-function wordOf({ label, kind, documentation, textEdit }) {
-  const word = new vscode.CompletionItem(label, kind - 1);
-  word.documentation = documentation;
-  word.range = rangeOf(textEdit.range);
-  word.insertText = textEdit.newText;
-  return word;
-}
-
-// The words that a head can go on with.
-async function words(document, position) {
-  const told = await asked("completion", document, { position });
-  return (told ?? []).map(wordOf);
-}
-
-function symbolOf({ name, kind, range, selectionRange }) {
-  return new vscode.DocumentSymbol(name, "", kind - 1, rangeOf(range), rangeOf(selectionRange));
-}
-
-async function symbols(document) {
-  const told = await asked("documentSymbol", document, {});
-  return (told ?? []).map(symbolOf);
-}
-
-async function folds(document) {
-  const told = await asked("foldingRange", document, {});
-  return (told ?? []).map(({ startLine, endLine }) => new vscode.FoldingRange(startLine, endLine));
-}
-
-async function formatted(document, { tabSize, insertSpaces }) {
-  const told = await asked("formatting", document, { options: { tabSize, insertSpaces } });
-  return (told ?? []).map(({ range, newText }) => vscode.TextEdit.replace(rangeOf(range), newText));
-}
-
-function tell(document) {
-  const { languageId, version } = document;
-  const uri = document.uri.toString();
-  if (languageId !== "raftbench" || served.has(uri)) return;
-  served.add(uri);
-  client.notify("textDocument/didOpen", { textDocument: { uri, languageId, version, text: document.getText() } });
-}
-
-// A server that is started hears of each script that is open, also of those that another one served before it went.
-function open(document) {
-  if (document.languageId !== "raftbench") return;
-  if (!client) {
-    start();
-    vscode.workspace.textDocuments.forEach(tell);
-  }
-  tell(document);
-}
-
-function change(event) {
-  if (!served.has(event.document.uri.toString()) || event.contentChanges.length === 0) return;
-  const { uri, version } = event.document;
-  const contentChanges = event.contentChanges.map(({ range, text }) => ({ range: { start: range.start, end: range.end }, text }));
-  client.notify("textDocument/didChange", { textDocument: { uri: uri.toString(), version }, contentChanges });
-}
-
-function close(document) {
-  const uri = document.uri.toString();
-  if (served.delete(uri)) client.notify("textDocument/didClose", { textDocument: { uri } });
-}
-
+/** @param {{ subscriptions: { dispose(): unknown }[] }} context */
 function activate(context) {
-  shown = vscode.languages.createDiagnosticCollection("raftbench");
-  output = vscode.window.createOutputChannel("raftbench");
+  const shown = vscode.languages.createDiagnosticCollection("raftbench");
+  const output = vscode.window.createOutputChannel("raftbench");
+  const pages = new Pages();
+  const plays = new Plays();
+  const it = new Server(shown, output);
+  server = it;
   context.subscriptions.push(
     shown,
     output,
-    vscode.workspace.onDidOpenTextDocument(look),
-    vscode.workspace.onDidSaveTextDocument(look),
-    vscode.workspace.onDidOpenTextDocument(open),
-    vscode.workspace.onDidChangeTextDocument(change),
-    vscode.workspace.onDidCloseTextDocument(close),
-    vscode.languages.registerHoverProvider("raftbench", { provideHover: hover }),
-    vscode.languages.registerCodeActionsProvider("raftbench", { provideCodeActions: actions }),
-    vscode.languages.registerCompletionItemProvider("raftbench", { provideCompletionItems: words }, ...BEFORE_VALUES),
-    vscode.languages.registerDocumentSymbolProvider("raftbench", { provideDocumentSymbols: symbols }),
-    vscode.languages.registerFoldingRangeProvider("raftbench", { provideFoldingRanges: folds }),
-    vscode.languages.registerDocumentFormattingEditProvider("raftbench", { provideDocumentFormattingEdits: formatted }),
+    pages,
+    plays,
+    vscode.commands.registerCommand("raftbench.restart", () => it.restart()),
+    vscode.commands.registerCommand("raftbench.checkFolder", checkFolder),
+    vscode.commands.registerCommand("raftbench.openPage", () => pages.open()),
+    vscode.commands.registerCommand("raftbench.play", () => plays.open()),
+    ...listen(it),
+    ...register(providersOf(it)),
   );
   vscode.workspace.textDocuments.forEach(look);
-  vscode.workspace.textDocuments.forEach(open);
+  vscode.workspace.textDocuments.forEach((document) => it.open(document));
 }
 
 function deactivate() {
-  return client && client.end();
+  return server?.stop();
 }
 
 module.exports = { activate, deactivate };

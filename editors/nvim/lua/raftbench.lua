@@ -38,4 +38,20 @@ function M.start(buffer)
   return client
 end
 
+-- What serves each script to play with, by its path.
+local served = {}
+
+-- Opens a script to play with: `raftbench-live`, or what vim.g.raftbench_live names, opens the browser, and ends with Neovim.
+function M.play(file)
+  local program = vim.g.raftbench_live or 'raftbench-live'
+  if not served[file] then
+    local job = vim.fn.jobstart({ program, file }, {
+      on_exit = function() served[file] = nil end,
+      on_stdout = function(_, lines) if lines[1] ~= '' then vim.notify(lines[1]) end end,
+    })
+    served[file] = job > 0 and job or nil
+  end
+  return served[file]
+end
+
 return M

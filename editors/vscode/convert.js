@@ -1,0 +1,65 @@
+"use strict";
+// Makes the editor's values of those of the language server protocol. The protocol counts severities and kinds from 1, the editor from 0.
+
+const vscode = require("vscode");
+
+/** @typedef {{ line: number, character: number }} ProtocolPosition */
+/** @typedef {{ start: ProtocolPosition, end: ProtocolPosition }} ProtocolRange */
+/** @typedef {{ location: { uri: string, range: ProtocolRange }, message: string }} ProtocolRelated */
+/** @typedef {{ range: ProtocolRange, message: string, severity: number, code: string, source: string, relatedInformation?: ProtocolRelated[] }} ProtocolDiagnostic */
+/** @typedef {{ range: ProtocolRange, newText: string }} ProtocolEdit */
+/** @typedef {{ title: string, kind: string, edit: { changes: Record<string, ProtocolEdit[]> } }} ProtocolAction */
+/** @typedef {{ label: string, kind: number, documentation?: string, textEdit: ProtocolEdit }} ProtocolItem */
+/** @typedef {{ name: string, kind: number, range: ProtocolRange, selectionRange: ProtocolRange }} ProtocolSymbol */
+
+/** @param {ProtocolRange} range */
+function rangeOf(range) {
+  return new vscode.Range(range.start.line, range.start.character, range.end.line, range.end.character);
+}
+
+/** @param {ProtocolRelated} related */
+function relatedOf({ location, message }) {
+  return new vscode.DiagnosticRelatedInformation(new vscode.Location(vscode.Uri.parse(location.uri), rangeOf(location.range)), message);
+}
+
+/** @param {ProtocolDiagnostic} from */
+function diagnosticOf(from) {
+  const diagnostic = new vscode.Diagnostic(rangeOf(from.range), from.message, from.severity - 1);
+  diagnostic.code = from.code;
+  diagnostic.source = from.source;
+  diagnostic.relatedInformation = from.relatedInformation?.map(relatedOf);
+  return diagnostic;
+}
+
+/** @param {ProtocolEdit} edit */
+function editOf({ range, newText }) {
+  return vscode.TextEdit.replace(rangeOf(range), newText);
+}
+
+/**
+ * An action on one document.
+ * @param {vscode.TextDocument} document
+ * @param {ProtocolAction} from
+ */
+function actionOf(document, { title, kind, edit }) {
+  const action = new vscode.CodeAction(title, kind === "quickfix" ? vscode.CodeActionKind.QuickFix : vscode.CodeActionKind.Source);
+  action.edit = new vscode.WorkspaceEdit();
+  for (const { range, newText } of Object.values(edit.changes).flat()) action.edit.replace(document.uri, rangeOf(range), newText);
+  return action;
+}
+
+/** @param {ProtocolItem} from */
+function itemOf({ label, kind, documentation, textEdit }) {
+  const item = new vscode.CompletionItem(label, kind - 1);
+  item.documentation = documentation;
+  item.range = rangeOf(textEdit.range);
+  item.insertText = textEdit.newText;
+  return item;
+}
+
+/** @param {ProtocolSymbol} from */
+function symbolOf({ name, kind, range, selectionRange }) {
+  return new vscode.DocumentSymbol(name, "", kind - 1, rangeOf(range), rangeOf(selectionRange));
+}
+
+module.exports = { rangeOf, diagnosticOf, editOf, actionOf, itemOf, symbolOf };
