@@ -2,13 +2,15 @@
 each key at once.
 """
 import itertools
+import os
 import pathlib
 import re
 import signal
+import subprocess
 import termios
 from collections.abc import Callable, Iterator, Sequence
 
-from tests.check.checking import ACCEPTED, BAD, files, tree
+from tests.check.checking import ACCEPTED, BAD, MOST_SECONDS, files, tree
 from tests.check.test_terminals import QUESTION, Given, asked_on, question, quitted, reviewed, terminal
 from tests.harness import PROGRAM, TOP
 
@@ -74,6 +76,19 @@ def test_a_key_is_an_answer(room: pathlib.Path) -> Iterator[str]:
                 yield f"{keys}, {name}: {came!r}, and not {wanted!r}"
 
 
+def test_a_failed_read_of_a_key_ends_a_review(room: pathlib.Path) -> Iterator[str]:
+    """Standard input is the terminal, opened for writing alone."""
+    put(room)
+    before = tree(room)
+    with terminal(without=termios.ICANON | termios.ECHO) as sides:
+        unreadable = os.open(os.ttyname(sides[1]), os.O_WRONLY | os.O_NOCTTY)
+        done = subprocess.run([PROGRAM, "check", "--review", "--color=never", "a.txt"], cwd=room, env=dict(os.environ, **KEYS),
+                              stdin=unreadable, stdout=sides[1], stderr=subprocess.PIPE, timeout=MOST_SECONDS)
+        os.close(unreadable)
+    if (done.returncode, done.stderr, tree(room)) != (1, b"", before):
+        yield f"{done.returncode} {done.stderr!r} {tree(room)!r}"
+
+
 # Arrow and function keys, a key with Alt, a letter that isn't ASCII, texts that are pasted, and Enter.
 NO_ANSWERS = [b"\x1b[A", b"\x1bOq", b"\x1b[a", b"\x1b[15~", b"\x1by", b"\x1b", "\u00e9".encode(), b"yyyy", b"y\n", b"ya", b"y" * 4000, b"Y", b" ", b"\n", b"\t", b"\0", b"\x7f", b"\xff"]
 
@@ -130,11 +145,11 @@ def test_signals_end_a_review(room: pathlib.Path) -> Iterator[str]:
 
 
 def test_stops_and_continues(room: pathlib.Path) -> Iterator[str]:
-    """By Ctrl-Z in a shell: while it is stopped the terminal is as before, and then a key is an answer again."""
+    """By Ctrl-Z in a shell: while it is stopped the terminal is as before, and then it asks again, and a key is an answer."""
     files(room, a_txt=BAD)
-    shell = 'stty -g >before; "$@" --color=never a.txt; stty -g >stopped; printf %s "$0"; fg >told'
+    shell = 'stty -g >before; "$@" --color=never a.txt; stty -g >stopped; fg >told'
     with terminal() as sides:
-        call: list[str | pathlib.Path] = ["sh", "-mc", shell, QUESTION.decode(), REVIEW]
+        call: list[str | pathlib.Path] = ["sh", "-mc", shell, "sh", REVIEW]
         status, got = asked_on(sides, call, room, (b"?", b"\x1a", APART, b"y"), {"RAFTBENCH": str(PROGRAM)})
     left = tree(room)
     if status != 0 or left["a.txt"] != ACCEPTED or left["before"] != left["stopped"] or got.count(QUESTION) != 3:

@@ -51,6 +51,13 @@ def test_links_in_a_row(room: pathlib.Path) -> Iterator[str]:
         yield f"{tree(room)!r}"
 
 
+def test_files_of_no_told_size(room: pathlib.Path) -> Iterator[str]:
+    """A file of /proc that says that it has no bytes (proc(5)) is a failure, and not waited for: never an empty script."""
+    for path in ("/proc/kmsg", "/proc/version", "/proc/self/mem"):
+        if os.access(path, os.R_OK):
+            yield from differs(path, run(room, path), (4, totals(0, 0, failed=1), path.encode() + b": it is neither a file nor a folder\n"))
+
+
 def test_what_is_no_file(room: pathlib.Path) -> Iterator[str]:
     """Pipes, sockets and devices are not waited for."""
     files(room, z_txt=GOOD)
@@ -102,13 +109,6 @@ def test_what_is_ignored_has_a_limit(room: pathlib.Path) -> Iterator[str]:
     (room / "b" / ".raftbenchignore").write_bytes(b"#" * most + b"\n")
     told = b"./b/.raftbenchignore: it could not be read\n./b/.raftbenchignore: it has more than 1,048,576 bytes\n"
     yield from differs("past the limit", run(room, "."), (4, totals(1, 1, failed=1), told))
-
-
-def test_files_without_a_size_are_not_waited_for(room: pathlib.Path) -> Iterator[str]:
-    """Files of /proc have no size. Some are waited for, such as the kernel's messages."""
-    for path in ("/proc/kmsg", "/proc/version"):
-        if os.access(path, os.R_OK):
-            yield from differs(path, run(room, path), (0, totals(1, 0), b""))
 
 
 def test_what_is_ignored_without_permission(room: pathlib.Path) -> Iterator[str]:

@@ -47,7 +47,7 @@ def test_what_is_wrong(room: pathlib.Path) -> Iterator[str]:
     for name, text, told in [
         ("a", b"#" * 4_194_305, b": the script, or its canonical text, has more than 4,194,304 bytes; cut it into several scripts"),
         ("b", many + b"# " + b"x" * 65_535 + b"\n", b":5: this line has more than 65,536 bytes; usually an end of line is missing, or the file is not a script"),
-        ("c", many + b"set (\n----\n", b":5: this is not a name with arguments; usually a parenthesis is not closed, a backslash is missing, or an empty line cut the output above"),
+        ("c", many + b"set (\n----\n", b":5: this is not a name with arguments; usually a parenthesis is not closed or has no name= before it, a backslash is missing, or an empty line cut the output above"),
         ("d", b"\r\n" + many + b"set\n\n", b":6: no line ---- follows this directive; usually it was left out, or an empty line cut the output above"),
         ("e", many + b"set\n----\n----\nx\n\n", b":6: the output below this ---- has no end; usually an empty line is missing before the next directive, or the two closing ---- are missing"),
         ("f", many + b"set\n----\nx\nset\n----\n", b":6: the output below this ---- has no end; usually an empty line is missing before the next directive, or the two closing ---- are missing"),
@@ -166,7 +166,7 @@ ODD = "campaign 1\n----\n----\n\tcaf\u00e9 \"a\\b\", 100%: x\r y\n\n".encode() +
 
 def odd_files(room: pathlib.Path) -> list[dict[str, Any]]:
     """Scripts of each kind, with the objects that are told of them."""
-    refused = b"this is not a name with arguments; usually a parenthesis is not closed, a backslash is missing, or an empty line cut the output above"
+    refused = b"this is not a name with arguments; usually a parenthesis is not closed or has no name= before it, a backslash is missing, or an empty line cut the output above"
     called = b"this looks like a directive inside an expectation: an empty line is missing before it"
     files(room, a_txt=BAD + b"\n" + ODD, b__c_txt=b"campain  1,2 k=(x)\n----\n" + UNKNOWN + b"\n", d_txt=GOOD, e_txt=b"\nset (\n----\n",
           f_txt=BAD + b"log-level none\n")
@@ -412,8 +412,30 @@ def test_names_that_act_in_a_terminal(room: pathlib.Path) -> Iterator[str]:
     status, output, told = run(room, "--a\x1b[2J.txt")
     if status != 2 or output or not told.startswith(b"error: unexpected argument '--a\\x1b[2J.txt' found\n") or b"\x1b" in told:
         yield f"as an option: {status} {output!r} {told!r}"
-    # Only the lines of its text that act have numbers.
-    for word, line in ("--\u00e9", "'--\u00e9'"), ("--\u00e9\n\u00e9\x1b", "'--\u00e9\n\\xc3\\xa9\\x1b'"):
+    # Only a word that acts has numbers.
+    for word, line in ("--\u00e9", "'--\u00e9'"), ("--\u00e9\n\u00e9\x1b", "'--\\xc3\\xa9\\x0a\\xc3\\xa9\\x1b'"):
         status, output, told = run(room, word)
         if status != 2 or output or not told.startswith(f"error: unexpected argument {line} found\n".encode()):
             yield f"{word!r}: {status} {output!r} {told!r}"
+
+
+# Names whose bytes end a line or aren't seen, and what is shown of them. The name of a script may be any.
+UNSEEN_NAMES = {
+    "x\n::stop-commands::forged": "x\\x0a::stop-commands::forged", "a\tb": "a\\x09b", "a\u200bb": "a\\xe2\\x80\\x8bb", "a\U000e0041b": "a\\xf3\\xa0\\x81\\x81b",
+    "a\\x0ab": "a\\x0ab", "\u00e9": "\u00e9",
+}
+
+
+def test_names_stay_in_their_line(room: pathlib.Path) -> Iterator[str]:
+    """In the text, on standard error, and in the element of XML that has the text."""
+    for name, seen in UNSEEN_NAMES.items():
+        files(room, a_txt=BAD)
+        (room / "a.txt").rename(room / f"{name}.txt")
+        wanted = mismatch(seen + ".txt") + totals(1, 1, 1)
+        yield from differs(f"{name!r}", run(room, f"{name}.txt"), (1, wanted, b""))
+        yield from differs(f"no {name!r}", run(room, f"no{name}.txt"), (4, b"", f"no{seen}.txt: no such file or folder\nraftbench: no script was found\n".encode()))
+        for form in ("json", "github", "junit"):
+            _, output, told = run(room, "--format", form, f"{name}.txt", f"no{name}.txt")
+            if any(line.startswith(b"::stop-commands") for line in (output + b"\n" + told).splitlines()):
+                yield f"{form} {name!r}: {output!r} {told!r}"
+        (room / f"{name}.txt").unlink()

@@ -74,19 +74,30 @@ vim.api.nvim_win_set_cursor(0, { 5, 0 })
 press('gra')
 wait_for(0)
 say('')
-vim.cmd('silent write | qall!')
+vim.cmd('silent write')
+-- A script to play with: what is called gets its path, and an address is shown.
+vim.g.raftbench_live = PLAYS
+local shown_address
+vim.notify = function(text) shown_address = text end
+vim.cmd('RaftbenchLive')
+vim.wait(60000, function() return shown_address end, 20)
+say('played', shown_address == 'http://127.0.0.1/' .. vim.fn.expand('%:p'))
+vim.cmd('qall!')
 """
 DUE = ["raftbench true", "there 0", "there 1", "2 1 mismatch - no|+ ok", "there 0", "there 1", "2 1 mismatch - another|+ ok",
        "shown ok raft-state ok on their way no messages", "there 0", "there 2", "3 1 mismatch - log-level debug|| ok|- log-level debug|- ----|- ok",
        "3 2 slip this looks like a directive inside an expectation: an empty line is missing before it", "there 0", "there 1",
-       '6 1 mismatch - ok|+ error: unknown directive "log-levle"|did you mean "log-level"?', "there 0"]
+       '6 1 mismatch - ok|+ error: unknown directive "log-levle"|did you mean "log-level"?', "there 0", "played true"]
 
 
 def shown(program: pathlib.Path, room: pathlib.Path) -> Any:
     """What the driver writes, and the script that is left."""
     script, driver = room / "script.txt", room / "driver.lua"
     script.write_text(SCRIPT)
-    driver.write_text(DRIVER)
+    plays = room / "plays"
+    plays.write_text('#!/bin/sh\necho "http://127.0.0.1/$1"\nexec sleep 60\n')
+    plays.chmod(0o755)
+    driver.write_text(DRIVER.replace("PLAYS", repr(str(plays))))
     words = ["nvim", "--headless", "--clean", "--cmd", f"set runtimepath+={TOP}/editors/vim,{TOP}/editors/nvim", "--cmd", f"let g:raftbench_program = '{program}'",
              str(script), "-c", f"luafile {driver}"]
     done = subprocess.run(words, capture_output=True, timeout=MOST_SECONDS, text=True, stdin=subprocess.DEVNULL)
@@ -98,7 +109,7 @@ def look(program: pathlib.Path) -> Iterator[str]:
     """Texts for what is not as it must be."""
     with tempfile.TemporaryDirectory() as room:
         lines, left = shown(program, pathlib.Path(room))
-    if (lines := [line for line in lines if line.split()[0] in ("raftbench", "there", "missing", "0", "1", "2", "3", "6", "shown")]) != DUE:
+    if (lines := [line for line in lines if line.split()[0] in ("raftbench", "there", "missing", "0", "1", "2", "3", "6", "shown", "played")]) != DUE:
         yield f"shown: {lines}"
     if left != f"{SCRIPT}\n{SCRIPT}":
         yield f"left: {left!r}"

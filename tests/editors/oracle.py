@@ -98,7 +98,7 @@ def of_report(text: str, report: str, differing: dict[int, Any], encoding: str) 
         while at < len(lines) and lines[at][:2] in ("- ", "+ ", "  "):
             body.append(lines[at])
             at += 1
-        hint = lines[at:at + 1] if lines[at:at + 1] and lines[at].startswith(("did you mean ", "voters, learners and content need ")) else []
+        hint = [it for it in lines[at:at + 1] if it and not re.match(r"script:\d+: ", it)]
         at += len(hint)
         if body:
             # Each byte outside ASCII is a character of its own there.

@@ -117,11 +117,58 @@ class FoldingRange {
   }
 }
 
+class ProcessExecution {
+  constructor(program, words, options) {
+    assert(program && Array.isArray(words));
+    Object.assign(this, { program, words, ...options });
+  }
+}
+
+class Task {
+  constructor(definition, folder, name, source, execution, matcher) {
+    assert(definition.type && folder.uri && execution instanceof ProcessExecution);
+    Object.assign(this, { folder, name, source, execution, matcher });
+  }
+}
+
+const PROVIDERS = ["Hover", "CodeActions", "CompletionItem", "DocumentSymbol", "FoldingRange", "DocumentFormattingEdit"];
+
+// What the editor has to say to its user, and does for an extension: `warnings` and `errors` are shown, `lines` are written down, and `done` are
+// commands, tasks and addresses that are opened. `chooses` is the button that the user presses, or undefined.
+function user() {
+  const [warnings, errors, lines, done, commands] = [[], [], [], [], new Map()];
+  const it = { warnings, errors, lines, done, commands, chooses: undefined };
+  const shows = (list) => async (text, ...buttons) => {
+    list.push(text);
+    const { chooses } = it;
+    it.chooses = undefined;
+    return buttons.includes(chooses) ? chooses : undefined;
+  };
+  const window = {
+    activeTextEditor: undefined,
+    showWarningMessage: shows(warnings),
+    showErrorMessage: shows(errors),
+    createOutputChannel: () => ({ appendLine: (line) => lines.push(line) }),
+  };
+  const api = {
+    window,
+    commands: {
+      registerCommand: (name, call) => commands.set(name, call),
+      executeCommand: async (...words) => done.push(words),
+    },
+    ViewColumn: { Beside: -2 },
+    env: { openExternal: async (uri) => done.push(["open", uri.fsPath]) },
+    tasks: { executeTask: async (task) => done.push(["task", task]) },
+  };
+  return { it, api };
+}
+
 // An editor with these settings. In `shown` are the diagnostics of each document, in `providers` what the extension gives when it is asked, and the
-// characters behind which words are asked for; in `warnings` and `lines` what it says and what it writes down. `tell` calls what listens.
+// characters after which words are asked for. `tell` calls what listens; a user's part is in `user`, as above.
 function editor(settings) {
-  const listeners = { open: [], change: [], close: [], save: [] };
-  const [shown, providers, warnings, lines, documents] = [new Map(), { characters: [] }, [], [], []];
+  const listeners = { open: [], change: [], close: [], save: [], configuration: [] };
+  const [shown, providers, documents] = [new Map(), { characters: [] }, []];
+  const { it, api } = user();
   const on = (name) => (listener) => listeners[name].push(listener);
   const tell = (name, event) => listeners[name].forEach((listener) => listener(event));
   const provided = (language, provider, ...characters) => {
@@ -135,23 +182,26 @@ function editor(settings) {
     document.languageId = id;
     tell("open", document);
   };
-  const registered = ["Hover", "CodeActions", "CompletionItem", "DocumentSymbol", "FoldingRange", "DocumentFormattingEdit"];
   const languages = {
     createDiagnosticCollection: () => ({ set: (uri, list) => shown.set(uri, list), clear: () => shown.clear() }),
     setTextDocumentLanguage,
-    ...Object.fromEntries(registered.map((name) => [`register${name}Provider`, provided])),
+    ...Object.fromEntries(PROVIDERS.map((name) => [`register${name}Provider`, provided])),
   };
-  const window = { showWarningMessage: (text) => warnings.push(text), createOutputChannel: () => ({ appendLine: (line) => lines.push(line) }) };
   const workspace = {
     textDocuments: documents,
-    getConfiguration: () => ({ get: (name) => settings[name] }),
+    workspaceFolders: undefined,
+    getWorkspaceFolder: () => undefined,
+    saveAll: async () => it.done.push(["save all"]),
+    getConfiguration: () => ({ get: (name, otherwise) => settings[name] ?? otherwise }),
     onDidOpenTextDocument: on("open"),
     onDidChangeTextDocument: on("change"),
     onDidCloseTextDocument: on("close"),
     onDidSaveTextDocument: on("save"),
+    onDidChangeConfiguration: on("configuration"),
   };
-  const types = { CodeAction, CodeActionKind, CompletionItem, Diagnostic, DiagnosticRelatedInformation, DocumentSymbol, FoldingRange, Hover, Location, MarkdownString, Position, Range, TextEdit, WorkspaceEdit };
-  return { api: { ...types, Uri: { parse: (text) => text }, languages, window, workspace }, shown, providers, warnings, lines, documents, tell };
+  const Uri = { parse: (text) => text, file: (path) => ({ scheme: "file", path, fsPath: path, toString: () => `file://${path}` }) };
+  const types = { CodeAction, CodeActionKind, CompletionItem, Diagnostic, DiagnosticRelatedInformation, DocumentSymbol, FoldingRange, Hover, Location, MarkdownString, Position, ProcessExecution, Range, Task, TextEdit, WorkspaceEdit };
+  return { api: { ...types, Uri, languages, workspace, ...api }, shown, providers, documents, tell, user: it, warnings: it.warnings, lines: it.lines };
 }
 
 // The extension, with this for the editor's API.

@@ -226,16 +226,7 @@ def is_told_apart_by_the_grammar() -> None:
         assert heads == sum(line == "----" for line in text.splitlines()), (path.name, heads)
 
 
-def is_a_package() -> None:
-    package = json.loads((VSCODE / "package.json").read_text())
-    language, grammar = package["contributes"]["languages"][0], package["contributes"]["grammars"][0]
-    assert language["id"] == grammar["language"] == package["name"] == "raftbench"
-    scope = json.loads((VSCODE / grammar["path"]).read_text())["scopeName"]
-    assert scope == grammar["scopeName"]
-    assert json.loads((VSCODE / language["configuration"]).read_text())["comments"] == {"lineComment": "#"}
-
-
-CHECKS: list[Callable[[], None]] = [names_each_directive, is_shown_by_vim, is_shown_by_neovim, is_told_apart_by_the_grammar, is_a_package]
+CHECKS: list[Callable[[], None]] = [names_each_directive, is_shown_by_vim, is_shown_by_neovim, is_told_apart_by_the_grammar]
 
 
 def results(word: str) -> Iterator[Result]:

@@ -1,5 +1,5 @@
 """What editors/ does for those who write scripts: Vim's and Neovim's list of problems, folds and completion; what Visual Studio Code
-takes for a script, its snippets and its list of problems, and Emacs's; the directive that git names above a hunk; and scripts from etcd.
+takes for a script, its snippets and its list of problems, those of Emacs and Kakoune; the directive that git names above a hunk; and scripts from etcd.
 
 Directives, options and values are compared with those of docs/SCRIPTS.md. An editor that isn't here is not tried.
 """
@@ -113,13 +113,21 @@ def knows_each_option() -> None:
     assert {name: sorted(options) for name, options in found.items()} == {name: sorted(options) for name, options in wanted.items()}, found
 
 
+# Texts, and whether an editor takes them for a script. A mistake in the first directive's name is one letter, or there are more directives.
+TEXTS = [
+    ("# a comment\n\nadd-nodes 1\n----\n", True), ("  log-level \\\nnone\n ---- \n", True), ("campaign 1\n\n----\n", True),
+    ("add-node 1\n----\n", True), ("tcik-election 1\n----\n", True), ("propse 1 a\n----\n", True), ("raft-states\n----\n", True), ("stabilise\n----\n", True),
+    ("nodes 3\n----\nerror\n\n# a comment\ncampaign 1\n----\n", True), ("nodes 3\n\nnone\n----\n\npropose-conf-change 1\nl4\n----\n", True),
+    ("# a comment\n", False), ("", False), ("status quo\n", False), ("only text\n----\n", False), ("add-nods 1\n", False), ("ad-node 1\n----\n", False),
+    ("Status\n----\n", False), ("status\n-----\n", False), ("----\n", False), ("text\n----\n\nstatus quo\n\nmore\n----\n", False), ("text\ncampaign\n----\n", False),
+    ("text\n" * 500 + "campaign 1\n----\n", False),
+]
+
+
 def is_a_script_to_vscode() -> None:
     if not shutil.which("node"):
         raise NotHere
-    texts = [
-        ("# a comment\n\nadd-nodes 1\n----\n", True), ("campaign 1\r\n----\r\n", True), ("  log-level \\\nnone\n ---- \n", True),
-        ("# a comment\n", False), ("", False), ("status quo\n", False), ("only text\n----\n", False), ("add-node 1\n----\n", False),
-    ]
+    texts = [*TEXTS, ("campaign 1\r\n----\r\n", True)]
     texts += [(path.read_text(), True) for path in sorted(TOP.glob("examples/tour/*.txt"))]
     texts += [(f"{name} 1\n----\n", True) for name in table()]
     asked = f"const {{ isScript }} = require({json.dumps(str(VSCODE / 'detect.js'))}); console.log(JSON.stringify(JSON.parse(require('fs').readFileSync(0)).map(isScript)))"
@@ -127,37 +135,40 @@ def is_a_script_to_vscode() -> None:
     assert json.loads(done.stdout) == [wanted for _, wanted in texts], done.stdout
 
 
-def tells_vscode() -> None:
-    """The extension, over an editor that only notes what is asked of it."""
-    if not shutil.which("node"):
-        raise NotHere
-    with tempfile.TemporaryDirectory() as room:
-        (pathlib.Path(room) / "vscode.js").write_text("""
-exports.told = []; exports.on = {};
-const heard = { open: [], change: [], close: [], save: [] };
-const hears = (what) => (f) => { heard[what].push(f); exports.on[what] = (document) => heard[what].forEach((each) => each(document)); return {}; };
-exports.workspace = {
-  textDocuments: [], onDidOpenTextDocument: hears("open"), onDidChangeTextDocument: hears("change"), onDidCloseTextDocument: hears("close"),
-  onDidSaveTextDocument: hears("save"),
-};
-exports.window = { createOutputChannel: () => ({}) };
-exports.languages = { createDiagnosticCollection: () => ({}), setTextDocumentLanguage(document, name) { exports.told.push(document.name + " " + name); } };
-for (const what of ["Hover", "CodeActions", "CompletionItem", "DocumentSymbol", "FoldingRange", "DocumentFormattingEdit"]) {
-  exports.languages[`register${what}Provider`] = () => ({});
-}
-""")
-        asked = f"""
-const vscode = require("vscode");
-const of = (name, languageId, text) => ({{ name, languageId, getText: () => text }});
-const script = "# c\\nraft-state\\n----\\n";
-vscode.workspace.textDocuments = [of("there", "plaintext", script), of("text", "plaintext", "text")];
-const context = {{ subscriptions: [] }};
-require({json.dumps(str(VSCODE / 'extension.js'))}).activate(context);
-vscode.on.open(of("opened", "plaintext", script)); vscode.on.open(of("other", "markdown", script)); vscode.on.save(of("saved", "plaintext", script));
-console.log(JSON.stringify([vscode.told, context.subscriptions.length]));
+# One new file is typed, another one pasted, and a third is filled without a sign of it and saved.
+NEW_FILES = r"""
+for s:it in json_decode(readfile($TEXTS)[0])
+  edit typed.txt
+  execute 'normal! i' . s:it . "\<Esc>"
+  call add(s:out, &filetype)
+  bwipeout!
+  edit pasted.txt
+  call setline(1, split(s:it, "\n"))
+  doautocmd TextChanged
+  call add(s:out, &filetype)
+  bwipeout!
+  edit saved.txt
+  call setline(1, split(s:it, "\n"))
+  let s:before = &filetype
+  silent write
+  call add(s:out, s:before . ' ' . &filetype)
+  set filetype=other
+  silent write
+  call add(s:out, &filetype)
+  bwipeout
+  call delete('saved.txt')
+endfor
 """
-        done = subprocess.run(["node", "-e", asked], capture_output=True, text=True, env={**os.environ, "NODE_PATH": room})
-    assert done.returncode == 0 and json.loads(done.stdout) == [["there raftbench", "opened raftbench", "saved raftbench"], 13], done
+
+
+def takes_new_files(editor: str) -> None:
+    """A new file is a script once it looks like one: after typing, a paste or saving. A filetype that somebody chose stays."""
+    with tempfile.TemporaryDirectory() as room:
+        texts = pathlib.Path(room, "texts.json")
+        texts.write_text(json.dumps([text for text, _ in TEXTS]))
+        came = by(editor, "", ["set hidden", f"let $TEXTS = '{texts}'", *NEW_FILES.splitlines()])
+    wanted = [line for _, is_script in TEXTS for line in (*(("raftbench", "raftbench", "text raftbench") if is_script else ("text", "text", "text text")), "other")]
+    assert came == wanted, came
 
 
 def snippets() -> Any:
@@ -232,6 +243,36 @@ def lists_problems_in_emacs() -> None:
         around = {**os.environ, "HOME": room, "PROGRAM": str(PROGRAM)}
         done = subprocess.run(["emacs", "--batch", "-Q", "-l", "asked.el"], cwd=room, capture_output=True, text=True, env=around, timeout=60)
     assert done.returncode == 0 and done.stdout.splitlines() == ["a script.txt 2", "a script.txt 13"], done
+
+
+# Goes to each mismatch once the check has ended, from the first line of its output on.
+KAKOUNE = """
+source "%val{runtime}/rc/tools/make.kak"
+source settings.kak
+hook global BufCloseFifo .* %{
+  try %{ evaluate-commands -client client0 %{ make-next-error; nop %sh{ echo "$kak_bufname:$kak_cursor_line" >>shown } } }
+  try %{ evaluate-commands -client client0 %{ make-next-error; nop %sh{ echo "$kak_bufname:$kak_cursor_line" >>shown } } }
+  kill!
+}
+make scripts
+"""
+
+
+def lists_problems_in_kakoune() -> None:
+    """By the two settings of editors/README.md."""
+    if not shutil.which("kak"):
+        raise NotHere
+    settings = re.findall(r"^    (set-option global make.*)$", (TOP / "editors/README.md").read_text(), re.M)
+    assert len(settings) == 2 and "'raftbench check" in settings[0], settings
+    with tempfile.TemporaryDirectory() as folder:
+        room = pathlib.Path(folder)
+        (room / "scripts").mkdir()
+        (room / "scripts/a.txt").write_text(WRONG.replace("no:7: x", "no"))
+        (room / "settings.kak").write_text("\n".join(settings).replace("'raftbench", f"'{PROGRAM}"))
+        (room / "asked.kak").write_text(KAKOUNE)
+        around = {**os.environ, "HOME": folder, "XDG_RUNTIME_DIR": folder}
+        subprocess.run(["kak", "-n", "-ui", "dummy", "-e", "source asked.kak"], cwd=room, stdin=subprocess.DEVNULL, capture_output=True, env=around, timeout=60)
+        assert sorted((room / "shown").read_text().split()) == ["scripts/a.txt:13", "scripts/a.txt:2"], (room / "shown").read_text()
 
 
 def is_named_by_git() -> None:
@@ -435,8 +476,8 @@ def takes_the_scripts_of_etcd_that_are_here() -> None:
 
 
 CHECKS: list[tuple[str, Callable[[], object]]] = [
-    *((f"{check.__name__} in {editor}", functools.partial(check, editor)) for check in (lists_problems, folds, completes) for editor in ("vim", "nvim")),
-    *((check.__name__, check) for check in (knows_each_option, is_a_script_to_vscode, tells_vscode, has_snippets, lists_problems_in_vscode, lists_problems_in_emacs, is_named_by_git, takes_scripts_of_etcd, takes_later_scripts_of_etcd, says_what_it_leaves, takes_the_scripts_of_etcd_that_are_here)),
+    *((f"{check.__name__} in {editor}", functools.partial(check, editor)) for check in (lists_problems, folds, completes, takes_new_files) for editor in ("vim", "nvim")),
+    *((check.__name__, check) for check in (knows_each_option, is_a_script_to_vscode, has_snippets, lists_problems_in_vscode, lists_problems_in_emacs, lists_problems_in_kakoune, is_named_by_git, takes_scripts_of_etcd, takes_later_scripts_of_etcd, says_what_it_leaves, takes_the_scripts_of_etcd_that_are_here)),
 ]
 
 

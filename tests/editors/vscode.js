@@ -1,16 +1,22 @@
 "use strict";
-// Runs the extension of editors/vscode with an editor that only pretends: a document is opened, edited, and closed, and what is shown of it is looked at.
+// Runs the extension of editors/vscode with an editor that only pretends: a document is opened, edited, and closed, and what is shown of it is looked at;
+// the server ends and is started again; commands are called.
 //
-//     node tests/lsp/vscode.js PROGRAM
+//     node tests/editors/vscode.js PROGRAM
 
 const assert = require("assert");
+const fs = require("fs");
+const os = require("os");
+const path = require("path");
 const standin = require("./standin.js");
 const { Client } = require("../../editors/vscode/client.js");
 
 const program = process.argv[2];
 const settings = { program, "lsp.trace": "off" };
-const { api, shown, providers, warnings, lines, documents, tell } = standin.editor(settings);
+const { api, shown, providers, warnings, lines, documents, tell, user } = standin.editor(settings);
 const extension = standin.extension(api);
+const room = fs.mkdtempSync(path.join(os.tmpdir(), "vscode-"));
+const SCRIPT = "log-level debug\n----\nno\n";
 const place = new api.Position(0, 0);
 
 async function marks(document) {
@@ -70,28 +76,144 @@ async function followsAChange(document) {
   await standin.until(() => shown.get(document.uri)?.length === 0, () => JSON.stringify([...shown]));
 }
 
-function opened(name) {
-  const document = { uri: `file:///${name}`, languageId: "plaintext", version: 1, getText: () => "log-level debug\n----\nno\n" };
+function opened(name, text = SCRIPT, languageId = "plaintext") {
+  const document = { uri: `file:///${name}`, languageId, version: 1, getText: () => text };
   documents.push(document);
   tell("open", document);
   return document;
 }
 
-// A program that is gone at once says so. With the next document another server is started, which serves both.
-async function startsAnother() {
-  settings.program = "true";
-  const document = opened("other.txt");
+function closed(document) {
+  documents.splice(documents.indexOf(document), 1);
+  tell("close", document);
+}
+
+// A text is taken for a script when it is opened, when a line of it is complete, and when it is saved. Other languages stay.
+function takesScripts() {
+  const [typed, saved, other] = [opened("typed.txt", "text"), opened("saved.txt", "text"), opened("other.md", SCRIPT, "markdown")];
+  typed.getText = saved.getText = other.getText = () => SCRIPT;
+  const typing = (document, text) => tell("change", { document, contentChanges: [{ range: new api.Range(0, 0, 0, 0), text }] });
+  typing(typed, "-");
+  assert.deepStrictEqual([typed, saved].map((it) => it.languageId), ["plaintext", "plaintext"]);
+  typing(typed, "\n");
+  typing(other, "\n");
+  tell("save", saved);
+  assert.deepStrictEqual([typed, saved, other].map((it) => it.languageId), ["raftbench", "raftbench", "markdown"]);
+  [typed, saved, other].forEach(closed);
+}
+
+// A program that isn't there is named, with a button for the setting. Once that is right, the server is started.
+async function namesAMissingProgram(document) {
+  settings.program = path.join(room, "nowhere");
+  user.chooses = "Open the setting";
+  await user.commands.get("raftbench.restart")();
+  await standin.until(() => user.done.length > 0, () => "the setting");
+  assert.match(warnings.splice(0).join(), /nowhere could not be started: .*ENOENT$/);
+  assert.deepStrictEqual(user.done.splice(0), [["workbench.action.openSettings", "raftbench.program"]]);
+  settings.program = program;
+  tell("configuration", { affectsConfiguration: (name) => name === "raftbench.lsp.trace" });
+  assert.deepStrictEqual([...shown], []);
+  tell("configuration", { affectsConfiguration: (name) => name === "raftbench.program" });
+  await marks(document);
+}
+
+// A server that ends is started again with all scripts, until it has ended five times. Then the button of a warning starts it.
+async function startsAgain(documents) {
+  const [ended, started] = [path.join(room, "ends"), path.join(room, "starts")];
+  const ends = (count) => fs.writeFileSync(settings.program, `#!/bin/sh\necho >>"${started}"\n[ $(wc -l <"${ended}") -ge ${count} ] && exec "${program}" "$@"\necho >>"${ended}"; exit 3\n`, { mode: 0o755 });
+  settings.program = path.join(room, "program");
+  fs.writeFileSync(ended, "");
+  ends(2);
+  await user.commands.get("raftbench.restart")();
+  for (const document of documents) await marks(document);
+  assert.deepStrictEqual([warnings, fs.readFileSync(started, "utf8").length], [[], 3]);
+  assert.deepStrictEqual(lines.splice(0), Array(2).fill(`${settings.program} lsp ended with status 3`));
+  fs.writeFileSync(ended, "");
+  fs.writeFileSync(started, "");
+  ends(5);
+  user.chooses = "Start it again";
+  await user.commands.get("raftbench.restart")();
+  for (const document of documents) await marks(document);
+  assert.deepStrictEqual(warnings.splice(0), [`${settings.program} lsp ended with status 3, the 5th time in three minutes. It is not started again`]);
+  assert.strictEqual(fs.readFileSync(started, "utf8").length, 6);
+  lines.splice(0);
+  settings.program = program;
+}
+
+// A request that nobody answers any more has no answer, and what is no message ends the server.
+async function endsWithNonsense(document) {
+  settings.program = path.join(room, "nonsense");
+  fs.writeFileSync(settings.program, "#!/bin/sh\nread line; printf 'nonsense\\r\\n\\r\\n'; exec cat\n", { mode: 0o755 });
+  await user.commands.get("raftbench.restart")();
   const hover = providers.provideHover(document, place);
   await standin.until(() => warnings.length > 0, () => "a warning");
-  assert.deepStrictEqual([warnings.splice(0), await hover], [["true lsp ended with status 0"], undefined]);
+  assert.strictEqual(await hover, undefined);
+  assert.match(warnings.splice(0).join(), /sent no message: a message of the server has no length, the 5th time/);
+  lines.splice(0);
   settings.program = program;
-  return document;
+  await user.commands.get("raftbench.restart")();
+  await marks(document);
+}
+
+// The check of a folder is a task: what it runs says where the scripts differ.
+async function checksAFolder() {
+  const check = user.commands.get("raftbench.checkFolder");
+  await check();
+  assert.deepStrictEqual([warnings.splice(0), user.done], [["No folder is open"], []]);
+  const folder = { uri: api.Uri.file(room), name: "room" };
+  api.workspace.workspaceFolders = [folder];
+  await check();
+  const [[saves], [, { name, source, execution, matcher, folder: its }]] = user.done.splice(0);
+  assert.deepStrictEqual([saves, name, source, matcher, its], ["save all", "check", "raftbench", "$raftbench", folder]);
+  assert.deepStrictEqual({ ...execution }, { program, words: ["check", "--color", "never", "."], cwd: room });
+}
+
+// The page of what is in the editor is opened, if that is a script; a refused script is an error.
+async function opensAPage(subscriptions) {
+  const open = user.commands.get("raftbench.openPage");
+  await open();
+  assert.deepStrictEqual(warnings.splice(0), ["The document in front is not a script"]);
+  const document = { uri: api.Uri.file("/elsewhere/-a script.txt"), languageId: "raftbench", getText: () => SCRIPT };
+  api.window.activeTextEditor = { document };
+  await open();
+  const [[does, page]] = user.done.splice(0);
+  assert.deepStrictEqual([does, path.basename(page)], ["open", "-a script.txt.html"]);
+  for (const wanted of ["-a script.txt", "log-level debug"]) assert(fs.readFileSync(page, "utf8").includes(wanted), wanted);
+  api.window.activeTextEditor = { document: { ...document, getText: () => "log-level\n" } };
+  await open();
+  assert.deepStrictEqual(user.done, []);
+  assert.match(user.errors.splice(0).join(), /^No page: raftbench: script refused/);
+  subscriptions.forEach((it) => it?.dispose?.());
+  assert(!fs.existsSync(page));
+}
+
+// A script to play with is served once, by the command beside the program, and shown beside the script.
+async function plays() {
+  const play = user.commands.get("raftbench.play");
+  const file = path.join(room, "played.txt");
+  const [commands, bin] = [user.done, path.join(room, "bin")];
+  fs.mkdirSync(bin);
+  fs.writeFileSync(path.join(bin, "raftbench-live"), `#!/bin/sh\necho called >>"${room}/calls"\necho "http://127.0.0.1:1/#$*"\nexec sleep 60\n`, { mode: 0o755 });
+  settings.program = path.join(bin, "raftbench");
+  api.window.activeTextEditor = { document: { uri: api.Uri.file(file), languageId: "plaintext" } };
+  await play();
+  assert.deepStrictEqual(warnings.splice(0), ["The document in front is not a script that is saved"]);
+  api.window.activeTextEditor = { document: { uri: api.Uri.file(file), languageId: "raftbench", isUntitled: false, save: async () => commands.push(["save"]) } };
+  await play();
+  await play();
+  const done = commands.splice(0);
+  assert.deepStrictEqual(done.map(([name]) => name), ["save", "simpleBrowser.api.open", "save", "simpleBrowser.api.open"]);
+  assert(String(done[1][1]).includes(`--no-browser --in-editor vscode -- ${file}`), String(done[1][1]));
+  assert.deepStrictEqual([done[1][2], fs.readFileSync(path.join(room, "calls"), "utf8")], [{ viewColumn: api.ViewColumn.Beside }, "called\n"]);
+  Object.assign(settings, { program });
+  api.window.activeTextEditor = undefined;
 }
 
 async function main() {
-  extension.activate({ subscriptions: [] });
-  const other = await startsAnother();
-  const document = opened("script.txt");
+  const context = { subscriptions: [] };
+  extension.activate(context);
+  takesScripts();
+  const [other, document] = [opened("other.txt"), opened("script.txt")];
   await marks(other);
   await marks(document);
   await showsWhatCame(document);
@@ -99,16 +221,24 @@ async function main() {
   await writesDownTheConversation(document);
   await offersWhatTheTextHas(document);
   await asksWhereTheServerSays();
+  await namesAMissingProgram(document);
+  lines.splice(0);
+  await startsAgain([other, document]);
+  await endsWithNonsense(document);
+  await checksAFolder();
   await followsAChange(document);
-  tell("close", other);
-  tell("close", document);
+  await plays();
+  await opensAPage(context.subscriptions);
+  closed(other);
+  closed(document);
   assert.strictEqual(await extension.deactivate(), 0);
   assert.deepStrictEqual(warnings, []);
 }
 
 // Where nothing is left to wait for before the end has come, that is a failure too.
 process.exitCode = 1;
-main().then(
+const done = main().finally(() => fs.rmSync(room, { recursive: true }));
+done.then(
   () => (process.exitCode = 0),
   (error) => {
     console.error(error.message);

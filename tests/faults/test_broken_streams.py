@@ -258,11 +258,9 @@ def checked(room: Room, **what: Any) -> Answer:
 
 
 def failing_checks(room: Room) -> Iterator[Call]:
-    """Each read of one byte fails in turn under `check`, and each write. A file is read up to its size, so nothing asks for its end."""
+    """Each read of one byte fails in turn under `check`, also the one that finds the file's end, and each write."""
     yield lambda: difference("check, a byte a call", checked(room), (CHECKED, b"", 1))
-    past = {"READ_FAILS": len(SCRIPT) + 1, "WITH": errno.EIO, "READ_FROM": FILE_DESCRIPTOR}
-    yield lambda: difference("check, a read past the end", checked(room, **past), (CHECKED, b"", 1))
-    for n in range(1, len(SCRIPT) + 1):
+    for n in range(1, len(SCRIPT) + 2):
         what = {"READ_FAILS": n, "WITH": [errno.EIO, errno.EINTR][n % 2], "READ_FROM": FILE_DESCRIPTOR}
         yield partial(unread_check, room, what)
     for n in range(1, len(CHECKED) + 1):

@@ -1,2 +1,2 @@
 """The adapter of the plain node, for nodes that answer otherwise."""
-from nodes.hosted.adapter import Adapter as Adapter  # noqa: F401
+from raftbench_nodes.protocol.adapter import Adapter as Adapter  # noqa: F401

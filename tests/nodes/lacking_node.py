@@ -12,7 +12,7 @@ from typing import Any
 sys.dont_write_bytecode = True
 sys.path[:1] = [str(pathlib.Path(__file__).resolve().parents[2])]
 
-from nodes.hosted.protocol import CALLS, OPTIONS, READY  # noqa: E402
+from raftbench_nodes.protocol.encoding import CALLS, OPTIONS, READY  # noqa: E402
 from plain.node import Node  # noqa: E402
 from tests.nodes.adapter import Adapter  # noqa: E402
 

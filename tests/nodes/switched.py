@@ -3,16 +3,16 @@ from __future__ import annotations
 
 from collections.abc import Iterator
 
-from nodes.hosted.accepted import Accepted
-from nodes.hosted.compare import Comparison
-from nodes.hosted.explorer import Chosen, Explorer, Spec
-from nodes.hosted.judge import Judge
-from nodes.hosted.likes import LIKE, kind_with
-from nodes.hosted.process import Process
-from nodes.hosted.script import Step, blocks_of
-from nodes.hosted.stage import Reference
-from nodes.hosted.steps import step_of, steps_above
-from nodes.hosted.switches import switches_of
+from raftbench_nodes.compare.exceptions import AcceptedKinds
+from raftbench_nodes.compare.comparison import Comparison
+from raftbench_nodes.explore.explorer import Explorer, Settings, Spec
+from raftbench_nodes.compare.judge import Judge
+from raftbench_nodes.rules.lists import LIKE, kind_with
+from raftbench_nodes.process.process import Process
+from raftbench_nodes.compare.script import Step, blocks_of
+from raftbench_nodes.compare.stage import Reference
+from raftbench_nodes.compare.runner_steps import step_of, steps_above
+from raftbench_nodes.rules.switches import switches_of
 from plain.node import Node
 from plain.records import Entry, Message, Snapshot
 from tests.harness import TOP
@@ -43,6 +43,23 @@ def ran(switches: tuple[str, ...], *lines: str) -> Reference:
 def pending(cluster: Reference, to: int) -> list[tuple[str, int, int]]:
     """The types, entries and commits of messages that wait for a node."""
     return [(m.kind, len(m.entries), m.commit) for m in cluster.network.pending if m.to == to]
+
+
+LIMITED = ("# node: uncommitted 1 / add-nodes 3 voters=(1,2,3) index=10", "campaign 1", "stabilize", "propose 1 abc")
+
+
+def part_uncommitted_of_etcd() -> Checks:
+    """raft.go of 3.4: increaseUncommittedSize asks nothing of an empty payload, and advance leaves a joint configuration before it takes off what it applied;
+    stepLeader of both notes the index of a change before appendEntry declines it."""
+    for switches, count in (((), 3), (("empty-is-limited",), 2)):
+        # A change that can't be is replaced by an empty entry.
+        yield f"an empty entry, {switches}", is_equal(len(ran(switches, *LIMITED, "propose-conf-change 1").nodes[1].entries_from(11)), count)
+    for switches, is_replaced in (((), False), (("declined-change-is-pending",), True)):
+        lines = [line for line in ran(switches, *LIMITED, "propose-conf-change 1 | l3", "process-ready 1", "deliver-msgs 2 3", "process-ready 2", "deliver-msgs 1", "process-ready 1", "propose-conf-change 1 | l3").lines if "replaced change" in line]
+        yield f"a change after a declined one, {switches}", is_equal(bool(lines), is_replaced)
+    joint = ("# node: uncommitted 1 / add-nodes 3 voters=(1,2,3) index=10", "campaign 1", "stabilize", "propose-conf-change 1 | l3 l2", "stabilize")
+    for switches, is_joint in (((), False), (("empty-is-limited",), True)):
+        yield f"a joint configuration is left, {switches}", is_equal(ran(switches, *joint).nodes[1].config.is_joint(), is_joint)
 
 
 def part_calls() -> Checks:
@@ -257,7 +274,7 @@ def part_limits_of_logs() -> Checks:
             raise IndexError
 
     process = Process(str(TOP / "nodes/plain"))
-    explorer = Explorer(process, Judge(is_asked=False), Chosen(Comparison(Failing), "mixed", 0, Accepted()))
+    explorer = Explorer(process, Judge(is_asked=False), Settings(Comparison(Failing), "mixed", 0, AcceptedKinds()))
     try:
         found = [explorer.explore(Spec(seed, seed, False)) for seed in range(3)]
     finally:
@@ -273,4 +290,4 @@ def part_late_writes() -> Checks:
         yield f"late-write-not-acknowledged after {after}", is_equal([[m.kind for m in each.network.pending].count("MsgAppResp") for each in clusters], wanted)
 
 
-PARTS = [part_limits_of_logs, part_late_writes, part_of_etcd, part_calls, part_changes_of_libraries, part_logs_of_libraries, part_leaders_of_libraries, part_answers_of_libraft, part_commits_of_libraft]
+PARTS = [part_limits_of_logs, part_uncommitted_of_etcd, part_late_writes, part_of_etcd, part_calls, part_changes_of_libraries, part_logs_of_libraries, part_leaders_of_libraries, part_answers_of_libraft, part_commits_of_libraft]

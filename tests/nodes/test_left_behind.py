@@ -120,6 +120,23 @@ def test_tools_leave_nothing(room: pathlib.Path) -> Iterator[str]:
         yield from filter(None, pool.map(lambda it: ended(room, *it), tried))
 
 
+# Programs that start an adapter in a process group or session of its own.
+WRAPPED = {"timeout": "timeout 900 sh -c '{}'", "setsid": "setsid sh -c '{}'", "setsid that goes on alone": "setsid --fork sh -c '{}'"}
+
+
+def test_adapters_in_other_groups(room: pathlib.Path) -> Iterator[str]:
+    """Nor does an adapter outlive the tool below `timeout` or `setsid`."""
+    def left(name: str, end: int) -> str | None:
+        place = room / f"{name} {end}".replace(" ", "-")
+        place.mkdir()
+        command = [str(TOP / "nodes" / "run"), "--with", WRAPPED[name].format(ADAPTER.format(room=place)), "--seconds", "300", TOUR]
+        problem = Started(place, command, 1).left_after(signals(end))
+        return problem and f"below {name}, ended by {end}: {problem}"
+
+    with concurrent.futures.ThreadPoolExecutor(4) as pool:
+        yield from filter(None, pool.map(lambda it: left(*it), [(name, end) for name in WRAPPED for end in (signal.SIGKILL, signal.SIGTERM)]))
+
+
 CLOSING = """process.close()
 process.start()
 process.close()
@@ -127,7 +144,7 @@ children = open(f"/proc/{os.getpid()}/task/{os.getpid()}/children").read().split
 print("left", len(children), len(os.listdir("/proc/self/fd")))"""
 LIBRARY = """import os, sys, time
 sys.path[:0] = [{top!r}]
-from nodes.hosted.process import Process
+from raftbench_nodes.process.process import Process
 process = Process({adapter!r})
 process.start()
 time.sleep(1)

@@ -16,7 +16,7 @@ import tempfile
 from collections.abc import Callable, Iterator, Sequence
 from typing import Any
 
-from nodes.hosted.replay import Found, Record, Replay, read_trace, read_traces, with_timeout
+from raftbench_nodes.traces.replay import Record, Replay, TraceFinding, read_trace, read_traces, with_timeout
 from plain.node import Node
 from tests.harness import TOP, Result
 
@@ -43,7 +43,7 @@ def call(name: str, node: int, after: dict[str, Any], **parts: Any) -> Pair:
     return {"call": name, "node": node, **parts}, after
 
 
-def findings(pairs: Sequence[Pair], kind: type[Node] = Node, is_ordered: bool = True) -> list[Found]:
+def findings(pairs: Sequence[Pair], kind: type[Node] = Node, is_ordered: bool = True) -> list[TraceFinding]:
     records = [Record(str(at), asked, said) for at, (asked, said) in enumerate(pairs)]
     return list(Replay(kind, is_ordered).run(records))
 
@@ -62,7 +62,7 @@ def expect(wanted: object, came: object) -> str | None:
 
 
 def part_conversation() -> Checks:
-    yield "no finding", expect((0, "plain: 34 calls, 34 compared with the reference, 0 findings\n", ""), tool(CONVERSATION))
+    yield "no finding", expect((0, f"plain: 34 calls, 34 compared with the reference, 0 findings\n{UNCHECKED}, a quorum holds what a leader commits (1)\n", ""), tool(CONVERSATION))
     records = [record for record in read_trace(CONVERSATION) if record.name() not in ("hello", "reset")]
     for field, change in CHANGES.items():
         at, changed = next((at, changed) for at, record in enumerate(records) if (changed := change(copy.deepcopy(record.answer))) is not None)
@@ -167,6 +167,8 @@ def part_files() -> Checks:
         yield "or one after the other", expect(([1, 1, 2, 2], False), ([record.call["node"] for record in records if "node" in record.call], is_ordered))
 
 
+# What the trace of this program can't show, since it has no logs.
+UNCHECKED = "not checked, since the trace doesn't show what they need: votes go to new logs (1)"
 C_PROGRAM = """
 #include "trace.h"
 int main(void) {
@@ -192,7 +194,7 @@ def part_document() -> Checks:
         (folder / "main.c").write_text(C_PROGRAM)
         subprocess.run([compiler, "-std=c11", "-Wall", "-Wextra", "-Werror", "-I", TOP / "nodes" / "trace", "-o", folder / "main", folder / "main.c"], check=True)
         (folder / "trace").write_text(subprocess.run([folder / "main"], capture_output=True, text=True, check=True).stdout)
-        yield "a trace that C writes", expect((0, "my raft: 4 calls, 4 compared with the reference, 0 findings\n", ""), tool(folder / "trace"))
+        yield "a trace that C writes", expect((0, f"my raft: 4 calls, 4 compared with the reference, 0 findings\n{UNCHECKED}\n", ""), tool(folder / "trace"))
 
 
 PARTS = [part_conversation, part_promises, part_reference, part_files, part_document]

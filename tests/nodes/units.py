@@ -10,43 +10,32 @@ import re
 import subprocess
 import sys
 import tempfile
-from collections.abc import Iterator, Sequence
+from collections.abc import Sequence
 from typing import Callable
 
-from nodes.hosted.accepted import Accepted, exceptions_of
-from nodes.hosted.alone import run_alone
-from nodes.hosted.compare import Comparison
-from nodes.hosted.dice import steps_of
-from nodes.hosted.explorer import Chosen, Explorer, Found, Spec
-from nodes.hosted.judge import Judge
-from nodes.hosted.likes import kind_with
-from nodes.hosted.mutate import Mutator
-from nodes.hosted.plan import asked_at_once, plan_of
-from nodes.hosted.process import Process
-from nodes.hosted.promises import PROMISES, name_of
-from nodes.hosted.script import Step, blocks_of
-from nodes.hosted.shrink import Shrinker, with_joined_nodes
-from nodes.hosted.stage import Reference
-from nodes.hosted.steps import step_of, steps_above
-from nodes.hosted.switches import Unknown
-from nodes.hosted.watched import WatchedReference
+from raftbench_nodes.compare.exceptions import AcceptedKinds, exceptions_of
+from raftbench_nodes.promises.run import run_alone
+from raftbench_nodes.compare.comparison import Comparison
+from raftbench_nodes.explore.dice import steps_of
+from raftbench_nodes.explore.explorer import Explorer, ScriptResult, Settings, Spec
+from raftbench_nodes.compare.judge import Judge
+from raftbench_nodes.rules.lists import kind_with
+from raftbench_nodes.explore.mutation import Mutator
+from raftbench_nodes.compare.plan import AtOnce, asked_at_once, plan_of
+from raftbench_nodes.process.process import Process
+from raftbench_nodes.compare.script import Step, blocks_of
+from raftbench_nodes.explore.shrinker import Budget, Shrinker, with_joined_nodes
+from raftbench_nodes.compare.stage import Reference
+from raftbench_nodes.compare.runner_steps import step_of, steps_above
+from raftbench_nodes.rules.switches import Unknown
 from plain.config import Change, Config
 from plain.node import Node
 from plain.records import Entry, Message, Options
 from tests.harness import TOP
+from tests.nodes.breaking import BEGUN, Checks, is_equal, part_promises_of_restarts, script
 from tests.nodes.switched import PARTS as SWITCHED
 
-Checks = Iterator[tuple[str, "str | None"]]
 THREE = Config(frozenset({1, 2, 3}))
-
-
-def is_equal(came: object, wanted: object) -> str | None:
-    return None if came == wanted else f"{came!r}, and not {wanted!r}"
-
-
-def script(*lines: str) -> list[Step]:
-    """Steps, one a line; the runner's steps stand before their directive, with ` / ` between."""
-    return [Step(parts[-1], (), tuple(step for part in parts[:-1] if (step := step_of(part)))) for parts in (line.split(" / ") for line in lines)]
 
 
 def run(cluster: Reference, *lines: str) -> Reference:
@@ -176,62 +165,27 @@ def part_limits() -> Checks:
         yield f"a limit of {limit}", is_equal(len(node.limited(entries)), wanted)
 
 
+def part_uncommitted() -> Checks:
+    """A leader takes a payload if it has none, empty ones always, and others up to the limit; what is applied counts no more (etcd, MaxUncommittedEntriesSize)."""
+    for limit, wanted in ((0, "abc, , de, f, g"), (1, "abc, , g"), (4, "abc, , f, g"), (5, "abc, , de, g"), (6, "abc, , de, f, g")):
+        leader = run(Reference(), f"# node: uncommitted {limit} / add-nodes 1 voters=(1) index=10", "campaign 1", "stabilize").nodes[1]
+        for body in (b"abc", b"", b"de", b"f"):
+            leader.propose(body)
+        while leader.has_ready():
+            leader.ready()
+            leader.advance()
+        leader.propose(b"g")
+        yield f"at most {limit} bytes", is_equal(", ".join(entry.body.decode() for _, entry in leader.entries_from(12) if isinstance(entry.body, bytes)), wanted)
+    three = ("# node: uncommitted 1 / add-nodes 3 voters=(1,2,3) index=10", "campaign 1", "stabilize", "propose 1 a")
+    cluster = run(Reference(), *three, "process-ready 1", "deliver-msgs drop=(2,3)", "campaign 2", "stabilize", "campaign 1", "stabilize", "propose 1 b")
+    yield "a new leader begins with none", is_equal([entry.body for _, entry in cluster.nodes[1].entries_from(12)], [b"", b"", b"b"])
+    cluster = run(Reference(), *three, "# node: restart 1 / campaign 1", "stabilize", "propose 1 b")
+    yield "so does one that was restarted", is_equal([entry.body for _, entry in cluster.nodes[1].entries_from(12)], [b"", b"b"])
+    cluster = run(Reference(), *three, "propose 2 b", "stabilize")
+    yield "a forwarded one is declined", is_equal([entry.body for _, entry in cluster.nodes[1].entries_from(12)], [b"a"])
+
+
 # Promises
-
-
-def broken_by(kind: type[Node], *lines: str) -> set[str]:
-    cluster = WatchedReference(kind)
-    for block in blocks_of(script(*lines)):
-        cluster.carry_out(steps_above(block))
-        cluster.look_at_logs()
-        cluster.run(block.directive())
-        cluster.look_at_logs()
-    return set(map(name_of, cluster.promises.broken))
-
-
-class ForgetsVote(Node):
-    def restart(self, saved: str = "nothing") -> None:
-        super().restart(saved)
-        self.vote = 0
-
-
-class ForgetsEntries(Node):
-    def restart(self, saved: str = "nothing") -> None:
-        super().restart(saved)
-        self.entries, self.durable = [], self.base
-
-
-class Acknowledges(Node):
-    def send(self, kind: str, to: int, **parts: object) -> None:
-        if kind == "MsgAppResp" and to != self.id and not parts.get("refused"):
-            parts["index"] = self.last() + 1
-        super().send(kind, to, **parts)
-
-
-class CommitsAlone(Node):
-    def commits(self) -> bool:
-        moves, self.commit = self.last() > self.commit, self.last()
-        return moves
-
-
-BEGUN = ("add-nodes 3 voters=(1,2,3) index=10", "campaign 1", "stabilize", "propose 1 a", "stabilize")
-BREAKING: list[tuple[type[Node], tuple[str, ...], set[str]]] = [
-    (Node, (*BEGUN, "# node: restart 2 / raft-state", "# node: crash 1 before save / stabilize"), set()),
-    (Node, (*BEGUN, "campaign 2", "# node: crash 2 before save / raft-state", "campaign 2", "stabilize"), set()),
-    (ForgetsVote, (*BEGUN, "# node: restart 2 / raft-state"), {"a restart keeps term and vote"}),
-    (ForgetsEntries, (*BEGUN, "# node: restart 2 / raft-state"), {"a restart keeps saved entries", "a restart keeps acknowledged entries"}),
-    (ForgetsEntries, ("add-nodes 3 voters=(1,2,3) index=10", "# node: restart 2 / raft-state"), set()),
-    (Acknowledges, BEGUN, {"acknowledged entries are held"}),
-    (CommitsAlone, ("add-nodes 3 voters=(1,2,3) index=10", "campaign 1", "process-ready 1", "deliver-msgs 2", "process-ready 2", "deliver-msgs 1", "propose 1 a", "process-ready 1"), {"a quorum holds what a leader commits"}),
-]
-
-
-def part_promises_of_restarts() -> Checks:
-    for number, (kind, lines, wanted) in enumerate(BREAKING, 1):
-        yield f"{kind.__name__}, {number}", is_equal(broken_by(kind, *lines), wanted)
-    shown = (TOP / "nodes/hosted/promises.py").read_text()
-    noted = set(re.findall(r"(?:note\(f\"|note\(self\.length, f\"|note\(place, f\")([a-z',\- ]+):", shown + (TOP / "nodes/hosted/alone.py").read_text()))
-    yield "each promise is in the table", None if noted <= set(PROMISES) and len(PROMISES) == 20 else f"{noted - set(PROMISES)}"
 
 
 def part_alone() -> Checks:
@@ -344,7 +298,7 @@ def part_shrinking() -> Checks:
         return any(step.head in ("campaign 2", "tick-election 2") for step in steps)
 
     steps = script("add-nodes 3 voters=(1,2,3) index=10", "raft-state", "tick-election 2", "status 1")
-    yield "ticks give way to a campaign", is_equal(Shrinker(campaigns, 200).shrunk(steps), script("campaign 2"))
+    yield "ticks give way to a campaign", is_equal(Shrinker(campaigns, Budget(200)).shrunk(steps), script("campaign 2"))
     joined = next(with_joined_nodes(script("add-nodes 1 voters=(1,2) index=10", "raft-state", "add-nodes 1")), None)
     yield "two add-nodes are one", is_equal(joined, script("add-nodes 2 voters=(1,2) index=10", "raft-state"))
 
@@ -352,7 +306,7 @@ def part_shrinking() -> Checks:
         cluster = run(Reference(), *(step.text() for step in steps))
         return any(node.role == "leader" for node in cluster.nodes.values())
 
-    shrunk = Shrinker(leads, 400).shrunk(script("add-nodes 5 voters=(1,2,3,4,5) index=10", "raft-state", "campaign 3", "stabilize log-level=none", "propose 3 abc", "stabilize"))
+    shrunk = Shrinker(leads, Budget(400)).shrunk(script("add-nodes 5 voters=(1,2,3,4,5) index=10", "raft-state", "campaign 3", "stabilize log-level=none", "propose 3 abc", "stabilize"))
     yield "nodes that aren't needed go", is_equal([step.head for step in shrunk], ["add-nodes 1 voters=(1) index=2", "campaign 1", "stabilize"])
     asked: list[int] = []
 
@@ -360,7 +314,7 @@ def part_shrinking() -> Checks:
         asked.append(len(steps))
         return False
 
-    Shrinker(never, 7).shrunk(script(*["raft-state"] * 20))
+    Shrinker(never, Budget(7)).shrunk(script(*["raft-state"] * 20))
     yield "it is asked as often as it may be", None if len(asked) <= 7 else f"{len(asked)}"
 
 
@@ -376,20 +330,22 @@ def part_children() -> Checks:
 # Asking at once
 
 
-def explored(command: str, numbers: Sequence[int], has_batch: bool = True, folder: pathlib.Path | None = None, accepted: Accepted = Accepted()) -> list[Found]:
+def explored(
+    command: str, numbers: Sequence[int], has_batch: bool = True, folder: pathlib.Path | None = None, accepted: AcceptedKinds = AcceptedKinds(),
+) -> list[ScriptResult]:
     """What scripts of the default search come to, of which every sixth is held to promises alone."""
     process = Process(command.split(), 60.0, 600.0)
     try:
         process.reset()
         process.hello = process.hello._replace(has_batch=has_batch)
         comparison = Comparison(aspects=frozenset({"views", "messages", "ready"}))
-        explorer = Explorer(process, Judge(is_asked=False), Chosen(comparison, "mixed", 6, accepted), folder)
+        explorer = Explorer(process, Judge(is_asked=False), Settings(comparison, "mixed", 6, accepted), folder)
         return [explorer.explore(Spec(number, number, number % 6 == 5)) for number in numbers]
     finally:
         process.close()
 
 
-def results(all_found: Sequence[Found]) -> list[Found]:
+def results(all_found: Sequence[ScriptResult]) -> list[ScriptResult]:
     """What was found, without whether it was found at once."""
     return [found._replace(was_quick=False) for found in all_found]
 
@@ -410,7 +366,7 @@ def part_at_once() -> Checks:
         cut = script(*BEGUN, "propose 1 b", "propose 1 c", "process-ready 1", "# network: cut 2 0 / deliver-msgs 2", "process-ready 2", "deliver-msgs 1", "stabilize")
         plan = plan_of(blocks_of(cut), process, Comparison())
         process.record = []
-        yield "a cut append", is_equal(asked_at_once(plan, process, Comparison()), True)
+        yield "a cut append", is_equal(asked_at_once(plan, process, Comparison()), AtOnce(True))
         taken = [call["message"]["entries"] for call, _ in process.record if "message" in call]
         yield "is what the process gave, cut", is_equal(taken, [[], []])
     finally:
@@ -432,7 +388,7 @@ def part_digest() -> Checks:
 def part_memory() -> Checks:
     """What is remembered gives the same result; nodes that answer otherwise are looked at; what is half written or can't be written doesn't matter."""
     plain, numbers = str(TOP / "nodes" / "plain"), [0, 1, 2, 3, 5, 11, 17]
-    bug, known = f"{plain} --bug votes-twice", Accepted()
+    bug, known = f"{plain} --bug votes-twice", AcceptedKinds()
     known.reasons["*", "promise broken: one vote per term"] = "known"
     with tempfile.TemporaryDirectory() as name:
         folder = pathlib.Path(name)
@@ -453,8 +409,8 @@ def part_memory() -> Checks:
 FLEET = """
 import sys, time
 sys.path.insert(0, sys.argv[1])
-from nodes.hosted.process import Process
-from nodes.hosted.workers import Fleet
+from raftbench_nodes.process.process import Process
+from raftbench_nodes.process.workers import Fleet
 
 class Busy:
     process = Process("true")
@@ -488,12 +444,12 @@ def part_known_failures() -> Checks:
     with tempfile.NamedTemporaryFile("w", suffix=".txt") as file:
         file.write("*\tfailed forget_leader (error: not today) at a follower\tnot today\n")
         file.flush()
-        explorer = Explorer(process, Judge(is_asked=False), Chosen(Comparison(), "mixed", 0, Accepted(pathlib.Path(file.name))))
+        explorer = Explorer(process, Judge(is_asked=False), Settings(Comparison(), "mixed", 0, AcceptedKinds(pathlib.Path(file.name))))
         try:
             process.reset()
             process.hello = process.hello._replace(has_batch=True)
             steps = script(*BEGUN, "forget-leader 2", "propose 1 b", "stabilize")
-            left, plan = explorer.agreed_at_once(steps, plan_of(blocks_of(steps), process, Comparison()))
+            left, plan, _ = explorer.agreed_at_once(steps, plan_of(blocks_of(steps), process, Comparison()))
         finally:
             process.close()
     yield "the script goes on without it", is_equal([step.head for step in left], [*BEGUN, "propose 1 b", "stabilize"])
@@ -501,6 +457,6 @@ def part_known_failures() -> Checks:
 
 
 UNITS: list[Callable[[], Checks]] = [
-    part_steps, part_network, part_restarts, part_between, part_reads, part_limits, part_promises_of_restarts, part_alone, part_excused, part_exceptions, part_other_switches, part_shrinking, part_children,
+    part_steps, part_network, part_restarts, part_between, part_reads, part_limits, part_uncommitted, part_promises_of_restarts, part_alone, part_excused, part_exceptions, part_other_switches, part_shrinking, part_children,
     part_at_once, part_digest, part_memory, part_fleet, part_known_failures, *SWITCHED,
 ]

@@ -21,7 +21,7 @@ sys.path[:1] = [str(pathlib.Path(__file__).resolve().parents[2])]
 CRATE = pathlib.Path(__file__).resolve().parents[2] / "crates" / "rb_view"
 ASSETS = CRATE / "assets"
 SOURCES = CRATE / "src" / "frame"
-ENTRY = "page.js"
+ENTRY = "start.js"
 # What each file of sources says of itself, the file that it is made of, and its constants, each with what it is.
 HTML = ("The elements of a page.", "page.html", {
     "HEAD": "The page's head, up to its style.",

@@ -41,6 +41,19 @@ def texts_are_found(reader: Reader) -> None:
     reader.quiet()
 
 
+def enter_finds_and_leaves_the_field(reader: Reader) -> None:
+    """After Enter the keys are those of the page again: the field keeps its text, and n and N go on."""
+    reader.open(TOUR[0].read_bytes(), "enter", "#1")
+    reader.browser.press("/", *"leader", "Enter")
+    places = [address(reader)]
+    for key in ("n", "N"):
+        reader.browser.press(key)
+        places.append(address(reader))
+    same("the field", reader.browser.value("document.getElementById('find').value"), "leader")
+    same("where Enter, n and N lead", (places[0] == places[2], places[0] != places[1], "#1" in places), (True, True, False))
+    reader.quiet()
+
+
 def what_is_not_drawn_is_found(reader: Reader) -> None:
     reader.open_page(page_of(LESS + b"# the needle\nraft-state\n----\n\n", "less"), "less")
     look_for(reader, "needle")
@@ -114,4 +127,4 @@ def remarked(data: bytes) -> list[Row]:
     return rows
 
 
-TESTS = [texts_are_found, what_is_seen_is_found, what_is_not_drawn_is_found, filters_leave_what_they_say]
+TESTS = [texts_are_found, enter_finds_and_leaves_the_field, what_is_seen_is_found, what_is_not_drawn_is_found, filters_leave_what_they_say]

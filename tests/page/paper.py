@@ -3,6 +3,7 @@ import base64
 import re
 
 from plain.script import read_script
+from tests.page.finding import CHOOSE
 from tests.page.reader import Reader
 from tests.page.scripts import TOUR, mismatched, same
 
@@ -11,7 +12,7 @@ PRINTED = """(() => {
   window.dispatchEvent(new Event('beforeprint'));
   const texts = (selector) => [...document.querySelectorAll(selector)].map((it) => it.textContent);
   const pieces = [...document.querySelectorAll('#print figure > svg')].map((it) => it.viewBox.baseVal.height);
-  const found = { lines: texts('#print .script div'), titles: texts('#print .label title'), marks: texts('#print .mark title'), pieces };
+  const found = { lines: texts('#print .script div'), titles: texts('#print .label title'), marks: texts('#print .mark title'), pieces, notes: texts('#print > p') };
   window.dispatchEvent(new Event('afterprint'));
   return { ...found, left: document.getElementById('print').childElementCount };
 })()"""
@@ -54,6 +55,38 @@ def all_of_it_is_printed(reader: Reader) -> None:
         same("whether all messages are there", len(set(came["titles"])) > 0 and len(came["titles"]) >= sent, True)
         same("what is left of it on the screen", came["left"], 0)
         reader.quiet()
+
+
+def what_filters_leave_is_printed(reader: Reader) -> None:
+    """Directives with an event of node 3 and MsgVoteResp alone, in the script as in the picture, and a sentence that says so."""
+    data = TOUR[0].read_bytes().partition(b"stabilize log-level=none")[0]
+    reader.open(data, "printed-filtered")
+    whole = reader.browser.value(PRINTED)
+    reader.browser.value(CHOOSE % ("filter-type", "MsgVoteResp"))
+    reader.browser.value(CHOOSE % ("filter-node", "3"))
+    came = reader.browser.value(PRINTED)
+    blocks = read_script(data).blocks
+    kept = [block for block in blocks if any(b"MsgVoteResp" in line and re.search(rb"\b3\b", line) for line in block.expected)]
+    heads = [re.sub(r"^\d+  ", "", line) for line in came["lines"] if re.match(r"\d+  ", line)]
+    same("the directives", heads, [block.head[0].decode() for block in kept])
+    same("the sentence", came["notes"], [f"{len(kept)} directives of {len(blocks)}, those that the filters leave."])
+    same("whether the picture is shorter", 0 < sum(came["pieces"]) < sum(whole["pieces"]), True)
+    same("what is said of a whole script", whole["notes"], [])
+    reader.quiet()
+
+
+def header_stays(reader: Reader) -> None:
+    """From directive to event, at the widths of laptops."""
+    for width in (1280, 1366, 1400, 1440):
+        reader.browser.size(width, 800)
+        reader.open(TOUR[2].read_bytes(), "header", "#4")
+        heights = []
+        for place in ("#4", "#22.1", "#22.26", "#25"):
+            reader.browser.value(f"location.hash = '{place}'")
+            reader.browser.settle()
+            heights.append(reader.browser.value("document.getElementById('top').getBoundingClientRect().height"))
+        same(f"how many heights the header has at {width}", len(set(heights)), 1)
+    reader.browser.size(1500, 900)
 
 
 def paper_is_light(reader: Reader) -> None:
@@ -119,6 +152,11 @@ def heads_take_the_room_there_is(reader: Reader) -> None:
         reader.browser.settle()
         heads.append(reader.browser.value("document.querySelector('#drawing .head.chosen').firstChild.data"))
     same("the head", heads, ["stabil…", "stabilize 1 3", "stabilize 1 3"])
+    reader.browser.size(1024, 768)
+    reader.open(TOUR[2].read_bytes(), "heads", "#7")
+    reader.browser.settle()
+    lines = reader.browser.value("[...document.querySelector('#drawing .head.chosen').childNodes].filter((it) => it.nodeName !== 'title').map((it) => it.textContent)")
+    same("the lines of a head on a projector", lines, ["process-ready 1", "log-level=none"])
     reader.open(TOUR[4].read_bytes(), "heads", "#1")
     reader.browser.size(800, TALL)
     reader.browser.settle()
@@ -144,6 +182,6 @@ def no_two_labels_meet(reader: Reader) -> None:
 
 
 TESTS = [
-    all_of_it_is_printed, paper_is_light, drawing_is_the_same_after_printing, narrow_panes_are_below_one_another, cards_are_in_view,
-    heads_take_the_room_there_is, no_two_labels_meet,
+    all_of_it_is_printed, what_filters_leave_is_printed, header_stays, paper_is_light, drawing_is_the_same_after_printing,
+    narrow_panes_are_below_one_another, cards_are_in_view, heads_take_the_room_there_is, no_two_labels_meet,
 ]

@@ -11,6 +11,8 @@ from collections.abc import Iterator
 from tests.harness import PROGRAM, TOP
 
 TALK = TOP / "examples" / "conversation"
+# The script that fails, which README.md shows.
+FIRST = TOP / "examples" / "first.txt"
 
 
 def answer(*words: str | pathlib.Path, given: bytes = b"") -> tuple[int, bytes, bytes]:
@@ -22,7 +24,7 @@ def answer(*words: str | pathlib.Path, given: bytes = b"") -> tuple[int, bytes, 
 def test_scripts() -> Iterator[str]:
     """Each script matches, and is rewritten to itself."""
     for path in sorted(TOP.glob("examples/**/*.txt")):
-        if path.parent == TALK and path.name != "script.txt":
+        if path.parent == TALK and path.name != "script.txt" or path == FIRST:
             continue
         status, report, told = answer("run", path)
         if status != 0 or not re.fullmatch(rb"\d+ directives, 0 mismatches\n", report) or told:
@@ -111,14 +113,23 @@ def check_first_screen(script: str, report: str, edit: str) -> Iterator[str]:
     done = subprocess.run([PROGRAM, "check", "examples/tour"], cwd=TOP, capture_output=True)
     if done.returncode != 0 or b"\n\n    " + timeless.sub(b"", done.stdout) not in (TOP / "README.md").read_bytes():
         yield f"README.md shows another first report: {done!r}"
+    if script != FIRST.read_text():
+        yield f"README.md shows another script than {FIRST.relative_to(TOP)}"
+    done = subprocess.run([PROGRAM, "check", FIRST.relative_to(TOP)], cwd=TOP, capture_output=True)
+    if (done.returncode, timeless.sub(b"", done.stdout)) != (1, timeless.sub(b"", report.encode())):
+        yield f"README.md shows another report of its first script: {done!r}"
+    typed, _, answered = edit.partition("done ")
     with tempfile.TemporaryDirectory() as room:
-        path = pathlib.Path(room, "scripts", "first.txt")
-        path.parent.mkdir()
-        path.write_text(script)
-        done = subprocess.run([PROGRAM, "check", "scripts"], cwd=room, capture_output=True)
-        if (done.returncode, timeless.sub(b"", done.stdout)) != (1, timeless.sub(b"", report.encode())):
-            yield f"README.md shows another report of its first script: {done!r}"
-        path.write_text("add-nodes 1 voters=(1) index=10\n----\nINFO 1 started at 1/10 with voters=(1)\n\n" + "log-level info\n----\nok\n\n" * 9_999)
-        asked, _, answered = edit.partition("done ")
-        if answer("session", path, given=asked.encode())[1] != f"done {answered}".encode():
-            yield "README.md shows another edit"
+        pathlib.Path(room, "raftbench").symlink_to(PROGRAM.resolve())
+        came = subprocess.run(["bash", "-c", typed], cwd=room, capture_output=True, text=True)
+        if came.stdout != f"done {answered}" or answer("run", pathlib.Path(room, "many.txt"))[1] != b"10000 directives, 0 mismatches\n":
+            yield f"README.md shows another edit: {came!r}"
+
+
+def test_newcomers_are_given_one_name() -> Iterator[str]:
+    """Up to the part on installing, README.md calls the program as it is in a clone, and a call that writes into scripts as it is allowed there."""
+    before = (TOP / "README.md").read_text().split("\n## Install and test\n")[0]
+    for call in re.findall(r"(?:^    |^|`)((?:[A-Z_]+=\S+ )*\S*raftbench (?:check|run|page|chart|trace|lsp|session)\b[^`\n]*)", before, re.M):
+        is_allowed = "--accept" not in call or call.startswith("RAFTBENCH_UNPROVED=1 ")
+        if "./raftbench " not in call or not is_allowed:
+            yield f"README.md has {call!r}"

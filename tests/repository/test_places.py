@@ -20,12 +20,12 @@ class Sample(NamedTuple):
 
 
 DIRECTIVE = Sample("How a directive is added", re.compile(r"tick-heartbeat|\bTickHeartbeat\b"), 15)
-EVENT = Sample("How an event is added", re.compile(r"lost-quorum|\bLostQuorum\b"), 5)
-OPTION = Sample("How an option of a directive is added", re.compile(r"checkquorum|\bCheckQuorum\b"), 6, ("rb_node", "rb_tracker"))
+EVENT = Sample("How an event is added", re.compile(r"lost-quorum|\bLostQuorum\b"), 5, ("rb_laws",))
+OPTION = Sample("How an option of a directive is added", re.compile(r"checkquorum|\bCheckQuorum\b"), 6, ("rb_node", "rb_tracker", "rb_laws"))
 TYPE = Sample("How a type of message is added", re.compile(r"TimeoutNow"), 8, ("rb_node", "rb_laws"))
 SAMPLES = (DIRECTIVE, OPTION, TYPE, EVENT)
-# The texts of the manual are made of the document.
-MADE = {f"crates/rb_report/src/help/{name}.rt" for name in ("pages", "keys", "options")}
+# The texts of the manual are made of the document. What the names of other tools stand for takes a line only if there is such a name.
+NO_PLACES = {f"crates/rb_report/src/help/{name}.rt" for name in ("pages", "keys", "options", "other_names")}
 
 
 def listed(sample: Sample) -> list[str]:
@@ -38,7 +38,7 @@ def known(sample: Sample) -> Counter[str]:
     """How many lines of each file of the crates name it. The JavaScript in frame/ doesn't count."""
     files = [path for part in ("src", "specs", "proofs") for path in TOP.glob(f"crates/*/{part}/**/*") if path.suffix in (".rt", ".antt") and not {"tests", "frame", *sample.rules} & set(path.parts[len(TOP.parts):])]
     counts = {str(path.relative_to(TOP)): sum(bool(sample.known.search(line)) for line in path.read_text().splitlines()) for path in files}
-    return Counter({file: count for file, count in counts.items() if count and file not in MADE})
+    return Counter({file: count for file, count in counts.items() if count and file not in NO_PLACES})
 
 
 def test_places_are_few() -> Iterator[str]:

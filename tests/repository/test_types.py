@@ -26,9 +26,9 @@ def is_python(path: pathlib.Path) -> bool:
 
 def python_files() -> list[pathlib.Path]:
     """All Python files of the repository, in order."""
-    folders = [TOP / name for name in ("plain", "nodes", "tests", "bench", "editors")]
+    folders = [TOP / name for name in ("plain", "raftbench_nodes", "nodes", "live", "tests", "bench", "editors")]
     found = [path for folder in folders for path in folder.rglob("*") if path.is_file() and not path.is_symlink() and "__pycache__" not in path.parts]
-    return [path for path in sorted([*found, TOP / "install"]) if is_python(path)]
+    return [path for path in sorted([*found, TOP / "install", TOP / "raftbench-live", TOP / "raftbench-nodes"]) if is_python(path)]
 
 
 def said_by(tool: str, *words: str | pathlib.Path) -> list[str]:

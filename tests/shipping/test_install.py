@@ -24,16 +24,26 @@ DIRECTIVES = re.findall(r"^\| `([a-z-]+)` \|", (TOP / "docs/SCRIPTS.md").read_te
 SECTIONS = ["NAME", "SYNOPSIS", "DESCRIPTION", "COMMANDS", "OPTIONS", "EXIT STATUS", "ENVIRONMENT", "FILES", "EXAMPLES", "SEE ALSO"]
 # The files of editors that are all put alike.
 EDITORS = [name for name in kept(TOP / "editors") if "/" in name]
+# The packages of raftbench-nodes, the package for Go, C's header with its example, the lists of switches, and a first adapter.
+PACKAGES = [f"{it}/{name}" for it in ("plain", "raftbench_nodes") for name in kept(TOP / it) if "__pycache__" not in name]
+MODULE = [f"nodes/go/{name}" for name in kept(TOP / "nodes/go") if name.endswith((".go", ".mod")) and not name.endswith("_test.go")]
+FILES = [f"nodes/{folder}/{name}" for folder in ("c", "like") for name in kept(TOP / "nodes" / folder)]
+NODES = ["nodes/first", "raftbench-nodes", *FILES, *MODULE, *PACKAGES]
 # What is put, and where in the clone it stands.
 SOURCES = {
     "bin/raftbench": "made",
     "bin/raftbench-from-etcd": "editors/from-etcd",
     "bin/raftbench-to-shiviz": "editors/to-shiviz",
+    "bin/raftbench-live": "raftbench-live",
     "bin/raftbench-review": "editors/review",
+    "bin/raftbench-nodes": "nodes/command.sh",
     **{f"share/{name}": f"share/{name}" for name in kept(TOP / "share")},
     **{f"share/raftbench/editors/{name}": f"editors/{name}" for name in ["README.md", *EDITORS]},
+    **{f"share/raftbench/{name}": name for name in NODES},
+    **{f"share/raftbench/live/{name}": f"live/{name}" for name in kept(TOP / "live") if name.endswith((".css", ".js", ".py"))},
+    **{f"share/raftbench/live/assets/{name}": f"crates/rb_view/assets/{name}" for name in kept(TOP / "crates/rb_view/assets") if name.endswith((".css", ".html", ".js"))},
 }
-PUT = {name: 0o755 if name.startswith("bin/") else 0o644 for name in [*SOURCES, "share/raftbench/installed"]}
+PUT = {name: 0o755 if name.startswith("bin/") or name in ("share/raftbench/nodes/first", "share/raftbench/raftbench-nodes") else 0o644 for name in [*SOURCES, "share/raftbench/installed"]}
 # It proves nothing, and makes a program if it is told to prove first.
 WRAPPER = """#!/bin/sh
 [ "$RAFTBENCH_PROVE_FIRST $*" = '1 --help' ] || exit 9
@@ -45,7 +55,8 @@ NEXT_PROGRAM = PROGRAM.replace("program", "next")
 
 class Clone(Place):
     def __init__(self, room: pathlib.Path) -> None:
-        super().__init__(room, "install", "share", "editors")
+        more = ("nodes/c", "nodes/like", "nodes/go", "nodes/first", "nodes/command.sh", "plain", "raftbench_nodes", "raftbench-nodes", "raftbench-live", "live", "crates/rb_view/assets")
+        super().__init__(room, "install", "share", "editors", *more)
         self.write("raftbench", WRAPPER)
         self.write("made", PROGRAM)
         self.prefix = self.room / "the prefix"
@@ -82,7 +93,8 @@ def test_puts_each_file(place: Clone) -> None:
     output = place.install()
     assert files_of(place.prefix) == PUT, files_of(place.prefix)
     for name in PUT:
-        assert (f"{place.prefix}/{name}: " in output) != any(name.endswith(f"/{it}") for it in EDITORS), (name, output)
+        is_part = name.startswith("share/raftbench/live/") or any(name.endswith(f"/{it}") for it in EDITORS) or name.removeprefix("share/raftbench/") in NODES
+        assert (f"{place.prefix}/{name}: " in output) != is_part, (name, output)
     for name, source in SOURCES.items():
         assert (place.prefix / name).read_bytes() == (place.clone / source).read_bytes(), name
     assert place.call("x", program=place.prefix / "bin/raftbench")[1] == "program x\n"
@@ -117,6 +129,18 @@ def test_reviews_where_it_is_put(place: Clone) -> None:
     assert place.call("raftbench-review x", program="sh", cwd=review.parent)[1] == "program check --review x\n"
     place.write("raftbench", "#!/bin/sh\necho clone \"$@\"\n")
     assert place.call("x", program=place.clone / "editors/review")[1] == "clone check --review x\n"
+
+
+def test_runs_nodes_where_it_is_put(place: Clone) -> None:
+    """raftbench-nodes runs from the path and by a link, finds its lists, and has the example of an adapter."""
+    place.install()
+    (place.room / "link").symlink_to(place.prefix / "bin/raftbench-nodes")
+    around = {"PATH": f"{place.prefix / 'bin'}:{pathlib.Path(sys.executable).parent}:/usr/bin:/bin", "HOME": str(place.room)}
+    for program in (place.prefix / "bin/raftbench-nodes", place.room / "link"):
+        status, output, told = place.call(["promises", "--with", "raftbench-nodes plain", "--count", "1", "--jobs", "1", "--seconds", "300"], program=program, around=around)
+        assert (status, told) == (0, "") and "1 script, 1 without a finding" in output, (status, output, told)
+    status, _, told = place.call(["run", "--with", "true", "--like", "nothing", "x"], program=place.prefix / "bin/raftbench-nodes", around=around)
+    assert status == 2 and "known are etcd-3.4, etcd-3.5, hashicorp, libraft, openvswitch" in told, told
 
 
 def test_takes_words(place: Clone) -> None:
@@ -215,10 +239,10 @@ finally:
 
 def few_files(place: Clone) -> dict[str, int]:
     """Leaves one file of the many that are installed alike, and returns what is to be installed."""
-    for name in EDITORS[1:]:
-        place.write(f"editors/{name}", None)
+    for name in [*(f"editors/{name}" for name in EDITORS[1:]), *PACKAGES[1:]]:
+        place.write(name, None)
     place.is_built_already()
-    return {name: mode for name, mode in PUT.items() if not any(name.endswith(f"/{it}") for it in EDITORS[1:])}
+    return {name: mode for name, mode in PUT.items() if not any(name.endswith(f"/{it}") for it in [*EDITORS[1:], *PACKAGES[1:]])}
 
 
 def test_failures_leave_what_was_there(place: Clone) -> None:
@@ -336,6 +360,75 @@ def test_removes_nothing_outside(place: Clone) -> None:
     assert status == 1 and "link/kept" in told and kept.exists(), told
 
 
+# Lines that `./install` doesn't write, and what is said of each.
+STRANGE = {
+    b"above x\n": "says ['x'] of the folders above",
+    b"above -1\n": "says ['-1'] of the folders above",
+    b"above 9999\n": "says ['9999'] of the folders above",
+    b"above 1\nabove 1\n": "says ['1', '1'] of the folders above",
+    b"links bin\n": "line 2 is 'links bin'",
+    b"file \n": "line 2 is 'file '",
+    b"file .\n": "line 2 is 'file .'",
+    b"file a\0b\n": "line 2 is 'file a\\x00b'",
+    b"\xff\x1b[2J\n": "line 2 is '\\udcff\\x1b[2J'",
+    b"\n\n": "line 2 is ''",
+    b"file ../\x1b[2J\n": "names ../\\x1b[2J, which is outside",
+}
+
+
+def test_strange_lists_are_named(place: Clone) -> None:
+    """A list or a journal that `./install` can't have written is named with its line, and nothing is removed."""
+    few_files(place)
+    place.install()
+    for name in ("share/raftbench/installed", ".raftbench-installing"):
+        path = place.prefix / name
+        before = path.read_bytes() if path.exists() else None
+        for line, wanted in STRANGE.items():
+            path.write_bytes(b"file bin/raftbench\n" + line + b"file bin/other\n")
+            there = tree(place.prefix)
+            for words in (["--remove", str(place.prefix)], [str(place.prefix)]):
+                status, output, told = place.call(words)
+                assert (status, output) == (1, "") and wanted in told and "Traceback" not in told, (line, words, status, output, told)
+                assert tree(place.prefix) == there, (line, words)
+        if before is None:
+            path.unlink()
+        else:
+            path.write_bytes(before)
+    assert place.call(["--remove", place.prefix])[0] == 0 and not place.prefix.exists()
+
+
+def test_names_do_not_act(place: Clone) -> None:
+    """A folder's name is shown so that no character of it acts in a terminal or ends a line."""
+    few_files(place)
+    prefix = place.room / "a\n::stop::\x1b[2J\u202e\u200b\U000e0041\udcff"
+    escaped = r"a\n::stop::\x1b[2J\u202e\u200b\U000e0041\xff"
+    calls: list[list[str | pathlib.Path]] = [[prefix], ["--remove", prefix], ["--remove", prefix], [prefix / "bin/raftbench/x"]]
+    outputs = [place.call(words) for words in calls]
+    assert [status for status, _, _ in outputs] == [0, 0, 1, 0], outputs
+    # The folders above that were created go too.
+    assert place.call(["--remove", prefix / "bin/raftbench/x"])[0] == 0 and not prefix.exists()
+    prefix.mkdir()
+    (prefix / "bin").write_text("")
+    outputs.append(place.call([prefix / "bin"]))
+    (prefix / "bin").unlink()
+    (prefix / "bin/raftbench").mkdir(parents=True)
+    outputs.append(place.call([prefix]))
+    assert [status for status, _, _ in outputs[4:]] == [1, 1], outputs[4:]
+    for _, output, told in outputs:
+        for line in (output + told).splitlines():
+            assert line.isprintable() and (escaped in line or "[Errno" in line), line
+
+
+def test_goes_on_if_nobody_reads(place: Clone) -> None:
+    """With a full disk for standard output, or a reader that is gone, everything is installed and removed."""
+    wanted = few_files(place)
+    for where in (">/dev/full", "| true"):
+        for removes, left in ((False, wanted), (True, {})):
+            words = ["--remove"] if removes else []
+            done = place.call(["-c", f'set -o pipefail; "$@" {where}', "bash", place.program, *words, place.prefix], program="bash")
+            assert (done[0], done[2], files_of(place.prefix)) == (0, "", left), (where, words, done)
+
+
 def test_has_a_man_page(place: Clone) -> None:
     text = MAN.read_text()
 
@@ -377,15 +470,15 @@ def test_program_has_these_words(place: Clone) -> None:
 
 
 def completed_by_bash(words: list[str], place: Clone) -> list[str]:
-    asked = 'source "$1"; shift; COMP_WORDS=("$@"); COMP_CWORD=$(($# - 1)); _raftbench; printf "%s\\n" "${COMPREPLY[@]}"'
-    page = TOP / "share/bash-completion/completions/raftbench"
+    asked = f'source "$1"; shift; COMP_WORDS=("$@"); COMP_CWORD=$(($# - 1)); _{words[0].replace("-", "_")}; printf "%s\\n" "${{COMPREPLY[@]}}"'
+    page = TOP / "share/bash-completion/completions" / words[0]
     status, output, told = place.call(["-c", asked, "bash", page, *words], program="bash")
     assert (status, told) == (0, ""), told
     return sorted(output.split())
 
 
 def completed_by_fish(words: list[str], place: Clone) -> list[str]:
-    page = TOP / "share/fish/vendor_completions.d/raftbench.fish"
+    page = TOP / f"share/fish/vendor_completions.d/{words[0]}.fish"
     asked = f"source '{page}'; complete -C '{' '.join(words)}'"
     status, output, told = place.call(["-N", "-c", asked], program="fish", around={"HOME": str(place.room)})
     assert (status, told) == (0, ""), told
@@ -470,3 +563,20 @@ def test_completes_in_each_shell(place: Clone) -> None:
             completes(place, shell)
         else:
             print(f"completes_in_each_shell: {shell} is not tried, since it isn't here")
+
+
+def test_raftbench_live_is_completed_and_has_a_man_page(place: Clone) -> None:
+    """Its options are those of its own help, in each shell and in its man page."""
+    (place.room / "script.txt").touch()
+    status, told, _ = place.call(["--help"], program=str(TOP / "raftbench-live"))
+    options = sorted(set(re.findall(r"--[a-z-]+", told)))
+    assert status == 0 and "--with" in options, told
+    page = (TOP / "share/man/man1/raftbench-live.1").read_text().replace("\\-", "-")
+    assert {f"--{name}" for name in re.findall(r"--([a-z-]+)", page)} == {*options} - {"--help"}, page
+    for shell in filter(shutil.which, COMPLETED_BY):
+        def offered(*words: str, shell: str = shell) -> list[str]:
+            return [word.rstrip("=") for word in COMPLETED_BY[shell](["raftbench-live", *words], place)]
+
+        assert [word for word in offered("--") if word.startswith("--")] == options, (shell, offered("--"))
+        assert "script.txt" in offered("scr"), shell
+        assert offered("--in-editor", "v") == ["vscode"], shell

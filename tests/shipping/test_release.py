@@ -38,7 +38,7 @@ class Clone(Place):
     def __init__(self, room: pathlib.Path) -> None:
         # No setting of whoever runs this.
         os.environ.update(GIT_CONFIG_GLOBAL=os.devnull, GIT_CONFIG_NOSYSTEM="1")
-        super().__init__(room, "release", "raftbench", "install", "README.md", "share", "editors", "docs", "examples", "nodes", "plain", "tests/cases/rules")
+        super().__init__(room, "release", "raftbench", "install", "README.md", "share", "editors", "docs", "examples", "nodes", "plain", "raftbench-nodes", "raftbench_nodes", "raftbench-live", "live", "tests/cases/rules")
         (self.clone / "tests/nodes").mkdir()
         shutil.copy(TOP / "tests/nodes/bugs.txt", self.clone / "tests/nodes")
         for name in CRATES:
@@ -98,18 +98,23 @@ def test_has_what_is_used(place: Clone) -> None:
     name = path.name.removesuffix(".tar.gz")
     assert [it.name for it in members] == sorted((it.name for it in members), key=lambda it: it.split("/")), "not in order"
     there = {it.name.removeprefix(f"{name}/") for it in members if it.isfile()}
-    wanted = {"PROOF", "README.md", "bin/raftbench", "bin/raftbench-from-etcd", "bin/raftbench-review", "bin/raftbench-to-shiviz"}
-    wanted |= {f"{it}/{path}" for it in ("docs", "examples", "nodes", "plain", "tests/cases/rules") for path in kept(TOP / it)}
+    wanted = {"PROOF", "README.md", "bin/raftbench", *(f"bin/raftbench-{it}" for it in ("from-etcd", "live", "nodes", "review", "to-shiviz"))}
+    wanted |= {f"{it}/{path}" for it in ("docs", "examples", "nodes", "plain", "raftbench_nodes", "tests/cases/rules") for path in kept(TOP / it)}
     # Adapters that were built here aren't packed.
     wanted = {it for it in wanted if "/out/" not in it}
-    wanted |= {"tests/nodes/bugs.txt"}
+    wanted |= {"tests/nodes/bugs.txt", "raftbench-nodes"}
     wanted |= {f"share/{path}" for path in kept(TOP / "share")}
+    wanted |= {f"share/raftbench/{it}/{path}" for it in ("nodes/like", "plain", "raftbench_nodes") for path in kept(TOP / it)} | {"share/raftbench/nodes/first", "share/raftbench/raftbench-nodes"}
+    wanted |= {f"share/raftbench/nodes/go/{path}" for path in kept(TOP / "nodes/go") if path.endswith((".go", ".mod")) and not path.endswith("_test.go")}
     wanted |= {f"share/raftbench/editors/{path}" for path in kept(TOP / "editors") if path not in ("from-etcd", "review", "to-shiviz")}
-    assert there == wanted, there ^ wanted
+    wanted |= {f"share/raftbench/live/{path}" for path in kept(TOP / "live") if path.endswith((".css", ".js", ".py"))}
+    wanted |= {f"share/raftbench/nodes/c/{path}" for path in kept(TOP / "nodes/c") if path.endswith((".c", ".h"))}
+    wanted = {it for it in wanted if "__pycache__" not in it}
+    assert there == wanted, (sorted(there - wanted)[:3], sorted(wanted - there)[:3])
     when = int(place.git("log", "-1", "--format=%ct"))
     for it in members:
         assert (it.uid, it.gid, it.mtime) == (0, 0, when), it.get_info()
-        assert it.mode == (0o755 if it.isdir() or f"{name}/bin/" in it.name or is_run(TOP / it.name.removeprefix(f"{name}/")) else 0o644), it.get_info()
+        assert it.mode == (0o755 if it.isdir() or f"{name}/bin/" in it.name or is_run(TOP / it.name.removeprefix(f"{name}/")) or it.name.endswith(("/nodes/first", "/raftbench/raftbench-nodes")) else 0o644), it.get_info()
     readme = read_from(path, "README.md").decode()
     assert readme.startswith("# raftbench 1.2.3, unpacked\n\nYou have the proved program.") and readme.endswith((TOP / "README.md").read_text()), readme[:200]
     assert not list(place.room.glob(".raftbench*")), "something is left"
@@ -296,7 +301,7 @@ def test_debian_has_a_package(place: Clone) -> None:
 
     dpkg("--install", package)
     listed = dpkg("--listfiles", "raftbench").splitlines()
-    for name in ("bin/raftbench", "bin/raftbench-from-etcd", "bin/raftbench-review", "share/man/man1/raftbench.1.gz", "share/zsh/vendor-completions/_raftbench", "share/raftbench/nodes/run",
+    for name in ("bin/raftbench", "bin/raftbench-from-etcd", "bin/raftbench-nodes", "bin/raftbench-review", "share/zsh/vendor-completions/_raftbench-nodes", "share/man/man1/raftbench.1.gz", "share/zsh/vendor-completions/_raftbench", "share/raftbench/nodes/run",
                  "share/doc/raftbench/copyright", "share/doc/raftbench/changelog.Debian.gz", "share/doc/raftbench/PROOF", "share/bash-completion/completions/raftbench"):
         assert f"/usr/{name}" in listed and (root / "usr" / name).is_file(), name
     bare = {"PATH": f"{root / 'usr/bin'}:{pathlib.Path(sys.executable).parent}:/usr/bin:/bin"}

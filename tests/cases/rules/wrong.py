@@ -1,4 +1,4 @@
-"""Wrong rules: plain nodes with one rule changed, by name, beside the well-known bugs of nodes/hosted/planting.py. Each script of this
+"""Wrong rules: plain nodes with one rule changed, by name, beside the well-known bugs of raftbench_nodes/bugs/rules.py. Each script of this
 folder names those that it must notice.
 """
 
@@ -7,13 +7,14 @@ from __future__ import annotations
 import contextlib
 from collections.abc import Callable, Iterator
 
-import nodes.hosted.bugs  # noqa: F401 (fills BUGS)
-from nodes.hosted.planting import BUGS
+from raftbench_nodes.bugs import rules
+from raftbench_nodes.bugs.registry import BUGS
 from plain.config import Change, changed
 from plain.node import Node, View
 from plain.records import Message, Ready, Snapshot
 
-WRONG = dict(BUGS)
+# What only a crash, or a step of the runner, shows isn't seen by scripts alone.
+WRONG = {name: kind for name, kind in BUGS.items() if kind.__module__ == rules.__name__}
 
 
 def wrong(kind: type[Node]) -> type[Node]:
@@ -229,6 +230,15 @@ class SnapshotIsHeldByItsIndex(Node):
         super().take_snapshot(m._replace(snapshot=snapshot._replace(term=self.known_term(snapshot.index))) if held else m)
 
 
+@wrong
+class OldSnapshotSaysLast(Node):
+    def take_snapshot(self, m: Message) -> None:
+        is_old = snapshot_of(m).index <= self.commit
+        super().take_snapshot(m)
+        if is_old:
+            self.waiting[-1] = self.waiting[-1]._replace(index=self.last())
+
+
 # Leaders
 
 
@@ -275,6 +285,23 @@ class AnswersBringNothing(Node):
     def take_acceptance(self, m: Message, view: View) -> None:
         with replaced(self, "sends", lambda *_: None):
             super().take_acceptance(m, view)
+
+
+@wrong
+class LateAnswersLowerTheMatch(Node):
+    def take_acceptance(self, m: Message, view: View) -> None:
+        index = self.acknowledged(m)
+        super().take_acceptance(m, view)
+        view.match = min(view.match, index)
+
+
+@wrong
+class HeartbeatAnswersCountForNothing(Node):
+    def take_beat_answer(self, m: Message) -> None:
+        was_active = m.sender in self.views and self.views[m.sender].active
+        super().take_beat_answer(m)
+        if m.sender in self.views:
+            self.views[m.sender].active = was_active
 
 
 @wrong

@@ -1,0 +1,117 @@
+"""Pages that went on after edits, next to fresh ones: each shows the same."""
+from __future__ import annotations
+
+import json
+import pathlib
+from collections.abc import Iterable, Sequence
+
+from live.rows import stretch
+from tests.live.player import Player
+from tests.live.playing import on_script
+from tests.live.running import CAMPAIGN, START, Running
+from tests.live.test_rows import ELECTION, changes
+from tests.page.browser import Browser
+from tests.page.scripts import same
+
+LEVEL = b"log-level info\n----\nok\n\n"
+# Reads a script's rows, and then puts stretches in, each a few directives at a time, as a page does. Gives, of each, whether its model is that of all
+# rows of the new script, read at once.
+GOES_ON = """(async ([first, ...changes]) => {
+  const [{ Run }, { readRows }] = await Promise.all([import("/run.js"), import("/rows.js")]);
+  const places = (list) => Array.from(list, (it) => it && (Array.isArray(it) ? it.map(({ number }) => number) : it.number));
+  const plain = (key, value) => key === "sent" || key === "met" ? value && value.place : key === "message" ? value && value.number
+    : key === "blocks" || key === "waiting" ? places(value) : value instanceof Map ? [...value] : value;
+  const dump = (model) => JSON.stringify(model, plain);
+  let run = new Run(first);
+  run.goOn(1e9);
+  return changes.map(({ stretch, rows }) => {
+    const isPut = run.change(stretch);
+    run = isPut ? run : new Run(rows);
+    while (!run.isWhole) {
+      run.goOn(3);
+    }
+    const own = dump(run.model);
+    return [isPut, own === dump(readRows(rows)), own.length];
+  });
+})"""
+
+
+def a_run_that_goes_on_is_as_a_fresh_one(browser: Browser) -> None:
+    """Where an edit shows a control character all texts are shown by numbers from then on, so all rows are needed: there, and back."""
+    found = list(changes(ELECTION.read_bytes()))
+    given = [json.loads(found[0][1].rows.raw), *({"stretch": json.loads(stretch(before, now)), "rows": json.loads(now.rows.raw)} for _, before, now in found)]
+
+    def does(player: Player, server: Running, path: pathlib.Path) -> None:
+        told = player.browser.value(f"{GOES_ON}({json.dumps(given)})")
+        for (what, _, now), (is_put, is_same, size) in zip(found, told, strict=True):
+            same(f"whether the model is a fresh one after {what}", is_same and size > 20 * len(now.rows.raw) ** 0.5, True)
+        same("edits after which all rows are needed", [what for (what, _, _), (is_put, _, _) in zip(found, told) if not is_put], [found[-3][0], found[-2][0]])
+    on_script(browser, START, does)
+
+
+# All that is drawn but what each node may do, which is asked for later.
+PANES = """['heads', 'drawing', 'description', 'directives', 'texts', 'logs', 'state', 'counts'].map((id) => {
+  const copy = document.getElementById(id).cloneNode(true);
+  copy.querySelectorAll('.live-does').forEach((it) => it.remove());
+  return copy.innerHTML;
+}).join()"""
+
+
+def seen(player: Player, places: Iterable[int], count: int) -> dict[int, str]:
+    """What is drawn at some directives."""
+    panes = {}
+    for place in places:
+        player.browser.value(f"location.hash = '#{place}', 1")
+        player.at(place, count)
+        # One that comes from far away is brought to another height than one from near.
+        player.browser.value("for (const id of ['scroll', 'script']) document.getElementById(id).scrollTop = 0, 1")
+        player.browser.settle()
+        panes[place] = str(player.browser.value(PANES))
+    return panes
+
+
+def same_after_a_load(player: Player, server: Running, places: Sequence[int], count: int) -> None:
+    """Saves, loads the page again, and compares."""
+    own = seen(player, places, count)
+    server.enter().do("save")
+    player.comes("document.title", "script.txt: raftbench live")
+    player.browser.faults = []
+    player.browser.load(f"http://{server.host}/")
+    player.comes("document.getElementById('panes').hidden", False)
+    fresh = seen(player, places, count)
+    same("the directives that are shown otherwise", [place for place in places if own[place] != fresh[place]], [])
+
+
+def a_page_that_went_on_is_as_a_fresh_one(browser: Browser) -> None:
+    """What is drawn, at each directive, after edits and after the page was loaded again."""
+    def does(player: Player, server: Running, path: pathlib.Path) -> None:
+        player.browser.call("Emulation.setEmulatedMedia", features=[{"name": "prefers-reduced-motion", "value": "reduce"}])
+        player.browser.value("document.getElementById('directives').focus()")
+        for at, text in enumerate(["campaign 2", "stabilize", "propose 2 x1", "process-ready 2"], 3):
+            player.directive(text)
+            player.at(at, at)
+            player.key("Escape")
+        player.key("Home")
+        player.at(1, 6)
+        player.directive("raft-log 1")
+        player.at(2, 7)
+        player.key("Escape")
+        player.key("ArrowDown")
+        player.key("x")
+        player.at(2, 6)
+        same_after_a_load(player, server, range(1, 7), 6)
+    on_script(browser, START + CAMPAIGN, does)
+
+
+def a_long_page_goes_on_in_parts(browser: Browser) -> None:
+    """Of a long script 200 directives show at once after an edit, and then the rest. At the end all is as on a fresh page."""
+    def does(player: Player, server: Running, path: pathlib.Path) -> None:
+        player.browser.call("Emulation.setEmulatedMedia", features=[{"name": "prefers-reduced-motion", "value": "reduce"}])
+        player.browser.value("document.getElementById('directives').focus(), location.hash = '#1', 1")
+        player.at(1, 802)
+        player.directive("campaign 2")
+        player.at(2, 803)
+        player.key("Escape")
+        same("counts", player.text("#counts"), "803 directives, 0 mismatches, 3 nodes")
+        same_after_a_load(player, server, [1, 2, 201, 402, 403, 404, 703, 803], 803)
+    on_script(browser, START + LEVEL * 400 + CAMPAIGN + LEVEL * 400, does)

@@ -1,0 +1,65 @@
+"""The rows that an edit sends: put into those that were shown before, they are the rows of the new script."""
+from __future__ import annotations
+
+import json
+from collections.abc import Iterator
+from typing import Any
+
+from live.blocks import joined
+from live.branch import Branch
+from live.edits import EDITS
+from live.program import Program
+from live.rows import Shown, stretch
+from tests.harness import PROGRAM, TOP
+
+ELECTION = TOP / "examples" / "tour" / "01-election.txt"
+
+
+def put(rows: list[list[Any]], given: dict[str, Any]) -> list[list[Any]]:
+    """Rows with a stretch put in: lines and rows between those that stay are the stretch's, and lines that stay have moved with them."""
+    starts = [at for at, row in enumerate(rows) if row[0] == "step"]
+    end = next(at for at, row in enumerate(rows) if row[0] in ("warning", "end"))
+    steps = [rows[start:after] for start, after in zip(starts, [*starts[1:], end])]
+    lines = rows[1][1].split("\n")
+    after = lines[len(lines) - 1 - given["linesAfter"]:] if given["linesAfter"] and not lines[-1] else lines[len(lines) - given["linesAfter"]:] if given["linesAfter"] else []
+    text = "".join(line + "\n" for line in lines[:given["linesBefore"]]) + given["text"] + "\n".join(after)
+    moved = text.count("\n") - rows[1][1].count("\n")
+    rest = [[["step", step[0][1] + moved], *step[1:]] for step in (steps[len(steps) - given["back"]:] if given["back"] else [])]
+    return [rows[0], ["text", text], *(row for step in [*steps[:given["front"]], *given["rows"], *rest] for row in step), *given["end"]]
+
+
+def changes(data: bytes) -> Iterator[tuple[str, Shown, Shown]]:
+    """A script's edits: by each, what was shown before and then. Some meet again, some never do, and a comment or the tail may change alone."""
+    branch = Branch(1, Program(PROGRAM), data)
+    middle = branch.count // 2
+    edits: list[tuple[str, dict[str, Any]]] = [
+        ("insert", {"place": middle, "text": "raft-state"}), ("insert", {"place": branch.count + 1, "text": "tick-heartbeat 1"}), ("replace", {"place": 3, "text": "# why\nlog-level none"}),
+        ("remove", {"place": 2}), ("duplicate", {"place": middle}), ("move", {"place": middle, "by": -1}), ("accept", {"all": True, "isSure": True}), ("undo", {}),
+        ("insert", {"place": 0, "text": "log-level debug"}), ("replace", {"place": 1, "text": "# caf\u00e9\nlog-level info"}), ("undo", {}), ("redo", {}),
+    ]
+    try:
+        for kind, more in edits:
+            before = branch.shown
+            if kind in EDITS:
+                EDITS[kind](branch, more)
+            else:
+                branch.go(kind == "undo")
+            yield f"{kind} {more}", before, branch.shown
+        for text in (joined(branch.shown.blocks, ()) + b"# the end\n", b"# \x1b[31m acts\n" + data, data[:-1], data):
+            before = branch.shown
+            branch.change_text(text, 1)
+            yield f"a text of {len(text)} bytes", before, branch.shown
+    finally:
+        branch.close()
+
+
+def test_a_stretch_put_in_gives_the_rows_of_the_new_script() -> Iterator[str]:
+    """The law, by the program's own page of each script."""
+    spared = 0
+    for what, before, now in changes(ELECTION.read_bytes()):
+        given = json.loads(stretch(before, now))
+        if put(json.loads(before.rows.raw), given) != json.loads(now.rows.raw):
+            yield f"{what}: {given}"
+        spared += len(given["rows"]) < len(now.blocks) // 2
+    if spared < 6:
+        yield f"only {spared} edits send less than half of the rows"
