@@ -15,7 +15,7 @@ use std::process::ExitCode;
 
 /// Whether the report was written.
 fn is_told<M: Machine, R: Print + AllocGlobal>(rt: &R, session: &Session<M>) -> bool {
-    let Ok(writer) = BufWriter::new(rt.alloc(), FailFast(io::writer(rt))) else {
+    let Ok(writer) = BufWriter::new(rt.alloc(), FailFast(Through(io::writer(rt)))) else {
         return false;
     };
     let mut out = Through(writer);
