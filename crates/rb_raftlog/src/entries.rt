@@ -3,7 +3,7 @@
 //! A leader sends the same entries to many followers, and a session keeps hundreds of clusters with messages in flight. So a message has
 //! one pointer to a list that never changes. Copies share the list, and it shares the pages of its log. No entries take no memory.
 
-ghost use Rattle.std.specs.Prelude.{◌≡◌, ◌-◌, ◌<◌, ◌≤◌, ◌↔◌, [], length, drop, slice_index_or, vec_len, IsTrue, IfOk};
+ghost use Rattle.std.specs.Prelude.{◌≡◌, ◌+◌, ◌++◌, ◌-◌, ◌<◌, ◌≤◌, ◌↔◌, [], length, take, drop, slice_index_or, vec_len, IsTrue, IfOk};
 ghost use Rattle.rb_raftlog.specs.Log.{last_of};
 ghost use Rattle.rb_raftlog.specs.Equals.{same_lists, lists_per_entry};
 
@@ -124,6 +124,24 @@ impl Entries {
             None => Pieces::one(&[]),
             Some(list) => Pieces::of(list, 0),
         }
+    }
+
+    /// The first n of these entries, followed by others. The cost is at most a page, and the others.
+    #[tactic(auto, using(crate::proofs::SavedLaws::all_taken))]
+    pub(crate) fn followed_by(&self, n: usize, others: &Entries) -> Result<Entries, AllocError>
+        requires within { n ≤ length self.now }
+        requires fits { n + length others.now ≤ MAX_INDEX }
+        ensures { IfOk result (λ both. both ≡ take n self.now ++ others.now) }
+    {
+        let mut list = match &self.list {
+            None => return others.try_copy(),
+            Some(list) => list.try_copy()?,
+        };
+        if n < list.len() {
+            list.cut(n)?;
+        }
+        append_from(&mut list, others, 0)?;
+        Entries::of(list)
     }
 
     /// Copies the entries, at one pointer.
