@@ -39,6 +39,20 @@ impl Model for Entries {
     ghost view = { λ e. entries_behind e.list };
 }
 
+// A copy of the first n items.
+#[tactic(auto, using(crate::proofs::SavedLaws::all_taken))]
+fn first_of(list: &Pages<Entry>, n: usize) -> Result<Pages<Entry>, AllocError>
+    requires { n ≤ length list.now }
+    ensures { IfOk result (λ front. front ≡ take n list.now) }
+{
+    let mut front = list.try_copy()?;
+    if n == front.len() {
+        return Ok(front);
+    }
+    front.cut(n)?;
+    Ok(front)
+}
+
 impl Entries {
     /// No entries. It takes no memory.
     pub fn empty() -> Entries
@@ -126,20 +140,20 @@ impl Entries {
         }
     }
 
-    /// The first n of these entries, followed by others. The cost is at most a page, and the others.
+    /// The first n of these entries, followed by others. The cost is at most a page, and the others. More entries than there are indexes are
+    /// refused like a lack of memory.
     #[tactic(auto, using(crate::proofs::SavedLaws::all_taken))]
     pub(crate) fn followed_by(&self, n: usize, others: &Entries) -> Result<Entries, AllocError>
-        requires within { n ≤ length self.now }
-        requires fits { n + length others.now ≤ MAX_INDEX }
+        requires { n ≤ length self.now }
         ensures { IfOk result (λ both. both ≡ take n self.now ++ others.now) }
     {
-        let mut list = match &self.list {
-            None => return others.try_copy(),
-            Some(list) => list.try_copy()?,
+        let Some(list) = &self.list else {
+            return others.try_copy();
         };
-        if n < list.len() {
-            list.cut(n)?;
+        if n.saturating_add(others.len()) as u64 > MAX_INDEX {
+            return Err(AllocError);
         }
+        let mut list = first_of(list, n)?;
         append_from(&mut list, others, 0)?;
         Entries::of(list)
     }
