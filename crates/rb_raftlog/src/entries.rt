@@ -3,7 +3,7 @@
 //! A leader sends the same entries to many followers, and a session keeps hundreds of clusters with messages in flight. So a message has
 //! one pointer to a list that never changes. Copies share the list, and it shares the pages of its log. No entries take no memory.
 
-ghost use Rattle.std.specs.Prelude.{◌≡◌, ◌+◌, ◌++◌, ◌-◌, ◌<◌, ◌≤◌, ◌↔◌, [], length, take, drop, slice_index_or, vec_len, IsTrue, IfOk};
+ghost use Rattle.std.specs.Prelude.{◌≡◌, ◌++◌, ◌-◌, ◌<◌, ◌≤◌, ◌↔◌, [], length, take, drop, slice_index_or, vec_len, IsTrue, IfOk};
 ghost use Rattle.rb_raftlog.specs.Log.{last_of};
 ghost use Rattle.rb_raftlog.specs.Equals.{same_lists, lists_per_entry};
 
