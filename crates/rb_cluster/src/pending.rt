@@ -17,7 +17,6 @@ use rb_raftlog::RaftLog;
 use rb_texts::{Item, Verb};
 use rb_vocab::MessageType;
 use std::alloc::{AllocError, Global};
-use std::marker::Model;
 
 // Whether a directive selects a message of this type. Without types it selects all.
 fn is_selected(types: &Option<TypeSet>, message_type: MessageType) -> bool
@@ -67,25 +66,18 @@ struct Quota {
     count: Option<u64>,
 }
 
-impl Model for Quota {
-    ghost use Rattle.rb_machine.specs.Pending.{Quota};
-
-    ghost Value = { Quota };
-
-    ghost view = { λ q. record { skip = q.skip; count = q.count } };
-}
-
 impl Quota {
     // Whether the next one is chosen.
     fn chooses(self) -> bool
-        ensures { result ≡ chooses self }
+        ensures { result ≡ chooses (record { skip = self.skip; count = self.count }) }
     {
         self.skip == 0 && self.count != Some(0)
     }
 
     // Once the next one has come.
     fn after_one(self) -> Quota
-        ensures { result ≡ after_one self }
+        ensures skip { result.skip ≡ (after_one (record { skip = self.skip; count = self.count })).skip }
+        ensures count { result.count ≡ (after_one (record { skip = self.skip; count = self.count })).count }
     {
         if self.skip == 0 {
             return Quota {
