@@ -103,8 +103,8 @@ pub restarted-entries : (v : LogValue) (s : Snapshot) (i : ℕ) → IsLog v → 
 restarted-entries v s i is none index term low =
     let d : ℕ = v.durable - v.base in
     let all : saved_entries v ≡ take d v.entries = ap (λ (l : List Entry). take d v.entries ++ l) none ∙ append-nil (take d v.entries) in
-    same_entry v (restarted v s) v.durable (record {
+    same_entry v (restarted v s) v.durable i (record {
       base = index;
       base_term = term;
       entries = λ k under. ap (λ (l : List Entry). slice_get l k) all ∙ slice_get_taken v.entries d k (omega (arith, under));
-    }) i low
+    }) low
