@@ -3,7 +3,7 @@
 //! The log drops entries that are applied and durable (Ongaro's thesis, section 5.1). A restart begins at the log's base, so what these entries come
 //! to is kept: their payloads join the content of the saved snapshot, and their changes its configuration.
 
-ghost use Rattle.std.specs.Prelude.{◌≡◌, ◌+◌, ◌≤◌, min, IfOk, OnOk};
+ghost use Rattle.std.specs.Prelude.{◌≡◌, ◌+◌, ◌<◌, ◌≤◌, min, length, slice_get, Some, IfOk, OnOk};
 ghost use Rattle.rb_raftlog.specs.declared.limits.TheConstants.{MAX_INDEX};
 ghost use Rattle.rb_node.specs.Compacting.{content_after, config_with, config_after, entries_to, start_at, IsCompactedTo};
 
@@ -51,16 +51,34 @@ fn config_after(first: Config, entries: &[Entry]) -> Result<Config, AllocError>
 }
 
 impl<L: RaftLog> State<L> {
-    // The entries after the saved snapshot up to an index, at a pointer each.
-    #[tactic(auto, using(crate::proofs::Between::between_sizes, crate::proofs::Between::between_found, crate::proofs::Between::between_is_found, rb_tracker::proofs::WindowLaws::take_more_some))]
+    // The number of entries after the saved snapshot up to an index.
+    #[tactic(auto, using(crate::proofs::Between::between_sizes))]
+    fn len_to(&self, index: u64) -> usize
+        ensures { result ≡ length (entries_to self.now index) }
+    {
+        let after = self.start.snapshot().index.max(self.log.first_index() - 1);
+        index.min(self.log.last_index()).saturating_sub(after) as usize
+    }
+
+    // One of these entries.
+    #[tactic(auto, using(crate::proofs::Between::between_sizes, crate::proofs::Between::between_found, crate::proofs::Between::between_is_found))]
+    fn entry_to(&self, index: u64, k: usize) -> &Entry
+        requires { k < length (entries_to self.now index) }
+        ensures { slice_get (entries_to self.now index) k ≡ Some result.now }
+    {
+        let after = self.start.snapshot().index.max(self.log.first_index() - 1);
+        held_entry(&self.log, after + 1 + k as u64)
+    }
+
+    // These entries, at a pointer each.
+    #[tactic(auto, using(rb_tracker::proofs::WindowLaws::take_more_some))]
     fn entries_to(&self, index: u64) -> Result<Vec<Entry>, AllocError>
         ensures { IfOk result (λ entries. entries.items ≡ entries_to self.now index) }
     {
-        let after = self.start.snapshot().index.max(self.log.first_index() - 1);
-        let len = index.min(self.log.last_index()).saturating_sub(after) as usize;
+        let len = self.len_to(index);
         let mut entries = Vec::with_capacity(self.alloc, len)?;
         for k in 0..len {
-            entries.push(held_entry(&self.log, after + 1 + k as u64).try_copy()?)?;
+            entries.push(self.entry_to(index, k).try_copy()?)?;
         }
         Ok(entries)
     }
