@@ -247,6 +247,11 @@ class Stage(Cluster):
         self.lost |= {(other, id) for other in self.nodes}
         self.call(id, "restart", saved)
 
+    def do_restart(self, words: Any, *_: object) -> None:
+        """The directive is the runner's step for each of the nodes."""
+        for id in words:
+            self.crash(id, "restart")
+
 
 ARRANGED = {
     "reverse": lambda messages: messages[::-1],
