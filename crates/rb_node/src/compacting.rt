@@ -40,10 +40,10 @@ fn config_with(config: Config, body: &Body) -> Result<Config, AllocError>
 }
 
 // The configuration after the entries.
-fn config_after(first: Config, entries: &[Entry]) -> Result<Config, AllocError>
-    ensures { IfOk result (λ c. c ≡ config_after first entries.now) }
+fn config_after(first: &Config, entries: &[Entry]) -> Result<Config, AllocError>
+    ensures { IfOk result (λ c. c ≡ config_after first.now entries.now) }
 {
-    let mut config = first;
+    let mut config = first.try_copy()?;
     for entry in entries {
         config = config_with(config, &entry.body)?;
     }
@@ -92,10 +92,8 @@ impl<L: RaftLog> State<L> {
         let entries = self.entries_to(index)?;
         let mut content = start.content.try_copy()?;
         append_payloads(&mut content, entries.as_slice())?;
-        let config = config_after(
-            Config::of_state(self.alloc, &start.config)?,
-            entries.as_slice(),
-        )?;
+        let first = Config::of_state(self.alloc, &start.config)?;
+        let config = config_after(&first, entries.as_slice())?;
         Install::new(
             self.alloc,
             Snapshot {
