@@ -124,19 +124,7 @@ class Dice(random.Random):
             text += f" type={self.list_of(self.sample(TYPES, self.choice([0, 1, 1, 2, 4])))}"
         if self.some(0.25):
             text += f" drop={self.list_of([self.id() for _ in range(self.choice([0, 1, 1, 2]))])}"
-        return text + self.options_of_choice()
-
-    def options_of_choice(self) -> str:
-        """Which of the messages are meant: now and then some of a sender, or some in the middle."""
-        text = f" from={self.id()}" if self.some(0.15) else ""
-        if self.some(0.15):
-            text += f" skip={self.choice([0, 1, 1, 2, 5, 4096])}"
-        if self.some(0.2):
-            text += f" count={self.choice([1, 1, 1, 2, 3, 4096])}"
         return text
-
-    def restart(self) -> str:
-        return "restart " + " ".join(map(str, self.ids(2)))
 
     def stabilize(self) -> str:
         text = "stabilize"
@@ -438,5 +426,5 @@ class Dice(random.Random):
 WEIGHTS = {
     "add_nodes": 1.5, "campaign": 5, "propose": 10, "propose_conf_change": 6, "process_ready": 12, "deliver_msgs": 13, "stabilize": 9,
     "quiet_stabilize": 3, "tick_election": 5, "tick_heartbeat": 6, "set_timeout": 2, "transfer_leadership": 3, "forget_leader": 2,
-    "report_unreachable": 2, "send_snapshot": 3, "compact": 3, "restart": 3, "log_level": 1, "raft_log": 2, "status": 3, "raft_state": 2,
+    "report_unreachable": 2, "send_snapshot": 3, "compact": 3, "log_level": 1, "raft_log": 2, "status": 3, "raft_state": 2,
 }

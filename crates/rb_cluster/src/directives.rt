@@ -6,7 +6,6 @@ ghost use Rattle.rb_directive.specs.declared.node_command.NodeCommand.TheVariant
 ghost use Rattle.rb_directive.specs.declared.node_command_with_arg.NodeCommandWithArg.TheVariants as withs;
 ghost use Rattle.rb_directive.specs.declared.requests.DeliverMsgs.{DeliverMsgs};
 ghost use Rattle.rb_directive.specs.Changes.{input_words};
-ghost use Rattle.rb_directive.specs.Requests.{all_mail};
 ghost use Rattle.rb_directive.specs.declared.requests.ProposeConfChange.{ProposeConfChange};
 ghost use Rattle.rb_directive.specs.declared.requests.Request.TheVariants as requests;
 ghost use Rattle.rb_machine.specs.Changes.{words_of};
@@ -44,8 +43,8 @@ pub fn directives_call_their_nodes()
 /// `deliver-msgs` of one node steps the messages to it, in the order in which they were sent and each once, and takes them out; with `drop=` they are
 /// only taken out. All others stay as they are.
 pub fn messages_are_delivered_in_order()
-    ensures delivered { (c : Cluster) (d : PlainDirective) (asked : DeliverMsgs) (id : ℕ) (n : PlainNode) → Does c d (requests.DeliverMsgs asked) → asked.nodes ≡ id ∷ [] → asked.drop ≡ [] → asked.choice ≡ all_mail → node_at c id ≡ Some n → (outcome c d).cluster ≡ with_pending (with_node c id (after_all n (addressed id c.pending))) (elsewhere id c.pending) }
-    ensures dropped { (c : Cluster) (d : PlainDirective) (asked : DeliverMsgs) (id : ℕ) → Does c d (requests.DeliverMsgs asked) → asked.nodes ≡ [] → asked.drop ≡ id ∷ [] → asked.choice ≡ all_mail → (outcome c d).cluster ≡ with_pending c (elsewhere id c.pending) }
+    ensures delivered { (c : Cluster) (d : PlainDirective) (asked : DeliverMsgs) (id : ℕ) (n : PlainNode) → Does c d (requests.DeliverMsgs asked) → asked.nodes ≡ id ∷ [] → asked.drop ≡ [] → asked.types ≡ None → node_at c id ≡ Some n → (outcome c d).cluster ≡ with_pending (with_node c id (after_all n (addressed id c.pending))) (elsewhere id c.pending) }
+    ensures dropped { (c : Cluster) (d : PlainDirective) (asked : DeliverMsgs) (id : ℕ) → Does c d (requests.DeliverMsgs asked) → asked.nodes ≡ [] → asked.drop ≡ id ∷ [] → asked.types ≡ None → (outcome c d).cluster ≡ with_pending c (elsewhere id c.pending) }
 {}
 
 /// `send-snapshot` puts the state of the first node that it names into flight to the second, in the first's term, and changes no node.

@@ -4,13 +4,12 @@
 
 ghost use Rattle.std.specs.Prelude.{◌≡◌, IfOk, OnOk};
 ghost use Rattle.rb_machine.specs.Cluster as plain;
-ghost use Rattle.rb_machine.specs.Deliveries.{has_chosen};
-ghost use Rattle.rb_machine.specs.Pending.{is_selected, is_for, is_from, is_meant, chooses, after_one, mail, other_mail, has_room, sent, all_sent, with_pending};
+ghost use Rattle.rb_machine.specs.Pending.{is_selected, is_for, mail, other_mail, has_room, sent, all_sent, with_pending};
 ghost use Rattle.rb_machine.specs.Observers.{watched, after};
 
 use crate::cluster::Cluster;
 use crate::shared_message::SharedMessage;
-use rb_directive::{MailChoice, TypeSet};
+use rb_directive::TypeSet;
 use rb_machine::{MAX_PENDING, Observer};
 use rb_message::Message;
 use rb_raftlog::RaftLog;
@@ -28,8 +27,8 @@ fn is_selected(types: &Option<TypeSet>, message_type: MessageType) -> bool
     }
 }
 
-// Whether a message is for this node, and of one of the types.
-fn is_for(id: u64, types: &Option<TypeSet>, message: &Message) -> bool
+/// Whether a message is for this node, and of one of the types.
+pub(crate) fn is_for(id: u64, types: &Option<TypeSet>, message: &Message) -> bool
     ensures { result ≡ is_for id types.now message.now }
 {
     message.to == id && is_selected(types, message.kind.message_type())
@@ -42,107 +41,30 @@ pub(crate) fn has_room(pending: &[SharedMessage]) -> bool
     pending.len() < MAX_PENDING
 }
 
-// Whether a message is from this node, if one is named.
-fn is_from(from: Option<u64>, message: &Message) -> bool
-    ensures { result ≡ is_from from message.now }
-{
-    match from {
-        Some(id) => message.from == id,
-        None => true,
-    }
-}
-
-// Whether a message is for this node, and one of those of which some are chosen.
-fn is_meant(id: u64, choice: &MailChoice, message: &Message) -> bool
-    ensures { result ≡ is_meant id choice.now message.now }
-{
-    is_for(id, &choice.types, message) && is_from(choice.from, message)
-}
-
-// Of the messages that come, how many are skipped first, and how many are chosen then.
-#[derive(Clone, Copy)]
-struct Quota {
-    skip: u64,
-    count: Option<u64>,
-}
-
-impl Quota {
-    // Whether the next one is chosen.
-    fn chooses(self) -> bool
-        ensures { result ≡ chooses (record { skip = self.skip; count = self.count }) }
-    {
-        self.skip == 0 && self.count != Some(0)
-    }
-
-    // Once the next one has come.
-    fn after_one(self) -> Quota
-        ensures skip { result.skip ≡ (after_one (record { skip = self.skip; count = self.count })).skip }
-        ensures count { result.count ≡ (after_one (record { skip = self.skip; count = self.count })).count }
-    {
-        if self.skip == 0 {
-            return Quota {
-                skip: 0,
-                count: self.count.map(|left| left.saturating_sub(1)),
-            };
-        }
-        Quota {
-            skip: self.skip - 1,
-            count: self.count,
-        }
-    }
-}
-
-/// Whether a message to the node is chosen.
-pub(crate) fn has_chosen(choice: &MailChoice, pending: &[SharedMessage], id: u64) -> bool
-    ensures { result ≡ has_chosen choice.now pending.now id }
-{
-    let mut quota = Quota {
-        skip: choice.skip,
-        count: choice.count,
-    };
-    for shared in pending {
-        if is_meant(id, choice, shared.message()) {
-            if quota.chooses() {
-                return true;
-            }
-            quota = quota.after_one();
-        }
-    }
-    false
-}
-
-/// Pending messages, split into those that are chosen for a node and the rest, each in their order.
+/// Pending messages, split into those for a node and the rest, each in their order.
 #[derive(Drop)]
 pub(crate) struct SplitMail {
     pub(crate) for_node: Vec<SharedMessage>,
     pub(crate) rest: Vec<SharedMessage>,
 }
 
-/// Splits off a node's chosen messages.
+/// Splits off the messages of the types for a node.
 pub(crate) fn split(
     alloc: Global,
     pending: Vec<SharedMessage>,
     id: u64,
-    choice: &MailChoice,
+    types: &Option<TypeSet>,
 ) -> Result<SplitMail, AllocError>
-    ensures for_node { IfOk result (λ p. p.for_node.items ≡ mail pending.items id choice.now) }
-    ensures rest { IfOk result (λ p. p.rest.items ≡ other_mail pending.items id choice.now) }
+    ensures for_node { IfOk result (λ p. p.for_node.items ≡ mail pending.items id types.now) }
+    ensures rest { IfOk result (λ p. p.rest.items ≡ other_mail pending.items id types.now) }
 {
-    let mut quota = Quota {
-        skip: choice.skip,
-        count: choice.count,
-    };
     let mut mail = Vec::new(alloc);
     let mut others = Vec::new(alloc);
     for shared in pending {
-        let is_meant = is_meant(id, choice, shared.message());
-        if is_meant && quota.chooses() {
+        if is_for(id, types, shared.message()) {
             mail.push(shared)?;
         } else {
             others.push(shared)?;
-        }
-        if is_meant {
-            quota = quota.after_one();
         }
     }
     Ok(SplitMail {

@@ -19,7 +19,7 @@ use crate::chart::shown::shown;
 use crate::chart::sizes::{ASIDE, HEADING, MOST_HEAD, MOST_MARK, MOST_NOTE, least_right, middle};
 use crate::chart::source::ScriptSource;
 use rb_cluster::SharedNode;
-use rb_message::{Event, EventKind, Role};
+use rb_message::{Event, EventKind};
 use rb_raftlog::RaftLog;
 use rb_text::Piece;
 use rb_texts::{Item, Verb, event_form};
@@ -319,12 +319,6 @@ impl<'a> Canvas<'a> {
         match &event.kind {
             EventKind::Became { role, .. } => {
                 if let Some(band) = self.columns.turn(event.id, *role, y) {
-                    self.chart.under.push(band)?;
-                }
-                Ok(())
-            }
-            EventKind::Restarted { .. } => {
-                if let Some(band) = self.columns.turn(event.id, Role::Follower, y) {
                     self.chart.under.push(band)?;
                 }
                 Ok(())
