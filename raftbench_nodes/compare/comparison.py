@@ -5,25 +5,21 @@ from itertools import zip_longest
 from typing import Callable, Iterator, Mapping, NamedTuple, Sequence
 
 from plain.node import Node
-from plain.records import AnyNode, Message, Ready
+from plain.records import AnyNode
 from plain.script import Block
-from plain.texts import config_text, content_text, entry_text, log_texts, message_text, view_text
 
 from ..process.process import Failed, Process
 from ..promises.checker import name_of
 from ..promises.clusters import WatchedHosts, WatchedReference, breaks
 from ..protocol.capabilities import reduced
-from ..protocol.encoding import STATE
 from ..rules.lists import Switched
+from .answers import config_line, differing_part, direction, log_lines, log_of, message_line, ready_lines, state_line, view_lines
 from .runner_steps import steps_above
 from .script import directive_of
 from .stage import AFTER, CallRecord, Stage, allowed
 
 # What may be compared besides states.
 ASPECTS = ("views", "messages", "order", "ready", "lines")
-# Parts of a state, in the order in which a difference is named.
-FIELDS = STATE[:7]
-NUMBERS = ("term", "commit", "applied")
 
 
 class Comparison(NamedTuple):
@@ -89,71 +85,6 @@ class Outcome(NamedTuple):
             yield broken.kind(), broken.place
 
 
-# What is compared
-
-
-def known_state(node: AnyNode, without: frozenset[str]) -> dict[str, object]:
-    values = {name: getattr(node, name) for name in FIELDS if name not in without}
-    if "content" in values:
-        values["content"] = content_text(node.content)
-    return values
-
-
-def known_config(node: AnyNode, without: frozenset[str]) -> list[str]:
-    return [f"{node.id} {config_text(node.config._replace(auto=False) if 'auto' in without else node.config)}"]
-
-
-def known_log(node: AnyNode, without: frozenset[str]) -> list[str]:
-    """Where a log begins, its entries, and which aren't saved. Commit and applied, which are shown with it, are parts of the state."""
-    if "durable" in without:
-        return [f"base={node.base_term}/{node.base}"] + [entry_text(index, entry) for index, entry in node.entries_from(node.base + 1)]
-    first, *entries = log_texts(node)
-    return [first.partition(" commit=")[0], *entries]
-
-
-def state_line(node: AnyNode, values: dict[str, object]) -> str:
-    return f"{node.id} " + " ".join(str(value) if name == "role" else f"{name}={value}" for name, value in values.items())
-
-
-def views_of(node: AnyNode) -> list[str]:
-    """What a leader knows of the others."""
-    if node.role != "leader":
-        return []
-    return [f"{node.id} sees {view_text(id, view)}" for id, view in sorted(node.views.items()) if id != node.id]
-
-
-def known_message(m: Message, without: frozenset[str] = frozenset()) -> str:
-    """What is compared of a message, as a text. Who a passed on transfer is from isn't compared: not every library says so."""
-    text = message_text(m._replace(commit=0) if "commit" in without else m)
-    if m.kind == "MsgTransferLeader":
-        text = text.partition("->")[2]
-    hint = f" logTerm={m.log_term}" if m.kind == "MsgAppResp" and m.log_term else ""
-    return text + hint + "".join(f" {entry_text(index, entry)}" for index, entry in enumerate(m.entries, m.index + 1))
-
-
-def known_ready(id: int, ready: Ready, without: frozenset[str]) -> list[str]:
-    """What is to be saved and applied; nothing if there is nothing."""
-    lines = []
-    if ready.hard:
-        lines.append(f"{id} hard term={ready.hard.term} vote={ready.hard.vote} commit={ready.hard.commit}")
-    if ready.snapshot:
-        lines.append(f"{id} snapshot {ready.snapshot[1]}/{ready.snapshot[0]}")
-    for verb, entries in (("save", ready.entries), ("apply", ready.committed)):
-        lines += [f"{id} {verb} {entry_text(index, entry)}" for index, entry in entries]
-    if lines and "sync" not in without:
-        lines.append(f"{id} {'must' if ready.sync else 'need not'} be saved before anything is sent")
-    return lines
-
-
-def direction(field: str, wanted: object, came: object) -> str:
-    """A part with what is surprising about it."""
-    if field == "role":
-        return f"role {came} for {wanted}"
-    if field in NUMBERS and isinstance(wanted, int) and isinstance(came, int):
-        return f"{field} {'ahead' if came > wanted else 'behind'}"
-    return field
-
-
 DifferenceParts = tuple[str, int, Sequence[str], Sequence[str]]
 
 
@@ -179,11 +110,11 @@ class Beside:
         for ours, theirs in pairs:
             yield from self.state_differences(ours, theirs)
         if "config" not in self.without:
-            yield from text_differences("config", pairs, lambda node: known_config(node, self.without))
+            yield from text_differences("config", pairs, lambda node: [config_line(node.id, node.config, self.without)])
         if "log" not in self.without:
-            yield from text_differences("log", pairs, lambda node: known_log(node, self.without))
+            yield from text_differences("log", pairs, lambda node: log_lines(log_of(node), self.without))
         if "views" in aspects and "status" not in self.without:
-            yield from text_differences("views", pairs, views_of)
+            yield from text_differences("views", pairs, lambda node: view_lines(node.id, node.views) if node.role == "leader" else [])
         if "ready" in aspects and "ready" not in self.without:
             yield from self.ready_differences()
         if aspects & {"messages", "order"}:
@@ -195,19 +126,18 @@ class Beside:
 
     def state_differences(self, ours: AnyNode, theirs: AnyNode) -> Iterator[DifferenceParts]:
         skipped = self.without | (ours.unsettled() if isinstance(ours, Switched) else frozenset())
-        wanted, came = known_state(ours, skipped), known_state(theirs, skipped)
-        field = next((name for name in wanted if wanted[name] != came[name]), None)
-        if field:
-            yield direction(field, wanted[field], came[field]), ours.id, [state_line(ours, wanted)], [state_line(theirs, came)]
+        part = differing_part(ours, theirs, skipped)
+        if part:
+            yield direction(part, ours, theirs), ours.id, [state_line(ours.id, ours, skipped)], [state_line(theirs.id, theirs, skipped)]
 
     def ready_differences(self) -> Iterator[DifferenceParts]:
-        wanted, came = ([line for id, ready in side.readies for line in known_ready(id, ready, self.without)] for side in (self.ours, self.theirs))
+        wanted, came = ([line for id, ready in side.readies for line in ready_lines(id, ready, self.without)] for side in (self.ours, self.theirs))
         if wanted != came:
             first = next(one or other or "" for one, other in zip_longest(wanted, came) if one != other)
             yield "ready: " + {"hard": "hard state", "must": "sync", "need": "sync"}.get(first.split()[1], first.split()[1]), int(first.split()[0]), wanted, came
 
     def message_differences(self) -> Iterator[DifferenceParts]:
-        wanted, came = ([known_message(m, self.without) for m in cluster.sent] for cluster in (self.ours, self.theirs))
+        wanted, came = ([message_line(m, self.without) for m in cluster.sent] for cluster in (self.ours, self.theirs))
         if "order" not in self.chosen.aspects:
             wanted, came = sorted(wanted), sorted(came)
         if wanted == came:

@@ -17,10 +17,12 @@ from ..promises.checker import Promises
 from ..promises.clusters import Watching
 from ..promises.run import PromiseResult, PromiseRun
 from ..protocol.capabilities import reduced
-from ..protocol.encoding import Hello, Json, change_out, config_out, data_out
+from ..protocol.answers import Answer, LogEnd, View, answer_in
+from ..protocol.encoding import Hello, Json, WireMessage, Wrong, change_out, config_out, data_out
 from ..rules.lists import Switched
-from .answers import SETTLED, Checker, ExpectedState, NumberedMessage, PlannedCall, View
+from .answers import log_of, state_of
 from .comparison import Comparison, Difference, failure
+from .expected import Checker, ExpectedState, NumberedMessage, PlannedCall
 from .runner_steps import steps_above
 from .script import directive_of
 from .stage import NEVER, Reference, allowed
@@ -34,6 +36,11 @@ PARTS: dict[str, Callable[..., Json]] = {
     "set_timeout": lambda ticks: {"ticks": ticks}, "compact": lambda index: {"index": index},
     "restart": lambda saved="nothing": {"saved": saved}, "read": lambda id: {"id": id},
 }
+
+
+NONE: frozenset[str] = frozenset()
+# Whether more is ready isn't compared while what was ready is under way.
+READY_LATER = frozenset({"ready"})
 
 
 class PlanningReference(Reference):
@@ -54,9 +61,8 @@ class PlanningReference(Reference):
         return node
 
     def expected(self, node: Node) -> ExpectedState:
-        skipped = node.unsettled() if isinstance(node, Switched) else SETTLED
-        is_ready = None if node.id in self.under_way else node.has_ready()
-        return ExpectedState(node.role, node.term, node.vote, node.lead, node.commit, node.applied, node.content, node.config, skipped, is_ready)
+        skipped = node.unsettled() if isinstance(node, Switched) else NONE
+        return ExpectedState(state_of(node), skipped | READY_LATER if node.id in self.under_way else skipped)
 
     def ask(self, node_id: int, call: str, **parts: Any) -> None:
         self.steps_to = 0
@@ -116,14 +122,14 @@ class PlanningReference(Reference):
         assert isinstance(m, NumberedMessage)
         if m.is_cut():
             self.ask(id, "step")
-            self.asked[-1] = self.asked[-1]._replace(cut=m)
+            self.asked[-1].cut = m
         elif self.steps_to == id:
             self.asked[-1].call["numbers"].append(m.number)
             self.asked[-1].states.append(self.expected(self.node(id)))
             self.asked[-1].whats.append((m.kind, self.role_before))
         else:
             self.ask(id, "step", numbers=[m.number])
-            self.asked[-1] = self.asked[-1]._replace(whats=[(m.kind, self.role_before)])
+            self.asked[-1].whats = [(m.kind, self.role_before)]
             self.steps_to = id
 
     def numbered(self, message: Message) -> NumberedMessage:
@@ -142,7 +148,7 @@ class PlanningReference(Reference):
         ready = super().take_ready(id)
         ready = ready._replace(messages=[self.numbered(m) for m in ready.messages])
         self.steps_to = 0
-        self.asked.append(PlannedCall({"call": "ready", "node": id}, [], ready, role=self.role_before))
+        self.asked.append(PlannedCall({"call": "ready", "node": id}, answer=ready, role=self.role_before))
         return ready
 
     def finish(self, id: int) -> bool:
@@ -156,13 +162,13 @@ class PlanningReference(Reference):
         else:
             super().finish(id)
         self.ask(id, "advance")
-        self.asked[-1] = self.asked[-1]._replace(end=(node.last(), node.last_term(), node.durable))
+        self.asked[-1].end = LogEnd(node.last(), node.last_term(), node.durable)
         return True
 
     def do_send_snapshot(self, words: Sequence[Any], *_: object) -> None:
         message = self.numbered(self.nodes[words[0]].snapshot_for(words[1]))
         self.steps_to = 0
-        self.asked.append(PlannedCall({"call": "snapshot", "node": words[0], "to": words[1]}, [], message=message))
+        self.asked.append(PlannedCall({"call": "snapshot", "node": words[0], "to": words[1]}, answer=message))
         self.queue(message, "queue")
 
     def drop(self, message: Message) -> None:
@@ -179,14 +185,12 @@ class PlanningReference(Reference):
             node = self.node(id)
             if node.role == "leader":
                 views = {to: View(v.state, v.match, v.next, v.inflight, v.waiting, v.active, v.pending) for to, v in node.views.items() if to != id}
-                self.asked.append(PlannedCall({"call": "status", "node": id}, [], views=views))
+                self.asked.append(PlannedCall({"call": "status", "node": id}, answer=views))
         self.steps_to = 0
 
     def ask_logs(self) -> None:
         for id in self.nodes if "log" not in self.hello.without else []:
-            node = self.node(id)
-            end = node.base, node.base_term, node.durable
-            self.asked.append(PlannedCall({"call": "log", "node": id}, [], entries=node.entries_from(node.base + 1), end=end))
+            self.asked.append(PlannedCall({"call": "log", "node": id}, answer=log_of(self.node(id))))
 
 
 class Plan(NamedTuple):
@@ -222,33 +226,33 @@ def plan_of(blocks: Sequence[Block], process: Process, chosen: Comparison) -> Pl
 # Asking at once
 
 
-def answers_at_once(asked: Sequence[PlannedCall], process: Process) -> list[Json]:
-    """The answers to all calls. A message that the network cut is made from what the process gave, so its call has to wait for that."""
+def answers_at_once(asked: Sequence[PlannedCall], process: Process) -> list[Answer]:
+    """The answers to all calls; Wrong if one isn't an answer. A message that the network cut is made from what the process gave, so its call has to wait for
+    that.
+    """
     process.reset()
-    answers: list[Json] = []
-    given: list[Json] = []
-    begun = 0
+    answers: list[Answer] = []
+    given: list[Message] = []
     for at in [at for at, each in enumerate(asked) if each.cut] + [len(asked)]:
+        begun = len(answers)
         calls = [call_of(each, given) for each in asked[begun:at]]
         if calls:
-            answers += process.ask_all(calls, begun)
+            answers += [answer_in(call, answer, process.without) for call, answer in zip(calls, process.ask_all(calls, begun))]
             given += [message for answer in answers[begun:] for message in messages_of(answer)]
-        begun = at
     return answers
 
 
-def call_of(asked: PlannedCall, given: Sequence[Json]) -> Json:
+def call_of(asked: PlannedCall, given: Sequence[Message]) -> Json:
     if asked.cut is None:
         return asked.call
-    whole = given[asked.cut.number] if asked.cut.number < len(given) else {}
+    message = given[asked.cut.number] if asked.cut.number < len(given) else None
+    whole = message.json if isinstance(message, WireMessage) else {}
     return {**asked.call, "message": {**whole, "entries": (whole.get("entries") or [])[:len(asked.cut.entries)]}}
 
 
-def messages_of(answer: Json) -> list[Json]:
-    """The messages that an answer gives; what isn't such an answer gives none, and is found by the checker."""
-    ready = answer.get("ready")
-    messages = [answer["message"]] if "message" in answer else (ready.get("messages") or []) if isinstance(ready, dict) else []
-    return [message for message in messages if isinstance(message, dict)]
+def messages_of(answer: Answer) -> Sequence[Message]:
+    """The messages that an answer gives."""
+    return answer.messages if isinstance(answer, Ready) else [answer] if isinstance(answer, Message) else []
 
 
 class AtOnce(NamedTuple):
@@ -267,6 +271,8 @@ def asked_at_once(plan: Plan, process: Process, chosen: Comparison) -> AtOnce:
         return AtOnce(False)
     try:
         return compared_at_once(plan.asked, answers_at_once(plan.asked, process), Checker(process.hello, chosen.aspects), plan.places)
+    except Wrong:
+        return AtOnce(False)
     except Failed as failed:
         if failed.number >= len(plan.places):
             return AtOnce(False)
@@ -274,7 +280,7 @@ def asked_at_once(plan: Plan, process: Process, chosen: Comparison) -> AtOnce:
         return AtOnce(False, failure(place, directive_of(block).name.decode("latin-1"), failed, plan.asked[failed.number].role))
 
 
-def compared_at_once(asked: Sequence[PlannedCall], answers: Sequence[Json], checker: Checker, places: Sequence[tuple[int, Block]]) -> AtOnce:
+def compared_at_once(asked: Sequence[PlannedCall], answers: Sequence[Answer], checker: Checker, places: Sequence[tuple[int, Block]]) -> AtOnce:
     other = checker.first_other(asked, answers) if len(asked) == len(answers) else 0
     if other is None:
         return AtOnce(True)
@@ -307,7 +313,7 @@ def keeps_promises_at_once(
     cluster.ask_logs()
     try:
         answers = answers_at_once(cluster.asked, process)
-    except Failed:
+    except (Failed, Wrong):
         return None, None
     places = [(len(blocks), blocks[-1])] * len(cluster.asked) if blocks else []
     at_once = compared_at_once(cluster.asked, answers, Checker(process.hello, chosen.aspects | {"ready"}), places)
@@ -315,7 +321,6 @@ def keeps_promises_at_once(
     return result if is_kept else None, at_once.state
 
 
-def are_linearizable(answer: Json, promises: Promises) -> bool:
+def are_linearizable(answer: Answer, promises: Promises) -> bool:
     """Whether the reads that an answer serves, if any, see what was committed when they were asked for."""
-    reads = (answer.get("ready") or {}).get("reads") or []
-    return all(read.get("index", 0) >= promises.asked.get(read.get("id", 0), (0, 0))[1] for read in reads)
+    return not isinstance(answer, Ready) or all(read.index >= promises.asked.get(read.id, (0, 0))[1] for read in answer.reads)

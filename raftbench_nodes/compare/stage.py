@@ -16,7 +16,8 @@ from plain.script import Argument
 
 from ..process.node import HostedNode
 from ..process.process import Process
-from ..protocol.encoding import STATE, Hello, WireMessage, is_early
+from ..protocol.answers import STATE
+from ..protocol.encoding import Hello, WireMessage, is_early
 from ..rules.lists import Switched
 from .made import NodeBefore, note_call
 from .runner_steps import LIMITED, UNORDERED, RunnerStep

@@ -6,9 +6,8 @@ from typing import Any, Callable, TypeVar
 from plain.config import Change, Config
 from plain.records import Event, Message, Numbered, Options, Ready
 
-from ..protocol.encoding import (
-    HostedView, Json, Log, Parts, State, WireMessage, Wrong, change_out, config_out, data_out, events_in, log_in, message_in, ready_in, state_in, views_in,
-)
+from ..protocol.answers import Log, State, Views, result_in, log_in, ready_in, snapshot_in, views_in
+from ..protocol.encoding import Json, Parts, WireMessage, Wrong, change_out, config_out, data_out
 from .process import Process
 
 T = TypeVar("T")
@@ -25,25 +24,24 @@ class HostedNode:
         base = {"index": index, "term": 1 if index else 0, "content": data_out(content), "config": config_out(config)}
         self.change_by("start", base=base, options=options_out(options, process.hello.limits))
 
-    def ask(self, name: str, read: Callable[[Parts], T], **given: Any) -> T:
-        """What `read` makes of the parts of an answer; where that is wrong the call failed."""
+    def ask(self, name: str, read: Callable[[Parts, frozenset[str]], T], **given: Any) -> T:
+        """The answer to a call; where it is wrong the call failed."""
         call = {"call": name, "node": self.id, **given}
         answer = self.process.ask(call)
         try:
-            return read(Parts(answer, ""))
+            return read(Parts(answer, ""), self.process.without)
         except Wrong as wrong:
             raise self.process.failed(call, str(wrong)) from None
 
     def change_by(self, name: str, **given: Any) -> None:
-        self.ask(name, self.take, **given)
-
-    def take(self, parts: Parts) -> None:
-        self.take_state(state_in(parts.needed_object("state"), self.process.without))
-        self.events += events_in(parts)
+        result = self.ask(name, result_in, **given)
+        self.take_state(result.states[0])
+        self.events += result.events
 
     def take_state(self, state: State) -> None:
         self.state, self.known_log = state, None
-        self.role, self.term, self.vote, self.lead, self.commit, self.applied, self.content, self.config, self.is_ready = state
+        self.role, self.term, self.vote, self.lead, self.commit, self.applied = state.role, state.term, state.vote, state.lead, state.commit, state.applied
+        self.content, self.config = state.content, state.config
 
     # What it says of itself
 
@@ -51,7 +49,7 @@ class HostedNode:
         if "log" in self.process.without:
             return NO_LOG
         if self.known_log is None:
-            self.known_log = self.ask("log", lambda parts: log_in(parts, self.process.without))
+            self.known_log = self.ask("log", log_in)
         return self.known_log
 
     @property
@@ -70,11 +68,11 @@ class HostedNode:
         return [pair for pair in self.log().entries if pair[0] >= index]
 
     @property
-    def views(self) -> dict[int, HostedView]:
+    def views(self) -> Views:
         return {} if "status" in self.process.without else self.ask("status", views_in)
 
     def has_ready(self) -> bool:
-        return self.is_ready
+        return self.state.ready
 
     # Calls
 
@@ -121,10 +119,10 @@ class HostedNode:
         self.change_by("compact", index=index)
 
     def snapshot_for(self, to: int) -> Message:
-        return self.ask("snapshot", lambda parts: message_in(parts.needed_object("message")), to=to)
+        return self.ask("snapshot", snapshot_in, to=to)
 
     def ready(self) -> Ready:
-        return self.ask("ready", lambda parts: ready_in(parts.needed_object("ready")))
+        return self.ask("ready", ready_in)
 
     def advance(self) -> None:
         self.change_by("advance")

@@ -18,7 +18,8 @@ import subprocess
 import time
 from typing import IO, Any, Callable, Iterator, Sequence
 
-from ..protocol.encoding import VERSION, Hello, Json, Parts, Wrong, hello_in, printable, shown
+from ..protocol.answers import hello_in
+from ..protocol.encoding import VERSION, Hello, Json, Parts, Wrong, printable, shown
 from .cache import Transcript
 from .delays import waited
 

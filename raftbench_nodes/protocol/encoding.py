@@ -1,32 +1,27 @@
-"""The protocol of docs/OWN-NODES.md: its records, and how they are written in JSON, both ways. Each part of an answer is checked before it is
-used: what is missing or of another type is a `Wrong` that names its place and value.
+"""The values of the protocol (docs/OWN-NODES.md) and their JSON, both ways: configurations, changes, entries, messages. `Parts` reads an object of JSON.
+A part that is missing or has another type raises `Wrong`, which names its place and value. What nodes answer is in answers.py.
 """
 from __future__ import annotations
 
 import base64
 import binascii
+import functools
 import json
 import re
 from typing import Any, Iterable, NamedTuple, Sequence
 
 from plain.config import Change, Config
-from plain.records import Body, Entry, Event, Hard, Message, Numbered, Read, Ready, ShownView, Snapshot
+from plain.records import Body, Entry, Message, Numbered, Ready, ShownView, Snapshot
 
 VERSION = 1
 GREATEST = (1 << 63) - 1
 MOST_SHOWN = 80
-ROLES = ("follower", "precandidate", "candidate", "leader")
 TRANSITIONS = ("auto", "explicit", "implicit")
-LEVELS = ("DEBUG", "INFO", "WARN", "ERROR", "FATAL")
 # Calls that a library may lack, and those that it may have.
 CALLS = ("campaign", "tick", "forget_leader", "propose_change", "set_timeout", "transfer", "report_unreachable", "compact", "snapshot", "status")
 OPTIONAL_CALLS = ("restart", "lost", "read", "report_snapshot")
 OPTIONS = ("inflight", "prevote", "checkquorum", "step_down_on_removal")
 CHANGES = ("learners", "joint")
-# The parts of a state, in the order in which a difference is named: the role, numbers, and what was applied. All but the role, the term and `ready` may lack.
-STATE = ("role", "term", "vote", "lead", "commit", "applied", "content", "config", "ready")
-OPTIONAL = STATE[2:8]
-STATES = (*OPTIONAL, "log", "durable", "auto")
 READY = ("ready", "sync", "torn")
 ALWAYS = ("prevote", "checkquorum", "step_down_on_removal", "inflight=1")
 LIMITS = ("max_size_per_msg", "max_uncommitted_size")
@@ -55,45 +50,6 @@ class Hello(NamedTuple):
     has_digest: bool = False
 
 
-class State(NamedTuple):
-    role: str
-    term: int
-    vote: int
-    lead: int
-    commit: int
-    applied: int
-    content: bytes
-    config: Config
-    is_ready: bool
-
-
-class Log(NamedTuple):
-    base: int
-    base_term: int
-    durable: int
-    entries: list[Numbered]
-
-
-class LogEnd(NamedTuple):
-    """Index and term of the last entry, and the last index that is saved."""
-
-    last: int
-    term: int
-    durable: int
-
-
-class HostedView(NamedTuple):
-    """What a leader says of a member."""
-
-    state: str
-    match: int
-    next: int
-    inflight: int
-    waiting: bool
-    active: bool
-    pending: int
-
-
 def shown(value: object) -> str:
     """A value as JSON, cut to a length that fits into a line."""
     text = json.dumps(value)
@@ -102,7 +58,14 @@ def shown(value: object) -> str:
 
 def printable(text: str) -> str:
     """A text in printable ASCII, whatever it has."""
+    if text.isascii() and text.isprintable():
+        return text
     return "".join(c if " " <= c <= "~" else c.encode("unicode_escape", "backslashreplace").decode() for c in text)
+
+
+@functools.lru_cache(maxsize=10_000)
+def decoded(text: str) -> bytes:
+    return base64.b64decode(text.encode(), validate=True)
 
 
 class Parts:
@@ -119,19 +82,22 @@ class Parts:
 
     def part(self, name: str, kind: type, what: str, default: Any, needed: bool = False) -> Any:
         value = self.value.get(name)
+        if type(value) is kind:
+            return value
         if value is None:
             if needed and name not in self.value:
                 raise Wrong(f"{self.where(name)} is missing")
             return default
-        if type(value) is not kind:
-            raise Wrong(f"{self.where(name)}: {shown(value)} is not {what}")
-        return value
+        raise Wrong(f"{self.where(name)}: {shown(value)} is not {what}")
 
     def number(self, name: str, needed: bool = False) -> int:
-        value: int = self.part(name, int, "a number", 0, needed)
+        value = self.value.get(name)
+        if type(value) is int and 0 <= value <= GREATEST:
+            return value
+        value = self.part(name, int, "a number", 0, needed)
         if not 0 <= value <= GREATEST:
             raise Wrong(f"{self.where(name)}: {shown(value)} is not a number from 0 to {GREATEST}")
-        return value
+        return int(value)
 
     def truth(self, name: str, needed: bool = False) -> bool:
         return bool(self.part(name, bool, "true or false", False, needed))
@@ -149,7 +115,7 @@ class Parts:
         """Bytes, which are written in base64."""
         value = self.text(name, needed)
         try:
-            return base64.b64decode(value.encode(), validate=True)
+            return decoded(value)
         except (binascii.Error, UnicodeEncodeError):
             raise Wrong(f"{self.where(name)}: {shown(value)} is not base64") from None
 
@@ -166,6 +132,8 @@ class Parts:
 
     def ids(self, name: str) -> frozenset[int]:
         values = self.items(name)
+        if not values:
+            return frozenset()
         if any(type(id) is not int or not 0 <= id <= GREATEST for id in values):
             raise Wrong(f"{self.where(name)}: {shown(values)} is not a list of ids")
         return frozenset(values)
@@ -243,18 +211,7 @@ def view_out(id: int, view: ShownView) -> Json:
     }
 
 
-# In: what nodes answer
-
-
-def hello_in(parts: Parts) -> Hello:
-    if parts.number("protocol", needed=True) != VERSION:
-        raise Wrong(f"protocol: this bench speaks {VERSION}, and not {shown(parts.value['protocol'])}")
-    return Hello(
-        printable(parts.text("name", needed=True)), parts.words("without", CALLS + OPTIONS + CHANGES + STATES + READY, "something that nodes may be without"),
-        parts.words("calls", OPTIONAL_CALLS, "an optional call"), parts.words("always", ALWAYS, "something that nodes may always do"),
-        parts.words("limits", LIMITS, "a limit that nodes may have"), parts.truth("open"), parts.truth("ordered"), parts.truth("apart"), parts.truth("batch"),
-        parts.truth("batch") and parts.truth("digest"),
-    )
+# In: what both sides read
 
 
 def config_in(parts: Parts | None) -> Config:
@@ -310,56 +267,3 @@ def message_in(parts: Parts) -> WireMessage:
 def is_early(message: Message) -> bool:
     """Whether a message goes out before what was ready with it is saved."""
     return isinstance(message, WireMessage) and message.json.get("before_save") is True
-
-
-def state_in(parts: Parts, without: frozenset[str]) -> State:
-    if missing := [name for name in OPTIONAL if name not in parts.value and name not in without]:
-        raise Wrong(f"parts of {parts.path} are missing, and not in `without`: {', '.join(missing)}")
-    numbers = (parts.number(name, needed=name not in without) for name in STATE[2:6])
-    role, term = parts.word("role", ROLES), parts.number("term", needed=True)
-    vote, lead, commit, applied = numbers
-    content, config = parts.data("content", needed="content" not in without), parts.object("config")
-    if config is None and "config" not in without:
-        raise Wrong(f"{parts.where('config')} is missing")
-    return State(role, term, vote, lead, commit, applied, content, config_in(config), parts.truth("ready", needed=True))
-
-
-def log_in(parts: Parts, without: frozenset[str]) -> Log:
-    base, entries = parts.needed_object("base"), entries_in(parts.objects("entries"))
-    for at, (index, _) in enumerate(entries, base.number("index", needed=True) + 1):
-        if index != at:
-            raise Wrong(f"entries: index {index}, where {at} is due")
-    return Log(base.number("index"), base.number("term", needed=True), parts.number("durable", needed="durable" not in without), entries)
-
-
-def log_end_in(parts: Parts) -> LogEnd | None:
-    end = parts.object("log")
-    return LogEnd(end.number("last", needed=True), end.number("term", needed=True), end.number("durable")) if end else None
-
-
-def views_in(parts: Parts) -> dict[int, HostedView]:
-    return {
-        view.number("node", needed=True): HostedView(
-            view.word("state", ("probe", "replicate", "snapshot")), view.number("match"), view.number("next", needed=True), view.number("inflight"),
-            view.truth("waiting"), view.truth("active"), view.number("snapshot"),
-        )
-        for view in parts.objects("views")
-    }
-
-
-def ready_in(parts: Parts) -> Ready:
-    hard, snapshot = parts.object("hard"), parts.object("snapshot")
-    return Ready(
-        Hard(hard.number("term"), hard.number("vote"), hard.number("commit")) if hard else None,
-        (snapshot.number("index"), snapshot.number("term")) if snapshot else None,
-        entries_in(parts.objects("entries")), entries_in(parts.objects("committed")), [message_in(m) for m in parts.objects("messages")],
-        parts.truth("sync"), tuple(Read(read.number("id"), read.number("index")) for read in parts.objects("reads")),
-    )
-
-
-def events_in(parts: Parts) -> list[Event]:
-    events = parts.items("events")
-    for event in events:
-        if not (isinstance(event, list) and len(event) == 2 and all(isinstance(it, str) for it in event) and event[0] in LEVELS):
-            raise Wrong(f"{parts.where('events')}: {shown(event)} is not a pair of a level and a line")
-    return [(level, printable(line)) for level, line in events]

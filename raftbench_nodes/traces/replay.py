@@ -10,17 +10,14 @@ from typing import Any, Iterator, NamedTuple, Sequence
 
 from plain.node import Disk, Node
 from plain.records import Hard, Message, Ready
-from plain.texts import config_text, content_text, entry_text
 
-from ..compare.comparison import known_message
+from ..compare.answers import config_line, differing_part, log_lines, message_line, state_line
 from ..process.node import HostedNode
 from ..promises.checker import Promises, name_of
 from ..protocol.adapter import Adapter
-from ..protocol.encoding import (
-    GREATEST, STATE, Hello, Json, Log, Parts, State, Wrong, config_in, entries_in, hello_in, log_in, message_in, printable, ready_in, state_in,
-)
+from ..protocol.answers import Log, State, result_in, hello_in, log_in, ready_in
+from ..protocol.encoding import GREATEST, Hello, Json, Parts, Wrong, config_in, entries_in, message_in, printable
 
-FIELDS = STATE[:6]
 # These promises look at several nodes at one time, so they need the calls in the order in which they were made.
 NEED_ORDER = frozenset({"a leader has a quorum of votes", "a quorum holds what a leader commits"})
 NO_TICK = 1 << 40
@@ -216,7 +213,7 @@ class Replay:
             yield Difference("call", [f"impossible: {fault}"], ["answered"])
             return
         if name == "ready":
-            yield from ready_differences(ready_in(ours.needed_object("ready")), ready_in(theirs.needed_object("ready")), without)
+            yield from ready_differences(ready_in(ours), ready_in(theirs), without)
         elif name == "log":
             if "log" not in without:
                 yield from different("log", *(log_lines(log_in(side, without), without) for side in (ours, theirs)))
@@ -285,8 +282,7 @@ def what(record: Record) -> str:
 
 def state_of(parts: Parts, without: frozenset[str]) -> State:
     """The state of an answer; of several the last."""
-    several = parts.objects("states")
-    return state_in(several[-1] if several else parts.needed_object("state"), without)
+    return result_in(parts, without, bool(parts.items("states"))).states[-1]
 
 
 def different(field: str, ours: list[str], theirs: list[str]) -> Iterator[Difference]:
@@ -295,25 +291,14 @@ def different(field: str, ours: list[str], theirs: list[str]) -> Iterator[Differ
 
 
 def state_differences(id: int, ours: State, theirs: State, without: frozenset[str]) -> Iterator[Difference]:
-    shown = [field for field in FIELDS if field not in without]
-    lines = [[f"{id} " + " ".join(f"{field}={getattr(side, field)}" for field in shown)] for side in (ours, theirs)]
-    for field in shown:
-        if getattr(ours, field) != getattr(theirs, field):
-            yield Difference(field, *lines)
-    if "content" not in without:
-        yield from different("content", [content_text(ours.content)], [content_text(theirs.content)])
+    if part := differing_part(ours, theirs, without):
+        yield Difference(part, [state_line(id, ours, without)], [state_line(id, theirs, without)])
     if "config" not in without:
-        configs = [side.config._replace(auto=side.config.auto and "auto" not in without) for side in (ours, theirs)]
-        yield from different("config", *([config_text(config)] for config in configs))
-
-
-def log_lines(log: Log, without: frozenset[str]) -> list[str]:
-    durable = "" if "durable" in without else f" durable={log.durable}"
-    return [f"base={log.base_term}/{log.base}{durable}", *(entry_text(index, entry) for index, entry in log.entries)]
+        yield from different("config", *([config_line(id, side.config, without)] for side in (ours, theirs)))
 
 
 def ready_differences(ours: Ready, theirs: Ready, without: frozenset[str]) -> Iterator[Difference]:
-    wanted, came = (sorted(map(known_message, side.messages)) for side in (ours, theirs))
+    wanted, came = (sorted(map(message_line, side.messages)) for side in (ours, theirs))
     odd = next((text for text in wanted + came if wanted.count(text) != came.count(text)), "")
     yield from different("messages " + next((word for word in odd.split() if word.startswith("Msg")), ""), wanted, came)
     if "ready" not in without:

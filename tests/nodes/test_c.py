@@ -16,7 +16,8 @@ from collections.abc import Iterator
 
 from plain.config import Change, Config
 from plain.records import Entry, Hard, Read, Snapshot
-from raftbench_nodes.protocol.encoding import Json, Parts, events_in, hello_in, is_early, log_in, message_in, ready_in, state_in, views_in
+from raftbench_nodes.protocol.answers import Log, State, View, hello_in, log_in, ready_in, result_in, snapshot_in, views_in
+from raftbench_nodes.protocol.encoding import Json, Parts, is_early
 from tests.harness import TOP, NotHere
 
 FOLDER = TOP / "nodes" / "c"
@@ -111,12 +112,12 @@ def test_hello(room: pathlib.Path) -> Iterator[str]:
 def test_calls(room: pathlib.Path) -> Iterator[str]:
     """Each call comes to its function with all of its parts, and its answer has the state."""
     for (call, event), answer in zip(EVENTS, answers_of(compiled(room, TOP / "tests/nodes/every.c"), *(call for call, _ in EVENTS))):
-        state = state_in(answer.needed_object("state"), frozenset())
-        if [line for _, line in events_in(answer)] != [event.replace("\n", "\\n").replace("\x7f", "\\x7f")]:
+        result = result_in(answer, frozenset())
+        if [line for _, line in result.events] != [event.replace("\n", "\\n").replace("\x7f", "\\x7f")]:
             yield f"{call}: {answer.value}"
         config = Config(frozenset({1, 2}), frozenset({3}), frozenset({4}), frozenset({5}), True)
-        if state != ("precandidate", 3, 4, 5, 6, 7, b"ab", config, True):
-            yield f"{call}: {state}"
+        if result.states != [State("precandidate", 3, 4, 5, 6, 7, b"ab", config, True)]:
+            yield f"{call}: {result.states}"
 
 
 def test_what_is_shown(room: pathlib.Path) -> Iterator[str]:
@@ -124,7 +125,7 @@ def test_what_is_shown(room: pathlib.Path) -> Iterator[str]:
     program = compiled(room, TOP / "tests/nodes/every.c")
     asked: list[Json] = [{"call": "reset"}, START, {"call": "ready"}, {"call": "snapshot", "to": 2}, {"call": "log"}, {"call": "status"}]
     _, _, answer, sent, log, views = answers_of(program, *asked)
-    ready, change = ready_in(answer.needed_object("ready")), Change("explicit", (("v", 3), ("r", 40)))
+    ready, change = ready_in(answer), Change("explicit", (("v", 3), ("r", 40)))
     entries = [(9, Entry(2, b"a")), (10, Entry(2, change))]
     if ready != (Hard(2, 1, 7), (8, 1), entries, entries[:1], ready.messages, True, (Read(5, 7),)):
         yield f"ready: {ready}"
@@ -137,11 +138,11 @@ def test_what_is_shown(room: pathlib.Path) -> Iterator[str]:
         yield f"a message: {first}"
     if first.snapshot != Snapshot(8, 2, b"ab", config):
         yield f"a snapshot: {first.snapshot}"
-    if (other.kind, other.to, is_early(other)) != ("MsgTimeoutNow", 3, False) or message_in(sent.needed_object("message"))[:3] != first[:3]:
+    if (other.kind, other.to, is_early(other)) != ("MsgTimeoutNow", 3, False) or snapshot_in(sent)[:3] != first[:3]:
         yield f"messages: {other}, {sent.value}"
-    if log_in(log, frozenset()) != (8, 1, 9, entries[:1]):
+    if log_in(log, frozenset()) != Log(8, 1, 9, entries[:1]):
         yield f"{log.value}"
-    if views_in(views) != {1: ("probe", 2, 3, 4, False, True, 5), 2: ("snapshot", 0, 0, 0, True, False, 0)}:
+    if views_in(views) != {1: View("probe", 2, 3, 4, False, True, 5), 2: View("snapshot", 0, 0, 0, True, False, 0)}:
         yield f"{views.value}"
 
 
@@ -152,7 +153,7 @@ def test_messages_come_back(room: pathlib.Path) -> Iterator[str]:
     several_more: Json = {"call": "step", "messages": [given], "numbers": [1, 0]}
     asked: list[Json] = [START, {"call": "ready"}, {"call": "step", "message": {**given, "entries": []}}, several_more, {"call": "lost", "number": 0}]
     *_, one, several, gone = answers_of(program, *asked)
-    steps = [[line for _, line in events_in(it)] for it in (one, several, gone)]
+    steps = [[line for _, line in result_in(it, frozenset(), "states" in it.value).events] for it in (one, several, gone)]
     full = "step 8 1 2 2 8 1 7 6 2 111 1"
     if steps != [["step 8 1 2 2 8 1 7 6 0 111 1"], [full, "step 11 1 3 0 0 0 0 0 0 000 0", full], ["lost 8 1"]] or len(several.items("states")) != 3:
         yield f"{steps}"

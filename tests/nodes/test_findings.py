@@ -2,6 +2,7 @@
 accepted kinds, searches that end early, and what the nodes were made to do.
 """
 import contextlib
+import dataclasses
 import io
 import json
 import os
@@ -13,9 +14,10 @@ from collections.abc import Iterator
 from typing import Any
 
 from plain.node import Node
-from raftbench_nodes.compare.answers import Checker
+from plain.records import Ready
 from raftbench_nodes.compare.comparison import Comparison, excuse_of, excuse_without_reference
 from raftbench_nodes.compare.exceptions import AcceptedKinds
+from raftbench_nodes.compare.expected import Checker
 from raftbench_nodes.compare.plan import answers_at_once, compared_at_once, plan_of
 from raftbench_nodes.compare.script import Step, blocks_of
 from raftbench_nodes.compare.judge import Judge
@@ -28,6 +30,7 @@ from raftbench_nodes.process.delays import waited
 from raftbench_nodes.process.process import Process
 from raftbench_nodes.promises.clusters import WatchedReference
 from raftbench_nodes.promises.run import PromiseRun
+from raftbench_nodes.protocol.answers import CallResult
 from raftbench_nodes.tools import explore, files, merge, replay
 from raftbench_nodes.tools.explore import ShrunkKind, by_cause, chosen_of
 from tests.harness import TESTS, TOP
@@ -54,16 +57,18 @@ def test_states_within_directives(room: pathlib.Path) -> Iterator[str]:
     finally:
         process.close()
     at = max(at for at, asked in enumerate(plan.asked) if asked.call["call"] == "advance" and asked.call["node"] == 1)
+    result = answers[at]
+    assert isinstance(result, CallResult)
     for part, value, wanted in (("commit", 3, "commit behind after advance at a leader within a directive"), ("ready", None, "ready after advance at a leader within a directive")):
-        wrong = json.loads(json.dumps(answers))
-        state = wrong[at]["state"]
-        state[part] = not state["ready"] if value is None else value
+        state = dataclasses.replace(result.states[0], **{part: not result.states[0].ready if value is None else value})
+        wrong = [*answers[:at], dataclasses.replace(result, states=[state]), *answers[at + 1:]]
         found = compared_at_once(plan.asked, wrong, checker, plan.places)
         if found.agrees or found.state is None or found.state.kind() != wanted or found.state.directive != "stabilize":
             yield f"{part}: {found}, and not {wanted}"
-    earlier = json.loads(json.dumps(answers))
-    first = next(at for at, asked in enumerate(plan.asked) if asked.ready)
-    earlier[first]["ready"]["messages"], earlier[at]["state"]["commit"] = [], 3
+    first = next(at for at, answer in enumerate(answers) if isinstance(answer, Ready))
+    ready = answers[first]
+    assert isinstance(ready, Ready) and ready.messages
+    earlier = [*answers[:first], ready._replace(messages=[]), *wrong[first + 1:]]
     if (found := compared_at_once(plan.asked, earlier, checker, plan.places)).agrees or found.state:
         yield f"after another message: {found}"
 

@@ -28,7 +28,8 @@ from raftbench_nodes.bugs.measure import first_found
 from raftbench_nodes.bugs.registry import BUGS
 from raftbench_nodes.process.process import Process
 from raftbench_nodes.promises.checker import Promises, name_of
-from raftbench_nodes.protocol.encoding import CALLS, CHANGES, OPTIONS, READY, STATES
+from raftbench_nodes.protocol.answers import STATES
+from raftbench_nodes.protocol.encoding import CALLS, CHANGES, OPTIONS, READY
 from raftbench_nodes.compare.script import Step, blocks_of
 from raftbench_nodes.compare.runner_steps import RunnerStep, step_of
 from raftbench_nodes.rules.switches import SWITCHES, switches_of
