@@ -1,6 +1,9 @@
-"""raftbench-live: a page in which one plays with the cluster of a script. What one does becomes the script.
+"""raftbench-live: a page on which you play with a script's cluster. Each thing that you do becomes a directive of the script.
 
-A small server on 127.0.0.1 (server.py, guard.py) stands between the page (page/, and the modules of crates/rb_view/assets) and the
-program, which keeps all rules: `page` gives the rows (program.py), of which a page gets those that differ (rows.py); `session` runs what an
-edit changes (session.py) and says what a node may do (may.py); `check --accept` accepts (accepting.py); `lsp` completes and hints (language.py).
+A small server on 127.0.0.1 (server.py, guard.py) serves the page (page/, and the modules of crates/rb_view/assets). All rules are the program's:
+
+- `raftbench page` gives the rows (program.py); the page gets those that changed (rows.py);
+- `raftbench session` runs an edit (session.py), and shows what a node may do (may.py);
+- `raftbench check --accept` accepts outputs (accepting.py);
+- `raftbench lsp` completes directives and shows hints (language.py).
 """

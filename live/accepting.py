@@ -1,4 +1,4 @@
-"""Accepting outputs, with the care of `raftbench check --accept`: the program itself does it, on a copy of the script."""
+"""Accepts outputs as `raftbench check --accept` does: the program does it, on a copy of the script."""
 from __future__ import annotations
 
 import pathlib

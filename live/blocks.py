@@ -1,7 +1,7 @@
-"""The blocks of a script, line by line as they are in the file, so that an edit leaves all other bytes alone.
+"""The blocks of a script as lines of its file. An edit changes the lines of its block alone; all other bytes stay.
 
-docs/SCRIPTS.md has the rules of the format. The program has read the script before, and says on which line each head is; so only ends are
-looked for here.
+docs/SCRIPTS.md has the rules of the format. The program has read the script before, and says on which line each head is. So only the ends of
+blocks are looked for here.
 """
 from __future__ import annotations
 

@@ -1,4 +1,4 @@
-"""A book: a page for each script of a folder, with a contents page, and the pages' style and code once."""
+"""Writes a book: a page for each script of a folder, a contents page, and one copy of the style and the code that the pages share."""
 from __future__ import annotations
 
 import dataclasses

@@ -1,4 +1,4 @@
-"""A branch: a script as it is now, with its run, its past and its future. Undo and redo have no end."""
+"""A branch: a script with its run, its past and its future. Undo and redo have no limit."""
 from __future__ import annotations
 
 import contextlib

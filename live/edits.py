@@ -1,4 +1,4 @@
-"""What one does with a script: each edit by its name, as a function of a branch and of what is asked for."""
+"""The edits of a script, by name. Each is a function of a branch and of the request."""
 from __future__ import annotations
 
 from collections.abc import Callable

@@ -1,4 +1,4 @@
-"""Who may talk to the server: a page of its own, in a browser of who started it.
+"""Decides who may talk to the server: only its own page, in a browser of the user who started it.
 
 The address that is printed ends in `#key=..`. A browser sends no fragment, so the key is in no request line, log or Referer; the page
 takes it out of the address at once and exchanges it for a token, which stays in the tab's session storage. Each request after that names

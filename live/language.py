@@ -1,4 +1,4 @@
-"""A client of `raftbench lsp`: what may be written at a place of a directive, and what is wrong with it."""
+"""A client of `raftbench lsp`: completions and diagnostics of a directive while it is written."""
 from __future__ import annotations
 
 import itertools

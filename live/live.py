@@ -1,4 +1,4 @@
-"""The script that is played with, in all its branches, beside its file. One request at a time changes it; others wait."""
+"""The script that is played with: all its branches, and its file. Requests change it one at a time."""
 from __future__ import annotations
 
 import contextlib

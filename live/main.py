@@ -1,4 +1,4 @@
-"""The command: reads the arguments, starts the server, prints its address on a line, and opens a browser."""
+"""The command: reads the arguments, starts the server, prints its address, and opens a browser."""
 from __future__ import annotations
 
 import argparse

@@ -1,6 +1,6 @@
-"""What each node may do after a directive: each directive is tried in a session of its own, and what it prints says why it can't be done.
+"""What each node may do next. Each possible directive is tried in a session of its own; if it can't be done, its output says why.
 
-So the rules, and their words, are the program's.
+So the rules and their words are the program's.
 """
 from __future__ import annotations
 

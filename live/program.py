@@ -1,4 +1,4 @@
-"""The program: where it is, and what it writes of a script."""
+"""Finds the program, runs it on a script, and gives what it wrote."""
 from __future__ import annotations
 
 import dataclasses

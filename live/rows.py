@@ -1,7 +1,7 @@
-"""The rows of a page of a script (docs/FORMATS.md), cut at its directives, and what of them an edit changes.
+"""The rows of a script's page (docs/FORMATS.md), cut into one stretch a directive, and the stretches that an edit changes.
 
-The law: the rows shown before, with a stretch put in, are the rows of the new script. A program that offers the rows of some directives alone
-can give a stretch itself; today all rows are written anew, and compared.
+If the changed stretches are put into the earlier rows, the result is the rows of the new script. All rows are written again and compared; a
+program that writes the rows of some directives alone could give a stretch itself.
 """
 from __future__ import annotations
 

@@ -1,4 +1,4 @@
-"""The file of a script: read, watched, and replaced as a whole, as `raftbench check --accept` does (docs/USING.md, "Accept outputs")."""
+"""The script's file: reads it, watches it, and replaces it as a whole, as `raftbench check --accept` does (docs/USING.md, "Accept outputs")."""
 from __future__ import annotations
 
 import contextlib

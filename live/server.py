@@ -1,5 +1,6 @@
-"""The server: threads of Python's own library, enough for one user. It answers from a table, reads and writes no path but the script's, and lets
-no request stay open but the one that hears of changes."""
+"""An HTTP server for one user, on threads of Python's own library. It reads and writes no path but the script's. Only the request that waits for
+changes stays open.
+"""
 from __future__ import annotations
 
 import contextlib

@@ -1,4 +1,4 @@
-"""A client of `raftbench session`: it is told what becomes of a script, and runs only what that changes (docs/USING.md, "Sessions")."""
+"""A client of `raftbench session` (docs/USING.md, "Sessions"): sends edits of a script, and only what they change is run."""
 from __future__ import annotations
 
 import contextlib

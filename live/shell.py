@@ -1,4 +1,4 @@
-"""The files that a browser gets: the page's own elements, styles and modules, as they are in rb_view, and those of playing beside them."""
+"""The files that a browser loads: the page's elements, styles and modules from rb_view, and those of playing."""
 from __future__ import annotations
 
 import pathlib

@@ -1,4 +1,4 @@
-"""One's own nodes beside the reference: the tool nodes/run carries the script out on both, and says what each printed and where they differ."""
+"""Your own nodes next to the reference: `raftbench-nodes run` runs the script on both, and prints both outputs and their first difference."""
 from __future__ import annotations
 
 import dataclasses
