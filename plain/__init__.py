@@ -1,1 +1,1 @@
-"""The whole bench in plain Python, written from the documents in docs/: it shares nothing with the code in crates/."""
+"""The whole bench in plain Python, written from the documents in docs/. It shares no code with crates/."""

@@ -1,8 +1,6 @@
-"""A plain cluster: nodes, a network and a level; and what each directive does to it and prints. It is written from
-docs/SCRIPTS.md, section by section.
+"""A plain cluster: nodes, a network and a level. Each directive is a method, written from its section of docs/SCRIPTS.md.
 
-Its nodes are plain nodes, or whatever a subclass's `new_node` makes that has the calls of plain.node.Node which `call` and
-`process` make.
+Nodes are plain nodes. A subclass's `new_node` may make others, if they have the calls of plain.node.Node that `call` and `process` make.
 """
 from __future__ import annotations
 

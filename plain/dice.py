@@ -1,5 +1,5 @@
-"""Scripts and edits that look random, from a seed. A script begins with one of some openings, so that leaders, joint
-configurations, snapshots and broken clusters are met often, and goes on with any directives, some of which are wrong.
+"""Random scripts and edits, from a seed. A script begins with one of some openings, so that leaders, joint configurations, snapshots and
+broken clusters are common. Any directives follow; some of them are wrong.
 """
 from __future__ import annotations
 

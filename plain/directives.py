@@ -1,4 +1,4 @@
-"""The directives: their names, what their arguments take, and how a head becomes a request or is refused (docs/SCRIPTS.md)."""
+"""The directives (docs/SCRIPTS.md): their names and arguments. A head becomes a request, or is refused."""
 from __future__ import annotations
 
 from typing import Any, Callable, Mapping, Sequence

@@ -1,4 +1,4 @@
-"""The messages on their way: one list, in the order in which they were sent."""
+"""The messages in flight: one list, in the order in which they were sent."""
 from typing import Callable, Iterable, Sequence
 
 from .records import Message

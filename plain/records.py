@@ -1,4 +1,4 @@
-"""What nodes keep and send: entries, snapshots, messages, options, and what is ready; and what a cluster asks of any node."""
+"""What nodes keep and send: entries, snapshots, messages, options, and what is ready. `AnyNode` has the calls that a cluster makes of a node."""
 from __future__ import annotations
 
 from typing import Mapping, NamedTuple, Protocol, Union

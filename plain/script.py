@@ -1,4 +1,4 @@
-"""The format of scripts, in the plainest way: docs/SCRIPTS.md, rule by rule, over lists of lines of bytes."""
+"""The format of scripts: the rules of docs/SCRIPTS.md one by one, over lists of lines of bytes."""
 from __future__ import annotations
 
 import re

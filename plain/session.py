@@ -1,6 +1,7 @@
-"""The whole program in the plainest way: a run is a fold of the directives from the empty cluster, and a session runs its script
-anew from there after each edit. How many directives an edit executes is found by looking at the states at every point:
-docs/USING.md, and the definitions of crates/rb_replay/specs/Reuse.antt and Points.antt, in this program's own form.
+"""The whole program: a run is a fold of the directives from the empty cluster, and a session runs its script anew after each edit.
+
+How many directives an edit executes is found by comparing the states after each directive, as docs/USING.md and the definitions in
+crates/rb_replay/specs/Reuse.antt and Points.antt say.
 """
 from __future__ import annotations
 

@@ -1,4 +1,4 @@
-"""How things are written, in the plainest way: docs/SCRIPTS.md, "What an output means". A line is a string of printable characters."""
+"""The texts of outputs (docs/SCRIPTS.md, "What an output means"). A line is a string of printable characters."""
 from __future__ import annotations
 
 from typing import Iterable
