@@ -1,4 +1,4 @@
-"""The command raftbench-nodes: each subcommand is a module of tools/."""
+"""The command raftbench-nodes. Each subcommand is a module of tools/."""
 from __future__ import annotations
 
 import os

@@ -1,5 +1,5 @@
-"""Bugs of Raft libraries that show over restarts, in what is saved and when, or in a network that doubles and delays; and of reads and limits of sizes.
-In brackets stands the section of Ongaro's thesis that has the rule.
+"""Planted bugs that show after restarts, by what is saved and when; in a network that repeats and delays messages; in reads; and in limits of sizes.
+The number in brackets is the section of Ongaro's thesis with the rule.
 """
 from __future__ import annotations
 

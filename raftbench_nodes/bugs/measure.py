@@ -1,5 +1,5 @@
-"""How soon explore finds each planted bug: the script that first shows it by the default search, what it shows there, and the seconds of processor that
-the bench and the nodes took until then, calibrating not counted; in the form of tests/nodes/bugs.txt. The last line has the counts of docs/MEASURES.md.
+"""Measures how soon explore finds each planted bug, in the form of tests/nodes/bugs.txt: the first script that shows it, what it shows there, and the
+processor seconds of the bench and the nodes until then, without calibration. The last line has the counts of docs/MEASURES.md.
 
     python3 -m raftbench_nodes.bugs.measure [--most N] [--jobs N] [--compare WORDS] [--without-classics] [BUG ..]
 """

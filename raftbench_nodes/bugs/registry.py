@@ -1,4 +1,4 @@
-"""Bugs by name: each a kind of plain node with one rule broken."""
+"""The planted bugs by name. Each is a class of plain nodes with one rule broken."""
 from __future__ import annotations
 
 from typing import Callable

@@ -1,5 +1,5 @@
-"""Well-known bugs of Raft libraries: each a plain node with one rule broken, by name. What explore finds of them is measured by
-raftbench_nodes/bugs/measure.py; in brackets stands the section of Ongaro's thesis that has the rule.
+"""Well-known bugs of Raft libraries, each as a plain node with one rule broken. bugs/measure.py measures how soon explore finds them. The number in
+brackets is the section of Ongaro's thesis with the rule.
 """
 from __future__ import annotations
 

@@ -1,1 +1,1 @@
-"""Scripts on nodes and on the reference next to each other: where they first differ."""
+"""Runs scripts on your nodes and on the reference, and finds where they first differ."""

@@ -1,4 +1,4 @@
-"""A script run on somebody else's nodes and on the reference alongside, directive by directive: where they first differ."""
+"""Runs a script on your nodes and on the reference at the same time, directive by directive, and finds where they first differ."""
 from __future__ import annotations
 
 from itertools import zip_longest

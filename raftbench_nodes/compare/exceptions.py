@@ -1,6 +1,6 @@
-"""What an author has accepted: a file with a script, a kind and a reason a line, with tabs between them. A script `*` is any.
+"""The kinds that an author has accepted: a file; each line has a script, a kind and a reason, with tabs between them. The script `*` means any.
 
-    deliver-late.txt<tab>commit behind after MsgAppResp at a leader<tab>we commit when the answer is read, and not when it is saved
+deliver-late.txt<tab>commit behind after MsgAppResp at a leader<tab>we commit when the answer is read, and not when it is saved
 """
 from __future__ import annotations
 

@@ -1,4 +1,4 @@
-"""The judge of the reference: on a script without steps of the runner, the plain bench has to print what the proved program prints."""
+"""Checks the reference: on a script without runner's steps, the plain bench must print what the proved program prints."""
 from __future__ import annotations
 
 import os

@@ -1,4 +1,6 @@
-"""What a script makes nodes do, by what it makes the reference do: without that, "no finding" says little."""
+"""Counts what a script makes nodes do (elections, crashes, conflicts ..), by what the reference does in it. If nothing was found, the counts say how
+much was tried.
+"""
 from __future__ import annotations
 
 import collections

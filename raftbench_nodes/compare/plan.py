@@ -1,5 +1,5 @@
-"""A script run on the reference alone, with the calls that nodes which behave alike are asked, and what they have to answer. A library that takes
-batches is asked all of them at once: if every answer is the expected one the script agrees, and nothing else has to be looked at.
+"""Runs a script on the reference alone, and lists its calls with the answers to expect (expected.py). A library that takes batches is asked all calls
+at once. If every answer is the expected one, the script agrees, and nothing is asked again.
 """
 from __future__ import annotations
 

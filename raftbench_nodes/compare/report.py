@@ -1,4 +1,4 @@
-"""How differences are shown: as `raftbench check` shows them (docs/USING.md), and a table of their kinds."""
+"""Shows differences as `raftbench check` does (docs/USING.md), and a table of their kinds."""
 from __future__ import annotations
 
 import collections

@@ -1,22 +1,22 @@
-"""Steps of the runner: what no directive does. They are comments above a directive, and both sides carry them out before it.
+"""The runner's steps: what no directive does. They are comments above a directive, and both sides carry them out before it.
 
-    # network: reverse 2        messages to node 2 are delivered in reverse
-    # network: double 2         they are delivered a second time after all of them, in reverse
-    # network: late 2           the first of them is delivered last
-    # network: again 2 1        the last message from 1 that node 2 was delivered is on its way once more
-    # network: cut 2 1          appends to node 2 keep one entry at most
-    # network: hold 2 1         messages from 2 to 1 wait, also later ones
-    # network: release 2 1      they are on their way again
-    # node: restart 2           node 2 loses what it hasn't saved, and starts again
-    # node: crash 2 before save     it does so once `ready` was asked: nothing of that is saved
-    # node: crash 2 in save         .. the entries are saved, the hard state isn't
-    # node: crash 2 after save      .. all is saved, nothing is sent
-    # node: crash 2 before advance  .. all is saved and sent
-    # node: save 2              what is ready is saved and sent, and applied later: messages may come in between
-    # node: read 2              a linearizable read is asked for at node 2
-    # node: snapshot-lost 1 2   node 1 hears that its snapshot to node 2 was lost; `snapshot-arrived`: that it arrived
-    # node: limit 1             the nodes that are added send one entry a message (`max_size_per_msg`)
-    # node: uncommitted 1       they take one payload at a time, as leaders (`max_uncommitted_size`)
+# network: reverse 2        messages to node 2 are delivered in reverse order
+# network: double 2         they are delivered a second time after all of them, in reverse order
+# network: late 2           the first of them is delivered last
+# network: again 2 1        the last message from 1 that was delivered to node 2 is in flight once more
+# network: cut 2 1          appends to node 2 keep one entry at most
+# network: hold 2 1         messages from 2 to 1 are held back, later ones too
+# network: release 2 1      they are released
+# node: restart 2           node 2 loses what it hasn't saved, and starts again
+# node: crash 2 before save     node 2 crashes and starts again after `ready`: nothing of that is saved
+# node: crash 2 in save         .. the entries are saved, the hard state isn't
+# node: crash 2 after save      .. all is saved, nothing is sent
+# node: crash 2 before advance  .. all is saved and sent
+# node: save 2              what is ready is saved and sent, and applied later: messages may come in between
+# node: read 2              a linearizable read is requested at node 2
+# node: snapshot-lost 1 2   node 1 is told that its snapshot to node 2 was lost; `snapshot-arrived`: that it arrived
+# node: limit 1             nodes that are added later send one entry a message (`max_size_per_msg`)
+# node: uncommitted 1       as leaders they take one payload at a time (`max_uncommitted_size`)
 """
 from __future__ import annotations
 

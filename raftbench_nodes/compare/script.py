@@ -1,4 +1,4 @@
-"""A directive as it is thrown, mutated and shrunk; and the text of a script of such."""
+"""A directive that can be drawn, mutated and shrunk, and the text of a script of such directives."""
 from __future__ import annotations
 
 import functools

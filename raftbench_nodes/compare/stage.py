@@ -1,4 +1,4 @@
-"""A cluster that carries out the runner's steps, and keeps what each directive did: which calls were made, and what was ready."""
+"""A cluster that also carries out the runner's steps, and records what each directive did: the calls that were made, and what was ready."""
 from __future__ import annotations
 
 import collections

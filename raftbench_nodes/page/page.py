@@ -1,4 +1,4 @@
-"""Writes the page of a script: two frames with the viewer of `raftbench page`, one for your nodes and one for the reference."""
+"""Writes a script's page: two frames with the viewer of `raftbench page`, one for your nodes and one for the reference."""
 from __future__ import annotations
 
 import base64

@@ -1,4 +1,4 @@
-"""The rows of a page (docs/FORMATS.md), recorded while a cluster runs a script."""
+"""Records the rows of a page (docs/FORMATS.md) while a cluster runs a script."""
 from __future__ import annotations
 
 import re

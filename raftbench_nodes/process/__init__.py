@@ -1,1 +1,1 @@
-"""The process that hosts nodes: calls and answers, workers, and answers of earlier runs."""
+"""The processes that host your nodes: calls and answers, workers, and a cache of earlier answers."""

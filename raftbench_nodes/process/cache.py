@@ -1,8 +1,8 @@
-"""Scripts that were tried: the calls that the nodes were asked, a digest of their answers, and what the script came to. It comes to the same again with
-nodes that give the same answers, so nothing has to be run on the reference, checked or compared.
+"""A cache of scripts that ran: the calls, a digest of the nodes' answers, and the script's result. Nodes that give the same answers have the same
+result, so the script needn't be run on the reference, checked or compared again.
 
-A folder has a file for each process that wrote. A record is a script's name, the length of what is packed, a checksum, and that. The length of a script in
-which something was found is marked: it can be asked first the next time.
+A folder has a file for each process that wrote. A record has a script's name, the length of the packed data, a checksum, and the data. The length is
+marked if something was found in the script, so that it can be tried first the next time.
 """
 from __future__ import annotations
 

@@ -1,4 +1,4 @@
-"""How long processes waited for a processor: on a busy machine that is no fault of who doesn't answer, so it doesn't count."""
+"""How long processes waited for a processor. On a busy machine a late answer isn't the nodes' fault, so this time doesn't count."""
 from __future__ import annotations
 
 import os

@@ -1,4 +1,4 @@
-"""A node of a process, with the calls that a plain cluster makes of a node."""
+"""A node in another process. It has the calls that a plain cluster makes of a node."""
 from __future__ import annotations
 
 from typing import Any, Callable, TypeVar

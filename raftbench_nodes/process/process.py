@@ -1,8 +1,8 @@
-"""The process that hosts somebody else's nodes: a call is a line to it, an answer a line from it. It may hang, die, babble and flood: then the
-call has `Failed`, with a sentence, and the process is killed; the next script starts a new one.
+"""The process that hosts your nodes: a call is a line to it, an answer a line from it. If it hangs, dies, or writes what isn't an answer, the call raises
+`Failed` with a sentence, and the process is killed. The next script starts a new one.
 
-It runs in a process group of its own, and with a mark in its environment. A watchdog kills the group when the tool ends, by whatever it ends, and what
-has the mark: it reads a pipe that the tool alone holds open.
+The process runs in a group of its own, with a mark in its environment. A watchdog kills the group, and whatever has the mark, when the tool ends, however
+it ends: it reads a pipe that only the tool holds open.
 """
 from __future__ import annotations
 

@@ -1,5 +1,5 @@
-"""Several processes side by side, each with nodes of its own. They take lists of items as they get free; results are in the items' order. They end
-when the process ends that started them, by whatever it ends.
+"""Runs several processes, each with nodes of its own. Idle workers take the next list of items; results are in the items' order. Workers end with the
+process that started them, however it ends.
 """
 from __future__ import annotations
 

@@ -1,1 +1,1 @@
-"""Raft's promises, checked on what nodes report."""
+"""Checks Raft's promises on what nodes report."""

@@ -1,7 +1,7 @@
-"""Raft's promises (Ongaro's thesis, figure 3.2, and what follows from it), over what nodes say of themselves: each that is broken is a text that begins
-with the promise's name.
+"""Checks Raft's promises (Ongaro's thesis, figure 3.2, and what follows from it) on what nodes report. A broken promise is a text that begins with the
+promise's name.
 
-Scripts that join clusters by hand break promises of any Raft: so the reference is held to them as well, and what it breaks doesn't count.
+Scripts that join clusters by hand break promises of any Raft. So the reference is checked too, and what it breaks doesn't count.
 """
 from __future__ import annotations
 

@@ -1,4 +1,4 @@
-"""Clusters that are held to Raft's promises after each call of a node."""
+"""Clusters that check Raft's promises after each call of a node."""
 from __future__ import annotations
 
 from typing import Any, Sequence

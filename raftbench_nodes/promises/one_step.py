@@ -1,4 +1,6 @@
-"""Promises that one call shows: what a node may do at a message, by what it was before. Each that is broken is a text that begins with its name."""
+"""Checks the promises that a single call shows: what a node may do at a message, given its state before. A broken promise is a text that begins with
+the promise's name.
+"""
 from __future__ import annotations
 
 from typing import Callable, NamedTuple

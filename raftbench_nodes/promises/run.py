@@ -1,4 +1,4 @@
-"""Scripts on somebody's nodes alone, held to Raft's promises: no reference, no comparison."""
+"""Runs scripts on your nodes alone, and checks Raft's promises. Nothing is compared with the reference."""
 from __future__ import annotations
 
 import collections

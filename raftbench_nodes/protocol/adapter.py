@@ -1,4 +1,4 @@
-"""The plain node of plain/node.py behind the protocol of docs/OWN-NODES.md: what an adapter is, and what to copy for one of your own."""
+"""Serves plain nodes (plain/node.py) by the protocol of docs/OWN-NODES.md. It shows what an adapter is; copy it for your own."""
 from __future__ import annotations
 
 import hashlib
@@ -107,9 +107,9 @@ def state_of(node: Node) -> Json:
     }
 
 
-def events_of(node: Node) -> list[tuple[str, str]]:
+def events_of(node: Node) -> list[list[str]]:
     events, node.events = node.events, []
-    return events
+    return [[level, line] for level, line in events]
 
 
 def changed(node: Node) -> Json:

@@ -1,4 +1,4 @@
-"""Directives without what nodes are without, and with what they always do: neither side carries the rest out, and what is left still compares."""
+"""Removes from directives what the library lacks, and adds what it always does, on both sides. What is left can still be compared."""
 from __future__ import annotations
 
 import functools

@@ -1,4 +1,4 @@
-"""The arguments that the subcommands share, so that they take them alike."""
+"""The arguments that several subcommands take, so that all take them in the same way."""
 from __future__ import annotations
 
 import argparse

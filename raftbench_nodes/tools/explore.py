@@ -1,4 +1,4 @@
-"""raftbench-nodes explore, and promises without a PATH: the arguments, the search, the shrinking of what it finds, and the result."""
+"""raftbench-nodes explore, and promises without a PATH: reads the arguments, searches, shrinks what is found, and prints the result."""
 from __future__ import annotations
 
 import argparse

@@ -1,4 +1,4 @@
-"""raftbench-nodes run, shrink and promises: scripts from files and folders."""
+"""raftbench-nodes run, shrink and promises, over scripts in files and folders."""
 from __future__ import annotations
 
 import argparse

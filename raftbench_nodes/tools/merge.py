@@ -1,4 +1,4 @@
-"""raftbench-nodes merge: joins results of explore or promises from shards (docs/USING.md)."""
+"""raftbench-nodes merge: merges the results of shards of explore or promises (docs/USING.md)."""
 from __future__ import annotations
 
 import argparse

@@ -1,4 +1,4 @@
-"""raftbench-nodes plain: the reference behind the protocol of docs/OWN-NODES.md, as it is or with a planted bug."""
+"""raftbench-nodes plain: serves the reference's nodes by the protocol of docs/OWN-NODES.md, if asked with a planted bug."""
 from __future__ import annotations
 
 import os

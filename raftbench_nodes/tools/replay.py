@@ -1,6 +1,6 @@
-"""raftbench-nodes replay: checks calls and answers that a library's own tests or a live cluster wrote down (docs/TRACES.md).
+"""raftbench-nodes replay: checks calls and answers that a library's own tests or a live cluster recorded (docs/TRACES.md).
 
-All calls are held to Raft's promises, and each node's calls are also made to a node of the reference.
+Raft's promises are checked on all calls. Each node's calls are also made to a node of the reference, and the answers are compared.
 """
 from __future__ import annotations
 

@@ -1,4 +1,4 @@
-"""raftbench-nodes switches: finds the switches with which the most scripts agree, one after another, each the one that helps most."""
+"""raftbench-nodes switches: finds the switches with which most scripts agree. It adds one switch at a time, always the one that helps most."""
 from __future__ import annotations
 
 import argparse

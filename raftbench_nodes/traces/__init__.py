@@ -1,1 +1,1 @@
-"""Traces: calls and answers of runs that took place elsewhere."""
+"""Traces: calls and answers that were recorded elsewhere."""

@@ -1,5 +1,5 @@
-"""A trace: calls of nodes with their answers, as they really ran. It is held to Raft's promises. Each node's calls are also made of a node of
-the reference, and the answers are compared.
+"""Reads a trace: calls of nodes with their answers, as they really ran. Raft's promises are checked on it. Each node's calls are also made to a node of the
+reference, and the answers are compared.
 """
 from __future__ import annotations
 

@@ -1,2 +1,2 @@
-"""The adapter of the plain node, for nodes that answer otherwise."""
+"""The adapter of plain nodes, for nodes that answer otherwise."""
 from raftbench_nodes.protocol.adapter import Adapter as Adapter  # noqa: F401

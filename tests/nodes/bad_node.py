@@ -1,7 +1,7 @@
 #!/usr/bin/env python3
-"""The plain node behind the protocol, that misbehaves at one of its calls.
+"""Plain nodes behind the protocol that misbehave in one way, from the 12th call on, or at each CALL.
 
-    bad_node.py KIND [CALL]    from its 12th call on, or at each CALL
+bad_node.py KIND [CALL]
 """
 import json
 import os

@@ -1,4 +1,4 @@
-"""Nodes that break a promise each, and scripts that show it; and what parts of tests of nodes/ are made of."""
+"""Nodes that break one promise each, and scripts that show it; and helpers that several tests of nodes share."""
 from __future__ import annotations
 
 import re

@@ -1,6 +1,5 @@
 #!/usr/bin/env python3
-"""The plain node behind the protocol, that says it is without some things: where it is asked for one all the same, that is an error, and a part of
-its state is never said.
+"""Plain nodes behind the protocol that say they lack some things. A call for one of these is an error, and a part that they lack is never in a state.
 
     lacking_node WORD..
 """

@@ -1,4 +1,4 @@
-"""Scripts that nodes are tried on."""
+"""Scripts that several tests run on nodes."""
 import pathlib
 
 from plain.script import Fault, read_script

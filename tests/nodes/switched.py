@@ -1,4 +1,4 @@
-"""The rules of hashicorp/raft, libraft and etcd, as switches of the reference. Expected values are from the places of their sources that nodes/like names."""
+"""The rules of hashicorp/raft, libraft and etcd as switches of the reference. Expected values are from the lines of their sources that nodes/like names."""
 from __future__ import annotations
 
 from collections.abc import Iterator

@@ -1,5 +1,5 @@
-"""nodes/c/raftbench.h, C's single header: a node that can be asked for everything answers as docs/OWN-NODES.md says, lines that are no calls
-are answered with an error, and the adapter of a tiny Raft keeps all promises, but for a bug that is planted in it.
+"""nodes/c/raftbench.h. A node that has every call answers as docs/OWN-NODES.md says. A line that is no call is answered with an error. The adapter of a
+tiny Raft keeps all promises, and breaks them with a planted bug.
 
 All are built with the compiler's warnings as errors, and run with its sanitizers of addresses and of undefined behaviour.
 """

@@ -1,6 +1,4 @@
-"""The classics of examples/classics: each says what it shows, is printed alike by both benches, and keeps all promises on nodes without a bug; bugs that
-are planted show in them, as tests/nodes/classics.txt says.
-"""
+"""The scripts of examples/classics. Both benches print the same; nodes without a bug keep all promises; planted bugs show as tests/nodes/classics.txt says."""
 import collections
 import pathlib
 import re

@@ -1,5 +1,5 @@
-"""What is found is kept, shown and handed on: states that differ within a directive, kinds with one cause, results and traces that somebody broke, lists of
-accepted kinds, searches that end early, and what the nodes were made to do.
+"""Findings: states that differ within a directive, kinds with one cause, damaged results and traces, lists of accepted kinds, searches that end early, and
+counts of what nodes were made to do.
 """
 import contextlib
 import dataclasses

@@ -1,7 +1,7 @@
-"""The Go package of nodes/go: its own tests, what the adapters do with it, and `raftbench.Check` in the example's `go test`: a Raft without a bug passes,
-and planted bugs are failed subtests with their scripts and pages, which `go test -run` takes again and a mended Raft passes.
+"""The Go package of nodes/go: its own tests; the adapters that stand on it; and `raftbench.Check` in the example's `go test`. A Raft without a bug
+passes. A planted bug is a failed subtest with its script and page; `go test -run` runs it again, and passes when the bug is gone.
 
-Go's tools look for nothing outside of this machine. A machine without Go tries none of it.
+Go's tools use no network. A machine without Go skips these tests.
 """
 from __future__ import annotations
 

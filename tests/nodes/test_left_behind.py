@@ -1,4 +1,4 @@
-"""No adapter outlives the tool that started it, however that ends: by signals, a second interrupt, an exception, or killed so that nothing of it runs."""
+"""No adapter outlives the tool that started it, however the tool ends: by a signal, a second interrupt, an exception, or SIGKILL."""
 import concurrent.futures
 import contextlib
 import os

@@ -1,8 +1,7 @@
-"""Nodes behind the protocol of docs/OWN-NODES.md, beside the reference.
+"""Nodes behind the protocol of docs/OWN-NODES.md, next to the reference.
 
-Our plain node behind it gives no difference; each example of the document is sent; nodes that misbehave in each of many ways end their script with a
-sentence, and the next script goes on; planted bugs are found; what nodes are without is left out on both sides; switches, accepted
-differences and the words of nodes/run and nodes/explore do what the document says. A word chooses parts by their names.
+Plain nodes behind it show no difference. Each example of the document is sent. A node that misbehaves ends its script with a sentence, and the next
+script runs. Planted bugs are found. What nodes lack is removed on both sides. Switches and accepted differences do what the document says.
 """
 from __future__ import annotations
 

@@ -1,7 +1,7 @@
-"""Pages of what other people's nodes did, the command raftbench-nodes, and its completions.
+"""Pages of what your nodes did, the command raftbench-nodes, and its completions.
 
-The rows of a reference's run are those of tests/page/plain_steps.py. Findings are marked at their directives, on the side of the nodes alone. Whatever the
-runner's steps do to messages, each that is delivered was sent or queued before. No text of nodes can end an element.
+The reference's rows are those of tests/page/plain_steps.py. Findings are marked at their directives, on the nodes' side alone. Each message that is
+delivered was sent or queued before, whatever the runner's steps do to messages. No text of nodes can end an element.
 """
 from __future__ import annotations
 

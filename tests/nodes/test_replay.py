@@ -1,8 +1,8 @@
-"""nodes/replay: traces of what really ran.
+"""raftbench-nodes replay on traces.
 
-What the plain node says in nodes/conversation.txt is without a finding; a part that is changed in it is found where it is changed; broken promises
-are found without a reference that agrees; nodes start from what they have saved, and time out when the trace says so; files of several nodes are put in
-order; what isn't a trace is refused; what docs/TRACES.md shows is so, in C too.
+nodes/conversation.txt has no finding; if a part of it is changed, the finding is at that place. Broken promises are found without the reference. Nodes
+start from what they have saved, and time out when the trace says so. Files of several nodes are merged by time. A file that isn't a trace is refused.
+What docs/TRACES.md shows works, in C too.
 """
 from __future__ import annotations
 

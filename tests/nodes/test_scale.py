@@ -1,7 +1,7 @@
 """The ways of docs/USING.md to share seeds: GNU parallel, a Slurm array and a Kubernetes indexed Job, each with two workers on this machine.
 
-`ssh`, `sbatch` and `kubectl` are stand-ins that run the same commands here, with the environment that the engine gives a worker. The merged result is that of one
-run of all seeds. Workers may share a cache, and a fault of the tools is no finding.
+`ssh`, `sbatch` and `kubectl` are stand-ins that run the same commands here, with the environment that the engine gives a worker. The merged result is
+that of one run of all seeds. Workers may share a cache, and a fault of the tools is no finding.
 """
 from __future__ import annotations
 

@@ -1,5 +1,5 @@
-"""Parts of nodes/ and of the plain node, each by itself: the runner's steps, restarts, reads, limits, promises over restarts, shrinking, children of
-scripts, exceptions. Each part generates pairs of a name and what is wrong, or None.
+"""Unit tests of raftbench_nodes and of the plain node: the runner's steps, restarts, reads, limits, promises over restarts, shrinking, children of
+scripts, accepted kinds. A part yields pairs of a name and what is wrong, or None.
 """
 from __future__ import annotations
 
