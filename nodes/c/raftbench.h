@@ -13,13 +13,34 @@
  * the header reads what you put into a struct before it calls you again. A list (`rb_put_..`) copies.
  *
  * Units: time is in ticks, three of which are an election timeout; sizes are in bytes; ids, terms and indexes are numbers from 0 to
- * 2^63 - 1, where id 0 is nobody, and an empty log ends at index 0 in term 0. */
+ * 2^63 - 1, where id 0 is nobody, and an empty log ends at index 0 in term 0.
+ *
+ * The sections. Of each, "N. " finds its head.
+ *
+ *     1. Values              what the header gives to your functions, and gets from them
+ *     2. Library             your functions
+ *     3. Helpers             lists, events, memory and failures, for your functions
+ *
+ * and, with RAFTBENCH_IMPLEMENTATION:
+ *
+ *     4. State               all that the header keeps
+ *     5. Memory              of a call, and of a script
+ *     6. Writing JSON        a format, and what each value becomes
+ *     7. Messages            written, and kept until the script ends
+ *     8. Reading JSON        a text becomes a tree
+ *     9. Parts               a tree becomes values
+ *     10. SHA-256            for digests
+ *     11. Answers            what each question is answered with
+ *     12. Calls              which function each call becomes
+ *     13. Serving            lines in, lines out */
 #ifndef RAFTBENCH_H
 #define RAFTBENCH_H
 
 #include <stdbool.h>
 #include <stddef.h>
 #include <stdint.h>
+
+/* 1. Values -------------------------------------------------------------------------------------------------------- */
 
 enum { RB_MOST_IDS = 64 };
 
@@ -130,6 +151,8 @@ struct rb_view {
 
 enum rb_saved { RB_SAVED_NOTHING, RB_SAVED_ENTRIES, RB_SAVED_ALL };
 
+/* 2. Library ------------------------------------------------------------------------------------------------------- */
+
 struct rb_library {
     const char *name;
 
@@ -164,6 +187,8 @@ struct rb_library {
     const char *const *without, *const *always, *const *limits;
     bool is_open, is_ordered, is_apart;
 };
+
+/* 3. Helpers ------------------------------------------------------------------------------------------------------- */
 
 /* Answers calls until standard input ends; gives the program's status. */
 int rb_serve(const struct rb_library *library);
@@ -206,6 +231,8 @@ _Noreturn void rb_fail(const char *at, const char *format, ...) RB_IS_FORMAT;
 #include <stdlib.h>
 #include <string.h>
 #include <unistd.h>
+
+/* 4. State --------------------------------------------------------------------------------------------------------- */
 
 #define RB_COUNT(array) (sizeof(array) / sizeof *(array))
 #define RB_GREATEST ((UINT64_C(1) << 63) - 1)
@@ -271,7 +298,7 @@ static _Noreturn void rb_no_memory(void)
     exit(1);
 }
 
-/* Memory */
+/* 5. Memory -------------------------------------------------------------------------------------------------------- */
 
 static void *rb_take_from(struct rb_block **blocks, size_t count, size_t size)
 {
@@ -337,7 +364,7 @@ void rb_put_id(struct rb_ids *ids, uint64_t id)
     ids->all[ids->count++] = id;
 }
 
-/* JSON, out */
+/* 6. Writing JSON -------------------------------------------------------------------------------------------------- */
 
 static void rb_put(struct rb_text *text, const void *bytes, size_t count)
 {
@@ -512,6 +539,8 @@ void rb_event(const char *level, const char *format, ...)
     rb_format(&rb.events, "[%s,%s]", level, line);
 }
 
+/* 7. Messages ------------------------------------------------------------------------------------------------------ */
+
 /* Where the numbers and the truths of a message are. */
 static const struct rb_field {
     const char *name;
@@ -578,8 +607,9 @@ void rb_put_message(struct rb_text *messages, const struct rb_message *message)
     rb_keep(message);
 }
 
-/* JSON, in. A value and what it has lie in memory that lasts as long as the call. */
+/* 8. Reading JSON -------------------------------------------------------------------------------------------------- */
 
+/* A value and what it has lie in memory that lasts as long as the call. */
 enum rb_kind { RB_NULL, RB_TRUTH, RB_NUMBER, RB_STRING, RB_ARRAY, RB_OBJECT };
 
 struct rb_json {
@@ -766,6 +796,8 @@ static struct rb_json *rb_parse(struct rb_reader *reader)
     return value;
 }
 
+/* 9. Parts --------------------------------------------------------------------------------------------------------- */
+
 /* A part of an object; NULL if it isn't there. One of another kind is refused. */
 static const struct rb_json *rb_part(const struct rb_json *object, const char *name, enum rb_kind kind)
 {
@@ -914,8 +946,9 @@ static const struct rb_message *rb_message_of(const struct rb_json *object)
     return message;
 }
 
-/* SHA-256 (FIPS 180-4), for digests */
+/* 10. SHA-256 ------------------------------------------------------------------------------------------------------ */
 
+/* FIPS 180-4. */
 static const uint32_t rb_sha_constants[64] = {
     0x428a2f98, 0x71374491, 0xb5c0fbcf, 0xe9b5dba5, 0x3956c25b, 0x59f111f1, 0x923f82a4, 0xab1c5ed5, 0xd807aa98, 0x12835b01, 0x243185be,
     0x550c7dc3, 0x72be5d74, 0x80deb1fe, 0x9bdc06a7, 0xc19bf174, 0xe49b69c1, 0xefbe4786, 0x0fc19dc6, 0x240ca1cc, 0x2de92c6f, 0x4a7484aa,
@@ -981,7 +1014,7 @@ static void rb_sha_end(struct rb_sha *sha, char *to)
     }
 }
 
-/* Answers */
+/* 11. Answers ------------------------------------------------------------------------------------------------------ */
 
 static void rb_put_hello(struct rb_text *text)
 {
@@ -1076,7 +1109,7 @@ static void rb_put_snapshot_for(struct rb_text *text, void *node, uint64_t to)
     rb_format(text, "'message':%l", &rb.views);
 }
 
-/* Calls */
+/* 12. Calls -------------------------------------------------------------------------------------------------------- */
 
 static const struct rb_message *rb_message_at(const struct rb_json *number)
 {
@@ -1241,6 +1274,8 @@ static void rb_answer_node(struct rb_text *text, const char *name, const struct 
         rb_fail("raftbench.h", "there is no call %.80s", name);
     }
 }
+
+/* 13. Serving ------------------------------------------------------------------------------------------------------ */
 
 /* Writes the answer of a line into a text, or nothing if a digest begins with it. */
 static void rb_answer(struct rb_text *text, const char *line, size_t count)
