@@ -16,7 +16,7 @@ sys.dont_write_bytecode = True
 sys.path[:1] = [str(pathlib.Path(__file__).resolve().parents[2])]
 
 from plain.node import Node  # noqa: E402
-from tests.nodes.adapter import Adapter  # noqa: E402
+from raftbench_nodes.protocol.adapter import Adapter  # noqa: E402
 
 # An answer, and what says one.
 Answer = dict[str, Any]

@@ -2,14 +2,16 @@
 from __future__ import annotations
 
 import re
-from collections.abc import Iterator
+from collections.abc import Iterator, Sequence
 
+from plain.cluster import Cluster
+from plain.config import Config
 from plain.node import Node
-from plain.records import Message, Read, Ready
+from plain.records import Entry, Message, Options, Read, Ready
 from raftbench_nodes.compare.runner_steps import step_of, steps_above
 from raftbench_nodes.compare.script import Step, blocks_of
 from raftbench_nodes.explore.library import classics
-from raftbench_nodes.promises.checker import PROMISES, name_of
+from raftbench_nodes.promises.checker import PROMISES, Promises, name_of
 from raftbench_nodes.promises.clusters import WatchedReference
 from raftbench_nodes.protocol.encoding import WireMessage
 from tests.harness import TOP
@@ -151,3 +153,49 @@ def part_promises_of_restarts() -> Checks:
     shown = (TOP / "raftbench_nodes/promises/checker.py").read_text() + (TOP / "raftbench_nodes/promises/one_step.py").read_text()
     noted = set(re.findall(r"(?:note\(f\"|note\(self\.length, f\"|note\(place, f\")([a-z',\- ]+):", shown + (TOP / "raftbench_nodes/promises/run.py").read_text()))
     yield "each promise is in the table", None if noted <= set(PROMISES) and len(PROMISES) == 25 else f"{noted - set(PROMISES)}"
+
+
+class Reported(Node):
+    """A node that has these numbers and this log, whose entries are terms and bodies from index 1 on."""
+
+    def __init__(
+        self, id: int, term: int, role: str = "follower", vote: int = 0, commit: int = 0, applied: int = 0, content: bytes = b"",
+        log: Sequence[tuple[int, bytes]] = (),
+    ) -> None:
+        super().__init__(id, Config(frozenset()), 0, content, Options())
+        self.term, self.role, self.vote, self.commit, self.applied = term, role, vote, commit, applied
+        self.entries = [Entry(*entry) for entry in log]
+
+
+A, B = (1, b"a"), (1, b"b")
+# Nodes, one after the other, and the promise that is broken by it, if one is (Ongaro's thesis, figure 3.2, and 3.4).
+REPORTED = [
+    ("one leader per term", [Reported(1, 2, "leader"), Reported(2, 2, "leader")]),
+    (None, [Reported(1, 2, "leader"), Reported(2, 3, "leader"), Reported(1, 4, "leader")]),
+    ("one vote per term", [Reported(1, 2, vote=1), Reported(1, 2, vote=2)]),
+    ("one vote per term", [Reported(1, 2, vote=1), Reported(1, 2), Reported(1, 2, vote=3)]),
+    (None, [Reported(1, 2, vote=1), Reported(1, 3, vote=2), Reported(2, 3, vote=1)]),
+    ("terms and commits don't fall", [Reported(1, 2), Reported(1, 1)]),
+    ("terms and commits don't fall", [Reported(1, 2, commit=1, log=[A]), Reported(1, 2, log=[A])]),
+    ("terms and commits don't fall", [Reported(1, 2, commit=1, applied=1, log=[A]), Reported(1, 2, commit=1, log=[A])]),
+    ("logs match", [Reported(1, 2, log=[A, (2, b"c")]), Reported(2, 2, log=[B, (2, b"c")])]),
+    ("logs match", [Reported(1, 2, log=[A]), Reported(2, 2, log=[B])]),
+    (None, [Reported(1, 2, log=[A, (2, b"c")]), Reported(2, 3, log=[A, (3, b"d")])]),
+    ("no two nodes commit different entries", [Reported(1, 2, commit=1, log=[A]), Reported(2, 2, commit=1, log=[(2, b"a")])]),
+    ("no two nodes apply different entries", [Reported(1, 2, commit=1, applied=1, content=b"a", log=[A]), Reported(2, 2, commit=1, applied=1, content=b"aa", log=[A])]),
+    ("a leader has all committed entries", [Reported(1, 2, commit=1, log=[A]), Reported(2, 3, "leader")]),
+    ("a leader has all committed entries", [Reported(1, 2, commit=1, log=[A]), Reported(2, 3, "leader", log=[(3, b"")])]),
+    (None, [Reported(1, 2, commit=1, log=[A]), Reported(2, 3, "leader", log=[A, (3, b"")])]),
+]
+
+
+def part_promises() -> Checks:
+    """Each promise, broken and kept."""
+    for number, (wanted, nodes) in enumerate(REPORTED, 1):
+        promises, cluster = Promises(), Cluster()
+        for node in nodes:
+            cluster.nodes[node.id], cluster.touched = node, {node.id}
+            promises.look(node, cluster.nodes)
+            promises.look_at_logs(cluster.nodes, cluster.touched)
+        broken = set(map(name_of, promises.broken))
+        yield f"{wanted or 'nothing'} is broken, {number}", None if broken == ({wanted} if wanted else set()) else f"{promises.broken}"

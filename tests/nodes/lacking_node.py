@@ -13,7 +13,7 @@ sys.path[:1] = [str(pathlib.Path(__file__).resolve().parents[2])]
 
 from raftbench_nodes.protocol.encoding import CALLS, OPTIONS, READY  # noqa: E402
 from plain.node import Node  # noqa: E402
-from tests.nodes.adapter import Adapter  # noqa: E402
+from raftbench_nodes.protocol.adapter import Adapter  # noqa: E402
 
 USUAL = {"inflight": 256, "prevote": False, "checkquorum": False, "step_down_on_removal": False}
 

@@ -8,7 +8,6 @@ from __future__ import annotations
 import itertools
 import json
 import multiprocessing
-import os
 import pathlib
 import re
 import shutil
@@ -21,29 +20,23 @@ from collections.abc import Iterator, Sequence
 
 from raftbench_nodes.compare.comparison import Comparison, Outcome, run_beside
 from raftbench_nodes.explore.dice import steps_of
-from raftbench_nodes.compare.judge import Judge
 from raftbench_nodes.rules.lists import LIKE
 from raftbench_nodes.bugs.measure import first_found
 from raftbench_nodes.bugs.registry import BUGS
 from raftbench_nodes.process.process import Process
-from raftbench_nodes.promises.checker import Promises, name_of
 from raftbench_nodes.protocol.answers import STATES
 from raftbench_nodes.protocol.encoding import CALLS, CHANGES, OPTIONS, READY
 from raftbench_nodes.compare.script import Step, blocks_of
 from raftbench_nodes.compare.runner_steps import RunnerStep, step_of
 from raftbench_nodes.rules.switches import SWITCHES, switches_of
-from plain.cluster import Cluster
-from plain.config import Config
-from plain.node import Node
-from plain.records import Entry, Options
-from plain.script import Block, read_script
+from plain.script import read_script
 from tests.harness import TESTS, TOP, Result
 from tests.nodes.scripts import write_scripts
-from tests.nodes.breaking import Checks
+from tests.nodes.breaking import Checks, part_promises
+from tests.nodes.misbehaving import part_misbehaving, part_starting
+from tests.nodes.tools import JOBS, PLAIN, PROGRAM, directives, tool
 from tests.nodes.units import UNITS
 
-PLAIN = str(TOP / "nodes" / "plain")
-BAD = str(TESTS / "nodes" / "bad_node.py")
 DOCUMENT = TOP / "docs" / "OWN-NODES.md"
 # What nodes/run shows of a node that votes twice.
 VOTES_TWICE = """\
@@ -66,32 +59,7 @@ changes applied, leaders removed, crashes, crashes with unsaved entries, reads a
 --verbose prints what your nodes did; --page FOLDER draws it next to the reference
 """
 CONVERSATION = TOP / "nodes" / "conversation.txt"
-PROGRAM = Judge().program
 SEEDS = [("weighted", 250), ("plain", 150), ("sane", 100)]
-JOBS = min(4, len(os.sched_getaffinity(0)))
-# What the tools remember, for these tests alone.
-CACHE = tempfile.TemporaryDirectory()
-
-
-def tool(name: str, *words: object, **environment: str) -> tuple[str, str, int]:
-    """Runs a tool of nodes/: its output, its standard error and its status."""
-    environment.setdefault("XDG_CACHE_HOME", CACHE.name)
-    done = subprocess.run([TOP / "nodes" / name, *map(str, words)], capture_output=True, text=True, errors="replace", timeout=600, env={**os.environ, **environment})
-    return done.stdout, done.stderr, done.returncode
-
-
-def directives(*heads: str | Step) -> list[Block]:
-    """The blocks of heads, or of steps."""
-    return blocks_of([Step(head) if isinstance(head, str) else head for head in heads])
-
-
-def beside(command: str | Sequence[str], blocks: Sequence[Block], comparison: Comparison) -> Outcome:
-    """Runs one script on a new process."""
-    process = Process(command)
-    try:
-        return run_beside(blocks, process, comparison)
-    finally:
-        process.close()
 
 
 # Each part generates pairs of a name and what is wrong, or None.
@@ -180,81 +148,6 @@ EVERY_CALL: list[str | Step] = [
 ]
 
 
-# What a node does wrong, the call at which it does (or none: from the 12th on), and what the sentence has to have in it.
-WRONG = [
-    ("hangs", None, "no answer within 1 s"), ("late", None, "no answer within 1 s"), ("drips", None, "no answer within 1 s"),
-    ("dies", None, "it ended with status 7; on standard error: out of luck"), ("crashes", None, "it ended by signal 11"),
-    ("closes", None, "it closed its output"), ("floods", None, "a line of more than 128 MiB"), ("long-line", None, "a line of more than 128 MiB"),
-    ("leaves-child", None, "no answer within 1 s"), ("babbles", None, 'no JSON: "INFO 1 became leader"'), ("list", None, "not an object: [1, 2]"),
-    ("nothing", None, 'no JSON: ""'), ("nested", None, "no JSON"), ("huge-number", None, "no JSON"), ("not-utf8", None, "no JSON"),
-    ("twice", None, "it said what it wasn't asked"), ("errs", None, "error: not today"), ("odd-error", None, "error: {"),
-    ("no-state", "campaign", "state is missing"), ("lacks-term", "campaign", "state.term is missing"), ("lacks-ready", "campaign", "state.ready is missing"),
-    ("lacks-vote", "campaign", "parts of state are missing, and not in `without`: vote"),
-    ("text-term", "campaign", 'state.term: "1" is not a number'), ("true-term", "campaign", "state.term: true is not a number"),
-    ("negative-commit", "campaign", "state.commit: -1 is not a number"), ("great-commit", "campaign", "is not a number from 0"),
-    ("float-vote", "campaign", "state.vote: 1.0 is not a number"), ("odd-role", "campaign", 'state.role: "boss" is not one of'),
-    ("number-config", "campaign", "state.config: 5 is not an object"), ("text-voters", "campaign", 'state.config.voters: ["1"] is not a list of ids'),
-    ("no-base64", "campaign", 'state.content: "?" is not base64'), ("odd-events", "campaign", 'events: ["LOUD", "x"] is not a pair'),
-    ("odd-ready", "ready", "ready.messages[0].from is missing"), ("odd-type", "ready", 'ready.messages[0].type: "a b" is not a type'),
-    ("odd-change", "ready", 'ready.entries[0].change.words: "x" is not a word'), ("odd-log", "log", "index 13, where 11 is due"),
-    ("odd-view", "status", 'views[0].state: "asleep" is not one of'), ("odd-snapshot", "snapshot", "message.snapshot is missing"),
-]
-# A time limit in seconds that no process reaches, even on a busy machine.
-PATIENCE = 3600.0
-SHORT = ["add-nodes 1", "raft-state"]
-LONG = [
-    "add-nodes 3 voters=(1,2,3) index=10", "campaign 1", "stabilize", "propose 1 a", "stabilize", "status 1", "send-snapshot 1 2", "tick-heartbeat 1", "stabilize",
-]
-# A node that floods standard error, and answers well, is no bad one; nor is one whose messages stand in a part that the bench doesn't know.
-FINE = ["floods-errors", "owns", "nulls"]
-
-
-def part_misbehaving() -> Checks:
-    with multiprocessing.Pool(JOBS) as pool:
-        wrong = pool.starmap(survived, WRONG)
-    for (kind, _, _), problem in zip(WRONG, wrong):
-        yield f"a node that {kind}", problem
-    for kind in FINE:
-        outcome = beside([BAD, kind], directives(*LONG), Comparison())
-        yield f"a node that {kind}", outcome.first and str(outcome.first)
-    process = Process([BAD, "slow"], seconds=PATIENCE, script_seconds=1.0)
-    first = run_beside(directives(*LONG), process).first
-    process.script_seconds = PATIENCE
-    after = run_beside(directives(*SHORT), process).first
-    process.close()
-    yield "a script that takes too long", None if first and "the script took more than 1 s" in first.came[0] and after is None else f"{first} {after}"
-
-
-def survived(kind: str, at_call: str | None, wanted: str) -> str | None:
-    """What is wrong with how a script ends, and with whether the next one goes on."""
-    seconds = 1.0 if wanted.startswith("no answer") else PATIENCE
-    process = Process([BAD, kind, *([at_call] if at_call else [])], seconds, script_seconds=PATIENCE)
-    try:
-        first = run_beside(directives(*LONG), process, Comparison(aspects=frozenset({"views"}))).first
-        process.seconds = PATIENCE
-        after = run_beside(directives(*SHORT), process) if at_call != "log" else None
-    finally:
-        process.close()
-    if first is None or not first.field.startswith("failed ") or wanted not in first.came[0]:
-        return f"{first and first.came} and not {wanted}"
-    if not re.match(r"\w+ of node \d+: ", first.came[0]):
-        return f"{first.came[0]} doesn't begin with the call and the node"
-    if at_call and not first.came[0].startswith(at_call):
-        return f"{first.came[0]} isn't of {at_call}"
-    return f"the next script: {after.first}" if after and after.first else None
-
-
-def part_starting() -> Checks:
-    for command, wanted in [
-        ("exit 3", "hello: it ended with status 3"), ("echo '{\"name\": \"x\", \"protocol\": 2}'; sleep 9", "this bench speaks 1, and not 2"),
-        ("no-such-command-here", "not found"), ("echo '{\"name\": \"x\", \"protocol\": 1, \"without\": [\"gravity\"]}'; sleep 9", "is not something that nodes may be without"),
-        ("echo '{\"protocol\": 1}'; sleep 9", "name is missing"), ("cat", "name is missing"),
-    ]:
-        for name, words in (("run", f"{TOP}/examples/tour"), ("explore", "--count 3 --jobs 2"), ("switches", "--count 3 --jobs 2")):
-            output, errors, status = tool(name, "--with", command, *words.split())
-            yield f"{name} --with {command}", None if status == 4 and wanted in errors and "Traceback" not in errors else f"{status} {output} {errors}"
-
-
 def bug_rows() -> Iterator[tuple[str, int]]:
     """The bugs, and in how many scripts of the default search each shows: tests/nodes/bugs.txt."""
     for line in (TESTS / "nodes" / "bugs.txt").read_text().splitlines():
@@ -273,52 +166,6 @@ def part_bugs() -> Checks:
             yield f"bug {bug}", None if 0 < found.script <= most else f"not in {most} scripts"
         found = pool.apply(first_found, ("", 400, "auto"))
         yield "the node without a bug shows nothing", None if found.script == 0 else f"{found}"
-
-
-class Told(Node):
-    """A node that has these numbers and this log, whose entries are terms and bodies from index 1 on."""
-
-    def __init__(
-        self, id: int, term: int, role: str = "follower", vote: int = 0, commit: int = 0, applied: int = 0, content: bytes = b"",
-        log: Sequence[tuple[int, bytes]] = (),
-    ) -> None:
-        super().__init__(id, Config(frozenset()), 0, content, Options())
-        self.term, self.role, self.vote, self.commit, self.applied = term, role, vote, commit, applied
-        self.entries = [Entry(*entry) for entry in log]
-
-
-A, B = (1, b"a"), (1, b"b")
-# Nodes, one after the other, and the promise that is broken by it, if one is (Ongaro's thesis, figure 3.2, and 3.4).
-TOLD = [
-    ("one leader per term", [Told(1, 2, "leader"), Told(2, 2, "leader")]),
-    (None, [Told(1, 2, "leader"), Told(2, 3, "leader"), Told(1, 4, "leader")]),
-    ("one vote per term", [Told(1, 2, vote=1), Told(1, 2, vote=2)]),
-    ("one vote per term", [Told(1, 2, vote=1), Told(1, 2), Told(1, 2, vote=3)]),
-    (None, [Told(1, 2, vote=1), Told(1, 3, vote=2), Told(2, 3, vote=1)]),
-    ("terms and commits don't fall", [Told(1, 2), Told(1, 1)]),
-    ("terms and commits don't fall", [Told(1, 2, commit=1, log=[A]), Told(1, 2, log=[A])]),
-    ("terms and commits don't fall", [Told(1, 2, commit=1, applied=1, log=[A]), Told(1, 2, commit=1, log=[A])]),
-    ("logs match", [Told(1, 2, log=[A, (2, b"c")]), Told(2, 2, log=[B, (2, b"c")])]),
-    ("logs match", [Told(1, 2, log=[A]), Told(2, 2, log=[B])]),
-    (None, [Told(1, 2, log=[A, (2, b"c")]), Told(2, 3, log=[A, (3, b"d")])]),
-    ("no two nodes commit different entries", [Told(1, 2, commit=1, log=[A]), Told(2, 2, commit=1, log=[(2, b"a")])]),
-    ("no two nodes apply different entries", [Told(1, 2, commit=1, applied=1, content=b"a", log=[A]), Told(2, 2, commit=1, applied=1, content=b"aa", log=[A])]),
-    ("a leader has all committed entries", [Told(1, 2, commit=1, log=[A]), Told(2, 3, "leader")]),
-    ("a leader has all committed entries", [Told(1, 2, commit=1, log=[A]), Told(2, 3, "leader", log=[(3, b"")])]),
-    (None, [Told(1, 2, commit=1, log=[A]), Told(2, 3, "leader", log=[A, (3, b"")])]),
-]
-
-
-def part_promises() -> Checks:
-    """Each promise, broken and kept."""
-    for number, (wanted, nodes) in enumerate(TOLD, 1):
-        promises, cluster = Promises(), Cluster()
-        for node in nodes:
-            cluster.nodes[node.id], cluster.touched = node, {node.id}
-            promises.look(node, cluster.nodes)
-            promises.look_at_logs(cluster.nodes, cluster.touched)
-        broken = set(map(name_of, promises.broken))
-        yield f"{wanted or 'nothing'} is broken, {number}", None if broken == ({wanted} if wanted else set()) else f"{promises.broken}"
 
 
 def part_explore() -> Checks:

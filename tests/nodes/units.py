@@ -28,12 +28,12 @@ from raftbench_nodes.explore.shrinker import Budget, Shrinker, with_joined_nodes
 from raftbench_nodes.compare.stage import Reference
 from raftbench_nodes.compare.runner_steps import step_of, steps_above
 from raftbench_nodes.rules.switches import Unknown
-from plain.config import Change, Config
+from plain.config import Config
 from plain.node import Node
 from plain.records import Entry, Message, Options
 from tests.harness import TOP
 from tests.nodes.breaking import BEGUN, Checks, is_equal, part_promises_of_restarts, script
-from tests.nodes.switched import PARTS as SWITCHED
+from tests.nodes.library_rules import PARTS as LIBRARY_RULES
 
 THREE = Config(frozenset({1, 2, 3}))
 
@@ -223,73 +223,6 @@ def part_exceptions() -> Checks:
             yield wrong, None
 
 
-# Switches that libraries other than etcd's need
-
-
-def switched(name: str, *lines: str) -> Reference:
-    return run(Reference(kind_with({name})), *lines)
-
-
-def part_other_switches() -> Checks:
-    split = ("add-nodes 3 voters=(1,2,3) index=10", "campaign 1", "campaign 2", "process-ready 1 2", "deliver-msgs 1 2 3", "process-ready 1 2 3", "deliver-msgs 1 2")
-    roles = [[run(Reference(), *split).nodes[id].role for id in (1, 2)], [switched("refused-candidate-stays", *split).nodes[id].role for id in (1, 2)]]
-    yield "refused-candidate-stays", is_equal([sorted(pair) for pair in roles], [["candidate", "leader"], ["candidate", "leader"]] if "follower" not in roles[0] else [["follower", "leader"], ["candidate", "leader"]])
-    changed = ("add-nodes 3 voters=(1,2,3) index=10", "campaign 1", "stabilize")
-    cluster = switched("change-counts-when-appended", *changed)
-    cluster.nodes[1].propose_change(Change("auto", (("l", 3),)))
-    yield "change-counts-when-appended", is_equal(cluster.nodes[1].config, Config(frozenset({1, 2}), learners=frozenset({3})))
-    usual = run(Reference(), *changed)
-    usual.nodes[1].propose_change(Change("auto", (("l", 3),)))
-    yield "and not without it", is_equal(usual.nodes[1].config, THREE)
-    sent = ("propose 1 a", "process-ready 1", "deliver-msgs 2", "process-ready 2", "deliver-msgs 1", "process-ready 1")
-    commits = [[m.commit for m in cluster.network.pending if m.to == 2] for cluster in (run(Reference(), *changed, *sent), switched("commit-told-later", *changed, *sent))]
-    yield "commit-told-later", is_equal(commits, [[12], []])
-    at_follower = ("propose 2 b", "process-ready 2")
-    yield "proposal-refused", is_equal([len(run(Reference(), *changed, *at_follower).network.pending), len(switched("proposal-refused", *changed, *at_follower).network.pending)], [1, 0])
-    asks = ("campaign 3", "process-ready 3", "deliver-msgs 2")
-    yield "known-leader-refuses", is_equal([run(Reference(), *changed, *asks).nodes[2].term, switched("known-leader-refuses", *changed, *asks).nodes[2].term], [2, 1])
-    yield "lead-is-kept", is_equal([run(Reference(), *changed, *asks).nodes[2].lead, switched("lead-is-kept", *changed, *asks).nodes[2].lead], [0, 1])
-    # hashicorp/raft 1.1.2, replication.go: handleStaleTerm notifies stepDown, and heartbeat doesn't look at resp.Term.
-    for name, kind, wanted in (("stale-leader-keeps-term", "MsgAppResp", ("follower", 1, 1, 0)), ("heartbeat-answers-have-no-term", "MsgHeartbeatResp", ("leader", 1, 1, 1))):
-        pair = run(Reference(), *changed).nodes[1], switched(name, *changed).nodes[1]
-        for node in pair:
-            node.step(Message(kind, 2, 1, 7))
-        yield name, is_equal([(node.role, node.term, node.vote, node.lead) for node in pair], [("follower", 7, 0, 0), wanted])
-    for kind, role in (("MsgAppResp", "follower"), ("MsgHeartbeatResp", "candidate")):
-        node = switched("stale-leader-keeps-term", *changed, "campaign 2" if role == "candidate" else "raft-state").nodes[2]
-        node.step(Message("MsgAppResp", 3, 2, 9))
-        yield f"stale-leader-keeps-term, at a {role}", is_equal((node.role, node.term < 9), (role, True))
-    voted = [("add-nodes 3 voters=(1,2,3) index=10", "campaign 1", "process-ready 1", "deliver-msgs 2", "# node: crash 2 before save / raft-state")]
-    votes = [[cluster.nodes[2].vote, cluster.nodes[2].term] for steps in voted for cluster in (run(Reference(), *steps), switched("saved-at-once", *steps))]
-    yield "saved-at-once", is_equal(votes, [[0, 0], [1, 1]])
-    loses = ("add-nodes 2 voters=(1,2) index=10", "campaign 1", "stabilize", "propose 1 a", "process-ready 1", "deliver-msgs drop=(2)", "propose 1 b", "process-ready 1")
-    again = [[[(m.kind, len(m.entries)) for m in switched(*name, *loses, *more).network.pending] for more in ((), ("tick-heartbeat 1", "process-ready 1"))] for name in (["lost-append-goes-again"],)]
-    yield "lost-append-goes-again", is_equal(again, [[[], [("MsgHeartbeat", 0), ("MsgApp", 2)]]])
-    earlier = ("add-nodes 2 voters=(1,2) index=10", "campaign 2", "campaign 2", "process-ready 2", "deliver-msgs drop=(1)", "campaign 1", "process-ready 1", "deliver-msgs 2", "process-ready 2")
-    refused = [[(m.kind, m.term, m.refused) for m in cluster.network.pending if m.to == 1] for cluster in (run(Reference(), *earlier), switched("earlier-vote-refused", *earlier))]
-    yield "earlier-vote-refused (figure 3.1)", is_equal(refused, [[], [("MsgVoteResp", 2, True)]])
-    lease = ("add-nodes 2 voters=(1,2) index=10 checkquorum=true", "campaign 1", "stabilize", "# node: restart 1 / campaign 1", "process-ready 1", "deliver-msgs 2")
-    terms = [cluster.nodes[2].term for cluster in (run(Reference(), *lease), switched("known-leader-may-ask", *lease))]
-    yield "known-leader-may-ask", is_equal(terms, [1, 2])
-    alone = ("add-nodes 2 voters=(1,2) index=10 checkquorum=true", "campaign 1", "stabilize", *["tick-heartbeat 1"] * 3)
-    roles = [[switched(*name, *alone, *more).nodes[1].role for more in ((), ("tick-heartbeat 1",))] for name in (["quorum-by-last-answers"],)]
-    yield "quorum-by-last-answers", is_equal(roles, [["leader", "follower"]])
-    reads = (*changed, "# node: read 2 / process-ready 2")
-    kinds = [[m.kind for m in cluster.network.pending] for cluster in (run(Reference(), *reads), switched("reads-are-forwarded", *reads))]
-    served = [(id, read.index) for id, ready in switched("reads-are-forwarded", *reads, "stabilize").readies for read in ready.reads]
-    yield "reads-are-forwarded", is_equal((kinds, served), ([[], ["MsgReadIndex"]], [(2, 11)]))
-    early = (*changed, "campaign 2", "process-ready 2", "deliver-msgs 3", "process-ready 3", "deliver-msgs 2", "# node: read 2 / stabilize")
-    served = [(id, read.index) for id, ready in switched("reads-are-forwarded", *early).readies for read in ready.reads]
-    yield "and early ones wait for the first commit", is_equal(served, [(2, 12)])
-    applied = ("propose 1 a", "stabilize", "# node: restart 2 / raft-state")
-    yield "restart-keeps-applied", is_equal([run(Reference(), *changed, *applied).nodes[2].content, switched("restart-keeps-applied", *changed, *applied).nodes[2].content], [b"", b"a"])
-    snapshots = [cluster.nodes[1].snapshot_for(2).snapshot for cluster in (run(Reference(), *changed), switched("last-snapshot-sent", *changed))]
-    yield "last-snapshot-sent", is_equal([snapshot and snapshot.index for snapshot in snapshots], [11, 10])
-    alone = ("add-nodes 1 voters=1 index=10", "campaign 1")
-    nodes = [switched(name, *alone).nodes[1] for name in ("own-vote-at-once", "own-answers-at-once")]
-    yield "own-vote-at-once", is_equal([(node.role, node.commit) for node in nodes], [("leader", 10), ("leader", 11)])
-
-
 # Shrinking, and children
 
 
@@ -457,6 +390,6 @@ def part_known_failures() -> Checks:
 
 
 UNITS: list[Callable[[], Checks]] = [
-    part_steps, part_network, part_restarts, part_between, part_reads, part_limits, part_uncommitted, part_promises_of_restarts, part_alone, part_excused, part_exceptions, part_other_switches, part_shrinking, part_children,
-    part_at_once, part_digest, part_memory, part_fleet, part_known_failures, *SWITCHED,
+    part_steps, part_network, part_restarts, part_between, part_reads, part_limits, part_uncommitted, part_promises_of_restarts, part_alone, part_excused, part_exceptions, part_shrinking, part_children,
+    part_at_once, part_digest, part_memory, part_fleet, part_known_failures, *LIBRARY_RULES,
 ]
