@@ -233,8 +233,11 @@ func (r *Raft) Advance() {
 	}
 }
 
-// Restarted is a node that begins with what this one has saved.
-func (r *Raft) Restarted() *Raft {
+// Restarted is a node that begins with what this one has saved. isAllSaved: what waited for Advance was saved too.
+func (r *Raft) Restarted(isAllSaved bool) *Raft {
+	if isAllSaved {
+		r.Advance()
+	}
 	n := New(r.id, r.voters, r.base, r.baseTerm, r.begun)
 	n.saved, n.term, n.vote, n.log = r.saved, r.saved.term, r.saved.vote, r.saved.log
 	return n

@@ -43,12 +43,7 @@ func (n *node) Ready() (r raftbench.Ready) {
 
 func (n *node) Step(m raftbench.Message) error { return n.Raft.Step(m.Own.(Message)) }
 
-func (n *node) Restart(saved raftbench.Saved) {
-	if saved == raftbench.All {
-		n.Advance()
-	}
-	n.Raft = n.Restarted()
-}
+func (n *node) Restart(saved raftbench.Saved) { n.Raft = n.Restarted(saved == raftbench.All) }
 
 func TestRaft(t *testing.T) {
 	without := []string{"inflight", "prevote", "checkquorum", "step_down_on_removal", "ready", "sync", "torn"}

@@ -55,10 +55,10 @@ def test_go_package(room: pathlib.Path) -> Iterator[str]:
 
 
 def test_example_passes(room: pathlib.Path) -> Iterator[str]:
-    """Its adapter has at most 45 lines with something in them, and nothing is found; each of the tool's words is taken."""
+    """Its adapter has at most 40 lines with something in them, and nothing is found; each of the tool's words is taken."""
     example = example_in(room)
     lines = [line for line in (example / "raft_test.go").read_text().splitlines() if line]
-    if len(lines) > 45:
+    if len(lines) > 40:
         yield f"the adapter has {len(lines)} lines"
     done = go(example, "vet", "./...")
     if done.returncode:
