@@ -17,7 +17,7 @@ VALUES = STATE[:7]
 values_of = operator.attrgetter(*VALUES)
 
 
-class Stateful(Protocol):
+class StateParts(Protocol):
     """A state, or a node that has one."""
 
     role: str
@@ -38,14 +38,14 @@ def log_of(node: AnyNode) -> Log:
     return Log(node.base, node.base_term, node.durable, node.entries_from(node.base + 1))
 
 
-def differing_part(wanted: Stateful, came: Stateful, skipped: AbstractSet[str]) -> str | None:
+def differing_part(wanted: StateParts, came: StateParts, skipped: AbstractSet[str]) -> str | None:
     """The first part of two states that differs, but for `config` and `ready`."""
     if values_of(wanted) == values_of(came):
         return None
     return next((name for name in VALUES if getattr(wanted, name) != getattr(came, name) and name not in skipped), None)
 
 
-def direction(part: str, wanted: Stateful, came: Stateful) -> str:
+def direction(part: str, wanted: StateParts, came: StateParts) -> str:
     """A part of a state with what is surprising about it."""
     if part == "role":
         return f"role {came.role} for {wanted.role}"
@@ -54,11 +54,11 @@ def direction(part: str, wanted: Stateful, came: Stateful) -> str:
     return part
 
 
-def state_line(id: int, state: Stateful, without: AbstractSet[str]) -> str:
+def state_line(id: int, state: StateParts, without: AbstractSet[str]) -> str:
     return " ".join([str(id), *(part_text(name, state) for name in VALUES if name not in without)])
 
 
-def part_text(name: str, state: Stateful) -> str:
+def part_text(name: str, state: StateParts) -> str:
     return state.role if name == "role" else f"content={content_text(state.content)}" if name == "content" else f"{name}={getattr(state, name)}"
 
 

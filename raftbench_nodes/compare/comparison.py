@@ -55,7 +55,7 @@ EXCUSES = {
 }
 
 
-class Broken(NamedTuple):
+class BrokenPromise(NamedTuple):
     """A promise that the nodes break and the reference keeps."""
 
     place: int
@@ -74,7 +74,7 @@ class Outcome(NamedTuple):
     outputs: Sequence[list[str]]  # what the reference printed
     came: Sequence[list[str]]  # what the nodes printed
     first: Difference | None
-    broken: Sequence[Broken]
+    broken: Sequence[BrokenPromise]
     made: Mapping[str, int]  # what the script makes the reference do, up to where it ended
 
     def kinds(self) -> Iterator[tuple[str, int]]:
@@ -262,7 +262,7 @@ class Run:
         self.broken += [(place, text) for text in theirs.promises.broken if text not in seen]
         return True
 
-    def broken_promises(self) -> list[Broken]:
+    def broken_promises(self) -> list[BrokenPromise]:
         """The first of each promise that is broken, without those that the reference breaks too and those that one knows."""
         firsts: dict[str, tuple[int, str]] = {}
         for place, text in self.broken:
@@ -273,7 +273,7 @@ class Run:
         blocks = [block for _, block in self.kept]
         excused = breaks(WatchedReference(self.chosen.kind, self.chosen.begins_at_0), blocks, self.process)
         excuse = excuse_of(blocks)
-        return [Broken(place, text, excuse) for name, (place, text) in firsts.items() if name not in excused]
+        return [BrokenPromise(place, text, excuse) for name, (place, text) in firsts.items() if name not in excused]
 
 
 def run_beside(blocks: Sequence[Block], process: Process, chosen: Comparison = Comparison(), goes_on: bool = True) -> Outcome:

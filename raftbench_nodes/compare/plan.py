@@ -14,10 +14,10 @@ from ..explore.coverage import effect, message_relation, number_of, situation, v
 from ..process.node import options_out
 from ..process.process import Failed, Process
 from ..promises.checker import Promises
-from ..promises.clusters import Watching
+from ..promises.clusters import WatchedCluster
 from ..promises.run import PromiseResult, PromiseRun
 from ..protocol.capabilities import reduced
-from ..protocol.answers import Answer, LogEnd, View, answer_in
+from ..protocol.answers import Answer, LogEnd, MemberView, answer_in
 from ..protocol.encoding import Hello, Json, WireMessage, Wrong, change_out, config_out, data_out
 from ..rules.lists import Switched
 from .answers import log_of, state_of
@@ -184,7 +184,7 @@ class PlanningReference(Reference):
         for id in sorted(self.touched) if self.has_views else []:
             node = self.node(id)
             if node.role == "leader":
-                views = {to: View(v.state, v.match, v.next, v.inflight, v.waiting, v.active, v.pending) for to, v in node.views.items() if to != id}
+                views = {to: MemberView(v.state, v.match, v.next, v.inflight, v.waiting, v.active, v.pending) for to, v in node.views.items() if to != id}
                 self.asked.append(PlannedCall({"call": "status", "node": id}, answer=views))
         self.steps_to = 0
 
@@ -290,7 +290,7 @@ def compared_at_once(asked: Sequence[PlannedCall], answers: Sequence[Answer], ch
     return AtOnce(False, None, checker.other_state(asked[other], answers[other], place, directive_of(block).name.decode("latin-1")))
 
 
-class PlanningAlone(Watching, PlanningReference):
+class WatchedPlanningReference(WatchedCluster, PlanningReference):
     """The reference, held to the promises, which notes the calls that it gets."""
 
     def __init__(self, kind: type[Node], begins_at_0: bool, hello: Hello) -> None:
@@ -304,7 +304,7 @@ def keeps_promises_at_once(
     """What a script comes to with nodes that do as a reference that keeps all promises, also while it heals. If they do otherwise there is None, and how the
     first state differs, where it is the first answer that does.
     """
-    cluster = PlanningAlone(chosen.kind, chosen.begins_at_0, process.hello)
+    cluster = WatchedPlanningReference(chosen.kind, chosen.begins_at_0, process.hello)
     cluster.has_all_reads = has_all_reads
     result = PromiseRun(blocks, process, chosen, cluster).result()
     if result.broken or result.failed:

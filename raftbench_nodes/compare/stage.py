@@ -41,7 +41,7 @@ class CallRecord(NamedTuple):
     after: tuple[object, ...]
 
 
-class Holding(Network):
+class HoldingNetwork(Network):
     """A network that holds back what some nodes send to others, and knows what was delivered last from one to another."""
 
     def __init__(self) -> None:
@@ -92,7 +92,7 @@ class Stage(Cluster):
 
     def __init__(self, begins_at_0: bool = False) -> None:
         super().__init__()
-        self.network: Holding = Holding()
+        self.network: HoldingNetwork = HoldingNetwork()
         self.begins_at_0, self.limit, self.most_uncommitted, self.reads = begins_at_0, 0, 0, 0
         self.sends_early = False  # whether messages that go out before the save do so also at a crash
         self.has_all_reads = True  # also at nodes that don't lead, which libraries pass on or decline

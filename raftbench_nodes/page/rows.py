@@ -65,7 +65,7 @@ def entry_row(verb: str, index: int, entry: Entry) -> Row:
     return [verb, index, entry.term, body_text(entry.body)]
 
 
-class Shown:
+class ShownNode:
     """What the rows have said about a node."""
 
     def __init__(self) -> None:
@@ -137,11 +137,11 @@ class Recorder(Stage):
     def __init__(self, *words: Any) -> None:
         super().__init__(*words)
         self.rows: list[Row] = []
-        self.shown_nodes: dict[int, Shown] = {}
+        self.shown_nodes: dict[int, ShownNode] = {}
         self.mail = Mail()
 
     def record_changes(self, id: int) -> None:
-        self.rows += self.shown_nodes.setdefault(id, Shown()).changes(self.nodes[id])
+        self.rows += self.shown_nodes.setdefault(id, ShownNode()).changes(self.nodes[id])
 
     def run(self, directive: Any) -> list[str]:
         lines = super().run(directive)

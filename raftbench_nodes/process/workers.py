@@ -28,7 +28,7 @@ class Worker(Protocol):
     process: Process
 
 
-class Broken(Exception):
+class WorkerError(Exception):
     """The nodes could not be started, the reference not judged, or a worker ended."""
 
 
@@ -78,7 +78,7 @@ class Fleet:
         except OSError as fault:
             for worker in self.workers:
                 worker.terminate()
-            raise Broken(f"no worker could be started: {fault}") from None
+            raise WorkerError(f"no worker could be started: {fault}") from None
 
     def give(self, task: Task, chunk: Sequence[Any]) -> None:
         self.items.put((self.given, task, list(chunk)))
@@ -104,10 +104,10 @@ class Fleet:
             what, number, result, name = self.results.get(timeout=LOOK_SECONDS)
         except queue.Empty:
             if are_over:
-                raise Broken("a worker ended") from None
+                raise WorkerError("a worker ended") from None
             return
         if what == "failed":
-            raise Broken(result)
+            raise WorkerError(result)
         self.name = self.name or name
         self.back[number] = result
 

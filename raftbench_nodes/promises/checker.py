@@ -49,7 +49,7 @@ def name_of(broken: str) -> str:
     return broken.split(":")[0]
 
 
-class Held:
+class LogPart:
     """A log: entries after an index, which are the first so many of a list that only grows."""
 
     def __init__(self, base: int, entries: Sequence[Entry]) -> None:
@@ -59,16 +59,16 @@ class Held:
         return self.base < index <= self.last()
 
     def __eq__(self, other: object) -> bool:
-        if not isinstance(other, Held) or self.length != other.length:
+        if not isinstance(other, LogPart) or self.length != other.length:
             return False
         return not self.length or self.base == other.base and (self.list is other.list or self.list[:self.length] == other.list[:other.length])
 
     def last(self) -> int:
         return self.base + self.length
 
-    def up_to(self, index: int) -> Held:
+    def up_to(self, index: int) -> LogPart:
         """The same without what is after an index."""
-        less = Held(self.base, self.list)
+        less = LogPart(self.base, self.list)
         less.length = max(0, min(self.length, index - self.base))
         return less
 
@@ -81,11 +81,11 @@ class Held:
         return zip(range(self.base + 1, min(most, self.last()) + 1), self.list)
 
 
-NOTHING = Held(0, ())
+NOTHING = LogPart(0, ())
 
 
-def log_of(node: AnyNode) -> Held:
-    return Held(node.base, node.entries if isinstance(node, Node) else [entry for _, entry in node.entries_from(node.base + 1)])
+def log_of(node: AnyNode) -> LogPart:
+    return LogPart(node.base, node.entries if isinstance(node, Node) else [entry for _, entry in node.entries_from(node.base + 1)])
 
 
 class Saved(NamedTuple):
@@ -93,11 +93,11 @@ class Saved(NamedTuple):
 
     term: int
     vote: int
-    entries: Held
+    entries: LogPart
 
 
 class Promises:
-    """Held after each call of a node. `without` names parts of the state that the nodes don't show."""
+    """Checked after each call of a node. `without` names parts of the state that the nodes don't show."""
 
     def __init__(self, without: frozenset[str] = frozenset()) -> None:
         self.without = without
@@ -107,7 +107,7 @@ class Promises:
         self.before: dict[int, StateBefore] = {}
         self.entries: dict[int, tuple[int, Entry, int]] = {}
         self.contents: dict[int, tuple[bytes, int]] = {}
-        self.logs: dict[int, Held] = {}
+        self.logs: dict[int, LogPart] = {}
         self.saved: dict[int, Saved] = {}
         self.acknowledged: dict[int, dict[int, Entry]] = {}
         self.untold: dict[int, dict[int, Entry]] = {}  # acknowledgements that aren't sent yet
@@ -192,7 +192,7 @@ class Promises:
                 if other != id and not (other in changed and other < id):
                     self.compare(id, self.logs[id], other, self.logs[other])
 
-    def look_at_promised(self, node: AnyNode, log: Held) -> None:
+    def look_at_promised(self, node: AnyNode, log: LogPart) -> None:
         """While a term lasts its leader takes no entry back, and neither may who acknowledged it."""
         term, entries = self.promised.get(node.id, (0, {}))
         if term == node.term:
@@ -200,7 +200,7 @@ class Promises:
             if lost is not None:
                 self.note(f"acknowledged entries are held: {node.id} acknowledged {lost} in term {term}, and lacks it")
 
-    def look_at_committed(self, node: AnyNode, log: Held) -> None:
+    def look_at_committed(self, node: AnyNode, log: LogPart) -> None:
         if self.shows("commit"):
             for index, entry in log.pairs(node.commit):
                 _, first, who = self.entries.setdefault(index, (node.term, entry, node.id))
@@ -211,13 +211,13 @@ class Promises:
             if content != node.content and node.applied:
                 self.note(f"no two nodes apply different entries: {who} and {node.id} do up to {node.applied}: {content_text(content)}, {content_text(node.content)}")
 
-    def look_at_leader(self, node: AnyNode, log: Held) -> None:
+    def look_at_leader(self, node: AnyNode, log: LogPart) -> None:
         for index, (term, entry, _) in self.entries.items():
             if term < node.term and index > node.base and log.get(index) != entry:
                 return self.note(f"a leader has all committed entries: {node.id}, in term {node.term}, lacks {index}")
         return None
 
-    def compare(self, one: int, mine: Held, other: int, theirs: Held) -> None:
+    def compare(self, one: int, mine: LogPart, other: int, theirs: LogPart) -> None:
         """Logs with an entry of the same index and term are the same up to it."""
         shared = range(max(mine.base, theirs.base) + 1, min(mine.last(), theirs.last()) + 1)
         pairs = [(index, mine.list[index - mine.base - 1], theirs.list[index - theirs.base - 1]) for index in shared]

@@ -13,7 +13,7 @@ from ..process.process import Process
 from .checker import Promises, Saved, name_of
 
 
-class Watching(Stage):
+class WatchedCluster(Stage):
     """A cluster with its promises."""
 
     promises: Promises
@@ -58,13 +58,13 @@ class Watching(Stage):
         self.promises.look_at_logs(self.nodes, self.touched)
 
 
-class WatchedHosts(Watching, Hosted):
+class WatchedHosts(WatchedCluster, Hosted):
     def __init__(self, process: Process, begins_at_0: bool = False) -> None:
         super().__init__(process, begins_at_0)
         self.promises = Promises(process.without)
 
 
-class WatchedReference(Watching, Reference):
+class WatchedReference(WatchedCluster, Reference):
     def __init__(self, kind: type[Node], begins_at_0: bool = False) -> None:
         super().__init__(kind, begins_at_0)
         self.promises = Promises()

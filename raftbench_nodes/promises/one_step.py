@@ -22,7 +22,7 @@ class StateBefore(NamedTuple):
     config: object
 
 
-class Told(NamedTuple):
+class LeaderNews(NamedTuple):
     """What a node may commit: what it had committed when it began or led, and what the leaders of a term told it, up to what it matched."""
 
     term: int
@@ -33,8 +33,8 @@ class Told(NamedTuple):
     def most(self) -> int:
         return max(self.known, min(self.commit, self.matched))
 
-    def after(self, m: Message) -> Told:
-        told = self if m.term <= self.term else Told(m.term, self.most(), 0, 0)
+    def after(self, m: Message) -> LeaderNews:
+        told = self if m.term <= self.term else LeaderNews(m.term, self.most(), 0, 0)
         if m.kind == "MsgSnap" and m.snapshot:
             return told._replace(known=max(told.known, m.snapshot.index))
         if m.kind == "MsgHeartbeat":
@@ -47,12 +47,12 @@ class StepPromises:
 
     def __init__(self, note: Callable[[str], None], shows: Callable[..., bool]) -> None:
         self.note, self.shows = note, shows
-        self.told: dict[int, Told] = {}
+        self.told: dict[int, LeaderNews] = {}
 
     def look(self, node: AnyNode, was: StateBefore | None, message: Message | None) -> None:
         """After a call that is no restart; `message` is the one that it brought."""
         if was is None:
-            self.told[node.id] = Told(node.term, node.commit, 0, 0)
+            self.told[node.id] = LeaderNews(node.term, node.commit, 0, 0)
             return
         if message:
             self.look_at_term(node, was, message)
@@ -63,7 +63,7 @@ class StepPromises:
 
     def begin_again(self, node: AnyNode) -> None:
         """A node has started again."""
-        self.told[node.id] = Told(node.term, max(node.commit, self.told[node.id].most() if node.id in self.told else 0), 0, 0)
+        self.told[node.id] = LeaderNews(node.term, max(node.commit, self.told[node.id].most() if node.id in self.told else 0), 0, 0)
 
     def look_at_term(self, node: AnyNode, was: StateBefore, m: Message) -> None:
         if not 0 < m.term < was.term:

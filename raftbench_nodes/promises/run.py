@@ -9,7 +9,7 @@ from plain.config import both
 from plain.records import AnyNode
 from plain.script import Block
 
-from ..compare.comparison import Broken, Comparison, Difference, excuse_without_reference, failure
+from ..compare.comparison import BrokenPromise, Comparison, Difference, excuse_without_reference, failure
 from ..compare.runner_steps import RunnerStep, steps_above
 from ..compare.script import Step, blocks_of, directive_of
 from ..compare.stage import NEVER, Reference, allowed
@@ -17,7 +17,7 @@ from ..process.process import Failed, Process
 from ..protocol.capabilities import reduced
 from ..rules.lists import Switched
 from .checker import name_of
-from .clusters import WatchedHosts, WatchedReference, Watching
+from .clusters import WatchedHosts, WatchedReference, WatchedCluster
 
 # How often all clocks tick until the nodes have to be healed. Nodes with equal timeouts may miss each other for ever: then each clock ticks by chance.
 MOST_TICKS = 24
@@ -30,7 +30,7 @@ class PromiseResult(NamedTuple):
 
     directives: int
     left_out: int
-    broken: Sequence[Broken]
+    broken: Sequence[BrokenPromise]
     failed: Difference | None
     made: tuple[tuple[str, int], ...] = ()  # what the script makes the reference do, if it was asked
 
@@ -43,7 +43,7 @@ class PromiseResult(NamedTuple):
 class PromiseRun:
     """One script on a cluster that is held to the promises."""
 
-    def __init__(self, blocks: Sequence[Block], process: Process, chosen: Comparison, cluster: Watching) -> None:
+    def __init__(self, blocks: Sequence[Block], process: Process, chosen: Comparison, cluster: WatchedCluster) -> None:
         self.process, self.chosen, self.cluster, cluster.sends_early = process, chosen, cluster, True
         less = ((place, reduced(block, process.hello)) for place, block in enumerate(blocks, 1))
         self.kept = [(place, block) for place, block in less if block is not None]
@@ -61,7 +61,7 @@ class PromiseRun:
         excuse = excuse_without_reference([block for _, block in self.kept])
         if not failed and not excuse and not self.found:
             failed = self.heal() or self.failure
-        broken = [Broken(place, text, excuse) for name, (place, text) in self.found.items() if name not in self.chosen.known_promises]
+        broken = [BrokenPromise(place, text, excuse) for name, (place, text) in self.found.items() if name not in self.chosen.known_promises]
         return PromiseResult(len(self.kept), self.left_out, broken, failed)
 
     def carry_out(self, place: int, block: Block) -> Difference | None:

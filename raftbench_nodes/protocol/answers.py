@@ -60,7 +60,7 @@ class LogEnd:
 
 
 @dataclasses.dataclass(slots=True)
-class View:
+class MemberView:
     """What a leader says of a member."""
 
     state: str
@@ -72,7 +72,7 @@ class View:
     pending: int  # the index of the snapshot that is under way
 
 
-Views = dict[int, View]
+Views = dict[int, MemberView]
 
 
 @dataclasses.dataclass(slots=True)
@@ -148,7 +148,7 @@ def log_in(parts: Parts, without: frozenset[str]) -> Log:
 
 def views_in(parts: Parts, without: frozenset[str] = frozenset()) -> Views:
     return {
-        view.number("node", needed=True): View(
+        view.number("node", needed=True): MemberView(
             view.word("state", VIEW_STATES), view.number("match"), view.number("next", needed=True), view.number("inflight"), view.truth("waiting"),
             view.truth("active"), view.number("snapshot"),
         )

@@ -26,7 +26,7 @@ from ..explore.shrinker import Budget
 from ..page.page import Mark, NoViewer, PageWriter
 from ..process.cache import default_folder
 from ..process.process import Failed, Process
-from ..process.workers import Broken, Fleet, interruptible
+from ..process.workers import WorkerError, Fleet, interruptible
 from ..promises.run import run_alone
 from .arguments import MINUTES, add_common, add_comparing, add_exploring, checked, comparison_of, complain, parser_for
 
@@ -261,7 +261,7 @@ def calibrated(words: Words) -> Words:
 
 
 def explored(words: Words) -> Result:
-    """Explores and shrinks; Broken or Failed where the nodes don't start, KeyboardInterrupt at a second interrupt."""
+    """Explores and shrinks; WorkerError or Failed where the nodes don't start, KeyboardInterrupt at a second interrupt."""
     with interruptible() as is_stopped:
         return searched(calibrated(words), is_stopped)
 
@@ -364,7 +364,7 @@ def explore(words: Words) -> int:
         if words.script is not None:
             return write_again(words, words.script)
         result = explored(words)
-    except (Broken, Failed, Unjudged) as fault:
+    except (WorkerError, Failed, Unjudged) as fault:
         complain(program, fault)
         return 4
     except KeyboardInterrupt:

@@ -10,7 +10,7 @@ from typing import Iterator, Sequence
 
 from plain.script import Block, Fault, Script, read_with_lines
 
-from ..compare.comparison import EXCUSES, Broken, Comparison, Difference, Outcome, run_beside
+from ..compare.comparison import EXCUSES, BrokenPromise, Comparison, Difference, Outcome, run_beside
 from ..compare.exceptions import AcceptedKinds
 from ..compare.judge import Judge, Unjudged
 from ..compare.made import made_line
@@ -110,7 +110,7 @@ class Files:
         if reason:
             print(f"  accepted: {reason}")
 
-    def show_broken(self, file: pathlib.Path, lines: Sequence[int], broken: Broken) -> None:
+    def show_broken(self, file: pathlib.Path, lines: Sequence[int], broken: BrokenPromise) -> None:
         """Shows a broken promise. It doesn't count where the script does what breaks promises of any Raft."""
         where = f"{file}:{lines[broken.place - 1]}"
         if broken.excuse:
@@ -136,7 +136,7 @@ def mark_of(difference: Difference) -> Mark:
     return Mark(difference.place, "; ".join([title, *sides]))
 
 
-class Compared(Files):
+class ComparisonFiles(Files):
     """Scripts next to the reference."""
 
     program = "run"
@@ -183,7 +183,7 @@ class Compared(Files):
         self.show_more()
 
 
-class Promised(Files):
+class PromiseFiles(Files):
     """Scripts on the nodes alone."""
 
     program = "promises"
@@ -230,7 +230,7 @@ def run(words: Sequence[str]) -> int:
     add_files(parser, "*")
     given = parser.parse_args(words)
     given.paths = given.paths or [folder_of_classics()]
-    return checked("run", lambda: run_files(Compared(given)))
+    return checked("run", lambda: run_files(ComparisonFiles(given)))
 
 
 def promises(words: Sequence[str]) -> int:
@@ -245,7 +245,7 @@ def promises(words: Sequence[str]) -> int:
     parser.add_argument("--list", action="store_true", help="lists the promises")
     given = parser.parse_args(words)
     if given.paths:
-        return checked("promises", lambda: run_files(Promised(given)))
+        return checked("promises", lambda: run_files(PromiseFiles(given)))
     return checked("promises", lambda: explore(words_of("promises", given)))
 
 

@@ -13,7 +13,7 @@ from ..compare.comparison import Comparison, run_beside
 from ..compare.script import Step, blocks_of, steps_of_blocks
 from ..explore.dice import steps_of
 from ..process.process import Failed, Process
-from ..process.workers import Broken, Fleet
+from ..process.workers import WorkerError, Fleet
 from ..rules.lists import kind_like, kind_with
 from ..rules.switches import SWITCHES
 from .arguments import add_common, add_comparing, add_seeds, checked, comparison_of, complain, parser_for, scripts_of
@@ -32,7 +32,7 @@ class Trial(NamedTuple):
     switches: Switches
 
 
-class Agreed(NamedTuple):
+class Agreement(NamedTuple):
     """How far a script agrees. `is_judged` is false if a call fails, which no rule explains."""
 
     does: bool
@@ -40,25 +40,25 @@ class Agreed(NamedTuple):
     is_judged: bool
 
 
-class Judging:
+class TrialWorker:
     """A worker: a process of the nodes, and what is compared."""
 
     def __init__(self, process: Process, comparison: Comparison, scripts: Sequence[list[Step]]) -> None:
         self.process, self.comparison, self.scripts = process, comparison, scripts
 
 
-def tried(judging: Judging, trial: Trial) -> Agreed:
-    if not judging.process.is_started:
-        judging.process.reset()
-    comparison = judging.comparison._replace(kind=kind_of(trial.switches))
-    outcome = run_beside(blocks_of(judging.scripts[trial.number][:trial.most]), judging.process, comparison, goes_on=False)
-    return Agreed(outcome.first is None, outcome.agreed, outcome.first is None or not outcome.first.is_failure())
+def tried(worker: TrialWorker, trial: Trial) -> Agreement:
+    if not worker.process.is_started:
+        worker.process.reset()
+    comparison = worker.comparison._replace(kind=kind_of(trial.switches))
+    outcome = run_beside(blocks_of(worker.scripts[trial.number][:trial.most]), worker.process, comparison, goes_on=False)
+    return Agreement(outcome.first is None, outcome.agreed, outcome.first is None or not outcome.first.is_failure())
 
 
 kind_of = functools.cache(kind_with)
 
 
-class Suggested(NamedTuple):
+class Suggestion(NamedTuple):
     """A switch, and how many of the scripts that differed before agree with it."""
 
     name: str
@@ -66,13 +66,13 @@ class Suggested(NamedTuple):
     of: int
 
 
-class Suggesting:
+class SwitchSearch:
     """The search for switches, from those that are known."""
 
     def __init__(self, fleet: Fleet, known: Switches) -> None:
         self.fleet, self.chosen = fleet, known
 
-    def results(self, trials: Sequence[Trial]) -> list[Agreed]:
+    def results(self, trials: Sequence[Trial]) -> list[Agreement]:
         for trial in trials:
             self.fleet.give(tried, [trial])
         return [self.fleet.take()[0] for _ in trials]
@@ -82,7 +82,7 @@ class Suggesting:
         found = self.results([Trial(seed, None, self.chosen) for seed in seeds])
         return sorted((agreed.directives, seed) for seed, agreed in zip(seeds, found) if agreed.is_judged and not agreed.does)
 
-    def best(self, scripts: Sequence[tuple[int, int]]) -> Suggested | None:
+    def best(self, scripts: Sequence[tuple[int, int]]) -> Suggestion | None:
         """The switch with which the most of these scripts agree, and the furthest."""
         names = ["", *(name for name in SWITCHES if name not in self.chosen)]
         switches = [self.chosen | ({name} if name else frozenset()) for name in names]
@@ -92,9 +92,9 @@ class Suggesting:
             part = found[at * len(scripts):(at + 1) * len(scripts)]
             scores.append((sum(agreed.does for agreed in part), sum(agreed.directives for agreed in part), -at, name))
         agree, _, _, name = max(scores)
-        return Suggested(name, agree, len(scripts)) if name else None
+        return Suggestion(name, agree, len(scripts)) if name else None
 
-    def suggested(self, seeds: Sequence[int]) -> Iterator[Suggested]:
+    def suggested(self, seeds: Sequence[int]) -> Iterator[Suggestion]:
         while scripts := self.differing(seeds)[:MOST_TRIED]:
             best = self.best(scripts)
             if best is None:
@@ -103,8 +103,8 @@ class Suggesting:
             yield best
 
 
-def make_judging(command: str, seconds: float, comparison: Comparison, scripts: Sequence[list[Step]]) -> Judging:
-    return Judging(Process(command, seconds), comparison, scripts)
+def make_worker(command: str, seconds: float, comparison: Comparison, scripts: Sequence[list[Step]]) -> TrialWorker:
+    return TrialWorker(Process(command, seconds), comparison, scripts)
 
 
 def read_words(words: Sequence[str]) -> argparse.Namespace:
@@ -135,7 +135,7 @@ def run(words: Sequence[str]) -> int:
     except Fault as fault:
         complain("switches", f"script refused: {fault}")
         return 3
-    except (Broken, Failed, OSError) as failed:
+    except (WorkerError, Failed, OSError) as failed:
         complain("switches", failed)
         return 4
     except KeyboardInterrupt:
@@ -146,14 +146,14 @@ def run(words: Sequence[str]) -> int:
 def suggest(given: argparse.Namespace) -> int:
     known: Switches = getattr(kind_like(given.like), "switches", frozenset())
     comparison, scripts = comparison_of(given)._replace(kind=Node), scripts_in(given)
-    fleet = Fleet(max(1, given.jobs), functools.partial(make_judging, given.command, given.seconds, comparison, scripts))
+    fleet = Fleet(max(1, given.jobs), functools.partial(make_worker, given.command, given.seconds, comparison, scripts))
     is_through, numbers = False, range(len(scripts))
     try:
-        suggesting = Suggesting(fleet, known)
-        before = len(suggesting.differing(numbers))
-        for found in suggesting.suggested(numbers):
+        search = SwitchSearch(fleet, known)
+        before = len(search.differing(numbers))
+        for found in search.suggested(numbers):
             print(f"{found.name:28} {SWITCHES[found.name]} ({found.agree} of {found.of} scripts agree then)", flush=True)
-        after = len(suggesting.differing(numbers))
+        after = len(search.differing(numbers))
         print(f"# Of {len(scripts)} scripts {len(scripts) - before} agree without these switches, and {len(scripts) - after} with them.")
         is_through = True
     finally:

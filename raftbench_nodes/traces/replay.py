@@ -49,7 +49,7 @@ class TraceFinding(NamedTuple):
     came: Sequence[str]
 
 
-class Difference(NamedTuple):
+class TraceDifference(NamedTuple):
     field: str
     wanted: list[str]
     came: list[str]
@@ -205,12 +205,12 @@ class Replay:
             yield TraceFinding(f"{difference.field} after {printable(what(record))} at a {role}", record.place, difference.wanted, difference.came)
             return
 
-    def differences(self, record: Record, id: int) -> Iterator[Difference]:
+    def differences(self, record: Record, id: int) -> Iterator[TraceDifference]:
         name, without = record.name(), self.hello.without
         try:
             ours, theirs = Parts(self.reference.answer(record.call), ""), Parts(record.answer, "")
         except AssertionError as fault:
-            yield Difference("call", [f"impossible: {fault}"], ["answered"])
+            yield TraceDifference("call", [f"impossible: {fault}"], ["answered"])
             return
         if name == "ready":
             yield from ready_differences(ready_in(ours), ready_in(theirs), without)
@@ -285,19 +285,19 @@ def state_of(parts: Parts, without: frozenset[str]) -> State:
     return result_in(parts, without, bool(parts.items("states"))).states[-1]
 
 
-def different(field: str, ours: list[str], theirs: list[str]) -> Iterator[Difference]:
+def different(field: str, ours: list[str], theirs: list[str]) -> Iterator[TraceDifference]:
     if ours != theirs:
-        yield Difference(field, ours, theirs)
+        yield TraceDifference(field, ours, theirs)
 
 
-def state_differences(id: int, ours: State, theirs: State, without: frozenset[str]) -> Iterator[Difference]:
+def state_differences(id: int, ours: State, theirs: State, without: frozenset[str]) -> Iterator[TraceDifference]:
     if part := differing_part(ours, theirs, without):
-        yield Difference(part, [state_line(id, ours, without)], [state_line(id, theirs, without)])
+        yield TraceDifference(part, [state_line(id, ours, without)], [state_line(id, theirs, without)])
     if "config" not in without:
         yield from different("config", *([config_line(id, side.config, without)] for side in (ours, theirs)))
 
 
-def ready_differences(ours: Ready, theirs: Ready, without: frozenset[str]) -> Iterator[Difference]:
+def ready_differences(ours: Ready, theirs: Ready, without: frozenset[str]) -> Iterator[TraceDifference]:
     wanted, came = (sorted(map(message_line, side.messages)) for side in (ours, theirs))
     odd = next((text for text in wanted + came if wanted.count(text) != came.count(text)), "")
     yield from different("messages " + next((word for word in odd.split() if word.startswith("Msg")), ""), wanted, came)

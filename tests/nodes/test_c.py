@@ -16,7 +16,7 @@ from collections.abc import Iterator
 
 from plain.config import Change, Config
 from plain.records import Entry, Hard, Read, Snapshot
-from raftbench_nodes.protocol.answers import Log, State, View, hello_in, log_in, ready_in, result_in, snapshot_in, views_in
+from raftbench_nodes.protocol.answers import Log, State, MemberView, hello_in, log_in, ready_in, result_in, snapshot_in, views_in
 from raftbench_nodes.protocol.encoding import Json, Parts, is_early
 from tests.harness import TOP, NotHere
 
@@ -142,7 +142,7 @@ def test_what_is_shown(room: pathlib.Path) -> Iterator[str]:
         yield f"messages: {other}, {sent.value}"
     if log_in(log, frozenset()) != Log(8, 1, 9, entries[:1]):
         yield f"{log.value}"
-    if views_in(views) != {1: View("probe", 2, 3, 4, False, True, 5), 2: View("snapshot", 0, 0, 0, True, False, 0)}:
+    if views_in(views) != {1: MemberView("probe", 2, 3, 4, False, True, 5), 2: MemberView("snapshot", 0, 0, 0, True, False, 0)}:
         yield f"{views.value}"
 
 
