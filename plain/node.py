@@ -1,9 +1,9 @@
-"""A plain Raft node: one list of entries with a number, views as lists, sets and counts. It is written from the rules in
-docs/NODE.md and docs/SCRIPTS.md, which are Ongaro's thesis and the documentation of etcd's raft: it shows what a node does
-in the plainest way, as slowly as it likes.
+"""A plain Raft node: one list of entries with a number, views as lists, sets and counts. It is written from the rules in docs/NODE.md and
+docs/SCRIPTS.md, which are Ongaro's thesis and the documentation of etcd's raft. It does everything in the simplest way, however slow.
 """
 from __future__ import annotations
 
+import dataclasses
 from typing import Any, NamedTuple, Sequence
 
 from .config import Change, ChangeFault, Config, both, changed, commit_of, vote_result
@@ -37,10 +37,11 @@ class Accepted(NamedTuple):
     restored: bool
 
 
-class Asked(NamedTuple):
+@dataclasses.dataclass(frozen=True)
+class Asked:
     """A read under way: the commit when it was asked for, and who has answered since."""
 
-    index: int  # type: ignore[assignment]
+    index: int
     heard: set[int]
 
 

@@ -1,6 +1,7 @@
 """What nodes keep and send: entries, snapshots, messages, options, and what is ready. `AnyNode` has the calls that a cluster makes of a node."""
 from __future__ import annotations
 
+import dataclasses
 from typing import Mapping, NamedTuple, Protocol, Union
 
 from .config import Change, Config
@@ -19,8 +20,9 @@ class Entry(NamedTuple):
 Numbered = tuple[int, Entry]
 
 
-class Snapshot(NamedTuple):
-    index: int  # type: ignore[assignment]  # tuples have a method of this name
+@dataclasses.dataclass(frozen=True)
+class Snapshot:
+    index: int
     term: int
     content: bytes
     config: Config
@@ -33,7 +35,7 @@ class Message(NamedTuple):
     sender: int
     to: int
     term: int = 0
-    index: int = 0  # type: ignore[assignment]  # of the last entry, the entry before an append, or what is answered
+    index: int = 0  # type: ignore[assignment]  # tuples have a method of this name; of the last entry, the entry before an append, or what is answered
     log_term: int = 0  # the term of the entry at that index
     commit: int = 0
     entries: tuple[Entry, ...] = ()
@@ -63,11 +65,12 @@ class Hard(NamedTuple):
     commit: int
 
 
-class Read(NamedTuple):
+@dataclasses.dataclass(frozen=True)
+class Read:
     """A read that may be served once `index` is applied; `id` is the asker's."""
 
     id: int
-    index: int  # type: ignore[assignment]
+    index: int
 
 
 class Ready(NamedTuple):

@@ -3,6 +3,7 @@ brackets is the section of Ongaro's thesis with the rule.
 """
 from __future__ import annotations
 
+import dataclasses
 from typing import Any
 
 from plain.config import Change, both, commit_of, most, vote_result
@@ -294,7 +295,7 @@ class SnapshotLosesConfiguration(Node):
 
     def take_snapshot(self, m: Message) -> None:
         assert m.snapshot is not None
-        super().take_snapshot(m._replace(snapshot=m.snapshot._replace(config=self.config)))
+        super().take_snapshot(m._replace(snapshot=dataclasses.replace(m.snapshot, config=self.config)))
 
 
 @planted("compacted-term-lost")

@@ -5,6 +5,7 @@ from __future__ import annotations
 
 import base64
 import binascii
+import dataclasses
 import functools
 import json
 import re
@@ -200,7 +201,7 @@ def ready_out(ready: Ready) -> Json:
     return {
         "hard": ready.hard and ready.hard._asdict(), "snapshot": ready.snapshot and dict(zip(("index", "term"), ready.snapshot)),
         "entries": entries_out(ready.entries), "committed": entries_out(ready.committed), "messages": [message_out(m) for m in ready.messages],
-        "sync": ready.sync, **({"reads": [read._asdict() for read in ready.reads]} if ready.reads else {}),
+        "sync": ready.sync, **({"reads": [dataclasses.asdict(read) for read in ready.reads]} if ready.reads else {}),
     }
 
 
