@@ -4,7 +4,7 @@ these are. All tools that compare nodes with the reference compare by these func
 from __future__ import annotations
 
 import operator
-from typing import AbstractSet, Mapping, Protocol, Sequence
+from typing import AbstractSet, Mapping, Sequence, Union
 
 from plain.config import Config
 from plain.records import AnyNode, Message, Ready, ShownView
@@ -14,24 +14,15 @@ from ..protocol.answers import STATE, Answer, Log, State
 
 # The parts of a state that are compared by value, in the order in which a difference is named.
 VALUES = STATE[:7]
-values_of = operator.attrgetter(*VALUES)
+values_of, parts_of = operator.attrgetter(*VALUES), operator.attrgetter(*STATE[:-1])
 
 
-class StateParts(Protocol):
-    """A state, or a node that has one."""
-
-    role: str
-    term: int
-    vote: int
-    lead: int
-    commit: int
-    applied: int
-    content: bytes
-    config: Config
+# A state, or a node that has one.
+StateParts = Union[State, AnyNode]
 
 
 def state_of(node: AnyNode) -> State:
-    return State(node.role, node.term, node.vote, node.lead, node.commit, node.applied, node.content, node.config, node.has_ready())
+    return State(*parts_of(node) + (node.has_ready(),))
 
 
 def log_of(node: AnyNode) -> Log:

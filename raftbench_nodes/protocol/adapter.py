@@ -8,6 +8,7 @@ from plain.node import Node
 from plain.records import Message, Options
 
 from ..process.process import dumps, loads
+from .answers import NUMBERS
 from .encoding import (
     LIMITS, OPTIONAL_CALLS, SAVED, VERSION, Json, Parts, Wrong, change_in, config_in, config_out, data_out, entries_out, message_in, message_out, ready_out, view_out,
 )
@@ -101,10 +102,8 @@ class Adapter:
 
 
 def state_of(node: Node) -> Json:
-    return {
-        "role": node.role, "term": node.term, "vote": node.vote, "lead": node.lead, "commit": node.commit, "applied": node.applied,
-        "content": data_out(node.content), "config": config_out(node.config), "ready": node.has_ready(),
-    }
+    numbers = {name: getattr(node, name) for name in NUMBERS}
+    return {"role": node.role, **numbers, "content": data_out(node.content), "config": config_out(node.config), "ready": node.has_ready()}
 
 
 def events_of(node: Node) -> list[list[str]]:

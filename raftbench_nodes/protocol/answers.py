@@ -5,14 +5,15 @@ from __future__ import annotations
 
 import dataclasses
 import functools
+import operator
 from typing import Callable, Union
 
 from plain.config import Config
 from plain.records import Event, Hard, Message, Numbered, Read, Ready
 
 from .encoding import (
-    ALWAYS, CALLS, CHANGES, LIMITS, OPTIONAL_CALLS, OPTIONS, READY, VERSION, Hello, Json, Parts, WireMessage, Wrong, config_in, entries_in, message_in, printable,
-    shown,
+    ALWAYS, CALLS, CHANGES, GREATEST, LIMITS, OPTIONAL_CALLS, OPTIONS, READY, VERSION, Hello, Json, Parts, WireMessage, Wrong, config_in, decoded, entries_in,
+    message_in, printable, shown,
 )
 
 ROLES = ("follower", "precandidate", "candidate", "leader")
@@ -36,6 +37,10 @@ class State:
 
 
 STATE = tuple(field.name for field in dataclasses.fields(State))
+all_parts = operator.itemgetter(*STATE)
+TYPES = (str, *[int] * 5, str, dict, bool)
+CONFIGS: dict[str, Config] = {}
+MOST_CONFIGS = 10_000
 NUMBERS = STATE[1:6]
 # The parts that nodes may lack.
 OPTIONAL = STATE[2:8]
@@ -115,6 +120,33 @@ def needed_parts(without: frozenset[str]) -> tuple[str, ...]:
 
 
 def state_in(parts: Parts, without: frozenset[str]) -> State:
+    return usual_state(parts.value) or state_by_parts(parts, without)
+
+
+def usual_state(value: Json) -> State | None:
+    """A state that has all parts, none of them wrong; None for others. Most are such, and this takes a fifth of the time."""
+    try:
+        values = all_parts(value)
+        role, term, vote, lead, commit, applied, content, config, ready = values
+        if tuple(map(type, values)) != TYPES or role not in ROLES or min(values[1:6]) < 0 or max(values[1:6]) > GREATEST:
+            return None
+        return State(role, term, vote, lead, commit, applied, decoded(content), config_of(config), ready)
+    except (KeyError, ValueError, Wrong):
+        return None
+
+
+def config_of(value: Json) -> Config:
+    """A configuration, of which there are few."""
+    text = repr(value)
+    config = CONFIGS.get(text)
+    if config is None:
+        if len(CONFIGS) >= MOST_CONFIGS:
+            CONFIGS.clear()
+        config = CONFIGS[text] = config_in(Parts(value, ""))
+    return config
+
+
+def state_by_parts(parts: Parts, without: frozenset[str]) -> State:
     if missing := [name for name in needed_parts(without) if name not in parts.value]:
         raise Wrong(f"parts of {parts.path} are missing, and not in `without`: {', '.join(missing)}")
     role, term = parts.word("role", ROLES), parts.number("term", needed=True)

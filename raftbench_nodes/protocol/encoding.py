@@ -245,12 +245,17 @@ class WireMessage(Message):
     json: Json
 
 
+@functools.lru_cache(maxsize=1000)
+def is_type(text: str) -> bool:
+    return re.fullmatch("[A-Za-z0-9_]{1,40}", text) is not None
+
+
 def message_in(parts: Parts) -> WireMessage:
     kind = parts.text("type", needed=True)
-    if not re.fullmatch("[A-Za-z0-9_]{1,40}", kind):
+    if not is_type(kind):
         raise Wrong(f"{parts.where('type')}: {shown(kind)} is not a type of a message")
-    known: Json = {name: parts.number(json_name) for json_name, name in NUMBERS.items()}
-    known.update((name, parts.truth(json_name)) for json_name, name in TRUTHS.items())
+    known: Json = {name: parts.number(json_name) for json_name, name in NUMBERS.items() if json_name in parts.value}
+    known.update((name, parts.truth(json_name)) for json_name, name in TRUTHS.items() if json_name in parts.value)
     entries = tuple(entry for _, entry in entries_in(parts.objects("entries")))
     if kind == "MsgProp":
         known["body"] = entries[0].body if entries else b""
