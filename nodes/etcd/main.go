@@ -18,7 +18,7 @@ func main() {
 	runtime.GOMAXPROCS(1)
 	debug.SetGCPercent(1000)
 	err := raftbench.Serve(os.Stdin, os.Stdout, start, raftbench.About{
-		Name: "etcd raft " + version, Without: []string{"step_down_on_removal"}, Limits: []string{"max_size_per_msg"},
+		Name: "etcd raft " + version, Without: []string{"step_down_on_removal"}, Limits: []string{"max_size_per_msg", "max_uncommitted_size"},
 		Open: true, Apart: true, Source: "/etcd/raft/",
 	})
 	if err != nil {
