@@ -140,9 +140,9 @@ static void show_snapshot(struct rb_message *m, const struct raft_install_snapsh
     m->snapshot = snapshot;
 }
 
-static void put_letter(struct rb_text *messages, struct letter *letter)
+static void put_letter(struct rb_text *messages, struct letter *letter, bool before_save)
 {
-    struct rb_message m = {.from = letter->from, .to = letter->to, .own = letter};
+    struct rb_message m = {.from = letter->from, .to = letter->to, .before_save = before_save, .own = letter};
     switch (letter->content.type) {
     case RAFT_IO_APPEND_ENTRIES:
         show_append(&m, &letter->content.append_entries);
@@ -166,13 +166,15 @@ static void put_letter(struct rb_text *messages, struct letter *letter)
     rb_put_message(messages, &m);
 }
 
+/* What libraft has sent doesn't wait for its writes. Term and vote it saves at once; here they count as saved at an advance. */
 static void ready(void *node, struct rb_ready *shown)
 {
     struct node *n = node;
     raft_index stored = n->shown_stored;
+    size_t sent = n->shown_term == n->raft.current_term && n->shown_vote == n->raft.voted_for ? n->outbox.count : 0;
     node_write(n);
     for (size_t at = 0; at < n->outbox.count; at++) {
-        put_letter(&shown->messages, n->outbox.all[at]);
+        put_letter(&shown->messages, n->outbox.all[at], at < sent);
     }
     raft_index base = node_log_base(n), last = n->raft.last_stored;
     put_entries(&shown->entries, n, stored > base ? stored : base, last < node_log_last(n) ? last : node_log_last(n));
