@@ -39,11 +39,18 @@ class NodeBefore(NamedTuple):
         return cls(node.role, node.base, node.last(), node.durable, node.commit, node.entries, node.config)
 
 
+def note_start(made: collections.Counter[str], node: Node) -> None:
+    """Counts a lone voter that leads from its start, as some libraries' do."""
+    if node.role == "leader":
+        made["elections won"] += 1
+
+
 def note_call(made: collections.Counter[str], before: NodeBefore, node: Node, name: str, message: Message | None, nodes: Mapping[int, Node]) -> None:
     """Counts what a call made a node do."""
     if name == "restart":
         made["crashes"] += 1
         made["crashes with unsaved entries"] += before.durable < before.last
+        note_start(made, node)
         return
     if name == "read" and before.role == "leader" and any(other.role == "leader" and other.term > node.term for other in nodes.values()):
         made["reads at deposed leaders"] += 1

@@ -19,7 +19,7 @@ from ..process.process import Process
 from ..protocol.answers import STATE
 from ..protocol.encoding import Hello, WireMessage, is_early
 from ..rules.lists import Switched
-from .made import NodeBefore, note_call
+from .made import NodeBefore, note_call, note_start
 from .runner_steps import LIMITED, UNORDERED, RunnerStep
 
 AnyKindOfNode = Node | HostedNode
@@ -290,7 +290,9 @@ class Reference(Stage):
         return is_finished
 
     def make_node(self, id: int, config: Config, index: int, content: bytes, options: Options) -> Node:
-        return self.kind(id, config, index, content, options)
+        node = self.kind(id, config, index, content, options)
+        note_start(self.made, node)
+        return node
 
     def drop(self, message: Message) -> None:
         super().drop(message)

@@ -306,6 +306,11 @@ def test_what_nodes_were_made_to_do(room: pathlib.Path) -> Iterator[str]:
         status, text = said(tool, "--with", PLAIN, str(file))
         if WERE_MADE not in text:
             yield f"{name}: {status}, {text}"
+    alone = room / "alone.txt"
+    alone.write_text("add-nodes 1 voters=(1) index=10\n----\n\n# node: restart 1\nraft-state\n----\n\n")
+    status, text = said(files.run, "--with", PLAIN, "--like", "libraft", str(alone))
+    if ": 2 elections won, 1 crashes, " not in text:
+        yield f"a lone voter that leads from its start, and after a crash: {status}, {text}"
     status, text = said(explore.run, "--with", f"{TESTS}/nodes/lacking_node.py", "--count", "6", "--jobs", "1", "--dice", "sane", "--compare", "states")
     if " elections won, " not in text:
         yield f"explore: {status}, {text}"
