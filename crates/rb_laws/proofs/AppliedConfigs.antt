@@ -1,5 +1,5 @@
 -- A node's configuration is that of its applied index, and so is that of each snapshot that it sends: so it stays, whatever it is called with
-use Rattle.std.proofs.Common.{◌≡◌, ℕ, zero, suc, ◌+◌, ◌≤◌, ◌<◌, Bool, true, false, nat_le, min, List, [], ◌∷◌, length, Option, Some, None, Ok, refl, sym, ap, subst, ◌∙◌, arith, not}
+use Rattle.std.proofs.Common.{◌≡◌, ℕ, suc, ◌+◌, ◌≤◌, false, nat_le, min, List, [], ◌∷◌, length, Option, Some, None, refl, sym, ap, subst, ◌∙◌, arith, not}
 use Rattle.std.specs.Prelude.{All, slice_get}
 use Rattle.std.proofs.lemmas.List.Elements.{All-nil, All-push, All-weaker}
 use Rattle.rb_raftlog.specs.declared.entry.Body.{Body}
@@ -21,7 +21,7 @@ use Rattle.rb_node.specs.Campaigns.{campaigned}
 use Rattle.rb_node.specs.Changing.{change_applied, body_applied, applied_one, applied_all, joint_left}
 use Rattle.rb_node.specs.Leading.{in_lead}
 use Rattle.rb_node.specs.Node.{PlainNode, NodeStep, with_node, with_elapsed, message}
-use Rattle.rb_node.specs.Readying.{applying, saved, own_answers_stepped, advanced}
+use Rattle.rb_node.specs.Readying.{applying, saved, advanced}
 use Rattle.rb_node.specs.Ticking.{activity_reset, active_quorum_checked, has_lost_quorum, quorum_lost, leader_ticked, counters_advanced, non_leader_ticked, next_count as counted_tick, is_due, ticked_by, due_heartbeats_sent}
 use Rattle.rb_node.specs.Terms.{became_follower}
 use Rattle.rb_node.specs.Transferring.{transfer_ended}
@@ -35,9 +35,9 @@ use Rattle.rb_laws.proofs.CallWays.{Changes, change_way, with_members_only, body
 use Rattle.rb_laws.proofs.ConfigLaws.{keeps_config, change_config}
 use Rattle.rb_laws.proofs.Goes.{Ways, anyone}
 use Rattle.rb_laws.proofs.LeaderLaws.{with_views_only}
-use Rattle.rb_laws.proofs.LeaderWays.{telling_path, transfer_ended_way}
+use Rattle.rb_laws.proofs.LeaderWays.{transfer_ended_way}
 use Rattle.rb_laws.proofs.MoveLaws.{step_keeps, change_keeps, call_keeps}
-use Rattle.rb_laws.proofs.Moves.{Whole, Allows, TellMove, Idle, Sent, StepMove, StepTells, Came, Passes, Waits, Leads, Restores, ChangeMove, Revises, in_config, CallMove, Saves, Path, Goes_on, over}
+use Rattle.rb_laws.proofs.Moves.{Whole, Allows, TellMove, Idle, Sent, StepMove, StepTells, Came, Passes, Waits, Leads, Restores, ChangeMove, Revises, in_config, Saves, Goes_on, over}
 use Rattle.rb_laws.proofs.StepWays.{campaigned_way, stepped_way}
 
 -- the configuration of each index from a base on, and what the entry of each index makes of it

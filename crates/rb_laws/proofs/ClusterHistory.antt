@@ -31,7 +31,7 @@ use Rattle.rb_laws.proofs.ListLaws.{in_nothing}
 use Rattle.rb_laws.proofs.NetworkLaws.{IsSane, called_network, called_sane}
 use Rattle.rb_laws.proofs.SafetyLaws.{setting_of, begun_sane}
 use Rattle.rb_laws.proofs.TieLaws.{IsComing, no_vote}
-use Rattle.rb_laws.proofs.Spots.{Spot, spot}
+use Rattle.rb_laws.proofs.Spots.{spot}
 use Rattle.rb_laws.proofs.Tips.{base_spot}
 use Rattle.rb_laws.proofs.Completeness.{History}
 use Rattle.rb_laws.proofs.Histories.{IsMore}

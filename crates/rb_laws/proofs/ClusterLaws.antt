@@ -1,5 +1,5 @@
 -- Election safety and log matching of a script's cluster, at any two points. The network begins with all nodes that are ever added.
-use Rattle.std.proofs.Common.{◌≡◌, ℕ, ◌+◌, ◌<◌, ◌≤◌, true, List, [], ◌++◌, length, Some, refl, sym, ap, subst, ◌∙◌, arith, inl, inr}
+use Rattle.std.proofs.Common.{◌≡◌, ℕ, ◌+◌, ◌≤◌, true, List, [], ◌++◌, length, Some, refl, sym, ap, subst, ◌∙◌, arith, inl, inr}
 use Rattle.std.specs.Prelude.{Contains, slice_get}
 use Rattle.std.proofs.lemmas.Bool.{cases_lt}
 use Rattle.std.proofs.lemmas.List.Elements.{All-nil}
@@ -17,14 +17,13 @@ use Rattle.rb_machine.specs.AddNodes.{start}
 use Rattle.rb_machine.specs.Cluster.{Cluster, empty}
 use Rattle.rb_replay.specs.Run.{directives, led, state}
 use Rattle.rb_laws.specs.Clusters.{AreSteady, HasSameMembers}
-use Rattle.rb_laws.specs.Network.{Network, run, AreStarted, IsBegun, Leads}
-use Rattle.rb_laws.proofs.DirectiveLaws.{IsCovered}
-use Rattle.rb_laws.proofs.JoinLaws.{AreStartsOf, both_start, all_come, all_grow, all_start, all_join, get_before, TwoPoints, two_points}
+use Rattle.rb_laws.specs.Network.{Network, run, IsBegun, Leads}
+use Rattle.rb_laws.proofs.JoinLaws.{AreStartsOf, both_start, all_come, all_grow, all_start, all_join, get_before, two_points}
 use Rattle.rb_laws.proofs.Holding.{Setting}
 use Rattle.rb_laws.proofs.ListLaws.{in_nothing}
 use Rattle.rb_laws.proofs.MatchingLaws.{two_match}
 use Rattle.rb_laws.proofs.SafetyLaws.{setting_of, begun_sane, one_leader}
-use Rattle.rb_laws.proofs.TieLaws.{IsComing, IsReached, reaches, stays}
+use Rattle.rb_laws.proofs.TieLaws.{IsReached, reaches, stays}
 
 -- ---- the beginning
 

@@ -1,5 +1,5 @@
 -- The configurations of a network's nodes, as members change: each is that of its node's applied index
-use Rattle.std.proofs.Common.{◌≡◌, ℕ, zero, suc, ◌+◌, ◌-◌, ◌<◌, ◌≤◌, List, [], ◌∷◌, ◌++◌, Option, Some, None, Result, Ok, Err, refl, sym, ap, subst, ◌∙◌, arith, inl, inr}
+use Rattle.std.proofs.Common.{◌≡◌, ℕ, zero, suc, ◌+◌, ◌-◌, ◌<◌, ◌≤◌, List, [], ◌∷◌, Option, Some, None, Result, Ok, Err, refl, sym, ap, subst, ◌∙◌, arith, inl, inr}
 use Rattle.std.specs.Prelude.{All, slice_get}
 use Rattle.std.proofs.lemmas.List.Elements.{All-nil, All-append, All-contains}
 use Rattle.std.specs.Result.{result_unwrap_or}
@@ -15,14 +15,13 @@ use Rattle.rb_tracker.specs.declared.changes.ChangeFault.{ChangeFault}
 use Rattle.rb_tracker.specs.declared.config.Config.{Config}
 use Rattle.rb_message.specs.declared.kind.MessageKind.{MessageKind}
 use Rattle.rb_message.specs.declared.kind.MessageKind.TheVariants as kind
-use Rattle.rb_message.specs.declared.message.Message.{Message}
-use Rattle.rb_node.specs.Node.{PlainNode, node_step, started}
+use Rattle.rb_node.specs.Node.{PlainNode, node_step}
 use Rattle.rb_node.specs.Readying.{applying}
 use Rattle.rb_laws.specs.Calling.{Call, Step, Advance, after}
 use Rattle.rb_laws.specs.Configurations.{config_after_all, AreChosen, BringsNoState, IsStateKnown, AreAgreed}
 use Rattle.rb_laws.specs.Network.{Network, Happening, put_out, happened_to, happened, run, IsStarted}
 use Rattle.rb_laws.specs.Rules.{config_with}
-use Rattle.rb_laws.specs.Safety.{IsStateOf, StartsAlike}
+use Rattle.rb_laws.specs.Safety.{StartsAlike}
 use Rattle.rb_laws.proofs.AppliedConfigs.{Timeline, Fits, FitsBy, Suit, Both, Brings, Make, state_fits, called_suits}
 use Rattle.rb_laws.proofs.ListLaws.{each_set}
 

@@ -1,6 +1,6 @@
 -- What the directives of a cluster do: nodes are called, one after another, and put out what they have. A fact of nodes, and of messages that
 -- may come to them, which lasts through that lasts through each directive.
-use Rattle.std.proofs.Common.{◌≡◌, ℕ, zero, suc, ◌+◌, ◌-◌, ◌<◌, ◌≤◌, Bool, true, false, not, List, [], ◌∷◌, ◌++◌, length, min, Option, Some, None, Result, Ok, Err, refl, sym, ap, subst, ◌∙◌, arith, if◌then◌else◌, nat_le, ◌==◌, eqb-true}
+use Rattle.std.proofs.Common.{◌≡◌, ℕ, zero, suc, ◌+◌, ◌-◌, ◌<◌, ◌≤◌, Bool, true, false, not, List, [], ◌∷◌, ◌++◌, length, min, Option, Some, None, Result, Ok, Err, refl, sym, ap, subst, ◌∙◌, arith, nat_le, ◌==◌, eqb-true}
 use Rattle.std.specs.Prelude.{All, Contains, slice_get, slice_set, slice_index_or}
 use Rattle.std.specs.List.{range_with_len}
 use Rattle.std.specs.Option.{option_or}
@@ -47,7 +47,7 @@ use Rattle.rb_machine.specs.Outcome.{absent, first_absent, missing_node, own_fau
 use Rattle.rb_machine.specs.Pending.{is_selected, is_for, mail, has_room, sent, all_sent}
 use Rattle.rb_machine.specs.Readies.{advanced_by, whole_ready_processed, ready_processed_by, ready_processed, ready_processed_each}
 use Rattle.rb_machine.specs.Rounds.{is_chosen, chosen, is_ready, has_work, processed_if_ready, each_ready_processed, round, rounds_run}
-use Rattle.rb_machine.specs.Effects.{Effect, each, acted_by, acted}
+use Rattle.rb_machine.specs.Effects.{Effect, acted_by, acted}
 use Rattle.rb_machine.specs.Snapshots.{queued, snapshot_sent_by, compact_error_by, compact_error, compact_by}
 use Rattle.rb_machine.specs.Views.{log_shown_by, status_shown_by}
 use Rattle.rb_machine.proofs.CompactLaws.{may_compact}

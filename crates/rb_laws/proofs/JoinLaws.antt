@@ -24,7 +24,7 @@ use Rattle.rb_machine.specs.Outcome.{missing_node, own_fault, fault, effect, unl
 use Rattle.rb_replay.specs.Run.{led}
 use Rattle.rb_laws.specs.Calling.{Advance, after}
 use Rattle.rb_laws.specs.Clusters.{IsSteadyRequest, IsSteadyBy, AreSteady}
-use Rattle.rb_laws.proofs.DirectiveLaws.{Lasts, Covers, IsCovered, neither, has_effect}
+use Rattle.rb_laws.proofs.DirectiveLaws.{Lasts, IsCovered, neither, has_effect}
 
 -- ---- the nodes that directives add
 

@@ -1,5 +1,5 @@
 -- Each line has the parts that say what it is of
-use Rattle.std.proofs.Common.{◌≡◌, ℕ, true, false, Bool, List, [], ◌∷◌, ◌++◌, append_assoc, append-nil, codes, decimal, length, refl, sym, ap, subst, ◌∙◌, if◌then◌else◌}
+use Rattle.std.proofs.Common.{◌≡◌, ℕ, true, false, Bool, List, [], ◌++◌, append_assoc, append-nil, codes, decimal, length, refl, sym, ap, subst, ◌∙◌, if◌then◌else◌}
 use Rattle.std.specs.List.{flat_map}
 use Rattle.rb_vocab.specs.declared.directive_error.DirectiveError.{DirectiveError}
 use Rattle.rb_vocab.specs.declared.directive_error.DirectiveError.TheVariants as errors
@@ -19,7 +19,7 @@ use Rattle.rb_texts.specs.Errors.{word_text, error_text}
 use Rattle.rb_texts.specs.EventForms.{kind_form, event_form, no_campaign_text, replaced_text, votes_text, fault_text}
 use Rattle.rb_texts.specs.Events.{level_text, event_piece_text, event_text}
 use Rattle.rb_texts.specs.Items.{PlainNodeLine}
-use Rattle.rb_texts.specs.Messages.{answer_text, fields_of, fields_text, kind_text, term_text, message_text}
+use Rattle.rb_texts.specs.Messages.{answer_text, fields_of, kind_text, term_text, message_text}
 use Rattle.rb_texts.specs.Quoted.{quoted}
 use Rattle.rb_texts.specs.States.{role_text, progress_state_text, under_way_text, mark_text, hard_state_text, log_text, node_text, progress_text}
 use Rattle.rb_texts.specs.declared.item.LogLine.{LogLine}

@@ -1,5 +1,5 @@
 -- What `raft-log` prints of two nodes agrees as far as both have applied
-use Rattle.std.proofs.Common.{◌≡◌, ℕ, zero, suc, ◌+◌, ◌-◌, ◌<◌, ◌≤◌, Bool, true, false, ◌&&◌, nat_le, nat_lt, List, [], ◌∷◌, ◌++◌, append-nil, length, take, Option, Some, None, Result, Ok, Err, refl, sym, ap, subst, ◌∙◌, arith, if◌then◌else◌, inl, inr}
+use Rattle.std.proofs.Common.{◌≡◌, ℕ, zero, suc, ◌+◌, ◌-◌, ◌<◌, ◌≤◌, Bool, true, false, nat_le, nat_lt, List, [], ◌∷◌, ◌++◌, append-nil, length, take, Option, Some, None, Result, Ok, refl, sym, ap, subst, ◌∙◌, arith, inl, inr}
 use Rattle.std.specs.Prelude.{Contains, slice_get}
 use Rattle.std.specs.List.{flat_map}
 use Rattle.std.specs.Option.{unwrap_or, option_or}
@@ -18,9 +18,9 @@ use Rattle.rb_directive.specs.declared.requests.Request.{Request}
 use Rattle.rb_directive.specs.declared.requests.Request.TheVariants as requests
 use Rattle.rb_directive.specs.declared.build.Asked.{Asked}
 use Rattle.rb_directive.specs.Requests.{request}
-use Rattle.rb_raftlog.proofs.TermLaws.{held_in, entry_past}
+use Rattle.rb_raftlog.proofs.TermLaws.{entry_past}
 use Rattle.rb_raftlog.specs.declared.entry.Entry.{Entry}
-use Rattle.rb_raftlog.specs.Log.{LogValue, last, entry_at, found}
+use Rattle.rb_raftlog.specs.Log.{entry_at, found}
 use Rattle.rb_texts.specs.Entries.{entry_text}
 use Rattle.rb_texts.specs.Items.{PlainItem}
 use Rattle.rb_texts.specs.Items as items
@@ -31,11 +31,11 @@ use Rattle.rb_machine.specs.Entries.{entry_items}
 use Rattle.rb_machine.specs.Observations.{items_of}
 use Rattle.rb_machine.specs.Outcome.{absent, fault, effect, unless_refused, execution_of, execution, outcome, printed, or_ok, lines_at}
 use Rattle.rb_machine.specs.Views.{held_item, log_line, log_items, log_shown_by}
-use Rattle.rb_replay.specs.Run.{directives, led, answers, outputs, state}
+use Rattle.rb_replay.specs.Run.{directives, led, answers, state}
 use Rattle.rb_laws.specs.Clusters.{HasSameStarts}
 use Rattle.rb_laws.specs.Printing.{PrintsLog}
 use Rattle.rb_laws.specs.Sound.{IsSound}
-use Rattle.rb_laws.proofs.ClusterHistory.{ground, both_points, cluster_applied_same}
+use Rattle.rb_laws.proofs.ClusterHistory.{both_points, cluster_applied_same}
 use Rattle.rb_laws.proofs.Links.{entry_there}
 use Rattle.rb_laws.proofs.ListLaws.{some_at, in_first, in_rest, first_or_rest}
 

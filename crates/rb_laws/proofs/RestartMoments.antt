@@ -26,7 +26,6 @@ use Rattle.rb_laws.proofs.Contents.{still_filled}
 use Rattle.rb_laws.proofs.Completeness.{History}
 use Rattle.rb_laws.proofs.Tips.{tip, base_spot}
 use Rattle.rb_laws.proofs.NodeKnowledge.{Ground}
-use Rattle.rb_laws.proofs.FollowerMoves.{IsWhole}
 use Rattle.rb_laws.proofs.CommittedLogs.{Had, had, leader_has, commits_agree, contents_same}
 use Rattle.rb_laws.proofs.NetworkHistory.{AreAlike, begun_known, no_history}
 use Rattle.rb_laws.proofs.TrueCalls.{all_honest_through}

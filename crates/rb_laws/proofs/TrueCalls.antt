@@ -1,5 +1,5 @@
 -- What is true is honest: what anybody may make up gives no vote and keeps the configuration, and so does a snapshot of the state that a node has
-use Rattle.std.proofs.Common.{◌≡◌, ◌⊎◌, ℕ, ◌+◌, Bool, true, false, List, [], ◌∷◌, sym, subst, inl, inr}
+use Rattle.std.proofs.Common.{◌≡◌, ◌⊎◌, ℕ, ◌+◌, Bool, true, List, [], ◌∷◌, sym, subst, inl, inr}
 use Rattle.rb_raftlog.specs.declared.entry.Body.{Body}
 use Rattle.rb_tracker.specs.Configs.{config_of, state_of}
 use Rattle.rb_tracker.specs.declared.config.Config.{Config}
@@ -8,7 +8,7 @@ use Rattle.rb_message.specs.declared.kind.MessageKind.TheVariants as kind
 use Rattle.rb_message.specs.declared.message.Message.{Message}
 use Rattle.rb_laws.specs.Calling.{Call, Step, Propose}
 use Rattle.rb_laws.specs.Honesty.{KeepsBy, IsHonestCall, AreHonest}
-use Rattle.rb_laws.specs.Network.{Network, Happening, happened, run}
+use Rattle.rb_laws.specs.Network.{Network, Happening, happened}
 use Rattle.rb_laws.specs.Restarts.{Durable, Occurrence, Called, Restarted, occurred, IsHonestOccurrence, IsTrueOccurrence, AreHonestThrough, AreTrueThrough}
 use Rattle.rb_laws.specs.Safety.{IsHarmless, IsTrueCall, IsStateOf, IsStateCall, AreTrue}
 use Rattle.rb_laws.proofs.Holding.{Setting}

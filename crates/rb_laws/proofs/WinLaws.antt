@@ -1,11 +1,11 @@
 -- How an election is won: who is asked votes, and a candidate with a quorum's votes leads (Ongaro's thesis, section 3.4)
-use Rattle.std.proofs.Common.{◌≡◌, ℕ, ◌+◌, ◌<◌, Bool, true, false, not, ◌&&◌, ◌||◌, ◌==◌, ◌*◌, nat_lt, if◌then◌else◌, List, [], ◌∷◌, length, Option, refl, sym, ap, subst, ◌∙◌, ◌⊎◌, inl, inr, arith, eqb-true}
+use Rattle.std.proofs.Common.{◌≡◌, ℕ, ◌<◌, Bool, true, false, not, ◌&&◌, ◌||◌, ◌==◌, ◌*◌, nat_lt, if◌then◌else◌, List, [], ◌∷◌, length, Option, refl, sym, ap, subst, ◌∙◌, ◌⊎◌, inl, inr, arith, eqb-true}
 use Rattle.std.proofs.lemmas.Bool.{false≢true, cases_Bool, and_left, and_right, and_from, or_cases}
 use Rattle.std.proofs.lemmas.Bool.Decides.{nat_tests}
 use Rattle.std.specs.List.{count_by}
 use Rattle.rb_raftlog.specs.declared.entry.Body.TheVariants.{Payload}
 use Rattle.rb_raftlog.specs.declared.limits.TheConstants.{MAX_TERM}
-use Rattle.rb_raftlog.specs.Log.{last, last_term, is_up_to_date}
+use Rattle.rb_raftlog.specs.Log.{last, last_term}
 use Rattle.rb_tracker.proofs.ChangeLaws.{has_with_id}
 use Rattle.rb_tracker.proofs.CountLaws.{count_none}
 use Rattle.rb_tracker.proofs.SetLaws.{if_both}
@@ -28,21 +28,21 @@ use Rattle.rb_message.specs.declared.message.Message.{Message}
 use Rattle.rb_message.specs.declared.role.Role.{Role}
 use Rattle.rb_message.specs.declared.role.Role.TheVariants as role
 use Rattle.rb_node.specs.Campaigns.{asked_one, asked, candidate, became_candidate, became_precandidate, campaigned_unless, campaigned}
-use Rattle.rb_node.specs.Leading.{leading, in_lead, is_log_full, appended, all_sent_append, became_leader}
-use Rattle.rb_node.specs.Node.{PlainNode, NodeStep, with_event, with_node, message}
+use Rattle.rb_node.specs.Leading.{leading, is_log_full, appended, all_sent_append, became_leader}
+use Rattle.rb_node.specs.Node.{PlainNode, NodeStep, with_event, with_node}
 use Rattle.rb_node.specs.Step.{by_role_of, stepped}
 use Rattle.rb_node.specs.Terms.{became_follower, hears_leader}
-use Rattle.rb_node.specs.Votes.{grants, decided, vote_counted, vote_request_handled}
-use Rattle.rb_laws.specs.Calling.{Step, Campaign, after, run}
+use Rattle.rb_node.specs.Votes.{grants, decided, vote_counted}
+use Rattle.rb_laws.specs.Calling.{Campaign, after, run}
 use Rattle.rb_laws.specs.Choices.{MayCampaign}
 use Rattle.rb_laws.specs.Winning.{request_to, yes_from, yeses, WouldVoteFor, VotesFor, StillStands, HasQuorumWith, LeadsIn}
 use Rattle.rb_laws.proofs.CampaignLaws.{nothing_keeps}
 use Rattle.rb_laws.proofs.EarlierLaws.{no_lease_hears}
-use Rattle.rb_laws.proofs.Goes.{Core, core}
+use Rattle.rb_laws.proofs.Goes.{Core}
 use Rattle.rb_laws.proofs.LeaderLaws.{leading_same}
 use Rattle.rb_laws.proofs.PreVoteLaws.{asked_same}
 use Rattle.rb_laws.proofs.StepCases.{by_term}
-use Rattle.rb_laws.proofs.TellWays.{Rest, rest, keeps_rest, append_broadcast_way}
+use Rattle.rb_laws.proofs.TellWays.{Rest, keeps_rest, append_broadcast_way}
 use Rattle.rb_laws.proofs.Moves.{over_way}
 
 -- ---- a vote is given

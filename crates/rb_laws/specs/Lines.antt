@@ -1,5 +1,5 @@
 -- What a line has to say: each value by its name, each event and each error in its own words. (The words are this project's.)
-use Rattle.std.specs.Prelude.{ℕ, ◌≡◌, true, List, ◌++◌, codes, decimal, length}
+use Rattle.std.specs.Prelude.{ℕ, ◌≡◌, List, ◌++◌, codes, decimal, length}
 use Rattle.rb_vocab.specs.declared.directive_error.DirectiveError.{DirectiveError}
 use Rattle.rb_vocab.specs.declared.directive_error.DirectiveError.TheVariants as errors
 use Rattle.rb_vocab.specs.MessageTypes.{type_text}
