@@ -1,7 +1,7 @@
 -- Each call, as a way of moves: entries that take effect, ticks, what is ready, and the calls themselves
 use Rattle.std.proofs.Common.{[], suc, ◌≡◌, true, refl, false, ap, Result, Ok, if◌then◌else◌, Err, List, ℕ, ◌≤◌, ◌∙◌, arith, nat_lt, ◌+◌, length, ◌∷◌, Bool, ◌&&◌, ◌==◌, nat_le, min, ◌⊎◌, eqb-true, inl, inr, ◌-◌, max, Option, None, Some, sym, subst}
 use Rattle.std.specs.Prelude.{All, Contains, slice_get}
-use Rattle.std.proofs.lemmas.Bool.{ltb-true, and_parts, false≢true}
+use Rattle.std.proofs.lemmas.Bool.{ltb-true, leb-true, and_parts, false≢true}
 use Rattle.std.proofs.lemmas.List.Elements.{All-head, All-tail, All-take, All-drop, All-weaker, All-contains_itself}
 use Rattle.rb_raftlog.specs.Bodies.{is_change}
 use Rattle.rb_raftlog.specs.Log.{LogValue, is_term, term_at, entry_at, last, compact_fault}
@@ -209,10 +209,12 @@ all_way {sound} {w} t i (e ∷ es) known plain =
     )))
     (λ all. All-tail ChangesNothing e es (plain (subst (λ (v : LogValue). All ChangesNothing v.entries) b.log all))))
 
-first_two : (a b c d e : Bool) → (a && b && c && d && e) ≡ true → (a ≡ true) × (b ≡ true)
-first_two true true c d e h = (refl, refl)
-first_two true false c d e h = absurd (false≢true h)
-first_two false b c d e h = absurd (false≢true h)
+ends_of : (a b c d e : Bool) → (a && b && c && d && e) ≡ true → (a ≡ true) × (b ≡ true) × (e ≡ true)
+ends_of true true true true e h = (refl, refl, h)
+ends_of true true true false e h = absurd (false≢true h)
+ends_of true true false d e h = absurd (false≢true h)
+ends_of true false c d e h = absurd (false≢true h)
+ends_of false b c d e h = absurd (false≢true h)
 
 pub left_way : {w : Ways} (t : NodeStep) → Path (StepMove w) t (joint_left t)
 unfolding joint_left
@@ -220,8 +222,8 @@ left_way {w} t =
     let n = t.node in
     if_both (Path (StepMove w) t) (leaves_joint n) _ _
     (λ can. (let c = n.tracker.config in
-    let both = first_two (is_leader n.role) (is_joint c) c.auto (n.transferee == 0) (nat_le n.pending_change n.applied) can in
-    Onward (appended_change_way t (Change Auto []) (leader_of n.role both.0) (inr (inr (refl, both.1)))) (all_told_way (appended_change t (Change Auto [])))))
+    let all = ends_of (is_leader n.role) (is_joint c) c.auto (n.transferee == 0) (nat_le n.pending_change n.applied) can in
+    Onward (appended_change_way t (Change Auto []) (leader_of n.role all.0) (inr (inr (refl, all.1))) (leb-true n.pending_change n.applied all.2)) (all_told_way (appended_change t (Change Auto [])))))
     (λ _. telling_path (nothing_done t))
 
 -- ---- ticks

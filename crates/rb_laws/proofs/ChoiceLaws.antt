@@ -1,6 +1,6 @@
 -- Who campaigns, what a leader takes, and what the options ask of a node
 use Rattle.std.proofs.Common.{[], Bool, not, ◌≡◌, false, true, refl, sym, None, Option, ◌∙◌, ap, ◌⊎◌, Some, inl, inr, ℕ, ◌≤◌, nat_lt, ◌+◌, List, length, ◌||◌, ◌==◌, ◌<◌, arith, subst, ◌&&◌, nat_le, if◌then◌else◌, Result, Ok}
-use Rattle.std.proofs.lemmas.Bool.{false≢true, ltb-false, eqb-false, le-leb, lt-ltb, ltb-true}
+use Rattle.std.proofs.lemmas.Bool.{false≢true, eqb-false, le-leb, lt-ltb, ltb-true}
 use Rattle.std.proofs.lemmas.Bool.Decides.{nat_tests}
 use Rattle.rb_raftlog.specs.Log.{has_change, own, last}
 use Rattle.rb_raftlog.specs.declared.entry.Body.{Body}
@@ -36,6 +36,7 @@ use Rattle.rb_node.specs.Ticking.{active_quorum_checked, has_lost_quorum, next_c
 use Rattle.rb_node.specs.Transferring.{transfer_leader_handled, cannot_take_lead}
 use Rattle.rb_node.specs.declared.limits.TheConstants.{ELECTION_TICKS}
 use Rattle.rb_laws.specs.Choices.{MayCampaign, PutsChange, MayTakeLead, StepsDown}
+use Rattle.rb_laws.proofs.LeaderWays.{applied_all_changes}
 use Rattle.rb_laws.proofs.Moves.{over_way}
 use Rattle.rb_laws.proofs.StepWays.{of_term}
 use Rattle.rb_laws.proofs.TellWays.{Rest, keeps_rest, append_broadcast_way}
@@ -77,11 +78,6 @@ unfolding campaigned_after_pre_vote
 stands_may t = stands_unless_may (why_no_campaign t.node) t refl
 
 -- ---- one change at a time
-
-applied_all_changes : (n : PlainNode) (words : ℕ) → why_replaced n words ≡ None → n.pending_change ≤ n.applied
-applied_all_changes n words =
-    let P : Option WhyReplaced → Type 0 = λ o. o ≡ None → n.pending_change ≤ n.applied in
-    if_both P (nat_lt n.applied n.pending_change) _ _ (λ _ e. cc) (λ no e. ltb-false n.applied n.pending_change no)
 
 appended_puts : (t : NodeStep) (body : Body) → ((appended t body).node.log ≡ t.node.log) ⊎ ((appended t body).node.log ≡ own t.node.log (record { term = t.node.term; body = body }))
 appended_puts t body =

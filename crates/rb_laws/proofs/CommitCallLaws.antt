@@ -85,7 +85,7 @@ step_all (Follows n term lead up past) leads same h = (let later = past leads in
 step_all (Asks n may) leads same h = absurd ((may_campaign n may).follows leads)
 step_all (Stands n may) leads same h = absurd ((may_campaign n may).follows leads)
 step_all (Leads n stands elected won) leads same h = absurd (candidates_follow n.role stands leads)
-step_all (Appends n body is puts) leads same h = own_all n (record { term = n.term; body = body }) h
+step_all (Appends n body pending is puts marks) leads same h = (let x = own_all n (record { term = n.term; body = body }) h in record { within = x.within; all = x.all })
 step_all (Takes n from append is came) leads same h = absurd (no_leader n.role is leads)
 step_all (Learns n i is up held why) leads same h = absurd (no_leader n.role is leads)
 step_all (Restores n s is past came other) leads same h = absurd (no_leader n.role is leads)

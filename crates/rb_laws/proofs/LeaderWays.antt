@@ -1,6 +1,7 @@
 -- What a leader does, as ways of moves: its own entries, its members' answers, proposals, and handing the lead over
 use Rattle.std.proofs.Common.{[], refl, ◌≡◌, ◌+◌, arith, sym, ◌∙◌, Option, ℕ, true, None, Some, ◌==◌, ◌&&◌, eqb-true, ◌≤◌, nat_lt, inl, inr, ap, Bool, false, subst, min, length}
-use Rattle.std.proofs.lemmas.Bool.{and_parts, or_cases, ltb-true}
+use Rattle.std.proofs.lemmas.Bool.{and_parts, or_cases, ltb-true, ltb-false}
+use Rattle.rb_raftlog.specs.Bodies.{is_change}
 use Rattle.rb_raftlog.specs.Log.{own, last}
 use Rattle.rb_raftlog.specs.declared.entry.Body.{Body}
 use Rattle.rb_raftlog.specs.declared.entry.Body.TheVariants.{Payload, Change}
@@ -28,7 +29,7 @@ use Rattle.rb_node.specs.declared.sends.SendReason.TheVariants as mode
 use Rattle.rb_laws.proofs.Goes.{Ways}
 use Rattle.rb_laws.proofs.LeaderLaws.{leading_leads}
 use Rattle.rb_laws.proofs.MatchViewLaws.{of, place_here, heard_place}
-use Rattle.rb_laws.proofs.Moves.{Way, TellMove, StepMove, Puts, wider, StepTells, Path, wider_path, Goes_on, One, Idle, Then, Appends, Waits, Shows, Onward, Leads, Viewed, Sent, over_way, Acks}
+use Rattle.rb_laws.proofs.Moves.{Way, TellMove, StepMove, Puts, Marks, wider, StepTells, Path, wider_path, Goes_on, One, Idle, Then, Appends, Waits, Shows, Onward, Leads, Viewed, Sent, over_way, Acks}
 use Rattle.rb_laws.proofs.ProgressLaws.{sound_marked, acked_matched, freed_matched, sound_freed, refused_matched, sound_refused, sound_resumed}
 use Rattle.rb_laws.proofs.TellWays.{append_broadcast_way, commit_or_sent_way, Rest, keeps_rest, keeps_match, sends_way}
 use Rattle.rb_laws.proofs.Turns.{own_size}
@@ -50,22 +51,24 @@ nothing_done t = Goes_on t (One (Idle t.node t.node refl))
 pub acks_same : (i j : ℕ) → kind.AppendResponse i ≡ kind.AppendResponse j → i ≡ j
 acks_same i j same = cc
 
-own_way : {w : Ways} (n : PlainNode) (body : Body) → n.role ≡ role.Leader → Puts w n body → Way (StepMove w) n (with_own n body)
-own_way n body leads puts =
+own_way : {w : Ways} (n : PlainNode) (body : Body) (pending : ℕ) → n.role ≡ role.Leader → Puts w n body → Marks n body pending
+    → Way (StepMove w) n (record (with_own n body) { pending_change = pending })
+own_way n body pending leads puts marks =
     let e : Entry = record { term = n.term; body = body } in
-    let x : PlainNode = record n { log = own n.log e } in
-    Then {b = x} (One (Appends n body leads puts)) (One (Waits x (message n.id n.id n.term (kind.AppendResponse (last n.log + 1)))
+    let x : PlainNode = record n { log = own n.log e; pending_change = pending } in
+    Then {b = x} (One (Appends n body pending leads puts marks)) (One (Waits x (message n.id n.id n.term (kind.AppendResponse (last n.log + 1)))
     (λ _. (refl, (refl, omega (arith, own_size n.log e), λ stands. (let never : role.Leader ≡ role.Candidate = sym leads ∙ stands in cc))))
     (λ i says. (let same = acks_same (last n.log + 1) i says in inr (inl (leads, omega (arith, own_size n.log e, same)))))))
 
-pub appended_way : {w : Ways} (t : NodeStep) (body : Body) → t.node.role ≡ role.Leader → Puts w t.node body → Path (StepMove w) t (appended t body)
-appended_way {w} t body leads puts = if_both (Path (StepMove w) t) (is_log_full t.node) _ _ (λ _. Shows t _) (λ _. Goes_on t (own_way t.node body leads puts))
+pub appended_way : {w : Ways} (t : NodeStep) (body : Body) → t.node.role ≡ role.Leader → Puts w t.node body → is_change body ≡ false → Path (StepMove w) t (appended t body)
+appended_way {w} t body leads puts plain =
+    if_both (Path (StepMove w) t) (is_log_full t.node) _ _ (λ _. Shows t _) (λ _. Goes_on t (own_way t.node body t.node.pending_change leads puts (inl (plain, refl))))
 
-pub appended_change_way : {w : Ways} (t : NodeStep) (body : Body) → t.node.role ≡ role.Leader → Puts w t.node body → Path (StepMove w) t (appended_change t body)
-appended_change_way {w} t body leads puts =
-    let x : PlainNode = with_own t.node body in
+pub appended_change_way : {w : Ways} (t : NodeStep) (body : Body) → t.node.role ≡ role.Leader → Puts w t.node body → t.node.pending_change ≤ t.node.applied
+    → Path (StepMove w) t (appended_change t body)
+appended_change_way {w} t body leads puts applied =
     if_both (Path (StepMove w) t) (is_log_full t.node) _ _ (λ _. Shows t _)
-    (λ _. Goes_on t (Then (own_way t.node body leads puts) (One (StepTells (Idle x (record x { pending_change = last t.node.log + 1 }) refl)))))
+    (λ _. Goes_on t (own_way t.node body (last t.node.log + 1) leads puts (inr (applied, refl))))
 
 pub all_told_way : {w : Ways} (t : NodeStep) → Path (StepMove w) t (all_sent_append t)
 all_told_way t = Goes_on t (telling (append_broadcast_way t.node))
@@ -77,7 +80,7 @@ led_way t stands elected won =
     let v : NodeStep = with_node t (leading t.node) in
     let u : NodeStep = with_event v (event_at t.node.id (event.Became role.Leader t.node.term)) in
     Onward (Goes_on t (One (Leads t.node stands elected won))) (Onward (Shows v _)
-    (Onward (appended_way u (Payload []) (leading_leads t.node) (inl refl)) (all_told_way (appended u (Payload [])))))
+    (Onward (appended_way u (Payload []) (leading_leads t.node) (inl refl) refl) (all_told_way (appended u (Payload [])))))
 
 -- ---- an append that was accepted
 
@@ -190,16 +193,22 @@ heartbeat_response_handled_way t m = beat_at_way (place t.node.tracker.views m.f
 
 -- ---- proposals, and handing the lead over
 
-change_put_way : {w : Ways} (o : Option WhyReplaced) (t : NodeStep) (body : Body) → t.node.role ≡ role.Leader → Puts w t.node body → Path (StepMove w) t (change_or_empty_appended o t body)
-change_put_way None t body leads puts = appended_change_way t body leads puts
-change_put_way (Some reason) t body leads puts =
-    Onward (Shows t _) (appended_way (with_event t (event_at t.node.id (event.ReplacedChange (last t.node.log + 1) reason))) (Payload []) leads (inl refl))
+pub applied_all_changes : (n : PlainNode) (words : ℕ) → why_replaced n words ≡ None → n.pending_change ≤ n.applied
+applied_all_changes n words =
+    let P : Option WhyReplaced → Type 0 = λ o. o ≡ None → n.pending_change ≤ n.applied in
+    if_both P (nat_lt n.applied n.pending_change) _ _ (λ _ e. cc) (λ no e. ltb-false n.applied n.pending_change no)
+
+change_put_way : {w : Ways} (o : Option WhyReplaced) (t : NodeStep) (words : ℕ) (body : Body) → t.node.role ≡ role.Leader → Puts w t.node body → why_replaced t.node words ≡ o
+    → Path (StepMove w) t (change_or_empty_appended o t body)
+change_put_way None t words body leads puts is = appended_change_way t body leads puts (applied_all_changes t.node words is)
+change_put_way (Some reason) t words body leads puts is =
+    Onward (Shows t _) (appended_way (with_event t (event_at t.node.id (event.ReplacedChange (last t.node.log + 1) reason))) (Payload []) leads (inl refl) refl)
 
 put_in_way : {w : Ways} (body : Body) (t : NodeStep) → t.node.role ≡ role.Leader → Puts w t.node body → Path (StepMove w) t (proposal_appended body t)
-put_in_way (Payload bytes) t leads puts = appended_way t (Payload bytes) leads puts
+put_in_way (Payload bytes) t leads puts = appended_way t (Payload bytes) leads puts refl
 put_in_way {w} (Change transition words) t leads puts =
     if_both (Path (StepMove w) t) (is_log_full t.node) _ _ (λ _. Shows t _)
-    (λ _. change_put_way (why_replaced t.node (length words)) t (Change transition words) leads puts)
+    (λ _. change_put_way (why_replaced t.node (length words)) t (length words) (Change transition words) leads puts refl)
 
 pub proposed_way : {w : Ways} (t : NodeStep) (body : Body) → t.node.role ≡ role.Leader → Puts w t.node body → Path (StepMove w) t (proposal_handled t body)
 unfolding proposal_handled

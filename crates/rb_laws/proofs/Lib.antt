@@ -93,6 +93,9 @@ pub mod ActivityLaws
 pub mod SourceLaws
 pub mod AppliedConfigs
 pub mod ConfigHistory
+pub mod ChangeCounts
+pub mod OneChange
+pub mod OneChangeHistory
 pub mod WinLaws
 pub mod LineLaws
 pub mod TakingLaws

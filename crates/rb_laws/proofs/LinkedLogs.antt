@@ -46,7 +46,7 @@ part_all P v prev es among all k d low =
 pub part_plain : (v : LogValue) (prev : ℕ) (es : List Entry) → AreOfLog v prev es → All IsPlain v.entries → All IsPlain es
 part_plain v prev es among plain = part_all IsPlain v prev es among plain
 
-part_entry : (v : LogValue) (p term i : ℕ) (es : List Entry) (e : Entry) → AreOfLog v p es → entry_at (log_from p term es) i ≡ Ok e → entry_at v i ≡ Ok e
+pub part_entry : (v : LogValue) (p term i : ℕ) (es : List Entry) (e : Entry) → AreOfLog v p es → entry_at (log_from p term es) i ≡ Ok e → entry_at v i ≡ Ok e
 part_entry v p term i es e among at =
     let x = entry_there (log_from p term es) i e at in
     ap (entry_at v) x.1 ∙ among x.0 e x.2
@@ -117,7 +117,7 @@ put_before v prev term c i t es p over within is =
           ∙ sym (put_sent_term v prev term c m es y.0 p y.1) ∙ sym (ap (term_at (put v prev es c)) index) ∙ is
     ]
 
-put_linked : (ls : List Link) (v : LogValue) (prev term c : ℕ) (es : List Entry) → Puts v prev term es c → IsLinked ls v → IsLinked ls (log_from prev term es) → IsLinked ls (put v prev es c)
+pub put_linked : (ls : List Link) (v : LogValue) (prev term c : ℕ) (es : List Entry) → Puts v prev term es c → IsLinked ls v → IsLinked ls (log_from prev term es) → IsLinked ls (put v prev es c)
 put_linked ls v prev term c es p linked sent = λ i e t at is.
     (elim (cases_lt (i + 1) c) as (λ _. HasLink ls (i + 1) e t) [
       | inl low ↦

@@ -234,7 +234,7 @@ step_holds hears (Asks n may) s h = precandidate_holds n h
 step_holds hears (Campaigns n may) s h = candidate_holds n (may_campaign n may).votes h
 step_holds hears (Leads n stands elected won) s h = leading_holds n stands won h
 step_holds hears (Counts n m granted came answers) s h = counts_holds n m granted (hears m came).1 answers h
-step_holds hears (Appends n body leads puts) s h =
+step_holds hears (Appends n body pending leads puts marks) s h =
     own_entry_holds n (record { term = n.term; body = body }) refl (puts_plain n body hears puts h) leads h
 step_holds {w} hears (Takes n from append is came) s h = takes_holds n from append is (fine w (kind.Append append) hears came.came) h
 step_holds {w} hears (Restores n snapshot is past came other) s h = restores_holds n snapshot is (fine w (kind.Snapshot snapshot) hears came.came).0 h

@@ -114,7 +114,7 @@ step_keeps (Asks n may) = becomes_precandidate n
 step_keeps (Stands n may) = becomes_candidate n
 step_keeps (Leads n stands elected won) = becomes_leader n stands elected
 step_keeps (Votes_for n m last_term last_index transfer gives given came asks of_term) = gives_vote n m last_term last_index (λ _. given) gives
-step_keeps (Appends n body leads puts) = with_entry (core n) (record { term = n.term; body = body })
+step_keeps (Appends n body pending leads puts marks) = with_entry (core n) (record { term = n.term; body = body })
 step_keeps (Takes n from append is came) = with_append (core n) append.prev append.prev_term append.entries (no_leader n.role is)
 step_keeps (Learns n i is up held why) = committed (core n) i up held (λ leads. absurd (no_leader n.role is leads))
 step_keeps (Restores n s is past came other) = with_snapshot (core n) s past (no_leader n.role is)

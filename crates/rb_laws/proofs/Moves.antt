@@ -50,9 +50,10 @@ pub record Whole : Type 0 where
   pub tracker : PlainTracker
   pub votes : Votes
   pub words : Words
+  pub pending : ℕ
 
 abbrev pub whole : PlainNode → Whole
-whole n = record { core = core n; tracker = n.tracker; votes = n.votes; words = words n }
+whole n = record { core = core n; tracker = n.tracker; votes = n.votes; words = words n; pending = n.pending_change }
 
 -- ---- what a leader tells, and its commit
 
@@ -127,6 +128,10 @@ pub data Learned (w : Ways) (n : PlainNode) (i : ℕ) : Type 0 where
 abbrev pub Puts : Ways → PlainNode → Body → Type 0
 Puts w n body = (body ≡ Payload []) ⊎ (Came w (kind.Proposal body) ⊎ ((body ≡ Change Auto []) × (is_joint n.tracker.config ≡ true)))
 
+-- a change becomes the pending one, where each before it is applied; any other entry leaves that as it is
+abbrev pub Marks : PlainNode → Body → ℕ → Type 0
+Marks n body pending = ((is_change body ≡ false) × (pending ≡ n.pending_change)) ⊎ ((n.pending_change ≤ n.applied) × (pending ≡ last n.log + 1))
+
 pub data StepMove (w : Ways) : PlainNode → PlainNode → Type 0 where
   StepTells : {a b : PlainNode} → TellMove a b → StepMove w a b
   -- what came is passed on to the leader
@@ -141,8 +146,8 @@ pub data StepMove (w : Ways) : PlainNode → PlainNode → Type 0 where
   Counts : (n : PlainNode) (m : Message) (granted : Bool) → w.came m
       → (n.role ≡ role.Candidate → (m.kind ≡ kind.VoteResponse granted) × (m.term ≡ n.term)) → StepMove w n (record n { votes = answered n.votes m.from granted })
   -- an entry of its own
-  Appends : (n : PlainNode) (body : Body) → n.role ≡ role.Leader → Puts w n body
-      → StepMove w n (record n { log = own n.log (record { term = n.term; body = body }) })
+  Appends : (n : PlainNode) (body : Body) (pending : ℕ) → n.role ≡ role.Leader → Puts w n body → Marks n body pending
+      → StepMove w n (record n { log = own n.log (record { term = n.term; body = body }); pending_change = pending })
   -- a leader's entries, commit and snapshot
   Takes : (n : PlainNode) (from : ℕ) (append : PlainAppend) → n.role ≡ role.Follower → CameNow w n (kind.Append append) → StepMove w n (with_appended n from append)
   Learns : (n : PlainNode) (i : ℕ) → n.role ≡ role.Follower → n.commit ≤ i → (IsSound n → i ≤ last n.log) → Learned w n i → StepMove w n (record n { commit = i })

@@ -100,15 +100,15 @@ found_within [] k e is = cc
 found_within (x ∷ es) zero e is = omega arith
 found_within (x ∷ es) (suc k) e is = let low = found_within es k e is in omega (arith, low)
 
-never_held : (v : LogValue) (i : ℕ) (e : Entry) → i ≤ v.base → entry_at v i ≡ Ok e → ⊥
+pub never_held : (v : LogValue) (i : ℕ) (e : Entry) → i ≤ v.base → entry_at v i ≡ Ok e → ⊥
 never_held v i e low at = let no = sym (entry_below v i low) ∙ at in cc
 
-within_log : (v : LogValue) (i : ℕ) (e : Entry) → entry_at v i ≡ Ok e → i ≤ last v
+pub within_log : (v : LogValue) (i : ℕ) (e : Entry) → entry_at v i ≡ Ok e → i ≤ last v
 within_log v i e at =
     by_index v.base (λ (j : ℕ). entry_at v j ≡ Ok e → j ≤ last v) (λ j low _. omega (arith, low)) (λ _. omega arith)
     (λ k is. (let low = found_within v.entries k e (sym (entry_past v k) ∙ is) in omega (arith, low))) i at
 
-own_none : (v : LogValue) (e : Entry) (index : ℕ) → (is_change e.body ≡ false) ⊎ (last v + 1 ≤ index) → NoChangePast v index → NoChangePast (own v e) index
+pub own_none : (v : LogValue) (e : Entry) (index : ℕ) → (is_change e.body ≡ false) ⊎ (last v + 1 ≤ index) → NoChangePast v index → NoChangePast (own v e) index
 own_none v e index plain none i x past at =
     elim (cases_lt (last v) i) as (λ _. is_change x.body ≡ false) [
       | inr within ↦ none i x past (sym (own-held v e i within) ∙ at)
@@ -124,7 +124,7 @@ own_none v e index plain none i x past at =
           ]
     ]
 
-nothing_past : (v : LogValue) → NoChangePast v (last v)
+pub nothing_past : (v : LogValue) → NoChangePast v (last v)
 nothing_past v i e past at = let within = within_log v i e at in absurd (omega (arith, past, within))
 
 -- ---- what a leader appends
@@ -135,7 +135,7 @@ appended_knows t body plain h =
     (λ _ leads. (let k = h leads in (k.0, own_none t.node.log (record { term = t.node.term; body = body }) t.node.pending_change (inl plain) k.1)))
 
 -- up to a later index
-further : (v : LogValue) (low high : ℕ) → low ≤ high → NoChangePast v low → NoChangePast v high
+pub further : (v : LogValue) (low high : ℕ) → low ≤ high → NoChangePast v low → NoChangePast v high
 further v low high up none i e past at = none i e (omega (arith, up, past)) at
 
 change_knows : (t : NodeStep) (body : Body) → LeadsKnowing t.node → LeadsKnowing (appended_change t body).node
@@ -433,7 +433,7 @@ reported_at_knows (Some at) n h = reported_with_knows (view_at n.tracker.views a
 reported_knows : (n : PlainNode) (id : ℕ) → LeadsKnowing n → LeadsKnowing (reported n id)
 reported_knows n id h = if_both LeadsKnowing (is_leader n.role) _ _ (λ _. reported_at_knows (place n.tracker.views id) n h) (λ _. h)
 
-compacted_none : (v : LogValue) (i index : ℕ) (r : Result ℕ LogFault) → v.base < i → NoChangePast v index → NoChangePast (compacted v i r) index
+pub compacted_none : (v : LogValue) (i index : ℕ) (r : Result ℕ LogFault) → v.base < i → NoChangePast v index → NoChangePast (compacted v i r) index
 compacted_none v i index (Err fault) low none = none
 compacted_none v i index (Ok term) low none = λ j e past at.
     elim (cases_lt i j) as (λ _. is_change e.body ≡ false) [

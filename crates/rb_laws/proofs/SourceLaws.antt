@@ -114,7 +114,7 @@ module _ (P : Body → Type 0) (empty : P (Payload [])) (leaves : P (Change Auto
   step_has hears (StepTells m) s h = telling_has P m s h
   step_has hears (Passes n m came sent) s h = record { entries = h.entries; sent = All-push (Says P) n.sent m h.sent (came_of P m.kind hears came); waiting = h.waiting }
   step_has hears (Waits n m answer may) s h = record { entries = h.entries; sent = h.sent; waiting = All-push (Says P) n.waiting m h.waiting (answers_of P m.kind n m (answer s).1) }
-  step_has hears (Appends n body leads puts) s h = record {
+  step_has hears (Appends n body pending leads puts marks) s h = record {
     entries = All-push (IsOf P) n.log.entries (record { term = n.term; body = body }) h.entries (puts_of n body hears puts);
     sent = h.sent;
     waiting = h.waiting;

@@ -291,8 +291,9 @@ module _ {g : Ground} {said : List Message} {id : ℕ} {others : Company} where
 
   -- ---- logs
 
-  appends_around : (st : History) (n : PlainNode) (body : Body) → n.role ≡ role.Leader → Around g said id others st n → Onwards g said id others st (record n { log = own n.log (record { term = n.term; body = body }) })
-  appends_around st n body leads h =
+  appends_around : (st : History) (n : PlainNode) (body : Body) (pending : ℕ) → n.role ≡ role.Leader → Around g said id others st n
+      → Onwards g said id others st (record n { log = own n.log (record { term = n.term; body = body }); pending_change = pending })
+  appends_around st n body pending leads h =
       let e : Entry = record { term = n.term; body = body } in
       let k = h.knows in
       let l = next_link n e id in
@@ -408,7 +409,7 @@ module _ {g : Ground} {said : List Message} {id : ℕ} {others : Company} where
       (λ voter yes. still_cast w.said said voter n.term id same (subst (λ (i : ℕ). IsCast w.said voter n.term i) own (x.counted voter yes))) h
   step_around st w {v} own same set once brings (Votes_for n m last_t last_i transfer gives given came is of_term) s views hold h = votes_around st v n m last_t last_i transfer brings gives came is of_term h
   step_around st w own same set once brings (Counts n m granted came answers) s views hold h = still_around st n _ h h.knows h.speaks (omega arith)
-  step_around st w own same set once brings (Appends n body leads puts) s views hold h = appends_around st n body leads h
+  step_around st w own same set once brings (Appends n body pending leads puts marks) s views hold h = appends_around st n body pending leads h
   step_around st w {v} own same set once brings (Takes n from append follows came) s views hold h = takes_around st v n from append brings follows s.is_committed came h
   step_around st w {v} own same set once brings (Learns n i follows up held why) s views hold h = learns_around st v n i brings s up why h
   step_around st w {v} own same set once brings (Restores n x follows past came other) s views hold h = restores_around st v n x brings s follows past came other h

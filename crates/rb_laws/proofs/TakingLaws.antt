@@ -1,9 +1,8 @@
 -- A follower takes what its leader sends (Ongaro's thesis, section 3.5)
-use Rattle.std.proofs.Common.{◌≡◌, ℕ, ◌+◌, ◌<◌, ◌≤◌, Bool, true, false, if◌then◌else◌, nat_lt, max, min, List, [], ◌∷◌, ◌++◌, length, Ok, refl, sym, ap, subst, ◌∙◌, arith, inl, inr}
+use Rattle.std.proofs.Common.{◌≡◌, ℕ, ◌+◌, ◌≤◌, Bool, true, false, if◌then◌else◌, nat_lt, max, min, List, [], ◌∷◌, ◌++◌, length, Ok, refl, sym, ap, subst, ◌∙◌, arith, inl, inr}
 use Rattle.std.proofs.lemmas.Bool.{false≢true, cases_Bool, ltb-true}
 use Rattle.rb_raftlog.proofs.AppendLaws.{matched-term}
 use Rattle.rb_raftlog.proofs.TermLaws.{is_term_from}
-use Rattle.rb_raftlog.specs.declared.entry.Entry.{Entry}
 use Rattle.rb_raftlog.specs.declared.raft_log.Appended.{Appended}
 use Rattle.rb_raftlog.specs.declared.raft_log.Appended.TheVariants.{Matched, Refused}
 use Rattle.rb_raftlog.specs.Log.{LogValue, last, term_at, is_term, answer, answer_below, conflict, hint}
@@ -67,7 +66,7 @@ by_heartbeat P t m commit is may taken followed raised =
 
 -- ---- an append
 
-matches : (v : LogValue) (append : PlainAppend) (commit : ℕ) → commit ≤ append.prev → term_at v append.prev ≡ Ok append.prev_term → answer v append.prev append.prev_term append.entries commit ≡ Matched (append.prev + length append.entries)
+pub matches : (v : LogValue) (append : PlainAppend) (commit : ℕ) → commit ≤ append.prev → term_at v append.prev ≡ Ok append.prev_term → answer v append.prev append.prev_term append.entries commit ≡ Matched (append.prev + length append.entries)
 matches v append commit over at =
     let prev = append.prev in
     let es = append.entries in

@@ -1,14 +1,16 @@
 -- Each node's configuration as members change: a change counts once it is applied (Ongaro's thesis, section 4.1, has it count once it is appended; etcd
 -- raft documentation, "Membership Changes")
-use Rattle.std.specs.Prelude.{ℕ, zero, suc, ◌≡◌, ◌+◌, ◌-◌, ◌<◌, ◌≤◌, ◌⊎◌, List, [], ◌∷◌, Contains, Ok, Some, slice_get}
+use Rattle.std.specs.Prelude.{ℕ, zero, suc, ◌≡◌, ◌+◌, ◌<◌, ◌≤◌, ◌⊎◌, true, List, [], ◌∷◌, Contains, Ok, Option, Some, None, slice_get}
+use Rattle.rb_raftlog.specs.Bodies.{is_change}
 use Rattle.rb_raftlog.specs.declared.entry.Entry.{Entry}
-use Rattle.rb_raftlog.specs.Log.{entry_at}
+use Rattle.rb_raftlog.specs.Log.{LogValue, entry_at}
 use Rattle.rb_tracker.specs.declared.config.Config.{Config}
+use Rattle.rb_message.specs.Appends.{PlainAppend}
 use Rattle.rb_message.specs.declared.kind.MessageKind.{MessageKind}
 use Rattle.rb_message.specs.declared.kind.MessageKind.TheVariants as kind
-use Rattle.rb_message.specs.declared.message.Message.{Message}
-use Rattle.rb_node.specs.Node.{PlainNode}
+use Rattle.rb_node.specs.Node.{PlainNode, node_step}
 use Rattle.rb_laws.specs.Calling.{Call, Step}
+use Rattle.rb_laws.specs.Elections.{Elected}
 use Rattle.rb_laws.specs.Network.{Network, Happening, happened}
 use Rattle.rb_laws.specs.Rules.{config_with}
 use Rattle.rb_laws.specs.Safety.{IsStateOf}
@@ -36,3 +38,23 @@ IsStateKnown s _ = Unit {0}
 abbrev pub AreAgreed : (ℕ → Entry) → List Happening → Network → Type 0
 AreAgreed chosen [] s = Unit {0}
 AreAgreed chosen (h ∷ hs) s = AreChosen chosen s.nodes × IsStateKnown s h.call × AreAgreed chosen hs (happened s h)
+
+-- ---- one change at a time
+
+-- past an index a log has at most one change
+abbrev pub HasOneChangePast : LogValue → ℕ → Type 0
+HasOneChangePast v index =
+    (i j : ℕ) (e f : Entry) → index < i → index < j → entry_at v i ≡ Ok e → entry_at v j ≡ Ok f → is_change e.body ≡ true → is_change f.body ≡ true → i ≡ j
+
+-- an append's entries, as a log that begins at the entry before them
+abbrev pub log_of : PlainAppend → LogValue
+log_of append = record { base = append.prev; base_term = append.prev_term; entries = append.entries; durable = append.prev }
+
+-- A term has at most one leader: whomever a call elects in a term is the one of that term.
+abbrev pub IsElectedAs : (ℕ → ℕ) → Option PlainNode → Happening → Type 0
+IsElectedAs leader None h = Unit {0}
+IsElectedAs leader (Some n) h = (term : ℕ) → Elected h.call (node_step n h.told) term → leader term ≡ n.id
+
+abbrev pub AreElectedAs : (ℕ → ℕ) → List Happening → Network → Type 0
+AreElectedAs leader [] s = Unit {0}
+AreElectedAs leader (h ∷ hs) s = IsElectedAs leader (slice_get s.nodes h.place) h × AreElectedAs leader hs (happened s h)

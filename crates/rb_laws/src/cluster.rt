@@ -9,7 +9,7 @@ mod laws;
 mod restarts;
 mod safety;
 
-pub use changes::configurations_agree;
+pub use changes::{changes_wait_for_earlier_ones, configurations_agree};
 pub use entries::entries_were_proposed;
 pub use laws::{
     clusters_elect_one_leader, clusters_keep_logs_matching, elections_are_safe, leaders_are_chosen,
