@@ -199,7 +199,7 @@ mark_with (Some view) n at from is here some =
       others = λ id other. set_other n.tracker.views at from id new found.0 (eqb-true from (get_or (keys_of n.tracker.views) at 0) found.1) other;
     }
 
-view_there : (views : List (ℕ × PlainProgress)) (at : ℕ) → at < length (keys_of views) → view_at views at ≡ None → ⊥
+pub view_there : (views : List (ℕ × PlainProgress)) (at : ℕ) → at < length (keys_of views) → view_at views at ≡ None → ⊥
 view_there [] at low none = omega (arith, low)
 view_there (x ∷ xs) zero low none = cc
 view_there (x ∷ xs) (suc at) low none = view_there xs at (omega (arith, low)) none

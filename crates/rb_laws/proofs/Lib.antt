@@ -97,5 +97,6 @@ pub mod ChangeCounts
 pub mod OneChange
 pub mod OneChangeHistory
 pub mod WinLaws
+pub mod AnsweredLaws
 pub mod LineLaws
 pub mod TakingLaws

@@ -228,7 +228,7 @@ asked_ballot n (id ∷ ids) term question answer =
     let rest = asked_ballot (asked_one n id term question answer) ids term question answer in
     (rest.0 ∙ one.0, rest.1 ∙ one.1)
 
-no_majority : (len count : ℕ) → 0 < len → count ≡ 0 → (len == 0 || nat_lt len (2 * count)) ≡ false
+pub no_majority : (len count : ℕ) → 0 < len → count ≡ 0 → (len == 0 || nat_lt len (2 * count)) ≡ false
 no_majority len count some none = grind (arith, nat_tests)
 
 none_majority : (xs : List ℕ) (id : ℕ) → has xs id ≡ true → is_majority xs (λ j. has [] j) ≡ false

@@ -15,7 +15,7 @@ mod winning;
 
 pub use actions::{messages_go_out_once, proposals_are_appended, proposals_are_passed_on};
 pub use activity::members_are_active_by_their_answers;
-pub use committing::leaders_commit_all_that_they_may;
+pub use committing::{answered_entries_are_committed, leaders_commit_all_that_they_may};
 pub use following::followers_take_what_leaders_send;
 pub use laws::{
     answers_tell_what_is_held, calls_are_these, campaigns_are_of_voters, candidates_disturb_nobody,
