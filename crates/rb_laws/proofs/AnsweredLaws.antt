@@ -1,11 +1,15 @@
 -- An entry that a quorum has answered is committed (Ongaro's thesis, section 3.6.2)
-use Rattle.std.proofs.Common.{◌≡◌, ◌⊎◌, ℕ, ◌+◌, ◌<◌, ◌≤◌, Bool, true, false, not, ◌&&◌, ◌||◌, ◌==◌, nat_lt, min, List, [], ◌∷◌, length, Option, Some, None, refl, sym, ap, subst, ◌∙◌, arith, inl, inr, eqb-true, eq-eqb}
+use Rattle.std.proofs.Common.{◌≡◌, ◌⊎◌, ℕ, ◌+◌, ◌<◌, ◌≤◌, Bool, true, false, not, ◌&&◌, ◌||◌, ◌==◌, nat_lt, min, List, [], ◌∷◌, length, Option, Some, None, Ok, refl, sym, ap, subst, ◌∙◌, arith, inl, inr, eqb-true, eq-eqb}
 use Rattle.std.specs.Map.{keys_of}
 use Rattle.std.specs.List.{count_by, position_or_len}
 use Rattle.std.proofs.lemmas.Bool.{false≢true, cases_Bool, cases_lt, cond-true, cond-false, and_left, or_parts, lt-ltb, ltb-false, leb-true, le-leb, or_cases, or_left, or_right}
 use Rattle.std.proofs.lemmas.List.Quantifiers.{position-Some}
 use Rattle.std.proofs.lemmas.Option.{same_Some}
-use Rattle.rb_raftlog.specs.Log.{LogValue, last, term_at, is_term}
+use Rattle.rb_raftlog.specs.declared.entry.Body.TheVariants.{Payload}
+use Rattle.rb_raftlog.specs.declared.entry.Entry.{Entry}
+use Rattle.rb_raftlog.specs.Log.{LogValue, last, term_at, entry_at, is_term, own}
+use Rattle.rb_raftlog.proofs.PlaceLaws.{own-last}
+use Rattle.rb_raftlog.proofs.TermLaws.{is_term_from}
 use Rattle.rb_tracker.proofs.CountLaws.{count_none}
 use Rattle.rb_tracker.proofs.SetLaws.{if_both}
 use Rattle.rb_tracker.proofs.VoteLaws.{both_more}
@@ -17,27 +21,33 @@ use Rattle.rb_tracker.specs.Quorum.{is_majority, is_quorum}
 use Rattle.rb_tracker.specs.Sets.{has}
 use Rattle.rb_tracker.specs.Trackers.{place, view_at}
 use Rattle.rb_tracker.specs.declared.config.Config.{Config}
+use Rattle.rb_message.specs.declared.kind.MessageKind.TheVariants as kind
 use Rattle.rb_message.specs.declared.message.Message.{Message}
 use Rattle.rb_message.specs.declared.role.Role.{Role}
 use Rattle.rb_message.specs.declared.role.Role.TheVariants as role
 use Rattle.rb_node.specs.Acknowledging.{marked_active, transfer_finished_to, commit_or_sent, reason_after, match_advanced, old_response_handled, append_response_handled_by, append_response_handled_with, append_response_handled_at, append_response_handled}
-use Rattle.rb_node.specs.Node.{PlainNode, NodeStep}
+use Rattle.rb_node.specs.Node.{PlainNode, NodeStep, message}
+use Rattle.rb_node.specs.Proposing.{proposal_appended, proposal_handled}
 use Rattle.rb_node.specs.Sends.{with_view_at}
 use Rattle.rb_node.specs.Step.{as_leader, by_role_of, stepped}
-use Rattle.rb_laws.specs.Calling.{Step, run}
-use Rattle.rb_laws.specs.Committing.{HasCommittedAll, AwaitsAnswers, ack_from, acks, IsHeldWith}
+use Rattle.rb_laws.specs.Calling.{Step, Propose, after, run}
+use Rattle.rb_laws.specs.Committing.{HasCommittedAll, HasCommittedEntry, CommitsAll, AwaitsAnswers, ack_from, acks, IsHeldWith}
+use Rattle.rb_laws.specs.Proposals.{TakesProposals}
 use Rattle.rb_laws.specs.Sound.{IsSound, HasViewsOfMembers}
 use Rattle.rb_laws.proofs.ActiveLaws.{view_there}
 use Rattle.rb_laws.proofs.CallLaws.{calls}
 use Rattle.rb_laws.proofs.CommitCallLaws.{call_all}
 use Rattle.rb_laws.proofs.ConfigLaws.{keeps_config}
 use Rattle.rb_laws.proofs.Goes.{core}
+use Rattle.rb_laws.proofs.LinkedLogs.{entry_term}
 use Rattle.rb_laws.proofs.MatchViewLaws.{of, place_set, place_here, heard_place}
 use Rattle.rb_laws.proofs.MemberMoveLaws.{called_members}
 use Rattle.rb_laws.proofs.Moves.{Way, TellMove, over_way}
 use Rattle.rb_laws.proofs.ProgressLaws.{same_match, acked_matched, freed_matched}
+use Rattle.rb_laws.proofs.ProposalLaws.{at_leader, taken, with_room, payload_is_next}
 use Rattle.rb_laws.proofs.StepCases.{by_term}
-use Rattle.rb_laws.proofs.TellWays.{Rest, rest, keeps_rest, keeps_match, commit_or_sent_way}
+use Rattle.rb_laws.proofs.TellWays.{Rest, rest, keeps_rest, keeps_match, commit_or_sent_way, append_broadcast_way}
+use Rattle.rb_laws.proofs.Turns.{own_size}
 use Rattle.rb_laws.proofs.WinLaws.{no_majority}
 
 -- ---- who has a view has a place
@@ -271,11 +281,55 @@ answered n u some own w =
           absurd (false≢true (sym other ∙ same ∙ own))
     ]
 
-all_answer : (n : PlainNode) (ids : List ℕ) (u : NodeStep) → 0 < length n.tracker.config.incoming → is_term (term_at n.log (last n.log)) n.term ≡ true → Waits n ids u → (run (acks n ids) u).node.commit ≡ last n.log
-all_answer n [] u some own w = answered n u some own w
-all_answer n (id ∷ ids) u some own w = all_answer n ids (stepped u (ack_from n id)) some own (one_answer n id ids u w)
+all_answer : (n : PlainNode) (ids : List ℕ) (u : NodeStep) → Waits n ids u → Waits n [] (run (acks n ids) u)
+all_answer n [] u w = w
+all_answer n (id ∷ ids) u w = all_answer n ids (stepped u (ack_from n id)) (one_answer n id ids u w)
+
+all_wait : (t : NodeStep) (ids : List ℕ) → CommitsAll t.node → ((id : ℕ) → has ids id ≡ true → is_member t.node.tracker.config id ≡ true) → IsHeldWith t.node ids → Waits t.node [] (run (acks t.node ids) t)
+all_wait t ids h of_members enough =
+    all_answer t.node ids t
+    (record { sound = h.sound; members = h.members; leads = h.leads; term = refl; log = refl; config = refl; all = h.all; of_members = of_members; enough = enough })
 
 pub answered_is_committed : (t : NodeStep) (ids : List ℕ) → AwaitsAnswers t.node → ((id : ℕ) → has ids id ≡ true → is_member t.node.tracker.config id ≡ true) → IsHeldWith t.node ids → (run (acks t.node ids) t).node.commit ≡ last t.node.log
-answered_is_committed t ids h of_members enough =
-    all_answer t.node ids t h.voters h.own
-    (record { sound = h.sound; members = h.members; leads = h.leads; term = refl; log = refl; config = refl; all = h.all; of_members = of_members; enough = enough })
+answered_is_committed t ids h of_members enough = answered t.node (run (acks t.node ids) t) h.leader.voters h.own (all_wait t ids h.leader of_members enough)
+
+-- ---- what a leader is asked for
+
+-- it leads on, with its members
+record LeadsOn (n : PlainNode) (u : NodeStep) : Type 0 where
+  role : u.node.role ≡ n.role
+  term : u.node.term ≡ n.term
+  config : u.node.tracker.config ≡ n.tracker.config
+
+asked_leads : (t : NodeStep) (bytes : List ℕ) → TakesProposals t.node → LeadsOn t.node (proposal_handled t (Payload bytes))
+asked_leads t bytes may =
+    let P : NodeStep → Type 0 = LeadsOn t.node in
+    let u : NodeStep = proposal_appended (Payload bytes) t in
+    let put : P u = with_room P t _ _ may.room (record { role = refl; term = refl; config = refl }) in
+    let way = append_broadcast_way u.node in
+    let same = over_way keeps_rest way in
+    taken P t (Payload bytes) may (record { role = ap (λ (r : Rest). r.role) same ∙ put.role; term = ap (λ (r : Rest). r.term) same ∙ put.term; config = over_way keeps_config way ∙ put.config })
+
+pub asked_is_committed : (t : NodeStep) (bytes ids : List ℕ) → TakesProposals t.node → CommitsAll t.node → ((id : ℕ) → has ids id ≡ true → is_member t.node.tracker.config id ≡ true) → IsHeldWith (after (Propose (Payload bytes)) t).node ids
+    → HasCommittedEntry (run (Propose (Payload bytes) ∷ acks (after (Propose (Payload bytes)) t).node ids) t).node (last t.node.log + 1) (record { term = t.node.term; body = Payload bytes })
+asked_is_committed t bytes ids may h of_members enough =
+    let m : Message = message t.node.id t.node.id 0 (kind.Proposal (Payload bytes)) in
+    let u : NodeStep = stepped t m in
+    let e : Entry = record { term = t.node.term; body = Payload bytes } in
+    let next : ℕ = last t.node.log + 1 in
+    let put : u.node.log ≡ own t.node.log e = payload_is_next t m bytes may refl in
+    let on : LeadsOn t.node u = at_leader (LeadsOn t.node) t m (Payload bytes) refl may.leads (asked_leads t bytes may) in
+    let leads : u.node.role ≡ role.Leader = on.role ∙ h.leads in
+    let size : last u.node.log ≡ next = ap (λ (v : LogValue). last v) put ∙ own_size t.node.log e in
+    let held : entry_at u.node.log next ≡ Ok e = ap (λ (v : LogValue). entry_at v next) put ∙ own-last t.node.log e in
+    let term : term_at u.node.log (last u.node.log) ≡ Ok u.node.term = ap (term_at u.node.log) size ∙ entry_term u.node.log next e held ∙ ap (λ (i : ℕ). Ok i) (sym on.term) in
+    let all : CommitsAll u.node = record {
+      sound = ((calls (Propose (Payload bytes)) t).goes h.sound).ordered;
+      members = called_members (Propose (Payload bytes)) t h.members;
+      leads = leads;
+      voters = subst (λ (c : Config). 0 < length c.incoming) (sym on.config) h.voters;
+      all = call_all (Propose (Payload bytes)) t h.members h.sound h.leads leads on.term h.all;
+    } in
+    let w : Waits u.node [] (run (acks u.node ids) u) = all_wait u ids all (λ id there. ap (λ (c : Config). is_member c id) on.config ∙ of_members id there) enough in
+    let commit = answered u.node (run (acks u.node ids) u) all.voters (is_term_from (term_at u.node.log (last u.node.log)) u.node.term term) w in
+    record { known = omega (arith, commit, size); held = ap (λ (v : LogValue). entry_at v next) w.log ∙ held }

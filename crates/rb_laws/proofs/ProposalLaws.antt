@@ -48,7 +48,7 @@ all_told old body pending t h =
 drops_none : (a b : Bool) → a ≡ true → b ≡ true → (not a || not b) ≡ false
 drops_none a b p q = rw (p, q) refl
 
-taken : (P : NodeStep → Type 0) (t : NodeStep) (body : Body) → TakesProposals t.node → P (all_sent_append (proposal_appended body t)) → P (proposal_handled t body)
+pub taken : (P : NodeStep → Type 0) (t : NodeStep) (body : Body) → TakesProposals t.node → P (all_sent_append (proposal_appended body t)) → P (proposal_handled t body)
 unfolding proposal_handled
 taken P t body may p =
     let n = t.node in
@@ -57,7 +57,7 @@ taken P t body may p =
     (λ _. p)
 
 -- a log that isn't full takes an entry
-with_room : (P : NodeStep → Type 0) (t full more : NodeStep) → last t.node.log < MAX_INDEX → P more → P (if is_log_full t.node then full else more)
+pub with_room : (P : NodeStep → Type 0) (t full more : NodeStep) → last t.node.log < MAX_INDEX → P more → P (if is_log_full t.node then full else more)
 with_room P t full more room p =
     if_both P (is_log_full t.node) full more
     (λ is. (let over = leb-true MAX_INDEX (last t.node.log) is in absurd (omega (arith, over, room)))) (λ _. p)
@@ -130,7 +130,7 @@ empty_put t transition words may never =
 
 -- ---- a message to the leader
 
-at_leader : (P : NodeStep → Type 0) (t : NodeStep) (m : Message) (body : Body) → m.kind ≡ kind.Proposal body → t.node.role ≡ role.Leader → P (proposal_handled t body) → P (stepped t m)
+pub at_leader : (P : NodeStep → Type 0) (t : NodeStep) (m : Message) (body : Body) → m.kind ≡ kind.Proposal body → t.node.role ≡ role.Leader → P (proposal_handled t body) → P (stepped t m)
 at_leader P t m body is leads p =
     proposal_steps P t m body is
     (subst (λ (r : Role). P (by_role_of r t m)) (sym leads) (subst (λ (k : MessageKind). P (as_leader k t m)) (sym is) p))

@@ -1,6 +1,7 @@
 -- What a leader commits (Ongaro's thesis, section 3.6.2)
-use Rattle.std.specs.Prelude.{ℕ, ◌≡◌, ◌+◌, ◌<◌, ◌≤◌, ◌||◌, true, false, List, [], ◌∷◌, length}
-use Rattle.rb_raftlog.specs.Log.{last, term_at, is_term}
+use Rattle.std.specs.Prelude.{ℕ, ◌≡◌, ◌+◌, ◌<◌, ◌≤◌, ◌||◌, true, false, List, [], ◌∷◌, length, Ok}
+use Rattle.rb_raftlog.specs.declared.entry.Entry.{Entry}
+use Rattle.rb_raftlog.specs.Log.{last, term_at, entry_at, is_term}
 use Rattle.rb_tracker.specs.Commits.{match_of, is_held, holds}
 use Rattle.rb_tracker.specs.Quorum.{is_quorum}
 use Rattle.rb_tracker.specs.Sets.{has}
@@ -39,11 +40,20 @@ acks n (id ∷ ids) = Step (ack_from n id) ∷ acks n ids
 abbrev pub IsHeldWith : PlainNode → List ℕ → Type 0
 IsHeldWith n ids = is_quorum n.tracker.config (λ id. holds n.tracker.views (last n.log) id || has ids id) ≡ true
 
--- a leader whose last entry is of its term, and that has committed all that it may
-pub record AwaitsAnswers (n : PlainNode) : Type 0 where
+-- a leader of some voters that has committed all that it may
+pub record CommitsAll (n : PlainNode) : Type 0 where
   pub sound : IsSound n
   pub members : HasViewsOfMembers n
   pub leads : n.role ≡ Leader
   pub voters : 0 < length n.tracker.config.incoming
-  pub own : is_term (term_at n.log (last n.log)) n.term ≡ true
   pub all : HasCommittedAll n
+
+-- and whose last entry is of its term
+pub record AwaitsAnswers (n : PlainNode) : Type 0 where
+  pub leader : CommitsAll n
+  pub own : is_term (term_at n.log (last n.log)) n.term ≡ true
+
+-- an entry of an index is committed
+pub record HasCommittedEntry (n : PlainNode) (i : ℕ) (e : Entry) : Type 0 where
+  pub known : i ≤ n.commit
+  pub held : entry_at n.log i ≡ Ok e
