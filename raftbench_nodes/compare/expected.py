@@ -56,8 +56,9 @@ class Checker:
 
     def is_expected(self, planned: PlannedCall, answer: Answer) -> bool:
         if not isinstance(answer, CallResult):
-            node = planned.call["node"]
-            return planned.answer is not None and answer_lines(node, planned.answer, self.without) == answer_lines(node, answer, self.without)
+            node, wanted = planned.call["node"], planned.answer
+            # Most answers are equal as they are, which is seen sooner.
+            return wanted == answer or wanted is not None and answer_lines(node, wanted, self.without) == answer_lines(node, answer, self.without)
         if len(answer.states) != len(planned.states):
             return False
         if answer.end and planned.end and (answer.end.last, answer.end.term) != (planned.end.last, planned.end.term):
