@@ -104,7 +104,7 @@ void show_servers(struct rb_ids *ids, const struct json *servers)
     }
 }
 
-/* Messages */
+/* Messages. Pre-votes have the sender's term here, and in the protocol the one that is asked for. */
 
 static void fill_vote_request(struct rb_message *m, const struct json *p)
 {
@@ -112,12 +112,14 @@ static void fill_vote_request(struct rb_message *m, const struct json *p)
     m->index = number(p, "last_log_index") - SHIFT;
     m->log_term = number(p, "last_log_term");
     m->transfer = part(p, "leadership_transfer", JSON_TRUE) != NULL;
+    m->term += m->type == RB_PRE_VOTE;
 }
 
 static void fill_vote_reply(struct rb_message *m, const struct json *p)
 {
     m->type = part(p, "is_prevote", JSON_TRUE) ? RB_PRE_VOTE_RESP : RB_VOTE_RESP;
     m->reject = id_in(text(p, "vote")) != m->to;
+    m->term += m->type == RB_PRE_VOTE_RESP && !m->reject;
 }
 
 static void fill_append_request(struct rb_message *m, const struct json *p)
