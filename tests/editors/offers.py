@@ -11,6 +11,7 @@ from typing import Any
 from plain import script
 from plain.cluster import Cluster
 from tests.editors.oracle import line_starts, position
+from tests.editors.served import served
 from tests.harness import TOP, matched
 
 FUNCTION, PROPERTY, VALUE = 3, 10, 12
@@ -32,14 +33,9 @@ MOST_NODES, MOST_WORDS = 32, 64
 # ---- where blocks stand
 
 def blocks(text: str) -> Any:
-    """Of each block the first line of its head, the line behind that head, the line below its separator, and the line behind its last line that
-    isn't blank; lines count from 0, and end at LF. None where the text is no script."""
-    data = text.encode()
-    try:
-        script.read_script(data)
-    except script.Fault:
-        return None
-    lines, found = script.lines_of(data), []
+    """Of each block that is served the first line of its head, the line behind that head, the line below its separator, and the line behind its last
+    line that isn't blank; lines count from 0, and end at LF."""
+    lines, found = script.lines_of(served(text).encode()), []
     reader = script.Reader(lines)
     while isinstance(block := reader.block(True), script.Block):
         head = reader.heads[-1] - 1
@@ -68,7 +64,7 @@ def fold(text: str, first: int, behind: int) -> Any:
 def folds(text: str, _encoding: str) -> Any:
     """One a block, and one an expectation of more than one line."""
     found = []
-    for head, _, below, end in blocks(text) or []:
+    for head, _, below, end in blocks(text):
         found.append(fold(text, head, end))
         if end - below > 1:
             found.append(fold(text, below, end))
@@ -78,7 +74,7 @@ def folds(text: str, _encoding: str) -> Any:
 def symbols(text: str, encoding: str) -> Any:
     """One a block: the first line of its head is the name, as far as a name goes."""
     found, lines = [], text.split("\n")
-    for head, behind, _, end in blocks(text) or []:
+    for head, behind, _, end in blocks(text):
         start = start_of(text, head, encoding)
         name = lines[head].rstrip("\r").lstrip(" \t")[:LONGEST_NAME]
         range_ = {"start": start, "end": start_of(text, end, encoding)}

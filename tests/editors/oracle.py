@@ -6,6 +6,7 @@ import subprocess
 import tempfile
 from typing import Any
 
+from tests.editors.served import served
 from tests.harness import matched
 
 MOST_SECONDS = 120
@@ -121,11 +122,14 @@ def checked(program: pathlib.Path, text: str, words: list[str]) -> tuple[int, st
 
 
 def diagnostics(program: pathlib.Path, text: str, encoding: str) -> list[dict[str, Any]]:
-    """What `check` says of the text, in the order of its lines, and then what it warns of."""
+    """What `check` says of the text, in the order of its lines, and then what it warns of; if the text isn't a script, what it says of the text
+    above the fault, and then of the fault."""
     status, report, told = checked(program, text, ["--color", "never"])
     if status in (0, 1):
         objects = [json.loads(it) for it in checked(program, text, ["--format", "json"])[1].splitlines()] if status else []
         return of_report(text, report, {it["line"]: it for it in objects if it.get("status") == "mismatch"}, encoding)
     refusal = next(line for line in (told + report).split("\n") if line.startswith("script:"))
     heading = matched(HEADING.pattern, refusal)
-    return [diagnostic(text, int(heading[1] or 1), encoding, 1, "no-script", heading[2].removeprefix(" "))]
+    fault = diagnostic(text, int(heading[1] or 1), encoding, 1, "no-script", heading[2].removeprefix(" "))
+    above = served(text)
+    return (diagnostics(program, above, encoding) if above else []) + [fault]

@@ -37,6 +37,7 @@ from tests.editors import oracle
 from tests.editors import plainly
 from tests.editors.client import MOST_SECONDS, Client, changed, framed, notification, opened, recorded, recorder, request, unframed
 from tests.editors.oracle import diagnostics, position
+from tests.editors.served import served
 
 CASES = sorted((HERE / "cases").glob("*.json"))
 URI = "file:///script.txt"
@@ -299,7 +300,7 @@ def what_came(edits: int) -> Iterator[str]:
             for version in range(1, edits + 1):
                 client.send(changed(URI, version, {"text": text}) if version > 1 else opened(URI, text))
                 told, due = client.receive()["params"]["diagnostics"], diagnostics(PROGRAM, text, encoding)
-                if told != (due := plainly.with_what_came(due, text, URI, encoding) if related is True else due):
+                if told != (due := plainly.with_what_came(due, served(text), URI, encoding) if related is True else due):
                     yield f"{path.name}, version {version}: {told}, and due is {due}"
                     break
                 text, *_ = edited(dice, text)
@@ -456,8 +457,8 @@ def questions(edits: int) -> Iterator[str]:
                 first, last = sorted(dice.randrange(len(text) + 1) for _ in range(2))
                 start, end = position(text, first, encoding), position(text, dice.choice([first, last]), encoding)
                 told = answer_of(client, version, "codeAction", range={"start": start, "end": end}, context={"diagnostics": []})
-                yield from (f"{path.name}, version {version}, {start}: {it}" for it in other_actions(text, start, end, encoding, told))
-                if (told := without_reasons(answer_of(client, -version, "hover", position=start))) != (due := plainly.hover(text, start, encoding)):
+                yield from (f"{path.name}, version {version}, {start}: {it}" for it in other_actions(served(text), start, end, encoding, told))
+                if (told := without_reasons(answer_of(client, -version, "hover", position=start))) != (due := plainly.hover(served(text), start, encoding)):
                     yield f"{path.name}, version {version}, {start}: {told}, and due is {due}"
                 text, *_ = edited(dice, text)
 
@@ -475,8 +476,8 @@ def questions_between_changes(_edits: int) -> Iterator[str]:
             for part in 1, 3:
                 place = position(text, len(text) * part // 4, "utf-16-le")
                 told = answer_of(client, version, "codeAction", range={"start": place, "end": place}, context={"diagnostics": []})
-                yield from (f"text {version}, {place}: {it}" for it in other_actions(text, place, place, "utf-16-le", told))
-                if (told := without_reasons(answer_of(client, -version, "hover", position=place))) != (due := plainly.hover(text, place, "utf-16-le")):
+                yield from (f"text {version}, {place}: {it}" for it in other_actions(served(text), place, place, "utf-16-le", told))
+                if (told := without_reasons(answer_of(client, -version, "hover", position=place))) != (due := plainly.hover(served(text), place, "utf-16-le")):
                     yield f"text {version}, {place}: {told}, and due is {due}"
 
 

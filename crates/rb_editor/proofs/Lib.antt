@@ -14,6 +14,7 @@ pub mod AppliedLaws
 pub mod RunLaws
 pub mod WorkLaws
 pub mod StopLaws
+pub mod ServedLaws
 pub mod FixLaws
 pub mod FrontLaws
 pub mod CompletingLaws

@@ -21,6 +21,8 @@ use Rattle.rb_editor.specs.Findings.{before, diagnostics_of, finding, findings, 
 use Rattle.rb_editor.specs.Published.{diagnose, diagnostic_text}
 use Rattle.rb_editor.specs.ActionLaws.{IsQuietText}
 use Rattle.rb_editor.proofs.FindingLaws.{of_read}
+use Rattle.rb_editor.proofs.ServedLaws.{shown_script}
+use Rattle.rb_editor.specs.Served.{shown}
 
 nothing_found : (left first : ℕ) (ls : List Line) (line : ℕ) (b : PlainBlock) (o : List Line) → same_lines b.expected o ≡ true → is_unexpected ls line o ≡ false → finding left first ls line b o ≡ None
 unfolding finding
@@ -54,6 +56,7 @@ pub quiet_text : (client : Client) (uri text : List ℕ) → IsQuietText text �
 quiet_text client uri text q =
     let heads = heads_of text q.script in
     let first = first_head heads (mismatches q.script) in
-    empty_list (diagnostic_text client uri text) (diagnostics_of text)
-    (sym (of_read text q.script q.reads)
+    empty_list (diagnostic_text client uri text) (shown None text)
+    (shown_script text q.script None q.reads
+    ∙ sym (of_read text q.script q.reads)
     ∙ ap₂ (λ (ds : List PlainDiagnostic) (ws : List Warning). ds ++ map slip ws) (quiet MAX_SCRIPT_CELLS first (lines text) heads q.script.blocks (outputs q.script) 1 q.same q.no_error) q.no_slip)

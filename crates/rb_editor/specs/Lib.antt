@@ -6,6 +6,7 @@ pub mod Published
 pub mod Work
 pub mod Stops
 pub mod LastStops
+pub mod Served
 pub mod Layouts
 pub mod Extents
 pub mod Hovers

@@ -12,7 +12,7 @@ use Rattle.rb_editor.specs.Texts.{list_text, range_member}
 use Rattle.rb_editor.specs.declared.actions.diagnostic.DiagnosticKind.{DiagnosticKind}
 use Rattle.rb_editor.specs.declared.actions.diagnostic.DiagnosticKind.TheVariants.{Mismatch, LaterMismatch, ErrorOutput, NoScript, Slip, Stopped}
 use Rattle.rb_editor.specs.Diagnostics.{PlainActualOutput, PlainDiagnostic}
-use Rattle.rb_editor.specs.Findings.{diagnosed}
+use Rattle.rb_editor.specs.Served.{shown}
 
 -- the severity, and the code
 unfoldable pub kind_text : Bool → DiagnosticKind → List ℕ
@@ -53,4 +53,4 @@ diagnostic_text client uri text d =
 -- What is published for a text. It depends on the text alone, on where its run stopped, if it did, on the URI of its document, and on what the client
 -- counts in and takes.
 abbrev pub diagnose : Option Stop → Client → List ℕ → List ℕ → List ℕ
-diagnose stop client uri text = list_text (diagnostic_text client uri text) (diagnosed stop text)
+diagnose stop client uri text = list_text (diagnostic_text client uri text) (shown stop text)

@@ -29,6 +29,7 @@ mod quiet;
 mod replacement;
 mod run;
 mod same_directives;
+mod served;
 mod stopped_text;
 mod stopping;
 mod work_meter;

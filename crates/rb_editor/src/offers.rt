@@ -18,6 +18,7 @@ mod unfinished;
 mod words;
 mod writing;
 
+pub(crate) use above::begun_lines;
 pub(crate) use block_lines::all_lines;
 pub use block_lines::{BlockLines, begins_rule};
 pub use completion::add_completion;

@@ -6,7 +6,8 @@ ghost use Rattle.rb_lsp.specs.Meanings.{can_reach, run_by};
 ghost use Rattle.rb_lsp.specs.Notices.{reach_of};
 ghost use Rattle.rb_lsp.specs.Serves.{BreaksOff, Served};
 ghost use Rattle.rb_text.specs.Asked.{Fails};
-ghost use Rattle.rb_editor.specs.Meanings.{answer, meaning};
+ghost use Rattle.rb_editor.specs.Meanings.{answer, answer_by, meaning};
+ghost use Rattle.rb_editor.specs.Served.{text_for};
 ghost use Rattle.rb_editor.specs.Stops.{needs_run};
 ghost use Rattle.rb_editor.specs.LastStops.{refused_by};
 
@@ -16,7 +17,8 @@ use crate::actions::completing::add_completions;
 use crate::actions::document::AskedDocument;
 use crate::actions::hover::add_hover;
 use crate::actions::publishing::add_list;
-use crate::actions::stopping::{KeptRun, of_text};
+use crate::actions::served::{shown, text_for};
+use crate::actions::stopping::KeptRun;
 use crate::actions::work_meter::WorkMeter;
 use crate::offers::{add_folds, add_formatting, add_symbols};
 use rb_lsp::server::{
@@ -68,11 +70,12 @@ impl Service for Bench {
             uri,
             text,
         };
-        let found = of_text(alloc, document, &mut self.table, kept, &mut meter)?;
+        let found = shown(alloc, document, &mut self.table, kept, &mut meter)?;
         add_list(alloc, out, client, uri, text, found.list.as_slice())?;
         Ok(found.stop)
     }
 
+    #[tactic(auto, using(crate::proofs::ServedLaws::stop_above))]
     fn add_answer(
         &mut self,
         asked: DocumentQuery<'_, '_>,
@@ -82,15 +85,22 @@ impl Service for Bench {
         requires { length asked.text.now ≤ MAX_TEXT }
         ensures added { IfOk result (λ stop. stop ≡ None → out.new.items ≡ out.old.items ++ answer asked.entry.encoding asked.entry.query asked.entry.uri.now asked.entry.text.now) }
         // It isn't done exactly if it needs a run that stopped, which is at a directive of the text.
-        ensures stopped { IfOk result (λ stop. stop ≡ refused_by asked.entry.query kept.now.stopped asked.entry.text.now) }
+        ensures stopped { IfOk result (λ stop. stop ≡ refused_by asked.entry.query kept.now.stopped (text_for asked.entry.query asked.entry.text.now)) }
         ensures stops { IfOk result (λ stop. can_reach meaning (run_by meaning asked.entry.query (Some asked.entry.text.now)) (reach_of stop) ≡ true) }
     {
+        let text = text_for(self.alloc, asked.query, asked.text)?;
         if needs_run(asked.query)
-            && let Some(stop) = kept.stop_of(asked.text)
+            && let Some(stop) = kept.stop_of(text)
         {
             return Ok(Some(stop));
         }
-        self.add_result(asked, kept, out)?;
+        let front = DocumentQuery {
+            encoding: asked.encoding,
+            query: asked.query,
+            uri: asked.uri,
+            text,
+        };
+        self.add_result(front, kept, out)?;
         Ok(None)
     }
 }
@@ -103,7 +113,7 @@ fn needs_run(asked: Query) -> bool
 }
 
 impl Bench {
-    // Adds the result of a request about a text that was run whole. Showing a directive takes some more work.
+    // Adds the result of a request by a text that was run whole. Showing a directive takes some more work.
     fn add_result(
         &self,
         asked: DocumentQuery<'_, '_>,
@@ -111,7 +121,7 @@ impl Bench {
         out: &mut Vec<u8>,
     ) -> Result<(), AllocError>
         requires { length asked.text.now ≤ MAX_TEXT }
-        ensures { OnOk result (out.new.items ≡ out.old.items ++ answer asked.entry.encoding asked.entry.query asked.entry.uri.now asked.entry.text.now) }
+        ensures { OnOk result (out.new.items ≡ out.old.items ++ answer_by asked.entry.encoding asked.entry.query asked.entry.uri.now asked.entry.text.now) }
     {
         let mut meter = WorkMeter::new(2 * MAX_WORK);
         let alloc = self.alloc;

@@ -211,8 +211,12 @@ pub(crate) fn of_document<M: Machine>(
     }
 }
 
-// Makes the diagnostic of a text that isn't a script.
-fn refused(alloc: Global, fault: ScriptFault) -> Result<Diagnostic, AllocError>
+/// Makes the diagnostic of a text that isn't a script.
+///
+/// # Errors
+///
+/// If memory was refused.
+pub(crate) fn refused(alloc: Global, fault: ScriptFault) -> Result<Diagnostic, AllocError>
     ensures { IfOk result (λ d. d ≡ refused fault) }
 {
     Ok(Diagnostic {
@@ -236,7 +240,8 @@ pub(crate) fn of_fault(alloc: Global, fault: ScriptFault) -> Result<Vec<Diagnost
     Ok(list)
 }
 
-fn or_first(line: Option<usize>) -> usize
+/// The line that a fault names; the first if it names none.
+pub(crate) fn or_first(line: Option<usize>) -> usize
     ensures { result ≡ or_first line }
 {
     line.unwrap_or(1)
