@@ -191,14 +191,19 @@ async function outlineIsShown(browser) {
   await browser.press("Escape", 27);
 }
 
-// An empty line stands below each block of a canonical text (docs/SCRIPTS.md).
+// A line `----` has no blanks around it, and no empty line is put at the end.
 async function textIsFormatted(browser) {
+  const line = script.split("\n").indexOf("----") + 1;
+  await browser.value`shown.setPosition({ lineNumber: ${line}, column: 1 })`;
+  await browser.type(" ");
+  await standin.until(() => text.held !== script, () => "a blank");
   await act(browser, "action.formatDocument");
-  await standin.until(() => text.held === script + "\n", () => "the canonical text");
+  await standin.until(() => text.held === script, () => "the canonical text");
 }
 
 async function wordsAreOffered(browser) {
   await browser.value`shown.setPosition(shown.getModel().getFullModelRange().getEndPosition())`;
+  await browser.press("Enter", 13);
   await browser.type("del");
   await browser.sees(".suggest-widget .monaco-list-row", "deliver-msgs");
   await browser.press("Enter", 13);

@@ -90,11 +90,14 @@ def is_cut(text: str, at: int) -> bool:
 
 
 def formatting(text: str, encoding: str) -> Any:
-    """One edit of what differs from the canonical text, around which the texts are the same."""
+    """One edit of what differs from the canonical text without the empty line that closes its last block, around which the texts are the same."""
     try:
-        new = script.read_script(text.encode()).text().decode()
+        meant = script.read_script(text.encode())
     except script.Fault:
         return []
+    new = meant.text().decode()
+    if meant.blocks and not meant.tail:
+        new = new.removesuffix("\n")
     if new == text:
         return []
     front = next((n for n, (a, b) in enumerate(zip(text, new)) if a != b), min(len(text), len(new)))

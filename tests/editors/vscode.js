@@ -57,9 +57,14 @@ async function offersWhatTheTextHas(document) {
   const words = await providers.provideCompletionItems(document, new api.Position(0, 5));
   assert.deepStrictEqual(words.map((it) => [it.label, it.kind, it.insertText, it.range.numbers]), [["log-level", 2, "log-level", [0, 0, 0, 5]]]);
   assert(words[0].documentation.length > 0);
-  // An empty line stands below each block of a canonical text (docs/SCRIPTS.md).
-  const edits = await providers.provideDocumentFormattingEdits(document, { tabSize: 4, insertSpaces: true });
-  assert.deepStrictEqual(edits.map(({ range, newText }) => [range.numbers, newText]), [[[3, 0, 3, 0], "\n"]]);
+}
+
+// A line `----` has no blanks around it, and no empty line is put at the end.
+async function formats() {
+  const wide = opened("wide.txt", "log-level debug\n ---- \nok\n", "raftbench");
+  const edits = await providers.provideDocumentFormattingEdits(wide, { tabSize: 4, insertSpaces: true });
+  assert.deepStrictEqual(edits.map(({ range, newText }) => [range.numbers, newText]), [[[1, 0, 1, 6], "----"]]);
+  closed(wide);
 }
 
 // The extension names the characters where words are asked for before a server runs: they are those that the server names.
@@ -220,6 +225,7 @@ async function main() {
   await accepts(document);
   await writesDownTheConversation(document);
   await offersWhatTheTextHas(document);
+  await formats();
   await asksWhereTheServerSays();
   await namesAMissingProgram(document);
   lines.splice(0);

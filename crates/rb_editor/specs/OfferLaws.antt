@@ -18,7 +18,7 @@ use Rattle.rb_lsp.specs.Edits.{range_between, new_between}
 use Rattle.rb_editor.specs.declared.offers.part.Part.TheVariants.{Lead}
 use Rattle.rb_editor.specs.Above.{behind_lines}
 use Rattle.rb_editor.specs.BlockLines.{AreApart, StandsIn, blocks_of}
-use Rattle.rb_editor.specs.Formatting.{edits, formatting}
+use Rattle.rb_editor.specs.Formatting.{edits, formatted, formatting}
 use Rattle.rb_editor.specs.declared.offers.ids.TheConstants.{MAX_IDS}
 use Rattle.rb_editor.specs.Ids.{change_offers, change_wanted, id_offers, nodes_of_head, takes_ids}
 use Rattle.rb_editor.specs.Offers.{PlainOffer, begins_with, fits, named, options, takes, values}
@@ -32,11 +32,11 @@ BlocksStandApart = (text : List ℕ) → AreApart 0 (length (lines text)) (block
 abbrev pub LinesStayInOrder : Type 0
 LinesStayInOrder = (encoding : Encoding) (text : List ℕ) (m n : ℕ) → m ≤ n → (start_of encoding m text).line ≤ (start_of encoding n text).line
 
--- What is sent is the edit that makes the canonical text, where the text begins with a character; and the canonical text is the same script.
+-- What is sent is the edit that makes the formatted text, where the text begins with a character; and the formatted text is the same script.
 pub record Formats (encoding : Encoding) (text : List ℕ) (s : PlainScript) : Type 0 where
-  pub sent : formatting encoding text ≡ edits encoding text (canonical_text s)
-  pub made : begins text ≡ true → changed encoding (range_between encoding text (canonical_text s)) (new_between text (canonical_text s)) text ≡ canonical_text s
-  pub reads_back : Reads (canonical_text s) s
+  pub sent : formatting encoding text ≡ edits encoding text (formatted (canonical_text s))
+  pub made : begins text ≡ true → changed encoding (range_between encoding text (formatted (canonical_text s))) (new_between text (formatted (canonical_text s))) text ≡ formatted (canonical_text s)
+  pub reads_back : Reads (formatted (canonical_text s)) s
 
 abbrev pub FormattingMakes : Type 0
 FormattingMakes = (encoding : Encoding) (text : List ℕ) (s : PlainScript) → Reads text s → Formats encoding text s

@@ -1,10 +1,11 @@
-//! The canonical text of a script, as one edit of what differs.
+//! The canonical text of a script without the empty line at its end, as one edit of what differs.
 
 ghost use Rattle.std.specs.Prelude.{◌≡◌, ◌≤◌, ◌++◌, IfOk, OnOk, length};
 ghost use Rattle.rb_lsp.specs.declared.document.limits.TheConstants.{MAX_TEXT};
 ghost use Rattle.rb_lsp.specs.Edits.{new_between, range_between};
 ghost use Rattle.rb_script.specs.Script.{text as canonical_text};
-ghost use Rattle.rb_editor.specs.Formatting.{edits, formatting, text_edit};
+ghost use Rattle.rb_editor.specs.BlockLines.{script_of};
+ghost use Rattle.rb_editor.specs.Formatting.{can_be_cut, cut, edits, ends_empty, formatted, formatting, has_canonical, text_edit};
 
 use crate::offers::block_lines::script_of;
 use crate::offers::writing::add_range;
@@ -55,8 +56,57 @@ fn add_edits(
     add_edit(out, encoding, old, new)
 }
 
-/// Adds the edits that make a text the canonical text of its script, as the result of `textDocument/formatting`: one of what differs, or none
-/// if nothing does. A text that isn't a script has none.
+// Whether the last line of a text whose lines have ends is empty.
+fn ends_empty(text: &[u8]) -> bool
+    ensures { result ≡ ends_empty text.now }
+{
+    text.len() >= 2 && text[text.len() - 2] == b'\n'
+}
+
+// Gives a text without its last byte.
+fn cut(text: &[u8]) -> &[u8]
+    ensures { result.now ≡ cut text.now }
+{
+    &text[..text.len().saturating_sub(1)]
+}
+
+// Whether a text is a script with this canonical text.
+fn has_canonical(alloc: Global, canonical: &[u8], text: &[u8]) -> Result<bool, AllocError>
+    ensures { IfOk result (λ has. has ≡ has_canonical canonical.now (script_of text.now)) }
+{
+    match script_of(alloc, text)? {
+        Some(script) => {
+            let of_script = script.canonical_text(alloc)?;
+            Ok(of_script.as_slice() == canonical)
+        }
+        None => Ok(false),
+    }
+}
+
+// Whether a canonical text stays the same script without the empty line at its end.
+fn can_be_cut(alloc: Global, canonical: &[u8]) -> Result<bool, AllocError>
+    ensures { IfOk result (λ can. can ≡ can_be_cut canonical.now) }
+{
+    if !ends_empty(canonical) {
+        return Ok(false);
+    }
+    has_canonical(alloc, canonical, cut(canonical))
+}
+
+// Gives a canonical text without the empty line at its end, if it is the same script so.
+#[tactic(auto, unfolding(crate::specs::Formatting::formatted))]
+fn formatted(alloc: Global, canonical: &[u8]) -> Result<&[u8], AllocError>
+    ensures { IfOk result (λ text. text.now ≡ formatted canonical.now) }
+{
+    if can_be_cut(alloc, canonical)? {
+        Ok(cut(canonical))
+    } else {
+        Ok(canonical)
+    }
+}
+
+/// Adds the edits that make a text the canonical text of its script, without the empty line at its end, as the result of
+/// `textDocument/formatting`: one of what differs, or none if nothing does. A text that isn't a script has none.
 ///
 /// # Errors
 ///
@@ -74,7 +124,7 @@ pub fn add_formatting(
     match script_of(alloc, text)? {
         Some(script) => {
             let canonical = script.canonical_text(alloc)?;
-            add_edits(out, encoding, text, canonical.as_slice())
+            add_edits(out, encoding, text, formatted(alloc, canonical.as_slice())?)
         }
         None => Ok(out.extend_from_slice(b"[]")?),
     }

@@ -13,7 +13,8 @@ pub fn lines_stay_in_order()
     ensures { LinesStayInOrder }
 {}
 
-/// What goes out for formatting is an edit that makes the canonical text of the script, which reads back as the same script.
+/// What goes out for formatting is an edit that makes the canonical text of the script, without the empty line at its end. The text reads back as the
+/// same script.
 pub fn formatting_makes_the_canonical_text()
     ensures { FormattingMakes }
 {}
