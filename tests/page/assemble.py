@@ -1,9 +1,10 @@
-"""The page around its JSON text: what stands before it and what stands after it, from the files of crates/rb_view/assets.
+"""The page around its JSON text: what stands before it and what stands after it, from the files of crates/rb_view/assets. For a page of a book, whose
+style and code are files of their own, also from those of crates/rb_book/assets.
 
     assemble.py before|after       writes one of the two
     assemble.py page < JSON        writes a whole page
     assemble.py renew < PAGE       writes a page anew: its rows as they are, and what is around them as the files are today
-    assemble.py sources            writes the sources of rb_view's frame, in which the program has the same
+    assemble.py sources            writes the sources of rb_view's frame and of rb_book's, in which the program has the same
 """
 from __future__ import annotations
 
@@ -18,7 +19,9 @@ from collections.abc import Callable, Sequence
 sys.dont_write_bytecode = True
 sys.path[:1] = [str(pathlib.Path(__file__).resolve().parents[2])]
 
-CRATE = pathlib.Path(__file__).resolve().parents[2] / "crates" / "rb_view"
+CRATES = pathlib.Path(__file__).resolve().parents[2] / "crates"
+CRATE = CRATES / "rb_view"
+BOOK = CRATES / "rb_book"
 ASSETS = CRATE / "assets"
 SOURCES = CRATE / "src" / "frame"
 ENTRY = "start.js"
@@ -29,6 +32,18 @@ HTML = ("The elements of a page.", "page.html", {
     "BETWEEN": "From behind the rows up to the code.",
     "END": "What stands behind the code.",
 })
+BOOK_HTML = ("The elements of a book's pages.", "page.html, and of assets/book.css,", {
+    "HEAD": "A page's head, up to the way to the site's own folder.",
+    "LINKED": "From there up to the links of the page.",
+    "ELEMENTS": "From behind the links up to the rows.",
+    "BETWEEN": "From behind the rows up to the way to the site's own folder.",
+    "END": "What stands behind that.",
+    "CONTENTS": "The head of a contents page, up to its title.",
+    "BOOK_STYLE": "What a book's style has more than a page's.",
+})
+GENERATOR = '<meta name="generator" content="raftbench">'
+# Style and code of a book are files, and pictures are shown.
+BOOK_POLICY = "default-src 'none'; style-src 'self'; script-src 'self'; img-src 'self'; base-uri 'none'; form-action 'none'"
 # The styles in their order, each with what it is about.
 STYLES = {
     "style": "The colours of a page, its header and what all of its parts share",
@@ -87,6 +102,14 @@ def elements() -> list[str]:
     """The parts of the page's own elements: those around the style, the rows and the code."""
     policy = f"default-src 'none'; style-src {hash_of(''.join(styles()))}; script-src {hash_of(''.join(codes()))}; base-uri 'none'; form-action 'none'"
     return re.split("{style}|{steps}|{code}", text_of("page.html").replace("{policy}", policy))
+
+
+def book_elements() -> list[str]:
+    """The same of a book's page, whose style and code are files; and the head of the contents page, and the book's style."""
+    page = text_of("page.html").replace("<style>{style}</style>", '<link rel="stylesheet" href="{up}page.css">')
+    page = page.replace("<script>{code}</script>", '<script src="{up}page.js"></script>').replace("<body>\n", "<body>\n{links}")
+    texts = re.split("{up}|{links}|{steps}", page.replace("{policy}", BOOK_POLICY).replace("<meta name=\"viewport\"", GENERATOR + "\n<meta name=\"viewport\""))
+    return [*texts, texts[0].split("raftbench</title>")[0], (BOOK / "assets" / "book.css").read_text(encoding="utf-8")]
 
 
 def parts() -> tuple[str, str]:
@@ -164,7 +187,8 @@ def sources() -> dict[pathlib.Path, str]:
     for module, text in zip(modules(), codes()):
         about = first_comment(module)
         made[module.removesuffix(".js")] = source((about, module, {constant_of(module): "The code."}), [text])
-    return {SOURCES / f"{name}.rt": text for name, text in made.items()} | {SOURCES.with_suffix(".rt"): library()}
+    book = {BOOK / "src" / "html.rt": source(BOOK_HTML, book_elements())}
+    return {SOURCES / f"{name}.rt": text for name, text in made.items()} | {SOURCES.with_suffix(".rt"): library()} | book
 
 
 def first_comment(module: str) -> str:

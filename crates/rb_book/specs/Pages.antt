@@ -1,0 +1,54 @@
+-- What is around the rows of a chapter's page. (This project's.)
+use Rattle.std.specs.Prelude.{ℕ, List, [], ◌++◌, Option, Some, None, codes, option_map, string_bytes}
+use Rattle.rb_book.specs.declared.chapter.Chapter.{Chapter}
+use Rattle.rb_book.specs.declared.html.TheConstants.{BETWEEN, ELEMENTS, END, HEAD, LINKED}
+use Rattle.rb_book.specs.declared.page.Neighbour.{Neighbour}
+use Rattle.rb_book.specs.declared.page.Neighbour.TheVariants.{Following, Last}
+use Rattle.rb_book.specs.Html.{address_of, text_of, up_from}
+
+-- how a link begins
+abbrev pub link_front : Neighbour → List ℕ
+link_front Last = codes "<a rel=\"prev\" href=\""
+link_front Following = codes "<a rel=\"next\" href=\""
+
+-- what is before the name in a link
+abbrev pub link_sign : Neighbour → List ℕ
+link_sign Last = codes ".html\">&larr; "
+link_sign Following = codes ".html\">&rarr; "
+
+-- a link from the page at a place to that of another chapter, if there is one
+abbrev pub link_text : List ℕ → Neighbour → Option (List ℕ) → List ℕ
+link_text place neighbour None = []
+link_text place neighbour (Some other) =
+    link_front neighbour ++ (up_from place ++ (address_of other ++ (link_sign neighbour ++ (text_of other ++ codes "</a>"))))
+
+-- the link to the contents
+abbrev pub first_link_text : List ℕ → List ℕ
+first_link_text place = codes "<nav class=\"book\" aria-label=\"Book\"><a href=\"" ++ (up_from place ++ codes "index.html\">Contents</a>")
+
+-- the links of the page at a place to the contents, and to the pages before and after it
+abbrev pub links_text : List ℕ → Chapter → List ℕ
+links_text place chapter =
+    first_link_text place
+    ++ (link_text place Last (option_map string_bytes chapter.last) ++ (link_text place Following (option_map string_bytes chapter.following) ++ codes "</nav>\n"))
+
+-- what is shown where scripts don't run: a sentence, and the picture
+abbrev pub without_text : List ℕ → List ℕ
+without_text place =
+    codes "<noscript><p>With JavaScript, this page goes through the script step by step. Here is its picture.</p><img src=\""
+    ++ (up_from place ++ (address_of place ++ (codes ".svg\" alt=\"The messages of " ++ (text_of place ++ codes "\"></noscript>\n"))))
+
+-- the head of the page at a place, up to its links: the style is the site's
+abbrev pub head_text : List ℕ → List ℕ
+head_text place = HEAD.now ++ (up_from place ++ LINKED.now)
+
+-- what is before the rows of the page at a place
+abbrev pub front_at : List ℕ → Chapter → List ℕ
+front_at place chapter = head_text place ++ (links_text place chapter ++ (without_text place ++ ELEMENTS.now))
+
+abbrev pub front_text : Chapter → List ℕ
+front_text chapter = front_at (string_bytes chapter.place) chapter
+
+-- what is after them: the code is the site's
+abbrev pub back_text : Chapter → List ℕ
+back_text chapter = BETWEEN.now ++ (up_from (string_bytes chapter.place) ++ END.now)
