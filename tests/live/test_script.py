@@ -341,28 +341,17 @@ def test_a_script_with_steps_of_the_network_runs_on_own_nodes(room: pathlib.Path
 
 
 def test_a_book_has_all_scripts_of_a_folder(room: pathlib.Path) -> Iterator[str]:
+    """The program writes it; what a book has, tests/page/test_book.py tells."""
     from tests.live.running import COMMAND, around
     site = room / "site"
+    for again in range(2):
+        done = subprocess.run([COMMAND, "--book", TOP / "examples" / "tour", "--out", site], env=around(), capture_output=True, text=True, check=False)
+        if done.returncode or done.stderr or not all((site / f"{path.stem}.html").is_file() for path in TOUR):
+            yield f"{again}: {done}"
+    (site / "mine").write_text("x")
+    before = sorted(site.iterdir())
     done = subprocess.run([COMMAND, "--book", TOP / "examples" / "tour", "--out", site], env=around(), capture_output=True, text=True, check=False)
-    if done.returncode or done.stderr:
-        yield f"{done}"
-    names = [path.stem for path in TOUR]
-    if sorted(it.name for it in site.iterdir()) != sorted([*(f"{it}.html" for it in names), *(f"{it}.svg" for it in names), "index.html", "page.css", "page.js"]):
-        yield f"{sorted(site.iterdir())}"
-    contents = (site / "index.html").read_text()
-    places = [contents.find(f'<a href="{name}.html">') for name in names]
-    if -1 in places or places != sorted(places) or "An election, message by message" not in contents:
-        yield f"contents: {places}"
-    second = (site / f"{names[1]}.html").read_text()
-    for wanted in (f'<a rel="prev" href="{names[0]}.html">', f'<a rel="next" href="{names[2]}.html">', f'<noscript><p>With JavaScript, this page goes through the script step by step. Here is its picture.</p><img src="{names[1]}.svg"'):
-        if wanted not in second:
-            yield f"{names[1]} has no {wanted}"
-    if any("function " in path.read_text() or "<style>" in path.read_text() for path in site.glob("*.html")):
-        yield "a page has the code or the style itself"
-    (room / "other").mkdir()
-    (room / "other" / "mine").write_text("x")
-    done = subprocess.run([COMMAND, "--book", TOP / "examples" / "tour", "--out", room / "other"], env=around(), capture_output=True, text=True, check=False)
-    if done.returncode != 4 or "has something else in it" not in done.stderr:
+    if done.returncode != 4 or "has something else in it" not in done.stderr or sorted(site.iterdir()) != before:
         yield f"{done}"
 
 
@@ -379,8 +368,5 @@ def test_a_book_may_have_only_what_differs(room: pathlib.Path) -> Iterator[str]:
         contents = (site / "index.html").read_text()
         if (done.returncode, done.stderr) != (status, "") or {it.name for it in site.iterdir()} != files:
             yield f"{done} {sorted(site.iterdir())}"
-        if ("more/wrong.txt, differs" in contents, "right.txt" in contents, "No script differs." in contents) != (status == 1, False, status == 0):
+        if ("more/wrong, differs" in contents, "right" in contents, "No script differs." in contents) != (status == 1, False, status == 0):
             yield contents
-        if status:
-            page = (site / "more" / "wrong.html").read_text()
-            yield from (f"no {it}" for it in ('href="../index.html"', 'href="../page.css"', 'src="../page.js"', '<img src="wrong.svg"') if it not in page)

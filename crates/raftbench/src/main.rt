@@ -2,9 +2,11 @@
 #![tactic(auto)]
 
 mod editing;
+mod pages;
 
 use crate::editing::serve_editor;
-use rb_args::{CommandChoice, Subcommand};
+use crate::pages::{with_pages, write_pages};
+use rb_args::{CommandChoice, ScriptCommand, Subcommand};
 use rb_program::{
     ProgramError, RuntimeConsole, Terminals, UsageError, carry_out, check_all, choice_by,
     show_directives,
@@ -40,7 +42,13 @@ fn answered<R: Files + Input + Print + Eprint + Env + Clock + AllocGlobal, E: Wr
 ) -> Result<u8, ProgramError> {
     let choice = choose(rt)?;
     match choice.subcommand {
-        Some(Subcommand::Check) => exit_code_of(check_all(rt, &choice.check, errors, terminals)),
+        Some(Subcommand::Check) => {
+            let ended = check_all(rt, &choice.check, errors, terminals);
+            exit_code_of(with_pages(rt, &choice.check, ended))
+        }
+        Some(Subcommand::Script(ScriptCommand::Page)) if choice.out.is_some() => exit_code_of(
+            write_pages(rt, &choice),
+        ),
         Some(Subcommand::Directives) => exit_code_of(show_directives(rt, choice.name.as_deref())),
         Some(Subcommand::Lsp) => serve_editor(rt),
         Some(Subcommand::Script(command)) => exit_code_of(carry_out(

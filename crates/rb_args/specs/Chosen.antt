@@ -43,12 +43,13 @@ abbrev pub is_set : Option Text → Bool
 is_set (Some text) = bytes_eq text (codes "true")
 is_set None = false
 
--- the PATHs, the filters, the choices of colours and of a format, and the flags of `check`, by the matches of the subcommand, where one was met
+-- the PATHs, the filters, the choices of colours and of a format, the folder for pages, and the flags of `check`, by the matches of the subcommand, where one was met
 pub record IsCheckOf (rows : Option (List Row)) (check : CheckChoice) : Type 0 where
   pub paths : map string_bytes check.paths.items ≡ unwrap_or (option_and_then (all_of (codes "path")) rows) []
   pub filters : map string_bytes check.filters.items ≡ unwrap_or (option_and_then (all_of (codes "filter")) rows) []
   pub color : option_map string_bytes check.color ≡ option_and_then (first_of (codes "color")) rows
   pub format : option_map string_bytes check.format ≡ option_and_then (first_of (codes "format")) rows
+  pub pages : option_map string_bytes check.pages ≡ option_and_then (first_of (codes "pages")) rows
   pub accepts : check.accepts ≡ is_set (option_and_then (first_of (codes "accept")) rows)
   pub errors : check.accepts_errors ≡ is_set (option_and_then (first_of (codes "accept-errors")) rows)
   pub forced : check.is_forced ≡ is_set (option_and_then (first_of (codes "force")) rows)
@@ -60,7 +61,7 @@ pub record IsCheckOf (rows : Option (List Row)) (check : CheckChoice) : Type 0 w
   pub explains : check.explains ≡ is_set (option_and_then (first_of (codes "why")) rows)
   pub strict : check.is_strict ≡ is_set (option_and_then (first_of (codes "strict")) rows)
 
--- the subcommand that was met, and the values of its FILE, its NAME, its --every, its --from and its --until; its --warn; and what is said to `check`
+-- the subcommand that was met, and the values of its FILE, its NAME, its --every, its --from, its --until and its --out; its --warn; and what is said to `check`
 pub record IsChoiceOf (met : Option (Text × List Row)) (choice : CommandChoice) : Type 0 where
   pub subcommand : choice.subcommand ≡ option_and_then (λ p. named_by p.0) met
   pub file : option_map string_bytes choice.file ≡ option_and_then (λ p. first_of (codes "file") p.1) met
@@ -68,6 +69,7 @@ pub record IsChoiceOf (met : Option (Text × List Row)) (choice : CommandChoice)
   pub every : option_map string_bytes choice.every ≡ option_and_then (λ p. first_of (codes "every") p.1) met
   pub from : option_map string_bytes choice.from ≡ option_and_then (λ p. first_of (codes "from") p.1) met
   pub until : option_map string_bytes choice.until ≡ option_and_then (λ p. first_of (codes "until") p.1) met
+  pub out : option_map string_bytes choice.out ≡ option_and_then (λ p. first_of (codes "out") p.1) met
   pub warns : choice.warns ≡ is_set (option_and_then (λ p. first_of (codes "warn") p.1) met)
   pub check : IsCheckOf (option_map (λ p. p.1) met) choice.check
 

@@ -87,9 +87,9 @@ with_reasons line = with_rule line (flag_rule (codes "why"))
 abbrev pub with_strictness : App → App
 with_strictness line = with_rule line (flag_rule (codes "strict"))
 
--- .. [--every K] [--color WHEN] [--format FORMAT]
+-- .. [--every K] [--color WHEN] [--format FORMAT] [--pages SITE]
 abbrev pub with_choices : App → App
-with_choices line = with_option (codes "format") (with_option (codes "color") (with_option (codes "every") line))
+with_choices line = with_option (codes "pages") (with_option (codes "format") (with_option (codes "color") (with_option (codes "every") line)))
 
 -- .. [--accept] [--accept-errors] [--force] [--review]
 abbrev pub with_accepting : App → App
@@ -116,10 +116,10 @@ with_files line =
 abbrev pub directives_line : App
 directives_line = with_rule (new_app (codes "directives")) name_rule
 
--- .. look FILE:LINE, page FILE [--every K], chart FILE [--from LINE] [--until LINE], trace FILE
+-- .. look FILE:LINE, page FILE [--every K] [--out SITE], chart FILE [--from LINE] [--until LINE], trace FILE
 abbrev pub with_views : App → App
 with_views line =
-    with_subcommand (with_subcommand (with_subcommand (with_subcommand line (file_line (codes "look")).top) (with_option (codes "every") (file_line (codes "page"))).top) (with_option (codes "until") (with_option (codes "from") (file_line (codes "chart")))).top) (file_line (codes "trace")).top
+    with_subcommand (with_subcommand (with_subcommand (with_subcommand line (file_line (codes "look")).top) (with_option (codes "out") (with_option (codes "every") (file_line (codes "page")))).top) (with_option (codes "until") (with_option (codes "from") (file_line (codes "chart")))).top) (file_line (codes "trace")).top
 
 -- lsp
 abbrev pub server_line : App

@@ -48,6 +48,8 @@ pub struct CommandChoice {
     pub from: Option<String>,
     /// The text of its `--until`, as it was given.
     pub until: Option<String>,
+    /// The text of its `--out`, as it was given.
+    pub out: Option<String>,
     /// Whether `--warn` is given.
     pub warns: bool,
     /// What is said to `check` alone.
@@ -64,6 +66,7 @@ impl Drop for CommandChoice {
             every: _,
             from: _,
             until: _,
+            out: _,
             warns: _,
             check: _,
         } = self;
@@ -84,6 +87,7 @@ impl CommandChoice {
             every,
             from: _,
             until: _,
+            out: _,
             warns: _,
             check: _,
         } = self;
@@ -101,6 +105,8 @@ pub struct CheckChoice {
     pub color: Option<String>,
     /// The text of its `--format`, as it was given.
     pub format: Option<String>,
+    /// The text of its `--pages`, as it was given.
+    pub pages: Option<String>,
     /// Whether `--accept` is given.
     pub accepts: bool,
     /// Whether `--accept-errors` is given.
@@ -130,6 +136,7 @@ impl Drop for CheckChoice {
             filters: _,
             color: _,
             format: _,
+            pages: _,
             accepts: _,
             accepts_errors: _,
             is_forced: _,

@@ -67,6 +67,7 @@ fn no_choice(alloc: Global) -> CommandChoice
         filters: Vec::new(alloc),
         color: None,
         format: None,
+        pages: None,
         accepts: false,
         accepts_errors: false,
         is_forced: false,
@@ -85,6 +86,7 @@ fn no_choice(alloc: Global) -> CommandChoice
         every: None,
         from: None,
         until: None,
+        out: None,
         warns: false,
         check,
     }
@@ -102,6 +104,7 @@ fn given(alloc: Global, name: &str, inner: &ArgMatches<'_>) -> Result<CommandCho
         every: None,
         from: None,
         until: None,
+        out: None,
         warns: is_given(inner, "warn"),
         check,
     };
@@ -110,6 +113,7 @@ fn given(alloc: Global, name: &str, inner: &ArgMatches<'_>) -> Result<CommandCho
     choice.every = text_of(alloc, inner, "every")?;
     choice.from = text_of(alloc, inner, "from")?;
     choice.until = text_of(alloc, inner, "until")?;
+    choice.out = text_of(alloc, inner, "out")?;
     Ok(choice)
 }
 
@@ -121,6 +125,7 @@ fn check_choice(alloc: Global, inner: &ArgMatches<'_>) -> Result<CheckChoice, Al
         filters: Vec::new(alloc),
         color: None,
         format: None,
+        pages: None,
         accepts: is_given(inner, "accept"),
         accepts_errors: is_given(inner, "accept-errors"),
         is_forced: is_given(inner, "force"),
@@ -136,6 +141,7 @@ fn check_choice(alloc: Global, inner: &ArgMatches<'_>) -> Result<CheckChoice, Al
     check.filters = texts_of(alloc, inner, "filter")?;
     check.color = text_of(alloc, inner, "color")?;
     check.format = text_of(alloc, inner, "format")?;
+    check.pages = text_of(alloc, inner, "pages")?;
     Ok(check)
 }
 

@@ -59,7 +59,7 @@ const EVERY_UNSEEN: ArgumentRow = ArgumentRow {
 };
 
 #[rattlefmt::skip]
-const CHECK: [ArgumentRow; 15] = [
+const CHECK: [ArgumentRow; 16] = [
     ArgumentRow { form: ArgumentForm::Paths, name: "path", help: "Script, or folder whose *.txt and those of its folders are the scripts" },
     ArgumentRow { form: ArgumentForm::Flag, name: "accept", help: "Writes the actual outputs into the scripts, up to the first new error; of FILE:LINE that of one directive" },
     ArgumentRow { form: ArgumentForm::Flag, name: "accept-errors", help: "Accepts new errors too" },
@@ -75,13 +75,19 @@ const CHECK: [ArgumentRow; 15] = [
     EVERY_UNSEEN,
     ArgumentRow { form: ArgumentForm::Value("WHEN"), name: "color", help: "Shows colours: auto (on a terminal), always or never [default: auto]" },
     ArgumentRow { form: ArgumentForm::Value("FORMAT"), name: "format", help: "Writes what differs as text, json, github (workflow commands) or junit (XML) [default: text]" },
+    ArgumentRow { form: ArgumentForm::Value("SITE"), name: "pages", help: "Writes a page for each script that differs into a new folder SITE" },
 ];
 
 const FILE_ALONE: [ArgumentRow; 1] = [FILE];
 
 const FILE_AND_EVERY: [ArgumentRow; 2] = [FILE, EVERY];
 
-const PAGE: [ArgumentRow; 2] = [FILE, EVERY_UNSEEN];
+#[rattlefmt::skip]
+const PAGE: [ArgumentRow; 3] = [
+    FILE,
+    EVERY_UNSEEN,
+    ArgumentRow { form: ArgumentForm::Value("SITE"), name: "out", help: "Writes a page for each script of the folder FILE, with contents, into a new folder SITE" },
+];
 
 #[rattlefmt::skip]
 const REWRITE: [ArgumentRow; 3] = [
@@ -142,7 +148,7 @@ pub(crate) static LINES: [Line; 10] = [
     Line {
         name: "page",
         about: "Runs a script and writes a page that shows what it does, step by step",
-        usage: "raftbench page <FILE>",
+        usage: "raftbench page [OPTIONS] <FILE>",
         after: FILE_OR_INPUT,
         rows: &PAGE,
     },

@@ -29,6 +29,8 @@ complete -c raftbench -n '__fish_seen_subcommand_from check' -l color -x -a 'aut
 complete -c raftbench -n '__fish_seen_subcommand_from run rewrite session' -l every -x -a '1 4 16 64' -d 'Directives from one checkpoint to the next'
 complete -c raftbench -n '__fish_seen_subcommand_from rewrite' -l warn -d 'Name new errors and probable mistakes on standard error'
 complete -c raftbench -n '__fish_seen_subcommand_from check' -l format -x -a 'text json github junit' -d 'How what differs is written'
+complete -c raftbench -n '__fish_seen_subcommand_from check' -l pages -r -d 'Write a page for each script that differs into a new folder'
+complete -c raftbench -n '__fish_seen_subcommand_from page' -l out -r -d 'Write a page for each script of a folder, with contents, into a new folder'
 complete -c raftbench -n '__fish_seen_subcommand_from chart' -l from -x -d 'Show the directives from the one at this line on'
 complete -c raftbench -n '__fish_seen_subcommand_from chart' -l until -x -d 'Show the directives up to the one at this line'
 complete -c raftbench -n '__fish_seen_subcommand_from directives' -a 'add-nodes campaign propose propose-conf-change process-ready deliver-msgs stabilize tick-election tick-heartbeat set-randomized-election-timeout'
