@@ -343,14 +343,17 @@ def test_a_script_with_steps_of_the_network_runs_on_own_nodes(room: pathlib.Path
 def test_a_book_has_all_scripts_of_a_folder(room: pathlib.Path) -> Iterator[str]:
     """The program writes it; what a book has, tests/page/test_book.py tells."""
     from tests.live.running import COMMAND, around
-    site = room / "site"
+    folder, site = room / "scripts", room / "site"
+    folder.mkdir()
+    for path in TOUR[:2]:
+        shutil.copy(path, folder)
     for again in range(2):
-        done = subprocess.run([COMMAND, "--book", TOP / "examples" / "tour", "--out", site], env=around(), capture_output=True, text=True, check=False)
-        if done.returncode or done.stderr or not all((site / f"{path.stem}.html").is_file() for path in TOUR):
+        done = subprocess.run([COMMAND, "--book", folder, "--out", site], env=around(), capture_output=True, text=True, check=False)
+        if done.returncode or done.stderr or not all((site / f"{path.stem}.html").is_file() for path in TOUR[:2]):
             yield f"{again}: {done}"
     (site / "mine").write_text("x")
     before = sorted(site.iterdir())
-    done = subprocess.run([COMMAND, "--book", TOP / "examples" / "tour", "--out", site], env=around(), capture_output=True, text=True, check=False)
+    done = subprocess.run([COMMAND, "--book", folder, "--out", site], env=around(), capture_output=True, text=True, check=False)
     if done.returncode != 4 or "has something else in it" not in done.stderr or sorted(site.iterdir()) != before:
         yield f"{done}"
 
