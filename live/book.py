@@ -35,7 +35,7 @@ def write_book(folder: pathlib.Path, site: pathlib.Path, program: Program, only_
     """Writes the book of a folder, or of those of its scripts that differ. Gives the program's status: 1 if one differs."""
     clear(site)
     site.parent.mkdir(parents=True, exist_ok=True)
-    words = ["check", "--quiet", "--pages", site, "--", folder] if only_differing else ["page", "--out", site, "--", folder]
+    words: list[str | pathlib.Path] = ["check", "--quiet", "--pages", site, "--", folder] if only_differing else ["page", "--out", site, "--", folder]
     status, _, said = asked([program.path, *words])
     if status not in (0, 1):
         raise Refused(f"{folder}: {said or status}")

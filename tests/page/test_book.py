@@ -121,7 +121,8 @@ def test_a_check_writes_pages_of_what_differs(room: pathlib.Path) -> Iterator[st
     (folder / "right.txt").write_bytes(RIGHT)
     (folder / "none.txt").write_bytes(b"campaign 1\n")
     assets = {"index.html", "page.css", "page.js"}
-    for data, status, pages, words in [(WRONG, 3, {"more/wrong.html", "more/wrong.svg"}, "Its output is wrong."), (RIGHT, 3, set(), "No script differs.")]:
+    none: set[str] = set()
+    for data, status, pages, words in ((WRONG, 3, {"more/wrong.html", "more/wrong.svg"}, "Its output is wrong."), (RIGHT, 3, none, "No script differs.")):
         site = room / f"site{len(pages)}"
         (folder / "more" / "wrong.txt").write_bytes(data)
         done = run("check", "--quiet", folder, "--pages", site)

@@ -22,9 +22,6 @@ use Rattle.rb_laws.proofs.Turns.{own_size}
 pub one_further : (v : LogValue) (low high : ℕ) → low ≤ high → HasOneChangePast v low → HasOneChangePast v high
 one_further v low high up one = λ i j e f past over. one i j e f (omega (arith, up, past)) (omega (arith, up, over))
 
-pub none_is_one : (v : LogValue) (index : ℕ) → NoChangePast v index → HasOneChangePast v index
-none_is_one v index none = λ i j e f past over at there changes _. absurd (false≢true (sym (none i e past at) ∙ changes))
-
 -- where all that is committed and may be a change is applied
 pub one_applied : (v : LogValue) (applied commit : ℕ) → v.base ≤ applied → has_change v applied commit ≡ false → HasOneChangePast v commit → HasOneChangePast v applied
 one_applied v applied commit above none one = λ i j e f past over at there changes too.
