@@ -59,11 +59,14 @@ declare module "vscode" {
   export class WorkspaceEdit {
     replace(uri: Uri, range: Range, text: string): void;
   }
+  export class SnippetString {
+    constructor(value: string);
+  }
   export class CompletionItem {
     constructor(label: string, kind?: number);
     documentation?: string;
     range?: Range;
-    insertText?: string;
+    insertText?: string | SnippetString;
   }
   export class DocumentSymbol {
     constructor(name: string, detail: string, kind: number, range: Range, selectionRange: Range);
