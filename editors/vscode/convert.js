@@ -3,16 +3,13 @@
 
 const vscode = require("vscode");
 
-// The protocol's number for a text with places for the cursor.
-const SNIPPET = 2;
-
 /** @typedef {{ line: number, character: number }} ProtocolPosition */
 /** @typedef {{ start: ProtocolPosition, end: ProtocolPosition }} ProtocolRange */
 /** @typedef {{ location: { uri: string, range: ProtocolRange }, message: string }} ProtocolRelated */
 /** @typedef {{ range: ProtocolRange, message: string, severity: number, code: string, source: string, relatedInformation?: ProtocolRelated[] }} ProtocolDiagnostic */
 /** @typedef {{ range: ProtocolRange, newText: string }} ProtocolEdit */
 /** @typedef {{ title: string, kind: string, edit: { changes: Record<string, ProtocolEdit[]> } }} ProtocolAction */
-/** @typedef {{ label: string, kind: number, documentation?: string, textEdit: ProtocolEdit, insertTextFormat?: number }} ProtocolItem */
+/** @typedef {{ label: string, kind: number, documentation?: string, textEdit: ProtocolEdit }} ProtocolItem */
 /** @typedef {{ name: string, kind: number, range: ProtocolRange, selectionRange: ProtocolRange }} ProtocolSymbol */
 
 /** @param {ProtocolRange} range */
@@ -52,11 +49,11 @@ function actionOf(document, { title, kind, edit }) {
 }
 
 /** @param {ProtocolItem} from */
-function itemOf({ label, kind, documentation, textEdit, insertTextFormat }) {
+function itemOf({ label, kind, documentation, textEdit }) {
   const item = new vscode.CompletionItem(label, kind - 1);
   item.documentation = documentation;
   item.range = rangeOf(textEdit.range);
-  item.insertText = insertTextFormat === SNIPPET ? new vscode.SnippetString(textEdit.newText) : textEdit.newText;
+  item.insertText = textEdit.newText;
   return item;
 }
 

@@ -211,7 +211,7 @@ async function wordsAreOffered(browser) {
   await browser.sees(".suggest-widget .monaco-list-row", "MsgAppResp");
   await browser.picture("words");
   await browser.press("Enter", 13);
-  await standin.until(() => text.held === script + "\ndeliver-msgs 2 type=MsgApp\n----\n", () => "the words");
+  await standin.until(() => text.held === script + "\ndeliver-msgs 2 type=MsgApp", () => "the words");
 }
 
 async function look(browser) {

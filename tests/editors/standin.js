@@ -96,12 +96,6 @@ class WorkspaceEdit {
   }
 }
 
-class SnippetString {
-  constructor(value) {
-    this.value = value;
-  }
-}
-
 class CompletionItem {
   constructor(label, kind) {
     assert(label && Number.isInteger(kind));
@@ -206,7 +200,7 @@ function editor(settings) {
     onDidChangeConfiguration: on("configuration"),
   };
   const Uri = { parse: (text) => text, file: (path) => ({ scheme: "file", path, fsPath: path, toString: () => `file://${path}` }) };
-  const types = { CodeAction, CodeActionKind, CompletionItem, Diagnostic, DiagnosticRelatedInformation, DocumentSymbol, FoldingRange, Hover, Location, MarkdownString, Position, ProcessExecution, Range, SnippetString, Task, TextEdit, WorkspaceEdit };
+  const types = { CodeAction, CodeActionKind, CompletionItem, Diagnostic, DiagnosticRelatedInformation, DocumentSymbol, FoldingRange, Hover, Location, MarkdownString, Position, ProcessExecution, Range, Task, TextEdit, WorkspaceEdit };
   return { api: { ...types, Uri, languages, workspace, ...api }, shown, providers, documents, tell, user: it, warnings: it.warnings, lines: it.lines };
 }
 

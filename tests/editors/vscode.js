@@ -57,10 +57,6 @@ async function offersWhatTheTextHas(document) {
   const words = await providers.provideCompletionItems(document, new api.Position(0, 5));
   assert.deepStrictEqual(words.map((it) => [it.label, it.kind, it.insertText, it.range.numbers]), [["log-level", 2, "log-level", [0, 0, 0, 5]]]);
   assert(words[0].documentation.length > 0);
-  const begun = opened("begun.txt", "log-l", "raftbench");
-  const [word] = await providers.provideCompletionItems(begun, new api.Position(0, 5));
-  assert.deepStrictEqual([word.label, word.insertText.value], ["log-level", "log-level$1\n----\n$0"]);
-  closed(begun);
 }
 
 // A line `----` has no blanks around it, and no empty line is put at the end.

@@ -3,7 +3,7 @@
 use Rattle.std.specs.Prelude.{ℕ, List, ◌++◌, Option, Some, None, codes, option_map, option_and_then}
 use Rattle.serde_json.specs.Data.{Data}
 use Rattle.serde_json.specs.Written.{compact_text}
-use Rattle.rb_lsp.specs.declared.server.client.Client.{Client}
+use Rattle.rb_lsp.specs.declared.document.position.Encoding.{Encoding}
 use Rattle.rb_lsp.specs.Answers.{failure}
 use Rattle.rb_lsp.specs.Params.{position_at, range_at, text_below}
 use Rattle.rb_lsp.specs.declared.rpc.answer.ErrorCode.TheVariants.{InvalidParams, InternalError, RequestCancelled, RequestFailed}
@@ -60,27 +60,27 @@ unfoldable pub cancelled_for : Data → Data
 cancelled_for id = failure id RequestCancelled (codes "the request was cancelled")
 
 -- the answer about a text, as far as it was run, unless the request was cancelled
-abbrev pub text_by : Meaning → Reach → Client → Query → List ℕ → Data → List ℕ → List ℕ
-text_by meaning NoMemory client asked uri id text = body_text (no_memory_for id)
-text_by meaning Cancelled client asked uri id text = body_text (cancelled_for id)
-text_by meaning (Stopped stop) client asked uri id text = body_text (stopped_for id)
-text_by meaning reach client asked uri id text = answer_text id (meaning.answer client asked uri text)
+abbrev pub text_by : Meaning → Reach → Encoding → Query → List ℕ → Data → List ℕ → List ℕ
+text_by meaning NoMemory encoding asked uri id text = body_text (no_memory_for id)
+text_by meaning Cancelled encoding asked uri id text = body_text (cancelled_for id)
+text_by meaning (Stopped stop) encoding asked uri id text = body_text (stopped_for id)
+text_by meaning reach encoding asked uri id text = answer_text id (meaning.answer encoding asked uri text)
 
 -- the answer about a document, by its text if it is open
-abbrev pub of_text : Meaning → Reach → Client → Query → List ℕ → Data → Option (List ℕ) → List ℕ
-of_text meaning reach client asked uri id None = body_text (not_open id)
-of_text meaning reach client asked uri id (Some text) = text_by meaning reach client asked uri id text
+abbrev pub of_text : Meaning → Reach → Encoding → Query → List ℕ → Data → Option (List ℕ) → List ℕ
+of_text meaning reach encoding asked uri id None = body_text (not_open id)
+of_text meaning reach encoding asked uri id (Some text) = text_by meaning reach encoding asked uri id text
 
 -- the answer about the document that is named, by the request
-abbrev pub with_asked : Meaning → Reach → Client → List PlainDocument → Data → Option (List ℕ) → Option Query → List ℕ
-with_asked meaning reach client ds id None asked = body_text (unfit id)
-with_asked meaning reach client ds id (Some uri) None = body_text (unfit id)
-with_asked meaning reach client ds id (Some uri) (Some asked) = of_text meaning reach client asked uri id (text_of uri ds)
+abbrev pub with_asked : Meaning → Reach → Encoding → List PlainDocument → Data → Option (List ℕ) → Option Query → List ℕ
+with_asked meaning reach encoding ds id None asked = body_text (unfit id)
+with_asked meaning reach encoding ds id (Some uri) None = body_text (unfit id)
+with_asked meaning reach encoding ds id (Some uri) (Some asked) = of_text meaning reach encoding asked uri id (text_of uri ds)
 
 -- the answer, by the method's parameters
-abbrev pub question_body : Meaning → Reach → Client → List PlainDocument → Question → Option Data → Data → List ℕ
-question_body meaning reach client ds question None id = body_text (unfit id)
-question_body meaning reach client ds question (Some d) id = with_asked meaning reach client ds id (uri_of d) (asked_of question d)
+abbrev pub question_body : Meaning → Reach → Encoding → List PlainDocument → Question → Option Data → Data → List ℕ
+question_body meaning reach encoding ds question None id = body_text (unfit id)
+question_body meaning reach encoding ds question (Some d) id = with_asked meaning reach encoding ds id (uri_of d) (asked_of question d)
 
 -- the text that is run for it
 abbrev pub asked_run : Meaning → List PlainDocument → Option (List ℕ) → Option Query → Option (List ℕ)

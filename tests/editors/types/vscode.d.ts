@@ -59,14 +59,11 @@ declare module "vscode" {
   export class WorkspaceEdit {
     replace(uri: Uri, range: Range, text: string): void;
   }
-  export class SnippetString {
-    constructor(value: string);
-  }
   export class CompletionItem {
     constructor(label: string, kind?: number);
     documentation?: string;
     range?: Range;
-    insertText?: string | SnippetString;
+    insertText?: string;
   }
   export class DocumentSymbol {
     constructor(name: string, detail: string, kind: number, range: Range, selectionRange: Range);

@@ -33,8 +33,8 @@ fn first_characters(most: usize, bytes: &[u8]) -> &[u8]
     bytes
 }
 
-/// Gives a line by its number, counted from 0.
-pub(crate) fn line_at(text: &Lines, n: usize) -> &[u8]
+// Gives a line by its number, counted from 0.
+fn line_at(text: &Lines, n: usize) -> &[u8]
     ensures { result.now ≡ slice_index_or text.now n [] }
 {
     if n < text.len() { text.line(n) } else { b"" }
