@@ -27,7 +27,7 @@ class Disk(NamedTuple):
     length: int
 
 
-class Accepted(NamedTuple):
+class Save(NamedTuple):
     """What `ready` has given and `advance` will take for done."""
 
     disk: Disk
@@ -38,7 +38,7 @@ class Accepted(NamedTuple):
 
 
 @dataclasses.dataclass(frozen=True)
-class Asked:
+class PendingRead:
     """A read under way: the commit when it was asked for, and who has answered since."""
 
     index: int
@@ -100,8 +100,8 @@ class Node:
         self.sent: list[Message] = []
         self.waiting: list[Message] = []
         self.events: list[Event] = []
-        self.under_way: Accepted | None = None
-        self.reads: dict[int, Asked] = {}
+        self.under_way: Save | None = None
+        self.reads: dict[int, PendingRead] = {}
         self.served: list[Read] = []
         self.uncommitted = 0  # bytes of payloads that it appended as the leader, and hasn't applied
         self.unlimited: set[int] = set()  # entries that don't count for these: by which it leaves joint configurations by itself
@@ -498,7 +498,7 @@ class Node:
         """Asks for a read: a leader that has committed in its term hears from a quorum before it may be served (6.4)."""
         if self.role != "leader" or self.known_term(self.commit) != self.term:
             return self.tell("WARN", f"can't read {id}")
-        self.reads[id] = Asked(self.commit, {self.id})
+        self.reads[id] = PendingRead(self.commit, {self.id})
         for to in self.others():
             self.send("MsgHeartbeat", to, commit=min(self.views[to].match, self.commit), context=id)
         return self.serve(id)
@@ -656,7 +656,7 @@ class Node:
     def ready(self) -> Ready:
         hard = self.hard_state()
         disk = Disk(hard, self.base, self.base_term, self.base_content, self.base_config, self.entries, len(self.entries))
-        self.under_way = Accepted(disk, self.commit, len(self.sent), len(self.waiting), self.restored)
+        self.under_way = Save(disk, self.commit, len(self.sent), len(self.waiting), self.restored)
         return Ready(
             hard if hard != self.saved else None, (self.base, self.base_term) if self.restored else None,
             self.entries_from(self.durable + 1), self.entries_from(self.applied + 1, self.commit),
@@ -687,7 +687,7 @@ class Node:
         else:
             self.content += body
 
-    def save(self, done: Accepted) -> None:
+    def save(self, done: Save) -> None:
         self.disk, self.saved = done.disk, done.disk.hard
         if self.restored and not done.restored:
             return

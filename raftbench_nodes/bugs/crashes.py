@@ -4,7 +4,7 @@ The number in brackets is the section of Ongaro's thesis with the rule.
 from __future__ import annotations
 
 from plain.config import Config
-from plain.node import Accepted, Asked, Node, View
+from plain.node import Node, PendingRead, Save, View
 from plain.records import Body, Entry, Message, Options, Ready
 
 from .registry import planted
@@ -114,7 +114,7 @@ class VoteNotSaved(Node):
 class OldTailStays(Node):
     """Writes entries over saved ones, and leaves what was saved after them (3.5)."""
 
-    def save(self, done: Accepted) -> None:
+    def save(self, done: Save) -> None:
         old, new = self.disk, done.disk
         super().save(done)
         last = new.base + new.length
@@ -126,7 +126,7 @@ class OldTailStays(Node):
 class SnapshotNotSaved(Node):
     """Doesn't save a snapshot that it restores (5.3)."""
 
-    def save(self, done: Accepted) -> None:
+    def save(self, done: Save) -> None:
         before = self.disk
         super().save(done)
         if done.restored:
@@ -145,7 +145,7 @@ class CompactionKeepsOldConfiguration(Node):
 class AdvanceTakesLaterEntries(Node):
     """Treats entries as saved that arrived while others were written (10.2.1)."""
 
-    def save(self, done: Accepted) -> None:
+    def save(self, done: Save) -> None:
         super().save(done)
         self.durable = self.last()
 
@@ -163,7 +163,7 @@ class AdvanceLosesLaterMessages(Node):
 class SavedByIndex(Node):
     """Treats an entry as saved by its index, even if another entry has taken its place meanwhile."""
 
-    def save(self, done: Accepted) -> None:
+    def save(self, done: Save) -> None:
         super().save(done)
         self.durable = max(self.durable, min(done.disk.base + done.disk.length, self.last()))
 
@@ -275,7 +275,7 @@ class ReadsBeforeOwnCommit(Node):
     def read(self, id: int) -> None:
         if self.role != "leader":
             return super().read(id)
-        self.reads[id] = Asked(self.commit, {self.id})
+        self.reads[id] = PendingRead(self.commit, {self.id})
         for to in self.others():
             self.send("MsgHeartbeat", to, commit=min(self.views[to].match, self.commit), context=id)
         return self.serve(id)

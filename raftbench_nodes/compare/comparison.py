@@ -8,7 +8,7 @@ from plain.node import Node
 from plain.records import AnyNode
 from plain.script import Block
 
-from ..process.process import Failed, Process
+from ..process.process import CallFailure, Process
 from ..promises.checker import name_of
 from ..promises.clusters import WatchedHosts, WatchedReference, breaks
 from ..protocol.capabilities import reduced
@@ -196,7 +196,7 @@ def excuse_without_reference(blocks: Sequence[Block]) -> str:
     return "torn changes" if is_torn and any(name == b"propose-conf-change" for name, *_ in heads) else ""
 
 
-def failure(place: int, name: str, failed: Failed, role: str) -> Difference:
+def failure(place: int, name: str, failed: CallFailure, role: str) -> Difference:
     what = f"failed {failed.call} ({failed.short})"
     return Difference(place, name, what, failed.node, ["an answer"], [str(failed)], f"at a {role}" if role else f"in {name}")
 
@@ -245,7 +245,7 @@ class Run:
         if self.first is None:
             try:
                 self.first = self.beside.differs(place, name, self.outputs[-1], self.came[-1])
-            except Failed as failed:
+            except CallFailure as failed:
                 self.first = failure(place, name, failed, "")
                 return False
         return True
@@ -255,7 +255,7 @@ class Run:
         try:
             act()
             theirs.look_at_logs()
-        except Failed as failed:
+        except CallFailure as failed:
             self.first = self.first or failure(place, name, failed, theirs.role_before)
             return False
         seen = {text for _, text in self.broken}

@@ -12,7 +12,7 @@ from plain.script import Block
 
 from ..explore.coverage import effect, message_relation, number_of, situation, view_relation
 from ..process.node import options_out
-from ..process.process import Failed, Process
+from ..process.process import CallFailure, Process
 from ..promises.checker import Promises
 from ..promises.clusters import WatchedCluster
 from ..promises.run import PromiseResult, PromiseRun
@@ -273,7 +273,7 @@ def asked_at_once(plan: Plan, process: Process, chosen: Comparison) -> AtOnce:
         return compared_at_once(plan.asked, answers_at_once(plan.asked, process), Checker(process.hello, chosen.aspects), plan.places)
     except Wrong:
         return AtOnce(False)
-    except Failed as failed:
+    except CallFailure as failed:
         if failed.number >= len(plan.places):
             return AtOnce(False)
         place, block = plan.places[failed.number]
@@ -313,7 +313,7 @@ def keeps_promises_at_once(
     cluster.ask_logs()
     try:
         answers = answers_at_once(cluster.asked, process)
-    except (Failed, Wrong):
+    except (CallFailure, Wrong):
         return None, None
     places = [(len(blocks), blocks[-1])] * len(cluster.asked) if blocks else []
     at_once = compared_at_once(cluster.asked, answers, Checker(process.hello, chosen.aspects | {"ready"}), places)

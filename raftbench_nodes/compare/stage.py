@@ -301,7 +301,7 @@ class Reference(Stage):
             sender.lose(message)
 
 
-class Hosted(Stage):
+class HostedCluster(Stage):
     """A cluster of a process's nodes."""
 
     def __init__(self, process: Process, begins_at_0: bool = False) -> None:

@@ -4,8 +4,8 @@ from __future__ import annotations
 from typing import NamedTuple
 
 from ..compare.script import blocks_of, directive_of
-from ..compare.stage import Hosted, Reference, Stage
-from ..process.process import Failed
+from ..compare.stage import HostedCluster, Reference, Stage
+from ..process.process import CallFailure
 from ..protocol.capabilities import reduced
 from .explorer import Explorer
 from .library import TreeScript
@@ -27,8 +27,8 @@ def repair_of(explorer: Explorer, given: TreeScript) -> str:
     chosen, process = explorer.chosen.comparison, explorer.process
     try:
         process.reset()
-        theirs = cost_of(given, explorer, Hosted(process, chosen.begins_at_0))
-    except Failed:
+        theirs = cost_of(given, explorer, HostedCluster(process, chosen.begins_at_0))
+    except CallFailure:
         return ""
     ours = cost_of(given, explorer, Reference(chosen.kind, chosen.begins_at_0))
     return f"{given.title}: the nodes need {theirs.text()}, the reference {ours.text()}" if theirs and ours else ""

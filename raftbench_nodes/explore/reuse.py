@@ -6,7 +6,7 @@ from typing import Iterable, Iterator, Sequence
 
 from ..compare.comparison import Comparison
 from ..process.cache import Memory, ScriptRecord, Transcript
-from ..process.process import Failed, Process
+from ..process.process import CallFailure, Process
 from ..rules.lists import Switched
 
 # So many scripts are asked again in any case; after that only if one of so many was answered as before.
@@ -40,7 +40,7 @@ class Recall:
             return None
         try:
             is_same = self.process.digest_of(known.calls, known.asked) == known.digest
-        except Failed:
+        except CallFailure:
             is_same = False
         if not is_early:
             self.tried, self.same = self.tried + 1, self.same + is_same

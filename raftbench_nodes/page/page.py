@@ -16,8 +16,8 @@ from ..compare.comparison import Comparison
 from ..compare.judge import Judge
 from ..compare.runner_steps import steps_above
 from ..compare.script import directive_of
-from ..compare.stage import Hosted, Reference, allowed
-from ..process.process import Failed, Process
+from ..compare.stage import HostedCluster, Reference, allowed
+from ..process.process import CallFailure, Process
 from ..protocol.capabilities import reduced
 from .rows import Recorder, Row, json_text
 
@@ -66,7 +66,7 @@ class Mark:
     text: str
 
 
-class RecordedHosts(Recorder, Hosted):
+class RecordedHosts(Recorder, HostedCluster):
     """Your nodes."""
 
 
@@ -91,7 +91,7 @@ def recorded(cluster: Recorder, blocks: Sequence[tuple[int, Block]], process: Pr
             if chosen.has_steps and block.lead:
                 cluster.carry_out(allowed(steps_above(block), process))
             output = cluster.run(directive_of(block))
-        except Failed as failed:
+        except CallFailure as failed:
             recording.steps.append((place, [], cluster.rows))
             recording.failure = Mark(place, str(failed))
             break

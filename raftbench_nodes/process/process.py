@@ -1,5 +1,5 @@
 """The process that hosts your nodes: a call is a line to it, an answer a line from it. If it hangs, dies, or writes what isn't an answer, the call raises
-`Failed` with a sentence, and the process is killed. The next script starts a new one.
+`CallFailure` with a sentence, and the process is killed. The next script starts a new one.
 
 The process runs in a group of its own, with a mark in its environment. A watchdog kills the group, and whatever has the mark, when the tool ends, however
 it ends: it reads a pipe that only the tool holds open.
@@ -59,7 +59,7 @@ WATCHDOG = (
 )
 
 
-class Failed(Exception):
+class CallFailure(Exception):
     """A call that had no good answer; `short` is what happened, without what changes from one time to the next; `at` is its place in the source."""
 
     def __init__(self, call: Json, why: str, errors: str = "", at: str = "") -> None:
@@ -83,10 +83,10 @@ def short_of(why: str) -> str:
     return "".join(c for c in why.split("[")[0] if not c.isdigit())[:60].strip()
 
 
-def error_of(call: Json, answer: Json) -> Failed:
+def error_of(call: Json, answer: Json) -> CallFailure:
     """The failure that an answer with `error` is."""
     error, at = answer["error"], answer.get("at", "")
-    return Failed(call, "error: " + printable(error if isinstance(error, str) else shown(error)), at=printable(at)[:80] if isinstance(at, str) else "")
+    return CallFailure(call, "error: " + printable(error if isinstance(error, str) else shown(error)), at=printable(at)[:80] if isinstance(at, str) else "")
 
 
 class Watchdog:
@@ -185,14 +185,14 @@ class Process:
         try:
             if self.process is not None:
                 self.ask({"call": "reset"})
-        except Failed:
+        except CallFailure:
             self.close()
         if self.process is None:
             self.start()
             self.ask({"call": "reset"})
 
     def ask(self, call: Json) -> Json:
-        """The answer to a call, an object; Failed where there is none. Where it is an error the process stays as it is."""
+        """The answer to a call, an object; CallFailure where there is none. Where it is an error the process stays as it is."""
         return self.ask_all([call])[0]
 
     def ask_all(self, calls: Sequence[Json], begun: int = 0) -> list[Json]:
@@ -222,7 +222,7 @@ class Process:
         return answers
 
     def digest_of(self, calls: bytes, count: int) -> bytes:
-        """The digest of the answers to lines with so many calls, by nodes that are reset; Failed where there is none."""
+        """The digest of the answers to lines with so many calls, by nodes that are reset; CallFailure where there is none."""
         if self.process is None:
             self.reset()
         self.until = time.monotonic() + self.script_seconds
@@ -315,7 +315,7 @@ class Process:
             return "it closed its output"
         return f"it ended by signal {-status}" if status < 0 else f"it ended with status {status}"
 
-    def failed(self, call: Json, why: str) -> Failed:
+    def failed(self, call: Json, why: str) -> CallFailure:
         """Kills the process; answers the failure."""
         self.transcript = None
         until = time.monotonic() + 0.2
@@ -323,7 +323,7 @@ class Process:
         while told not in self.ended and time.monotonic() < until and select.select([told], [], [], 0.02)[0]:
             self.take_errors()
         self.close()
-        return Failed(call, why, printable(self.errors.decode("utf-8", "replace").strip()))
+        return CallFailure(call, why, printable(self.errors.decode("utf-8", "replace").strip()))
 
 
 def marked_with(mark: str) -> Iterator[int]:

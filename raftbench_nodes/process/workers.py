@@ -14,7 +14,7 @@ import threading
 from typing import Any, Callable, Iterator, Protocol, Sequence
 
 from ..compare.judge import Unjudged
-from .process import Failed, Process
+from .process import CallFailure, Process
 
 FORKED = multiprocessing.get_context("fork")
 LOOK_SECONDS = 0.2
@@ -45,7 +45,7 @@ def work(make: Callable[[], Worker], items: Any, results: Any) -> None:
         while (taken := items.get()) is not None:
             number, task, chunk = taken
             results.put(("result", number, [task(worker, item) for item in chunk], worker.process.name))
-    except Failed as failed:
+    except CallFailure as failed:
         results.put(("failed", 0, str(failed), ""))
     except Unjudged as fault:
         results.put(("failed", 0, f"the reference could not be judged: {fault}", ""))

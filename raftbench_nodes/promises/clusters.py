@@ -8,7 +8,7 @@ from plain.records import Message, Ready
 from plain.script import Block
 
 from ..compare.runner_steps import steps_above
-from ..compare.stage import Hosted, Reference, Stage, allowed
+from ..compare.stage import HostedCluster, Reference, Stage, allowed
 from ..process.process import Process
 from .checker import Promises, Saved, name_of
 
@@ -58,7 +58,7 @@ class WatchedCluster(Stage):
         self.promises.look_at_logs(self.nodes, self.touched)
 
 
-class WatchedHosts(WatchedCluster, Hosted):
+class WatchedHosts(WatchedCluster, HostedCluster):
     def __init__(self, process: Process, begins_at_0: bool = False) -> None:
         super().__init__(process, begins_at_0)
         self.promises = Promises(process.without)

@@ -13,7 +13,7 @@ from ..compare.comparison import BrokenPromise, Comparison, Difference, excuse_w
 from ..compare.runner_steps import RunnerStep, steps_above
 from ..compare.script import Step, blocks_of, directive_of
 from ..compare.stage import NEVER, Reference, allowed
-from ..process.process import Failed, Process
+from ..process.process import CallFailure, Process
 from ..protocol.capabilities import reduced
 from ..rules.lists import Switched
 from .checker import name_of
@@ -76,7 +76,7 @@ class PromiseRun:
             if self.cluster.is_stuck:
                 self.note(place, f"comes to rest: {NEVER}")
             self.look(place)
-        except Failed as failed:
+        except CallFailure as failed:
             return failure(place, directive.name.decode("latin-1"), failed, self.cluster.role_before)
         return None
 
@@ -114,7 +114,7 @@ class PromiseRun:
         told = [RunnerStep("snapshot-lost", sender, to) for sender, to in sorted(self.cluster.snapshots & self.cluster.lost)]
         try:
             self.cluster.carry_out(allowed(told, self.process))
-        except Failed as failed:
+        except CallFailure as failed:
             self.failure = failure(self.length, "a step of the runner", failed, self.cluster.role_before)
         return self.failure
 

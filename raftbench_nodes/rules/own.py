@@ -4,7 +4,7 @@ from __future__ import annotations
 from typing import Any
 
 from plain.config import Change, both, vote_result
-from plain.node import Accepted, Disk, Node
+from plain.node import Disk, Node, Save
 from plain.records import Body, Message, Numbered, Ready
 
 
@@ -131,7 +131,7 @@ class OwnRules(Ruled):
             self.waiting = [m for m in self.waiting if m.to == self.id or m.kind != "MsgAppResp" or is_now and m.term == self.term]
         return super().ready()
 
-    def save(self, done: Accepted) -> None:
+    def save(self, done: Save) -> None:
         before, saved = self.durable, done.disk
         super().save(done)
         last = saved.base + saved.length

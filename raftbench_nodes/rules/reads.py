@@ -4,7 +4,7 @@ from __future__ import annotations
 from typing import Any
 
 from plain.config import both
-from plain.node import Asked, Disk, View
+from plain.node import Disk, PendingRead, View
 from plain.records import Message, Read
 
 from .own import Ruled
@@ -52,7 +52,7 @@ class ReadRules(Ruled):
 
     def ask_quorum(self, m: Message) -> None:
         if m.context not in self.reads:
-            self.reads[m.context], self.askers[m.context] = Asked(self.commit, {self.id}), m.sender
+            self.reads[m.context], self.askers[m.context] = PendingRead(self.commit, {self.id}), m.sender
         for to in self.others():
             self.send("MsgHeartbeat", to, commit=min(self.views[to].match, self.commit), context=m.context)
 

@@ -25,7 +25,7 @@ from ..explore.search import Candidate, Kind, Library, Limits, Search, contains,
 from ..explore.shrinker import Budget
 from ..page.page import Mark, NoViewer, PageWriter
 from ..process.cache import default_folder
-from ..process.process import Failed, Process
+from ..process.process import CallFailure, Process
 from ..process.workers import WorkerError, Fleet, interruptible
 from ..promises.run import run_alone
 from .arguments import MINUTES, add_common, add_comparing, add_exploring, checked, comparison_of, complain, parser_for
@@ -261,7 +261,7 @@ def calibrated(words: Words) -> Words:
 
 
 def explored(words: Words) -> Result:
-    """Explores and shrinks; WorkerError or Failed where the nodes don't start, KeyboardInterrupt at a second interrupt."""
+    """Explores and shrinks; WorkerError or CallFailure where the nodes don't start, KeyboardInterrupt at a second interrupt."""
     with interruptible() as is_stopped:
         return searched(calibrated(words), is_stopped)
 
@@ -338,7 +338,7 @@ def write_pages(words: Words, result: Result) -> None:
             writer = PageWriter(process, judge, words.chosen.comparison)
             blocks = read_script(kind.script.encode("latin-1")).blocks
             writer.write(file.with_suffix(".html"), file.name, blocks, [Mark(len(blocks), "; ".join([kind.kind, *(line.strip() for line in kind.shown)]))])
-    except (NoViewer, Failed, Fault) as fault:
+    except (NoViewer, CallFailure, Fault) as fault:
         complain(words.chosen.program, f"no page: {fault}")
     finally:
         process.close()
@@ -364,7 +364,7 @@ def explore(words: Words) -> int:
         if words.script is not None:
             return write_again(words, words.script)
         result = explored(words)
-    except (WorkerError, Failed, Unjudged) as fault:
+    except (WorkerError, CallFailure, Unjudged) as fault:
         complain(program, fault)
         return 4
     except KeyboardInterrupt:

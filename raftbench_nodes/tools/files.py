@@ -22,7 +22,7 @@ from ..explore.explorer import Explorer, Settings
 from ..explore.library import folder_of_classics
 from ..explore.shrinker import Budget
 from ..page.page import Mark, NoViewer, PageWriter
-from ..process.process import Failed, Process
+from ..process.process import CallFailure, Process
 from ..promises.checker import PROMISES
 from ..promises.run import made_by, promise_run, run_alone
 from .arguments import (
@@ -55,7 +55,7 @@ class Files:
         try:
             for file in files:
                 self.read_and_run(file)
-        except (Failed, NoViewer) as failed:
+        except (CallFailure, NoViewer) as failed:
             self.complain(f"{PROGRAM} {self.program}: {failed}", 4)
         except KeyboardInterrupt:
             self.complain(f"{PROGRAM} {self.program}: interrupted", 130)
@@ -278,7 +278,7 @@ def shrink_file(given: argparse.Namespace, comparison: Comparison) -> int:
     try:
         explorer = Explorer(process, Judge(), Settings(comparison, "mixed", 0, AcceptedKinds(given.accepted), "shrink"))
         return shrink_script(explorer, script, given)
-    except Failed as failed:
+    except CallFailure as failed:
         complain("shrink", failed)
         return 4
     finally:

@@ -12,7 +12,7 @@ from plain.script import Fault, read_script
 from ..compare.comparison import Comparison, run_beside
 from ..compare.script import Step, blocks_of, steps_of_blocks
 from ..explore.dice import steps_of
-from ..process.process import Failed, Process
+from ..process.process import CallFailure, Process
 from ..process.workers import WorkerError, Fleet
 from ..rules.lists import kind_like, kind_with
 from ..rules.switches import SWITCHES
@@ -135,7 +135,7 @@ def run(words: Sequence[str]) -> int:
     except Fault as fault:
         complain("switches", f"script refused: {fault}")
         return 3
-    except (WorkerError, Failed, OSError) as failed:
+    except (WorkerError, CallFailure, OSError) as failed:
         complain("switches", failed)
         return 4
     except KeyboardInterrupt:
