@@ -130,10 +130,7 @@ fn make_folder<R: Files + AllocGlobal>(rt: &R, path: &str) -> Result<(), SiteFau
 
 // What the site of a path is called: the path's last name.
 fn title_of(path: &str) -> &str {
-    match Path::new(path).file_name() {
-        Some(name) => name,
-        None => path,
-    }
+    Path::new(path).file_name().unwrap_or(path)
 }
 
 fn status(chapters: &[Chapter]) -> Status

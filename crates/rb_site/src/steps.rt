@@ -1,6 +1,6 @@
 //! Running a script for its page.
 
-ghost use Rattle.std.specs.Prelude.{◌≡◌, IfOk, IfSome};
+ghost use Rattle.std.specs.Prelude.{◌≡◌, IfOk};
 ghost use Rattle.rb_script.specs.HeadLines.{AreHeadLines};
 ghost use Rattle.rb_script.specs.Lines.{lines};
 ghost use Rattle.rb_script.specs.Reads.{Reads};
@@ -14,7 +14,7 @@ use rb_raftlog::SplitLog;
 use rb_replay::Session;
 use rb_script::{Lines, ScriptFault, ScriptWithLines};
 use rb_view::steps::{StepMachine, steps_of};
-use std::alloc::{AllocError, Global};
+use std::alloc::Global;
 
 /// The rows of a script's page, and whether an output is not the expected one.
 #[derive(Drop)]
@@ -42,29 +42,29 @@ pub(crate) fn rows_of(alloc: Global, bytes: &[u8]) -> Result<ScriptRows, BookFau
     ensures differs { IfOk result (λ ran. Differs bytes.now ran.differs) }
 {
     let read = read(alloc, bytes)?;
-    let Some((session, rows)) = ran::<Cluster<SplitLog>>(alloc, read, bytes)? else {
-        return Err(BookFault::PageTooLarge);
-    };
+    let (session, rows) = ran::<Cluster<SplitLog>>(alloc, read, bytes)?;
     Ok(ScriptRows {
         rows,
         differs: differs(&session),
     })
 }
 
-// Runs a script, which was read from the bytes, each directive once, and gives a session on it and its rows; none only if a page has no room for them.
+// Runs a script, which was read from the bytes, each directive once, and gives a session on it and its rows.
 fn ran<M: StepMachine>(
     alloc: Global,
     read: ScriptWithLines,
     bytes: &[u8],
-) -> Result<Option<(Session<M>, Lines)>, AllocError>
+) -> Result<(Session<M>, Lines), BookFault>
     requires reads { Reads bytes.now read.script }
     requires lines { read.lines ≡ lines bytes.now }
     requires heads { AreHeadLines 1 (lines bytes.now) read.script.blocks read.heads.items }
-    ensures script { IfOk result (λ ran. IfSome ran (λ r. Reads bytes.now r.0.script)) }
-    ensures rows { IfOk result (λ ran. IfSome ran (λ r. AreRowsOf bytes.now r.1)) }
+    ensures script { IfOk result (λ ran. Reads bytes.now ran.0.script) }
+    ensures rows { IfOk result (λ ran. AreRowsOf bytes.now ran.1) }
 {
-    let ran = steps_of(alloc, read, bytes, &mut Meter::new())?;
-    Ok(ran)
+    match steps_of(alloc, read, bytes, &mut Meter::new())? {
+        Some(ran) => Ok(ran),
+        None => Err(BookFault::PageTooLarge),
+    }
 }
 
 fn differs<M: Machine>(session: &Session<M>) -> bool

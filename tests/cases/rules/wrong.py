@@ -5,6 +5,7 @@ folder names those that it must notice.
 from __future__ import annotations
 
 import contextlib
+import dataclasses
 from collections.abc import Callable, Iterator
 
 from raftbench_nodes.bugs import rules
@@ -211,7 +212,7 @@ class ConflictIsAnswered(Node):
 @wrong
 class SnapshotWithoutContent(Node):
     def take_snapshot(self, m: Message) -> None:
-        super().take_snapshot(m._replace(snapshot=snapshot_of(m)._replace(content=self.content)))
+        super().take_snapshot(m._replace(snapshot=dataclasses.replace(snapshot_of(m), content=self.content)))
 
 
 @wrong
@@ -227,7 +228,7 @@ class SnapshotIsHeldByItsIndex(Node):
     def take_snapshot(self, m: Message) -> None:
         snapshot = snapshot_of(m)
         held = self.commit < snapshot.index <= self.last()
-        super().take_snapshot(m._replace(snapshot=snapshot._replace(term=self.known_term(snapshot.index))) if held else m)
+        super().take_snapshot(m._replace(snapshot=dataclasses.replace(snapshot, term=self.known_term(snapshot.index))) if held else m)
 
 
 @wrong
