@@ -18,8 +18,8 @@ MAN = TOP / "share/man/man1/raftbench.1"
 # What takes a spacing, and what takes none.
 FILED = ["rewrite", "run", "session"]
 COMMANDS = sorted([*FILED, "chart", "check", "directives", "look", "lsp", "page", "trace"])
-OPTIONS = ["--accept", "--accept-errors", "--brief", "--color", "--every", "--filter", "--first", "--force", "--format", "--from", "--help", "--quiet", "--review", "--strict",
-           "--until", "--verbose", "--version", "--warn", "--why"]
+OPTIONS = ["--accept", "--accept-errors", "--brief", "--color", "--every", "--filter", "--first", "--force", "--format", "--from", "--help", "--out", "--pages", "--quiet",
+           "--review", "--strict", "--until", "--verbose", "--version", "--warn", "--why"]
 DIRECTIVES = re.findall(r"^\| `([a-z-]+)` \|", (TOP / "docs/SCRIPTS.md").read_text().split("\n## Directives\n")[1].split("\n\n| What ")[0], re.M)
 SECTIONS = ["NAME", "SYNOPSIS", "DESCRIPTION", "COMMANDS", "OPTIONS", "EXIT STATUS", "ENVIRONMENT", "FILES", "EXAMPLES", "SEE ALSO"]
 # The files of editors that are all put alike.
@@ -29,6 +29,9 @@ PACKAGES = [f"{it}/{name}" for it in ("plain", "raftbench_nodes") for name in ke
 MODULE = [f"nodes/go/{name}" for name in kept(TOP / "nodes/go") if name.endswith((".go", ".mod")) and not name.endswith("_test.go")]
 FILES = [f"nodes/{folder}/{name}" for folder in ("c", "like") for name in kept(TOP / "nodes" / folder)]
 NODES = ["nodes/first", "raftbench-nodes", *FILES, *MODULE, *PACKAGES]
+# raftbench-live's package, and what it shows of a page.
+LIVE = [f"live/{name}" for name in kept(TOP / "live") if name.endswith((".css", ".js", ".py"))]
+ASSETS = [f"crates/rb_view/assets/{name}" for name in kept(TOP / "crates/rb_view/assets") if name.endswith((".css", ".html", ".js"))]
 # What is put, and where in the clone it stands.
 SOURCES = {
     "bin/raftbench": "made",
@@ -40,8 +43,8 @@ SOURCES = {
     **{f"share/{name}": f"share/{name}" for name in kept(TOP / "share")},
     **{f"share/raftbench/editors/{name}": f"editors/{name}" for name in ["README.md", *EDITORS]},
     **{f"share/raftbench/{name}": name for name in NODES},
-    **{f"share/raftbench/live/{name}": f"live/{name}" for name in kept(TOP / "live") if name.endswith((".css", ".js", ".py"))},
-    **{f"share/raftbench/live/assets/{name}": f"crates/rb_view/assets/{name}" for name in kept(TOP / "crates/rb_view/assets") if name.endswith((".css", ".html", ".js"))},
+    **{f"share/raftbench/{name}": name for name in LIVE},
+    **{f"share/raftbench/live/assets/{pathlib.PurePath(name).name}": name for name in ASSETS},
 }
 PUT = {name: 0o755 if name.startswith("bin/") or name in ("share/raftbench/nodes/first", "share/raftbench/raftbench-nodes") else 0o644 for name in [*SOURCES, "share/raftbench/installed"]}
 # It proves nothing, and makes a program if it is told to prove first.
@@ -239,10 +242,11 @@ finally:
 
 def few_files(place: Clone) -> dict[str, int]:
     """Leaves one file of the many that are installed alike, and returns what is to be installed."""
-    for name in [*(f"editors/{name}" for name in EDITORS[1:]), *PACKAGES[1:]]:
+    gone = {name for alike in ([f"editors/{name}" for name in EDITORS], PACKAGES, MODULE, FILES, LIVE, ASSETS) for name in alike[1:]}
+    for name in gone:
         place.write(name, None)
     place.is_built_already()
-    return {name: mode for name, mode in PUT.items() if not any(name.endswith(f"/{it}") for it in [*EDITORS[1:], *PACKAGES[1:]])}
+    return {name: mode for name, mode in PUT.items() if SOURCES.get(name) not in gone}
 
 
 def test_failures_leave_what_was_there(place: Clone) -> None:
