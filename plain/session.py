@@ -1,4 +1,4 @@
-"""The whole program: a run is a fold of the directives from the empty cluster, and a session runs its script anew after each edit.
+"""Runs a script directive by directive from the empty cluster. A session runs its whole script again after each edit.
 
 How many directives an edit executes is found by comparing the states after each directive, as docs/USING.md and the definitions in
 crates/rb_replay/specs/Reuse.antt and Points.antt say.

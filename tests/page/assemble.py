@@ -37,7 +37,7 @@ BOOK_HTML = ("The elements of a book's pages.", "page.html, and of assets/book.c
     "LINKED": "From there up to the links of the page.",
     "ELEMENTS": "From behind the links up to the rows.",
     "BETWEEN": "From behind the rows up to the way to the site's own folder.",
-    "END": "What stands behind that.",
+    "END": "From behind that way to the end of the page.",
     "CONTENTS": "The head of a contents page, up to its title.",
     "BOOK_STYLE": "What a book's style has more than a page's.",
 })

@@ -55,7 +55,7 @@ fn written<R: Files + AllocGlobal, S: AsStr>(
     }
 }
 
-// What a site's fault is told as.
+// The program's error for a fault of a site.
 fn error_of(alloc: Global, fault: SiteFault) -> ProgramError {
     match fault {
         SiteFault::Lost(path, error) => error_of_path(alloc, path.as_slice(), error),

@@ -74,7 +74,7 @@ pub(crate) const BETWEEN: &[u8] = b"\
 </script>\n\
 <script src=\"";
 
-/// What stands behind that.
+/// From behind that way to the end of the page.
 #[rattlefmt::skip]
 pub(crate) const END: &[u8] = b"\
 page.js\"></script>\n\
