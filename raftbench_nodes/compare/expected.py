@@ -13,6 +13,9 @@ from .answers import answer_lines, compared_config, differing_part, direction
 from .comparison import Difference
 
 
+NONE: frozenset[int] = frozenset()
+
+
 class NumberedMessage(Message):
     """A message of the reference with the number that it has among those that the process gives, and with how many entries it was given."""
 
@@ -41,6 +44,7 @@ class PlannedCall:
     end: LogEnd | None = None
     role: str = ""  # the node's before the call
     cut: NumberedMessage | None = None  # the message of a `step`, which is made from what the process gave before
+    unheard: frozenset[int] = NONE  # members that must not be active in the views that are answered; nothing else of them counts
     whats: list[tuple[str, str]] = dataclasses.field(default_factory=list)  # of a `step`: each message's type, and the role before it
 
 
@@ -55,6 +59,8 @@ class Checker:
         return next((at for at, (each, answer) in enumerate(zip(planned, answers)) if not self.is_expected(each, answer)), None)
 
     def is_expected(self, planned: PlannedCall, answer: Answer) -> bool:
+        if planned.unheard:
+            return isinstance(answer, dict) and not any(view.active for id, view in answer.items() if id in planned.unheard)
         if not isinstance(answer, CallResult):
             node, wanted = planned.call["node"], planned.answer
             # Most answers are equal as they are, which is seen sooner.

@@ -295,7 +295,12 @@ class WatchedPlanningReference(WatchedCluster, PlanningReference):
 
     def __init__(self, kind: type[Node], begins_at_0: bool, hello: Hello) -> None:
         super().__init__(kind, begins_at_0, hello, False)
-        self.promises, self.notes_where = Promises(), False
+        self.promises, self.notes_where = Promises(hello.without & {"status"}), False
+
+    def look_at_views(self, id: int, unheard: set[int]) -> None:
+        super().look_at_views(id, unheard)
+        self.steps_to = 0
+        self.asked.append(PlannedCall({"call": "status", "node": id}, unheard=frozenset(unheard)))
 
 
 def keeps_promises_at_once(

@@ -9,9 +9,10 @@ from typing import Iterator, Mapping, NamedTuple, Sequence
 
 from plain.config import both
 from plain.node import Node
-from plain.records import AnyNode, Entry, Message, Ready
+from plain.records import AnyNode, Entry, Message, Ready, ShownView
 from plain.texts import content_text, entry_text
 
+from .activity import Activity
 from .one_step import StateBefore, StepPromises
 
 # The promises, each with its place in the thesis.
@@ -34,6 +35,7 @@ PROMISES = {
     "a restart keeps term and vote": "a saved term and vote are there after a restart (3.8)",
     "a restart keeps saved entries": "saved entries are there after a restart (3.8)",
     "a restart keeps acknowledged entries": "acknowledged entries are there after a restart (3.8)",
+    "active members were heard": "with `checkquorum`, a leader takes a member for active only if it has heard it in its term (6.2)",
     "what is saved is the state": "what a node saves and applies is its term, its vote, and the entries of its log (3.8)",
     "unsaved state sets sync": "`sync` is true if entries, a term or a vote have to be saved (3.8)",
     "a read is linearizable": "a read sees everything that was committed when it was requested (6.4)",
@@ -108,12 +110,13 @@ class Promises:
         self.entries: dict[int, tuple[int, Entry, int]] = {}
         self.contents: dict[int, tuple[bytes, int]] = {}
         self.logs: dict[int, LogPart] = {}
+        self.led: dict[int, tuple[int, LogPart]] = {}  # the term in which a node led at the last look, and its log then
         self.saved: dict[int, Saved] = {}
         self.acknowledged: dict[int, dict[int, Entry]] = {}
         self.untold: dict[int, dict[int, Entry]] = {}  # acknowledgements that aren't sent yet
         self.promised: dict[int, tuple[int, dict[int, Entry]]] = {}  # a term, and what was acknowledged in it
         self.asked: dict[int, tuple[int, int]] = {}  # who was asked for a read, and what was committed then
-        self.steps = StepPromises(self.note, self.shows)
+        self.steps, self.activity = StepPromises(self.note, self.shows), Activity()
 
     def note(self, text: str) -> None:
         if text not in self.broken:
@@ -133,6 +136,7 @@ class Promises:
             self.steps.begin_again(node)
         else:
             self.steps.look(node, was, message)
+        self.activity.look(node, None if is_restarted else message)
         if node.vote and self.votes.setdefault((id, node.term), node.vote) != node.vote:
             self.note(f"one vote per term: {id} voted for {self.votes[id, node.term]} and {node.vote} in term {node.term}")
         if node.role == "leader":
@@ -184,6 +188,7 @@ class Promises:
             self.logs[id] = log
         for id in sorted(touched):
             self.look_at_promised(nodes[id], self.logs[id])
+            self.look_at_led(nodes[id], self.logs[id])
             self.look_at_committed(nodes[id], self.logs[id])
             if nodes[id].role == "leader":
                 self.look_at_leader(nodes[id], self.logs[id])
@@ -199,6 +204,23 @@ class Promises:
             lost = next((index for index, entry in entries.items() if index > node.base and log.get(index) != entry), None)
             if lost is not None:
                 self.note(f"acknowledged entries are held: {node.id} acknowledged {lost} in term {term}, and lacks it")
+
+    def look_at_led(self, node: AnyNode, log: LogPart) -> None:
+        """While it leads, a leader keeps what its log has."""
+        term, had = self.led.pop(node.id, (0, NOTHING))
+        if node.role != "leader":
+            return
+        self.led[node.id] = node.term, log
+        if term == node.term and not (had.base == log.base and log.up_to(had.last()) == had):
+            lost = next((index for index, entry in had.pairs(had.last()) if index > log.base and log.get(index) != entry), None)
+            if lost is not None:
+                self.note(f"a leader only appends: {node.id} leads in term {term}, had {entry_text(lost, had.list[lost - had.base - 1])}, and lacks it")
+
+    def look_at_views(self, node: AnyNode, views: Mapping[int, ShownView]) -> None:
+        """Looks at a leader's views: whom it hasn't heard in its term isn't active."""
+        unheard = self.activity.unheard(node)
+        for id in sorted(id for id, view in views.items() if id in unheard and view.active):
+            self.note(f"active members were heard: {node.id} leads in term {node.term}, and takes {id} for active, which it hasn't heard")
 
     def look_at_committed(self, node: AnyNode, log: LogPart) -> None:
         if self.shows("commit"):
@@ -312,6 +334,7 @@ class Promises:
         self.votes = {(who, term): vote for (who, term), vote in self.votes.items() if who != id or term < saved.term or term in kept}
         self.entries = {at: known for at, known in self.entries.items() if known[2] != id or at <= base or at in saved.entries}
         self.logs.pop(id, None)
+        self.led.pop(id, None)
 
     def ask_read(self, id: int, node: int, nodes: Mapping[int, AnyNode]) -> None:
         """A read is asked for at a node."""

@@ -3,8 +3,9 @@ from __future__ import annotations
 
 from typing import Any, Sequence
 
+from plain.config import Config
 from plain.node import Node
-from plain.records import Message, Ready
+from plain.records import AnyNode, Message, Options, Ready
 from plain.script import Block
 
 from ..compare.runner_steps import steps_above
@@ -19,6 +20,11 @@ class WatchedCluster(Stage):
     promises: Promises
     brought: Message | None = None  # by the call that is under way
     image: Saved  # what a node will have saved once what was ready last is saved
+
+    def new_node(self, id: int, config: Config, index: int, content: bytes, options: Options) -> AnyNode:
+        if options.checkquorum and self.promises.shows("status", "config"):
+            self.promises.activity.checking.add(id)
+        return super().new_node(id, config, index, content, options)
 
     def touch(self, id: int) -> None:
         super().touch(id)
@@ -56,6 +62,13 @@ class WatchedCluster(Stage):
 
     def look_at_logs(self) -> None:
         self.promises.look_at_logs(self.nodes, self.touched)
+        for id in sorted(self.touched):
+            if unheard := self.promises.activity.unheard(self.nodes[id]):
+                self.look_at_views(id, unheard)
+
+    def look_at_views(self, id: int, unheard: set[int]) -> None:
+        """Looks at what a leader says of members, of whom it hasn't heard some."""
+        self.promises.look_at_views(self.nodes[id], self.nodes[id].views)
 
 
 class WatchedHosts(WatchedCluster, HostedCluster):

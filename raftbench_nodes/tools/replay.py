@@ -14,7 +14,7 @@ from ..compare.report import sides
 from ..protocol.encoding import printable
 from ..rules.lists import kind_like
 from ..rules.switches import Unknown
-from ..traces.replay import Replay, TraceFinding, Unreadable, read_traces, with_timeout
+from ..traces.replay import NOT_IN_TRACES, Replay, TraceFinding, Unreadable, read_traces, with_timeout
 
 
 def read_words(words: Sequence[str]) -> argparse.Namespace:
@@ -50,6 +50,7 @@ def replayed(chosen: argparse.Namespace) -> int:
     if replay.unchecked:
         unchecked = ", ".join(f"{name} ({count})" for name, count in replay.unchecked.most_common())
         print(f"not checked, since the trace doesn't show what they need: {unchecked}")
+    print(f"no trace is held to: {', '.join(NOT_IN_TRACES)}")
     return 1 if kinds else 0
 
 

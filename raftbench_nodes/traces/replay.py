@@ -13,13 +13,15 @@ from plain.records import Hard, Message, Ready
 
 from ..compare.answers import config_line, differing_part, log_lines, message_line, state_line
 from ..process.node import HostedNode
-from ..promises.checker import Promises, name_of
+from ..promises.checker import NOTHING, Promises, Saved, name_of
 from ..protocol.adapter import Adapter
-from ..protocol.answers import Log, State, result_in, hello_in, log_in, ready_in
+from ..protocol.answers import Log, State, result_in, hello_in, log_in, ready_in, views_in
 from ..protocol.encoding import GREATEST, Hello, Json, Parts, Wrong, config_in, entries_in, message_in, printable
 
 # These promises look at several nodes at one time, so they need the calls in the order in which they were made.
 NEED_ORDER = frozenset({"a leader has a quorum of votes", "a quorum holds what a leader commits"})
+# Traces aren't held to these: they are about limits that a trace doesn't say, and about runs that the bench brings to an end.
+NOT_IN_TRACES = ("appends keep to the size limit", "comes to rest", "heals")
 NO_TICK = 1 << 40
 # What the reference raises at a call that no bench makes: a message of a type it doesn't know, or one without what its type has.
 IMPOSSIBLE = (AssertionError, AttributeError, IndexError, KeyError, MemoryError, OverflowError, RecursionError, TypeError, ValueError)
@@ -137,7 +139,7 @@ class TracedNode(HostedNode):
 
     def __init__(self, id: int, state: State) -> None:
         self.id, self.events = id, []
-        self.shown_log = Log(0, 0, 0, [])
+        self.shown_log, self.is_log_known = Log(0, 0, 0, []), False
         self.take_state(state)
 
     def log(self) -> Log:
@@ -148,7 +150,7 @@ class Replay:
     """Carries out the records of a trace one after the other."""
 
     def __init__(self, kind: type[Node], is_ordered: bool, ignored: frozenset[str] = frozenset()) -> None:
-        self.kind, self.ignored = kind, ignored | (frozenset() if is_ordered else NEED_ORDER)
+        self.kind, self.ignored, self.is_ordered = kind, ignored | (frozenset() if is_ordered else NEED_ORDER), is_ordered
         self.hello = Hello("a trace")
         self.counts: collections.Counter[str] = collections.Counter()
         self.unchecked: collections.Counter[str] = collections.Counter()  # promises, and how often the trace didn't show what they need
@@ -157,6 +159,7 @@ class Replay:
     def reset(self) -> None:
         self.reference, self.promises = Reference(self.kind), Promises(self.hello.without)
         self.nodes: dict[int, TracedNode] = {}
+        self.images: dict[int, Saved] = {}  # what nodes will have saved once what was ready last is saved
         self.followed: set[int] = set()  # the nodes whose reference has agreed so far
         self.broken, self.is_by_hand = 0, False
 
@@ -228,9 +231,9 @@ class Replay:
         """
         name, without = record.name(), self.hello.without
         self.is_by_hand = self.is_by_hand or name == "changed" or name == "start" and id in self.nodes
-        if name in ("ready", "snapshot", "status"):
+        if name == "snapshot":
             return
-        if name != "log":
+        if name not in ("log", "ready", "status"):
             state = state_of(Parts(record.answer, ""), without)
             if id not in self.nodes:
                 self.nodes[id] = TracedNode(id, state)
@@ -241,24 +244,64 @@ class Replay:
         shows_log = record if name == "log" else after if after and after.name() == "log" and after.call.get("node") == id else None
         if shows_log:
             node.shown_log = log_in(Parts(shows_log.answer, ""), without)
+        if name not in ("ready", "status"):
+            node.is_log_known = shows_log is not None and "log" not in without
         if self.is_by_hand:
             return
-        self.promises.without = without if shows_log else without | {"log"}
-        self.note_unchecked(node, bool(shows_log), name)
-        if name == "log":
-            self.promises.look_at_logs(self.nodes, {id})
-        else:
-            self.promises.look(node, self.nodes, name == "restart", message_of(record))
+        self.promises.without = without if node.is_log_known else without | {"log"}
+        self.note_unchecked(node, node.is_log_known, name)
+        self.look(record, node)
         for text in self.promises.broken[self.broken:]:
             if name_of(text) not in self.ignored:
                 yield TraceFinding(f"promise broken: {name_of(text)}", record.place, (), (text,))
         self.broken = len(self.promises.broken)
 
+    def look(self, record: Record, node: TracedNode) -> None:
+        """Looks at what a record shows of a node."""
+        name, answer, id = record.name(), Parts(record.answer, ""), node.id
+        if name == "log":
+            self.promises.look_at_logs(self.nodes, {id})
+        elif name == "status":
+            self.promises.look_at_views(node, views_in(answer))
+        elif name == "ready":
+            self.look_at_ready(node, ready_in(answer))
+        else:
+            self.note_options(record, id)
+            self.look_at_saved(record, node)
+            self.promises.look(node, self.nodes, name == "restart", message_of(record))
+
+    def look_at_ready(self, node: TracedNode, ready: Ready) -> None:
+        """What is ready is saved once `advance` follows. Reads are looked at if the trace says where they were asked for."""
+        known = {id: other for id, other in self.nodes.items() if other.is_log_known} if self.is_ordered else {node.id: node}
+        self.promises.look_at_ready(node, ready if self.promises.asked else ready._replace(reads=()), known, 0)
+        self.images[node.id] = self.promises.image(node, ready)
+
+    def look_at_saved(self, record: Record, node: TracedNode) -> None:
+        """What was ready is saved and sent; what was saved is there after a restart, if nothing was being saved."""
+        name, id, image = record.name(), node.id, self.images.pop(node.id, None)
+        if name == "read":
+            self.promises.ask_read(Parts(record.call, "").number("id"), id, self.nodes)
+        if name == "advance" and image:
+            self.promises.save(id, image)
+            self.promises.send(id)
+        elif name == "restart" and id in self.promises.saved:
+            if image:
+                self.promises.acknowledged.pop(id, None)
+                self.promises.saved[id] = Saved(node.term, node.vote, NOTHING)
+            self.promises.look_at_restart(node)
+        elif image:
+            self.images[id] = image
+
+    def note_options(self, record: Record, id: int) -> None:
+        """Notes who looks for a quorum, from its start on."""
+        options = record.call.get("options")
+        if record.name() == "start" and isinstance(options, dict) and options.get("checkquorum") is True and "config" not in self.hello.without:
+            self.promises.activity.checking.add(id)
 
     def note_unchecked(self, node: TracedNode, shows_log: bool, name: str) -> None:
         """Counts what can't be looked at after a call, since the trace doesn't show it."""
         was, without = self.promises.before.get(node.id), self.hello.without
-        if name == "log" or was is None:
+        if name in ("log", "status") or was is None:
             return
         if was.role == "leader" and node.commit > was.commit and (not shows_log or without & {"commit", "config"}):
             self.unchecked["a quorum holds what a leader commits"] += 1

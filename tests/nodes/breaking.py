@@ -7,7 +7,7 @@ from collections.abc import Iterator, Sequence
 from plain.cluster import Cluster
 from plain.config import Config
 from plain.node import Node
-from plain.records import Entry, Message, Options, Read, Ready
+from plain.records import Body, Entry, Message, Options, Read, Ready
 from raftbench_nodes.compare.runner_steps import step_of, steps_above
 from raftbench_nodes.compare.script import Step, blocks_of
 from raftbench_nodes.explore.library import classics
@@ -119,6 +119,20 @@ class CommitsAlone(Node):
         return moves
 
 
+class ForgetsItsOwnLast(Node):
+    """A leader that loses its last entry when it proposes again."""
+
+    def propose(self, body: Body) -> None:
+        if self.role == "leader" and self.last() > self.commit:
+            self.entries = self.entries[:-1]
+        super().propose(body)
+
+
+class TakesAllForActive(Node):
+    def new_view(self, id: int, active: bool) -> None:
+        super().new_view(id, True)
+
+
 def classic(name: str) -> tuple[str, ...]:
     """The lines of a classic."""
     return tuple(step.text() for given in classics() if given.title == f"{name}.txt" for step in given.steps)
@@ -143,6 +157,10 @@ BREAKING: list[tuple[type[Node], tuple[str, ...], set[str]]] = [
     (SendsBeforeSaving, (*BEGUN, "# node: restart 2 / raft-state", "propose 1 b", "stabilize"), set()),
     (SendsBeforeSaving, (*BEGUN, "propose 1 b", "process-ready 1", "deliver-msgs 2", "# node: crash 2 before save / raft-state"), {"a restart keeps acknowledged entries"}),
     (Node, (*BEGUN, "propose 1 b", "process-ready 1", "deliver-msgs 2", "# node: crash 2 before save / raft-state"), set()),
+    (ForgetsItsOwnLast, (*BEGUN, "propose 1 b", "propose 1 c"), {"a leader only appends"}),
+    (Node, ("add-nodes 3 voters=(1,2,3) index=10 checkquorum=true", "campaign 1", "stabilize 1 2", "propose 1 b", "stabilize"), set()),
+    (TakesAllForActive, ("add-nodes 3 voters=(1,2,3) index=10 checkquorum=true", "campaign 1", "stabilize 1 2"), {"active members were heard"}),
+    (TakesAllForActive, ("add-nodes 3 voters=(1,2,3) index=10", "campaign 1", "stabilize 1 2"), set()),
     (CommitsAlone, ("add-nodes 3 voters=(1,2,3) index=10", "campaign 1", "process-ready 1", "deliver-msgs 2", "process-ready 2", "deliver-msgs 1", "propose 1 a", "process-ready 1"), {"a quorum holds what a leader commits"}),
 ]
 
@@ -152,7 +170,7 @@ def part_promises_of_restarts() -> Checks:
         yield f"{kind.__name__}, {number}", is_equal(broken_by(kind, *lines), wanted)
     shown = (TOP / "raftbench_nodes/promises/checker.py").read_text() + (TOP / "raftbench_nodes/promises/one_step.py").read_text()
     noted = set(re.findall(r"(?:note\(f\"|note\(self\.length, f\"|note\(place, f\")([a-z',\- ]+):", shown + (TOP / "raftbench_nodes/promises/run.py").read_text()))
-    yield "each promise is in the table", None if noted <= set(PROMISES) and len(PROMISES) == 25 else f"{noted - set(PROMISES)}"
+    yield "each promise is in the table", None if noted <= set(PROMISES) and len(PROMISES) == 26 else f"{noted - set(PROMISES)}"
 
 
 class Reported(Node):
@@ -186,6 +204,8 @@ REPORTED = [
     ("a leader has all committed entries", [Reported(1, 2, commit=1, log=[A]), Reported(2, 3, "leader")]),
     ("a leader has all committed entries", [Reported(1, 2, commit=1, log=[A]), Reported(2, 3, "leader", log=[(3, b"")])]),
     (None, [Reported(1, 2, commit=1, log=[A]), Reported(2, 3, "leader", log=[A, (3, b"")])]),
+    ("a leader only appends", [Reported(1, 2, "leader", log=[A, (2, b"")]), Reported(1, 2, "leader", log=[A])]),
+    (None, [Reported(1, 2, "leader", log=[A, (2, b"")]), Reported(1, 2, log=[A]), Reported(1, 3, "leader", log=[A])]),
 ]
 
 

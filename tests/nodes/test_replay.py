@@ -62,7 +62,7 @@ def expect(wanted: object, came: object) -> str | None:
 
 
 def part_conversation() -> Checks:
-    yield "no finding", expect((0, f"plain: 34 calls, 34 compared with the reference, 0 findings\n{UNCHECKED}, a quorum holds what a leader commits (1)\n", ""), tool(CONVERSATION))
+    yield "no finding", expect((0, f"plain: 34 calls, 34 compared with the reference, 0 findings\n{UNCHECKED}, a quorum holds what a leader commits (1)\n{NOT_HELD}\n", ""), tool(CONVERSATION))
     records = [record for record in read_trace(CONVERSATION) if record.name() not in ("hello", "reset")]
     for field, change in CHANGES.items():
         at, changed = next((at, changed) for at, record in enumerate(records) if (changed := change(copy.deepcopy(record.answer))) is not None)
@@ -121,6 +121,29 @@ def part_promises() -> Checks:
     for id, data in ((1, "eA=="), (2, "eQ==")):
         logs += [call("tick", id, state("follower", 1, 0, 0, 10)), call("log", id, {**NO_LOG, "entries": [{"term": 1, "index": 11, "data": data}]})]
     yield "logs", expect(1, [found.kind for found in findings(logs)].count("promise broken: logs match"))
+    for what, promise, pairs in given_out():
+        yield what, expect([promise] if promise else [], [found.kind.removeprefix("promise broken: ") for found in findings(pairs) if found.kind.startswith("promise")])
+
+
+def given_out() -> Iterator[tuple[str, str, list[Pair]]]:
+    """Traces in which a node gives out, saves or reads something, and the promise that each breaks, if one."""
+    begun = [HELLO, start(1, state("follower", 0, 0, 0, 10)), start(2, state("follower", 0, 0, 0, 10))]
+    asked = call("step", 1, state("follower", 1, 2, 0, 10), message={"type": "MsgVote", "from": 2, "to": 1, "term": 1, "index": 10, "logTerm": 1})
+    for to, promise in ((2, ""), (3, "a granted vote is kept")):
+        answer = {"type": "MsgVoteResp", "from": 1, "to": to, "term": 1}
+        yield f"a vote given to {to}", promise, [*begun, asked, call("log", 1, NO_LOG), call("ready", 1, {"ready": {"messages": [answer]}})]
+    told = {"type": "MsgAppResp", "from": 1, "to": 2, "term": 1, "index": 12}
+    log: dict[str, Any] = {**NO_LOG, "entries": [{"term": 1, "index": 11, "data": "eA=="}]}
+    ticked = call("tick", 1, state("follower", 1, 0, 2, 10))
+    yield "an entry that it lacks", "acknowledged entries are held", [*begun, ticked, call("log", 1, log), call("ready", 1, {"ready": {"messages": [told]}})]
+    yield "the same where the log isn't shown", "", [*begun, ticked, call("ready", 1, {"ready": {"messages": [told]}})]
+    saved = [*begun, asked, call("log", 1, NO_LOG), call("ready", 1, {"ready": {"messages": []}}), call("advance", 1, state("follower", 1, 2, 0, 10))]
+    again = call("restart", 1, state("follower", 0, 0, 0, 10))
+    yield "a vote that is gone after a restart", "a restart keeps term and vote", [*saved, again]
+    yield "one that was being saved", "", [*saved[:-1], again]
+    read = call("ready", 1, {"ready": {"messages": [], "reads": [{"id": 1, "index": 9}]}})
+    yield "a read of before", "a read is linearizable", [*begun, call("read", 1, state("follower", 0, 0, 0, 10), id=1), read]
+    yield "a read that the trace doesn't ask for", "", [*begun, read]
 
 
 def part_reference() -> Checks:
@@ -168,6 +191,7 @@ def part_files() -> Checks:
 
 
 # What the trace of this program can't show, since it has no logs.
+NOT_HELD = "no trace is held to: appends keep to the size limit, comes to rest, heals"
 UNCHECKED = "not checked, since the trace doesn't show what they need: votes go to new logs (1)"
 C_PROGRAM = """
 #include "trace.h"
@@ -194,7 +218,7 @@ def part_document() -> Checks:
         (folder / "main.c").write_text(C_PROGRAM)
         subprocess.run([compiler, "-std=c11", "-Wall", "-Wextra", "-Werror", "-I", TOP / "nodes" / "trace", "-o", folder / "main", folder / "main.c"], check=True)
         (folder / "trace").write_text(subprocess.run([folder / "main"], capture_output=True, text=True, check=True).stdout)
-        yield "a trace that C writes", expect((0, f"my raft: 4 calls, 4 compared with the reference, 0 findings\n{UNCHECKED}\n", ""), tool(folder / "trace"))
+        yield "a trace that C writes", expect((0, f"my raft: 4 calls, 4 compared with the reference, 0 findings\n{UNCHECKED}\n{NOT_HELD}\n", ""), tool(folder / "trace"))
 
 
 PARTS = [part_conversation, part_promises, part_reference, part_files, part_document]

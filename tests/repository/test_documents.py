@@ -132,7 +132,7 @@ MOST_WORDS = {
     "docs/FORMATS.md": 1700,
     "docs/FOUND.md": 1200,
     "docs/MEASURES.md": 700,
-    "docs/NODE.md": 2800,
+    "docs/NODE.md": 2950,
     "docs/OWN-NODES.md": 3000,
     "docs/PROOFS.md": 4600,
     "docs/READING.md": 1100,
@@ -149,7 +149,7 @@ MOST_WORDS = {
     "nodes/openvswitch/README.md": 300,
     "tests/README.md": 600,
 }
-MOST_WORDS_IN_ALL = 36000
+MOST_WORDS_IN_ALL = 36200
 
 
 def documents_and_readmes() -> list[pathlib.Path]:
