@@ -1,11 +1,11 @@
 """The command raftbench-nodes. Each subcommand is a module of tools/."""
 from __future__ import annotations
 
-import os
 import sys
 import traceback
 from typing import Callable, NamedTuple, Sequence
 
+from .output import OutputError, checked_output, discard_output
 from .tools import explore, files, merge, plain, replay, switches
 
 PROGRAM = "raftbench-nodes"
@@ -37,9 +37,9 @@ def usage() -> str:
     return f"usage: {PROGRAM} COMMAND ..\n\n{rows}\n{PROGRAM} COMMAND --help lists a command's options. docs/OWN-NODES.md is the tutorial.\n"
 
 
-def main(words: Sequence[str] | None = None) -> int:
-    """Runs a subcommand. A closed pipe ends it without a traceback; an exception that nobody expects with one, and with the status FAULT."""
-    name, *rest = list(sys.argv[1:] if words is None else words) or [""]
+def carry_out(words: Sequence[str]) -> int:
+    """Runs a subcommand, or shows the usage."""
+    name, *rest = list(words) or [""]
     if name in ("-h", "--help"):
         print(usage(), end="")
         return 0
@@ -47,11 +47,28 @@ def main(words: Sequence[str] | None = None) -> int:
         print(f"{PROGRAM}: {f'there is no command {name}' if name else 'a command is missing'}\n{usage()}", end="", file=sys.stderr)
         return 2
     try:
-        status = COMMANDS[name].run(rest)
+        return COMMANDS[name].run(rest)
+    except SystemExit as ended:  # of argparse: it has shown help, or what is wrong
+        return ended.code if isinstance(ended.code, int) else 0
+
+
+def main(words: Sequence[str] | None = None) -> int:
+    """Runs a subcommand. Output that can't be written ends it without a traceback; an exception that nobody expects with one, and with the status FAULT."""
+    if sys.stdout is None:
+        print(f"{PROGRAM}: standard output is closed", file=sys.stderr)
+        return 4
+    if sys.stdout is sys.__stdout__:
+        sys.stdout = checked_output()
+    try:
+        status = carry_out(sys.argv[1:] if words is None else words)
         sys.stdout.flush()
         return status
     except BrokenPipeError:
-        os.dup2(os.open(os.devnull, os.O_WRONLY), sys.stdout.fileno())
+        discard_output()
+        return 4
+    except OutputError as fault:
+        discard_output()
+        print(f"{PROGRAM}: standard output: {fault}", file=sys.stderr)
         return 4
     except Exception:
         traceback.print_exc()

@@ -1,14 +1,15 @@
 """How long processes waited for a processor. On a busy machine a late answer isn't the nodes' fault, so this time doesn't count."""
 from __future__ import annotations
 
+import contextlib
 import os
 import pathlib
 from typing import Iterator
 
 
-def waited(group: int) -> float:
-    """The seconds for which this process and those of a group could run and had no processor, as far as Linux tells."""
-    return sum(map(waited_of, [os.getpid(), *processes_of(group)]))
+def waited(group: int, mark: str = "") -> float:
+    """The seconds for which this process, those of a group, and those in other sessions with a mark could run and had no processor, as far as Linux tells."""
+    return sum(map(waited_of, {os.getpid(), *processes_of(group), *(marked_with(mark) if mark else ())}))
 
 
 def waited_of(process: int) -> float:
@@ -30,3 +31,11 @@ def processes_of(group: int) -> Iterator[int]:
             continue
         if len(parts) > 2 and parts[2] == str(group):
             yield int(path.parent.name)
+
+
+def marked_with(mark: str) -> Iterator[int]:
+    """The processes that have this in their environment, as far as Linux shows them."""
+    for path in pathlib.Path("/proc").glob("[0-9]*/environ"):
+        with contextlib.suppress(OSError):
+            if mark.encode() in path.read_bytes().split(b"\0"):
+                yield int(path.parent.name)

@@ -10,18 +10,17 @@ import contextlib
 import importlib
 import json
 import os
-import pathlib
 import secrets
 import select
 import signal
 import subprocess
 import time
-from typing import IO, Any, Callable, Iterator, Sequence
+from typing import IO, Any, Callable, Sequence
 
 from ..protocol.answers import hello_in
 from ..protocol.encoding import VERSION, Hello, Json, Parts, Wrong, printable, shown
 from .cache import Transcript
-from .delays import waited
+from .delays import marked_with, waited
 
 
 def json_functions() -> tuple[Callable[[bytes], Any], Callable[[Any], bytes]]:
@@ -152,7 +151,7 @@ class Process:
             os.set_blocking(pipe, False)
         self.rest, self.errors = bytearray(), b""
         self.ended: set[int] = set()
-        self.waited = waited(self.process.pid)
+        self.waited = waited(self.process.pid, self.mark)
         self.starts += 1
         call = {"call": "hello", "protocol": VERSION}
         answer = self.ask(call)
@@ -269,9 +268,11 @@ class Process:
                     raise self.failed(calls[len(lines)], self.too_late(call, seconds))
 
     def excused_seconds(self, seconds: float) -> float:
-        """For how long this process and the nodes' had no processor since this was asked last; nothing if that is little. It isn't theirs."""
+        """For how long this process and the nodes', also those in other sessions, had no processor since this was asked last; nothing if that is little. It
+        isn't theirs.
+        """
         assert self.process is not None
-        now = waited(self.process.pid)
+        now = waited(self.process.pid, self.mark)
         excused, self.waited = now - self.waited, now
         if excused < seconds / 10:
             return 0.0
@@ -324,14 +325,6 @@ class Process:
             self.take_errors()
         self.close()
         return CallFailure(call, why, printable(self.errors.decode("utf-8", "replace").strip()))
-
-
-def marked_with(mark: str) -> Iterator[int]:
-    """The processes that have this in their environment, as far as Linux shows them."""
-    for path in pathlib.Path("/proc").glob("[0-9]*/environ"):
-        with contextlib.suppress(OSError):
-            if mark.encode() in path.read_bytes().split(b"\0"):
-                yield int(path.parent.name)
 
 
 def streams_of(process: subprocess.Popen[bytes]) -> tuple[IO[bytes], IO[bytes], IO[bytes]]:

@@ -19,8 +19,10 @@ from ..rules.lists import Switched
 from .checker import name_of
 from .clusters import WatchedHosts, WatchedReference, WatchedCluster
 
-# How often all clocks tick until the nodes have to be healed. Nodes with equal timeouts may miss each other for ever: then each clock ticks by chance.
+# How often all clocks tick until the nodes have to be healed. Nodes with equal timeouts may miss each other for ever. Then each clock ticks by chance,
+# and if nobody leads after that, timeouts are drawn at each tick, from one to three times the usual one, where nodes let others set them.
 MOST_TICKS = 24
+DRAWN_TICKS = 3, 9
 TICKS_OF_A_TIMEOUT, TRIES = 3, 4
 PAYLOAD = "healed"
 
@@ -38,6 +40,16 @@ class PromiseResult(NamedTuple):
         """Each kind of what was found, and its place. What a script's own doing may break doesn't count."""
         failed = [(self.failed.kind(), self.failed.place)] if self.failed else []
         return failed + [(broken.kind(), broken.place) for broken in self.broken if not broken.excuse]
+
+
+class Chance:
+    """How time passes that isn't the same for all: each clock may stop at a tick, or timeouts are drawn. The same each time."""
+
+    def __init__(self, stops: float, has_drawn_timeouts: bool = False) -> None:
+        self.dice, self.stops, self.has_drawn_timeouts = random.Random("clocks"), stops, has_drawn_timeouts
+
+    def stops_clock(self) -> bool:
+        return self.dice.random() < self.stops
 
 
 class PromiseRun:
@@ -96,8 +108,9 @@ class PromiseRun:
         if not nodes or self.process.without & {"tick", "commit", "log", "config"} or not self.can_heal():
             return None
         failed = self.one("stabilize") or self.report_snapshots() or self.pass_time(MOST_TICKS, is_over=self.is_healed)
-        if not failed and not self.found and self.leader() is None:
-            failed = self.pass_time(MOST_TICKS, self.is_healed, random.Random("clocks"))
+        for chance in (Chance(0.5), Chance(0.0, has_drawn_timeouts=True)):
+            if not failed and not self.found and self.leader() is None:
+                failed = self.pass_time(MOST_TICKS, self.is_healed, chance)
         wrong = "" if failed or self.found else self.wrong_with_leader()
         # A transfer of the lead that doesn't end keeps proposals out, for a timeout.
         for _ in range(TRIES):
@@ -121,18 +134,23 @@ class PromiseRun:
     def is_healed(self) -> bool:
         return self.leader() is not None and self.behind() is None
 
-    def pass_time(self, ticks: int, is_over: Callable[[], bool], chance: random.Random | None = None) -> Difference | None:
+    def pass_time(self, ticks: int, is_over: Callable[[], bool], chance: Chance | None = None) -> Difference | None:
         """Ticks each node so many times, or by chance, and delivers all after each tick."""
         for _ in range(ticks):
             for id in list(self.cluster.nodes):
-                if chance and chance.random() < 0.5:
+                if chance and chance.stops_clock():
                     continue
-                failed = self.one(f"tick-heartbeat {id}") or self.one("stabilize")
+                failed = self.draw_timeout(id, chance) or self.one(f"tick-heartbeat {id}") or self.one("stabilize")
                 if failed or self.found:
                     return failed
             if is_over():
                 break
         return None
+
+    def draw_timeout(self, id: int, chance: Chance | None) -> Difference | None:
+        if not chance or not chance.has_drawn_timeouts or "set_timeout" in self.process.without or self.cluster.nodes[id].role == "leader":
+            return None
+        return self.one(f"set-randomized-election-timeout {id} timeout={chance.dice.randint(*DRAWN_TICKS)}")
 
     def wrong_with_leader(self) -> str:
         """What is wrong with who leads now, or nothing. Proposes a payload."""
@@ -141,7 +159,7 @@ class PromiseRun:
         if not self.can_heal() or leader is not None and leader.id not in leader.config.voters():
             return ""
         if leader is None:
-            return f"nobody leads after {MOST_TICKS} ticks"
+            return f"nobody leads after {MOST_TICKS} ticks, nor with clocks that tick by chance{'' if 'set_timeout' in self.process.without else ' or drawn timeouts'}"
         last = leader.commit
         for head in (f"propose {leader.id} {PAYLOAD}", "stabilize", f"tick-heartbeat {leader.id}", "stabilize"):
             if self.one(head) or self.found:

@@ -9,12 +9,14 @@ import os
 import pathlib
 import random
 import re
+import signal
 import subprocess
+import time
 from collections.abc import Iterator
 from typing import Any
 
 from plain.node import Node
-from plain.records import Ready
+from plain.records import Message, Ready
 from raftbench_nodes.compare.comparison import Comparison, excuse_of, excuse_without_reference
 from raftbench_nodes.compare.exceptions import AcceptedKinds
 from raftbench_nodes.compare.expected import Checker
@@ -26,8 +28,9 @@ from raftbench_nodes.explore.library import TreeScript, distilled
 from raftbench_nodes.explore.remake import Remaker, remade
 from raftbench_nodes.explore.results import KindResult
 from raftbench_nodes.explore.search import Kind, Library, Limits, Search
-from raftbench_nodes.process.delays import waited
+from raftbench_nodes.process.delays import marked_with, waited
 from raftbench_nodes.process.process import Process
+from raftbench_nodes.promises.checker import name_of
 from raftbench_nodes.promises.clusters import WatchedReference
 from raftbench_nodes.promises.run import PromiseRun
 from raftbench_nodes.protocol.answers import CallResult
@@ -93,6 +96,34 @@ def test_causes(room: pathlib.Path) -> Iterator[str]:
     came = [(result.kind, result.cause) for result in results]
     if came != [("a restart loses", ""), ("logs differ", "a restart loses"), ("two leaders", ""), ("no rest", "two leaders")]:
         yield f"{came}"
+
+
+class HearsNobodyEarly(Node):
+    """Ignores candidates for a timeout after its timer began, also as a candidate: nodes with equal timeouts never elect anybody."""
+
+    def step(self, m: Message) -> None:
+        if m.kind != "MsgVote" or self.elapsed >= 3:
+            super().step(m)
+
+
+class HearsNobody(Node):
+    def step(self, m: Message) -> None:
+        if m.kind != "MsgVote":
+            super().step(m)
+
+
+def test_healing_draws_timeouts(room: pathlib.Path) -> Iterator[str]:
+    """Nodes that elect a leader only with drawn timeouts heal, if timeouts can be set; nodes that never elect one don't."""
+    cases: list[tuple[type[Node], tuple[str, ...], list[str]]] = [
+        (HearsNobodyEarly, (), []), (HearsNobodyEarly, ("set_timeout",), ["heals"]), (HearsNobody, (), ["heals"]),
+    ]
+    for kind, without, wanted in cases:
+        process = InPlace()
+        process.hello = process.hello._replace(without=frozenset(without))
+        run = PromiseRun(blocks_of(script("add-nodes 3 voters=(1,2,3) index=10")), process, Comparison(), WatchedReference(kind))
+        broken = [name_of(each.text) for each in run.result().broken]
+        if broken != wanted:
+            yield f"{kind.__name__}, without {without}: {broken}"
 
 
 class Noted:
@@ -323,6 +354,25 @@ def test_waiting_for_a_processor(room: pathlib.Path) -> Iterator[str]:
     """Linux says how long a process waited; none does so for a group that isn't there."""
     if not 0 <= waited(os.getpgrp()) < 1e7 or waited(1 << 22) > waited(os.getpgrp()) + 1:
         yield f"{waited(os.getpgrp())}, {waited(1 << 22)}"
+
+
+def test_waiting_in_another_session(room: pathlib.Path) -> Iterator[str]:
+    """What nodes wait counts in whatever session they are: they are known by their mark. Here two of them have one processor."""
+    mark, one = "RAFTBENCH_TEST=" + str(room), min(os.sched_getaffinity(0))
+    busy = ["taskset", "-c", str(one), "setsid", "sh", "-c", "while :; do :; done"]
+    started = [subprocess.Popen(busy, env={**os.environ, "RAFTBENCH_TEST": str(room)}, start_new_session=True) for _ in range(2)]
+    try:
+        end = time.monotonic() + 60
+        while (gained := waited(1 << 22, mark) - waited(1 << 22)) < 0.3 and time.monotonic() < end:
+            time.sleep(0.1)
+        if gained < 0.3:
+            yield f"{gained} s"
+    finally:
+        for process in started:
+            process.kill()
+            process.wait()
+        for number in marked_with(mark):
+            os.kill(number, signal.SIGKILL)
 
 
 # Two changes come to node 3 with one save, whose commit is lost: two changes behind, it is elected by 2, and what 1, 4 and 5 have committed is lost.

@@ -13,6 +13,7 @@ import re
 import shutil
 import subprocess
 import sys
+from collections.abc import Iterator
 
 from raftbench_nodes.process import cache
 from tests.harness import TOP, NotHere
@@ -121,6 +122,27 @@ def test_a_fault_is_no_finding(room: pathlib.Path) -> None:
     (room / "tools/raftbench-nodes").symlink_to(room / "raftbench-nodes")
     done = subprocess.run(["bash", "-c", shown("sh", "sbatch")], cwd=room, env=tools, capture_output=True, text=True, timeout=300)
     assert done.returncode != 0, done
+
+
+# What each tool of nodes/ prints goes to a full disk.
+PRINTING = {
+    "run": ["--with", "nodes/plain", "examples/tour/01-election.txt"], "promises": ["--with", "nodes/plain", "examples/tour/01-election.txt"],
+    "explore": ["--with", "nodes/first", "--count", "1", "--fresh", "--jobs", "1", "--seed", "0"], "switches": ["--with", "nodes/plain", "examples/tour/01-election.txt"],
+    "shrink": ["--with", "nodes/first", "examples/tour/01-election.txt"], "replay": ["nodes/trace/refused.txt"], "merge": ["--help"], "plain": [],
+}
+
+
+def test_full_output(room: pathlib.Path) -> Iterator[str]:
+    """If its output can't be written, each tool says so, and ends with status 4 and without a traceback; so with a closed output."""
+    tools = sorted(path.name for path in (TOP / "nodes").iterdir() if path.is_file() and "raftbench-nodes" in path.read_text() and path.name != "command.sh")
+    if tools != sorted(PRINTING):
+        yield f"nodes/ has {tools}"
+    for tool, words in PRINTING.items():
+        for given, to in ((words, ">/dev/full"), (["--help"], ">/dev/full"), (["--help"], ">&-")):
+            command = f"echo '{{\"call\": \"hello\", \"protocol\": 1}}' | nodes/{tool} \"$@\" {to}"
+            done = subprocess.run(["bash", "-c", command, "-", *given], cwd=TOP, capture_output=True, text=True, timeout=300)
+            if done.returncode != 4 or "Traceback" in done.stderr or "raftbench-nodes: standard output" not in done.stderr:
+                yield f"nodes/{tool} {' '.join(given)} {to}: {done.returncode}, {done.stderr[-300:]}"
 
 
 STARTS, ROUNDS, SCRIPTS = 6, 30, 5
