@@ -24,7 +24,7 @@ from .dice import steps_of
 from .library import TreeScript, step_in
 from .mutation import Mutator
 from .reuse import Recall
-from .shrinker import Budget, Shrinker
+from .shrinker import Budget, Shortened, Shrinker
 
 MOST_RUNS = 250
 # A node that doesn't answer takes its whole time at each try.
@@ -133,6 +133,7 @@ class ScriptResult(NamedTuple):
     was_quick: bool
     made: tuple[tuple[str, int], ...] = ()  # what the script makes the reference do
     fault: str = ""  # the traceback of a reference that failed
+    has_given_up: bool = False  # whether scripts aren't asked at once any more, since few agreed
 
 
 class Explorer:
@@ -177,7 +178,10 @@ class Explorer:
         removed, kinds = missing(steps, less), self.unknown(all_kinds)
         if not is_wrong:
             self.recall.note(name, counts, all_kinds, removed, plan.met, plan.made, self.again(spec, steps) if all_kinds else ())
-        return ScriptResult(spec, name_without(name, removed), *counts, kinds, new, self.kept(less, kinds, new), is_wrong, agreed is not None, plan.made)
+        kept = self.kept(less, kinds, new)
+        return ScriptResult(
+            spec, name_without(name, removed), *counts, kinds, new, kept, is_wrong, agreed is not None, plan.made, has_given_up=self.has_given_up(),
+        )
 
     def new_places(self, spec: Spec, met: Iterable[int]) -> frozenset[int]:
         """Where a script leads that none did before. One that is asked first leads there when its turn comes."""
@@ -199,7 +203,8 @@ class Explorer:
         all_kinds = alone.kinds() or (kinds_of_state(state) if self.chosen.program == "explore" else [])
         counts, kinds, none = (alone.directives, alone.directives, alone.left_out), self.unknown(all_kinds), frozenset[int]()
         self.recall.note(name, counts, all_kinds, (), none, made, self.again(spec, steps) if all_kinds else ())
-        return ScriptResult(spec, name, *counts, kinds, none, self.kept(steps, kinds, none), False, at_once is not None, made)
+        kept = self.kept(steps, kinds, none)
+        return ScriptResult(spec, name, *counts, kinds, none, kept, False, at_once is not None, made, has_given_up=self.has_given_up())
 
     def found_again(self, spec: Spec, name: bytes, known: ScriptRecord) -> ScriptResult:
         """What a script comes to that the nodes answer as before."""
@@ -231,8 +236,15 @@ class Explorer:
 
     def may_ask_at_once(self) -> bool:
         """Whether it may pay: nodes that mostly do something else than the reference are asked one call at a time from the start."""
-        is_usual = self.tried < MOST_TRIED or self.agreed * LEAST_AGREED >= self.tried
-        return self.process.hello.has_batch and "lines" not in self.chosen.comparison.aspects and is_usual
+        return self.has_batch() and not self.has_given_up()
+
+    def has_batch(self) -> bool:
+        """Whether scripts can be asked at once."""
+        return self.process.hello.has_batch and "lines" not in self.chosen.comparison.aspects
+
+    def has_given_up(self) -> bool:
+        """Whether asking at once didn't pay."""
+        return self.has_batch() and self.tried >= MOST_TRIED and self.agreed * LEAST_AGREED < self.tried
 
     def note_at_once(self, has_agreed: bool) -> None:
         self.tried, self.agreed = self.tried + 1, self.agreed + has_agreed
@@ -306,8 +318,15 @@ class Explorer:
 
     def shrunk(self, steps: Sequence[Step], kind: str, is_alone: bool, budget: Budget = Budget(MOST_RUNS)) -> list[Step]:
         """The shortest steps found that show a kind."""
-        budget = budget._replace(runs=MOST_SLOW_RUNS) if "no answer within" in kind else budget
-        return Shrinker(lambda tried: self.has(tried, kind, is_alone), budget).shrunk(list(steps))
+        return self.shortened(steps, kind, is_alone, budget).steps
+
+    def shortened(self, steps: Sequence[Step], kind: str, is_alone: bool, budget: Budget) -> Shortened:
+        """The same, with what it took."""
+        is_slow = "no answer within" in kind
+        budget = budget._replace(runs=MOST_SLOW_RUNS) if is_slow else budget
+        shrinker = Shrinker(lambda tried: self.has(tried, kind, is_alone), budget)
+        shorter = shrinker.shrunk(list(steps))
+        return Shortened(shorter, shrinker.used, shrinker.left <= 0 and not is_slow)
 
     def script(self, steps: Sequence[Step], comments: Sequence[str]) -> bytes:
         """The text of a script with the proved program's expectations; the reference's where that knows nothing of it. Comments stand above the last directive."""

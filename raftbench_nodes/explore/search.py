@@ -92,6 +92,7 @@ class Search:
         self.thrown = self.numbered = self.rounds = 0
         self.made: collections.Counter[str] = collections.Counter()
         self.scripts = self.same = self.compared = self.agreed = self.left_out = self.quick = 0
+        self.has_given_up = False  # asking scripts at once
         self.wrong: list[int] = []
         self.faults: list[str] = []  # tracebacks of the reference
 
@@ -166,6 +167,7 @@ class Search:
         self.agreed += found.agreed
         self.left_out += found.left_out
         self.quick += found.was_quick
+        self.has_given_up = self.has_given_up or found.has_given_up
         if found.is_reference_wrong:
             self.wrong.append(found.spec.number)
             self.faults += [f"{found.spec.origin()}: the reference failed:\n{found.fault}"] if found.fault else []

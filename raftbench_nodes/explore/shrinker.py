@@ -25,22 +25,31 @@ class Budget(NamedTuple):
     until: float = float("inf")
 
 
+class Shortened(NamedTuple):
+    """What shrinking came to: the steps, how many directives it took, and whether the budget ended it."""
+
+    steps: Steps
+    used: int
+    is_cut: bool
+
+
 class Shrinker:
     """`has` answers whether steps still show it; it is asked within a budget."""
 
     def __init__(self, has: Callable[[Steps], bool], budget: Budget) -> None:
         self.has, self.left, self.directives, self.until = has, budget.runs, budget.directives, budget.until
         self.tried: set[tuple[Step, ...]] = set()
+        self.used = 0  # directives
 
     def shows(self, steps: Steps) -> bool:
         key = tuple(steps)
         if self.left <= 0 or not steps or key in self.tried or any(step.block() is None for step in steps):
             return False
         self.tried.add(key)
-        self.left, self.directives = self.left - 1, self.directives - len(steps)
-        if self.directives < 0 or time.monotonic() >= self.until:
+        if self.used + len(steps) > self.directives or time.monotonic() >= self.until:
             self.left = 0
             return False
+        self.left, self.used = self.left - 1, self.used + len(steps)
         return self.has(steps)
 
     def shrunk(self, steps: Steps) -> Steps:

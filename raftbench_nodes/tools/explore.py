@@ -2,7 +2,6 @@
 from __future__ import annotations
 
 import argparse
-import dataclasses
 import functools
 import pathlib
 import sys
@@ -13,33 +12,29 @@ from plain.script import Fault, read_script
 
 from ..compare.exceptions import AcceptedKinds
 from ..compare.judge import Judge, Unjudged
-from ..compare.report import difference_lines
-from ..compare.script import Step, blocks_of
 from ..compare.made import THINGS
 from ..explore.costs import REPAIR, repair_of
-from ..explore.explorer import MOST_RUNS, WITHIN, Explorer, Settings, strictest
+from ..explore.explorer import Explorer, Settings, strictest
+from ..explore.lacking import lacking_lines
 from ..explore.library import classics, distilled
 from ..explore.remake import Remaker, remade, text_of
-from ..explore.results import KindResult, Result, order_of
-from ..explore.search import Candidate, Kind, Library, Limits, Search, contains, surprise
-from ..explore.shrinker import Budget
+from ..explore.results import Result
+from ..explore.search import Kind, Library, Limits, Search, surprise
+from ..explore.shrinking import chosen_of, shrunk_kinds, unshrunk
 from ..page.page import Mark, NoViewer, PageWriter
 from ..process.cache import default_folder
 from ..process.process import CallFailure, Process
 from ..process.workers import WorkerError, Fleet, interruptible
-from ..promises.run import run_alone
 from .arguments import MINUTES, add_common, add_comparing, add_exploring, checked, comparison_of, complain, parser_for
 
-# Kinds that are shrunk besides broken promises, all of which are; the others are counted.
-MOST_SHRUNK = 12
-# Shrinking a kind may carry out this many directives in any case, and else its share of what finding did; of the minutes it has this part.
-LEAST_DIRECTIVES, SHRINKS = 4000, 1 / 3
-# So many scripts of other kinds are tried for one.
-MOST_SHORTER = 3
+# Of the minutes shrinking has this part.
+SHRINKS = 1 / 3
 # Shrinking some kinds on each processor takes about this many seconds, twice: with what others show, and again.
 SECONDS_OF_SHRINKING = 5.0
 # So many failures of the reference are shown.
 MOST_FAULTS = 3
+# What is said if nodes that take batches are asked one call at a time.
+GAVE_UP = "scripts weren't asked at once any more, since few agreed: each call waits for its answer, which is slower; --like has switches for other rules"
 # Of how many scripts of explore one is held to promises alone, with reads and healing.
 ALONE = 6
 
@@ -96,150 +91,6 @@ class Progress:
             print("\r\x1b[K", end="", file=sys.stderr, flush=True)
 
 
-@dataclasses.dataclass(frozen=True)
-class ShrinkTask:
-    """A kind with the script to shrink."""
-
-    kind: str
-    count: int
-    first: str
-    candidate: Candidate
-    budget: Budget
-
-
-class ShrunkKind(NamedTuple):
-    """A kind with its shortest script, and how many kinds that script shows before it."""
-
-    result: KindResult
-    steps: list[Step]
-    rank: int
-
-
-class AdoptTask(NamedTuple):
-    """A kind, and scripts of others that are shorter than its own."""
-
-    item: ShrinkTask
-    shrunk: ShrunkKind
-    shorter: list[list[Step]]
-
-
-def shrink(explorer: Explorer, item: ShrinkTask) -> ShrunkKind:
-    return shown_by(explorer, item, explorer.shrunk(item.candidate.steps, item.kind, item.candidate.is_alone, item.budget))
-
-
-def adopt(explorer: Explorer, compared: AdoptTask) -> ShrunkKind:
-    """The kind with the shortest of the other scripts, if that shows it too."""
-    item = compared.item
-    found = next((steps for steps in compared.shorter if explorer.has(steps, item.kind, item.candidate.is_alone)), None)
-    return shown_by(explorer, item, found) if found else compared.shrunk
-
-
-def shown_by(explorer: Explorer, item: ShrinkTask, steps: list[Step]) -> ShrunkKind:
-    """A kind with a script that shows it."""
-    kind, candidate = item.kind, item.candidate
-    shown = shown_of(explorer, kind, steps, candidate.is_alone)
-    if shown is None:
-        shown = ["    it didn't show again: these nodes don't always do the same"]
-    first_line = f"{kind}: {candidate.origin}"
-    text = explorer.script(steps, [first_line, *(line for line in shown if line[:2] in ("- ", "+ "))])
-    texts = [step.text() for step in steps]
-    result = KindResult(kind, item.count, candidate.seed, candidate.place, texts, shown, text.decode("latin-1"), first=item.first, origin=candidate.origin)
-    kinds = [name for name, _ in explorer.kinds_of(steps, candidate.is_alone)]
-    return ShrunkKind(result, steps, kinds.index(kind) if kind in kinds else len(kinds))
-
-
-def shown_of(explorer: Explorer, kind: str, steps: Sequence[Step], is_alone: bool) -> list[str] | None:
-    """The lines that show a kind, with what the nodes said last; None where it isn't shown."""
-    if kind.endswith(WITHIN):
-        state = explorer.other_state(steps, is_alone)
-        return list(difference_lines(f"    directive {state.place}", state)) if state and state.kind() == kind else None
-    if is_alone:
-        alone = run_alone(blocks_of(steps), explorer.process, explorer.chosen.comparison)
-        if alone.failed and alone.failed.kind() == kind:
-            return list(difference_lines(f"    directive {alone.failed.place}", alone.failed))
-        return next(([f"    directive {broken.place}: {broken.text}"] for broken in alone.broken if broken.kind() == kind), None)
-    outcome = explorer.outcome(steps)
-    said = [f"    {line}" for line in (outcome.came[-1] if outcome.came else []) if line.startswith(("INFO ", "WARN ", "ERROR "))][-4:]
-    if outcome.first and outcome.first.kind() == kind:
-        return [*difference_lines(f"    directive {outcome.first.place}", outcome.first), *(["    the nodes said:"] if said else []), *said]
-    return next(([f"    directive {broken.place}: {broken.text}"] for broken in outcome.broken if broken.kind() == kind), None)
-
-
-def unshrunk(kind: Kind) -> KindResult:
-    shortest = kind.candidates[0]
-    return KindResult(kind.name, kind.count, shortest.seed, shortest.place, [], [], "", first=kind.origin())
-
-
-def chosen_of(kinds: Sequence[Kind]) -> list[Kind]:
-    """The kinds that are shrunk: each broken promise, and some more."""
-    promises = [kind for kind in kinds if kind.name.startswith("promise broken: ")]
-    more = [kind for kind in kinds if kind not in promises][:max(0, MOST_SHRUNK - len(promises))]
-    return [kind for kind in kinds if kind in promises or kind in more]
-
-
-def shrunk_kinds(fleet: Fleet, kinds: Sequence[Kind], directives: int, until: float) -> list[KindResult]:
-    """The kinds with their shortest scripts, which cost no more than finding them did. One whose script has another's in it is shrunk once more from a script
-    that hasn't, if there is one.
-    """
-    chosen = chosen_of(kinds)
-    budget = Budget(MOST_RUNS, max(LEAST_DIRECTIVES, directives // max(1, len(chosen))), until)
-    for kind in chosen:
-        fleet.give(shrink, [ShrinkTask(kind.name, kind.count, kind.origin(), kind.candidates[0], budget)])
-    results: list[ShrunkKind] = [fleet.take()[0] for _ in chosen]
-    again = {}
-    for at, kind in enumerate(chosen):
-        own = results[at].steps
-        shorter = [other.steps for other in results if len(other.steps) < len(own)]
-        hidden = next((steps for steps in shorter if contains(own, steps)), None)
-        free = next((each for each in kind.candidates[1:] if hidden and not contains(each.steps, hidden)), None)
-        if free:
-            again[at] = free
-            fleet.give(shrink, [ShrinkTask(kind.name, kind.count, kind.origin(), free, budget)])
-    for at in again:
-        results[at] = fleet.take()[0]
-    results = with_shorter(fleet, chosen, results, budget)
-    rest = [unshrunk(kind) for kind in kinds if kind not in chosen]
-    return by_cause(sorted(joined(results), key=lambda shrunk: order_of(shrunk.result))) + rest
-
-
-def with_shorter(fleet: Fleet, kinds: Sequence[Kind], results: list[ShrunkKind], budget: Budget) -> list[ShrunkKind]:
-    """Kinds that a shorter script of another shows too have that."""
-    scripts = sorted({tuple(result.steps) for result in results}, key=lambda steps: (len(steps), [step.text() for step in steps]))[:MOST_SHORTER]
-    for kind, result in zip(kinds, results):
-        item = ShrinkTask(kind.name, kind.count, kind.origin(), kind.candidates[0], budget)
-        fleet.give(adopt, [AdoptTask(item, result, [list(steps) for steps in scripts if len(steps) < len(result.steps)])])
-    return [fleet.take()[0] for _ in kinds]
-
-
-def by_cause(results: Sequence[ShrunkKind]) -> list[KindResult]:
-    """Kinds that probably have one cause stand together: a script has another's in it, or the same steps of the runner. The first is to be mended first."""
-    groups: list[list[ShrunkKind]] = []
-    for shrunk in results:
-        group = next((group for group in groups if has_cause(shrunk.steps, group[0].steps)), None)
-        if group:
-            cause = group[0].result.kind
-            group.append(shrunk._replace(result=dataclasses.replace(shrunk.result, cause=cause)))
-        else:
-            groups.append([shrunk])
-    return [shrunk.result for group in groups for shrunk in group]
-
-
-def has_cause(steps: Sequence[Step], short: Sequence[Step]) -> bool:
-    names, others = ({each.name for step in script for each in step.before} for script in (steps, short))
-    return bool(others) and names == others or len(steps) > len(short) and contains(steps, short)
-
-
-def joined(results: Sequence[ShrunkKind]) -> list[ShrunkKind]:
-    """Kinds with the same script as one: the one that the script shows first, with the names of the others."""
-    same: dict[tuple[Step, ...], list[ShrunkKind]] = {}
-    for result in results:
-        same.setdefault(tuple(result.steps), []).append(result)
-    groups = (sorted(group, key=lambda shrunk: (surprise(shrunk.result.kind), shrunk.rank)) for group in same.values())
-    return [
-        first._replace(result=dataclasses.replace(first.result, also=[other.result.kind for other in others])) for first, *others in groups
-    ]
-
-
 def make_explorer(words: Words) -> Explorer:
     return Explorer(Process(words.command, words.seconds), Judge(), words.chosen, words.remembers_in)
 
@@ -275,7 +126,7 @@ def searched(words: Words, is_stopped: Callable[[], bool]) -> Result:
         search.run(lambda: is_stopped() or is_enough(search, words, begun), progress.look)
         dropped = words.dropped | search.drop_loud_states() if words.is_calibrated else words.dropped
         kinds = shrunk_kinds(fleet, chosen_first(search.sorted_kinds(), words.is_first), search.compared, words.limits.until)
-        notes = costs(fleet, words.library)
+        notes = [*costs(fleet, words.library), *left_out(fleet, words.library), *([GAVE_UP] if search.has_given_up else [])]
         seconds = time.monotonic() - begun
         is_through = True
     except KeyboardInterrupt:
@@ -298,6 +149,14 @@ def costs(fleet: Fleet, library: Library) -> list[str]:
     for each in given:
         fleet.give(repair_of, [each])
     return [line for _ in given for line in fleet.take() if line]
+
+
+def left_out(fleet: Fleet, library: Library) -> list[str]:
+    """The classics of which the nodes can't do all."""
+    if not library.classics:
+        return []
+    fleet.give(lacking_lines, [library.classics])
+    return [line for lines in fleet.take() for line in lines]
 
 
 def write_again(words: Words, number: int) -> int:

@@ -21,6 +21,7 @@ from ..compare.stage import Reference, lacking
 from ..explore.explorer import Explorer, Settings
 from ..explore.library import folder_of_classics
 from ..explore.shrinker import Budget
+from ..explore.shrinking import shown_of
 from ..page.page import Mark, NoViewer, PageWriter
 from ..process.process import CallFailure, Process
 from ..promises.checker import PROMISES
@@ -28,7 +29,7 @@ from ..promises.run import made_by, promise_run, run_alone
 from .arguments import (
     PROGRAM, add_common, add_comparing, add_exploring, add_files, checked, comparison_of, complain, parser_for, scripts_of,
 )
-from .explore import explore, shown_of, words_of
+from .explore import explore, words_of
 
 
 class Files:

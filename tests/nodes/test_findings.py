@@ -24,10 +24,12 @@ from raftbench_nodes.compare.plan import answers_at_once, compared_at_once, plan
 from raftbench_nodes.compare.script import Step, blocks_of
 from raftbench_nodes.compare.judge import Judge
 from raftbench_nodes.explore.explorer import Explorer, ScriptResult, Settings, ShownKind, Spec
+from raftbench_nodes.explore.lacking import lacking_lines
 from raftbench_nodes.explore.library import TreeScript, distilled
 from raftbench_nodes.explore.remake import Remaker, remade
 from raftbench_nodes.explore.results import KindResult
-from raftbench_nodes.explore.search import Kind, Library, Limits, Search
+from raftbench_nodes.explore.search import Candidate, Kind, Library, Limits, Search
+from raftbench_nodes.explore.shrinking import LEAST_DIRECTIVES, AdoptTask, ShrinkTask, ShrunkKind, by_cause, chosen_of, shrunk_kinds
 from raftbench_nodes.process.delays import marked_with, waited
 from raftbench_nodes.process.process import Process
 from raftbench_nodes.promises.checker import name_of
@@ -35,7 +37,6 @@ from raftbench_nodes.promises.clusters import WatchedReference
 from raftbench_nodes.promises.run import PromiseRun
 from raftbench_nodes.protocol.answers import CallResult
 from raftbench_nodes.tools import explore, files, merge, replay
-from raftbench_nodes.tools.explore import ShrunkKind, by_cause, chosen_of
 from tests.harness import TESTS, TOP
 from tests.nodes.breaking import BEGUN, script
 from tests.nodes.test_classics import InPlace
@@ -96,6 +97,43 @@ def test_causes(room: pathlib.Path) -> Iterator[str]:
     came = [(result.kind, result.cause) for result in results]
     if came != [("a restart loses", ""), ("logs differ", "a restart loses"), ("two leaders", ""), ("no rest", "two leaders")]:
         yield f"{came}"
+
+
+class Spending:
+    """A fleet that shrinks: a script of so many steps takes twenty directives for each step but one, and is cut where its share doesn't suffice."""
+
+    def __init__(self) -> None:
+        self.results, self.used = list[ShrunkKind](), list[int]()
+
+    def give(self, task: object, chunk: list[ShrinkTask | AdoptTask]) -> None:
+        item = chunk[0]
+        if isinstance(item, AdoptTask):
+            self.used.append(sum(map(len, item.shorter)))
+            self.results.append(item.shrunk)
+            return
+        steps, used = list(item.candidate.steps), 0
+        while len(steps) > 1 and used + 20 <= item.budget.directives:
+            steps, used = steps[:-1], used + 20
+        self.used.append(used)
+        self.results.append(ShrunkKind(KindResult(item.kind, 1, 0, len(steps), [step.text() for step in steps], [], ""), steps, 0, used, len(steps) > 1))
+
+    def take(self) -> list[ShrunkKind]:
+        return [self.results.pop(0)]
+
+
+def test_shrinking_costs_no_more_than_finding(room: pathlib.Path) -> Iterator[str]:
+    """All kinds share what shrinking may cost; what one leaves others have; those that are shown first have most."""
+    kinds = []
+    for at in range(30):
+        kinds.append(Kind(f"promise broken: {at:02}"))
+        steps = tuple(Step(f"campaign {at + 1}") for _ in range(40))
+        kinds[-1].candidates.append(Candidate(40, at, at, False, steps, f"script {at}"))
+    for directives, most, fully in ((0, LEAST_DIRECTIVES, 1), (30_000, 10_000, 6), (90_000, 30_000, 25)):
+        fleet = Spending()
+        results = shrunk_kinds(fleet, kinds, directives, 1e18)  # type: ignore[arg-type]
+        lengths = [len(result.steps) for result in sorted(results, key=lambda result: result.kind)]
+        if sum(fleet.used) > most or lengths != sorted(lengths) or lengths.count(1) < fully or fleet.results:
+            yield f"of {directives}: {sum(fleet.used)} were used, {lengths}"
 
 
 class HearsNobodyEarly(Node):
@@ -222,6 +260,37 @@ def test_what_was_found_is_asked_first(room: pathlib.Path) -> Iterator[str]:
     shown = sorted({candidate.number for kind in search.kinds.values() for candidate in kind.candidates})
     if none or first[4] == {} or first != second or not asked or asked != asked_again or asked != sorted(asked) or third[4] or third[1] != third[0] or shown:
         yield f"{results}"
+
+
+class Lacking(Explorer):
+    """One whose nodes lack what they are told to, without a process."""
+
+    def __init__(self, **lacks: Any) -> None:
+        process = InPlace()
+        process.hello = process.hello._replace(**lacks)
+        super().__init__(process, Judge(is_asked=False), Settings(Comparison(), "mixed", 0, AcceptedKinds()))
+
+
+def test_what_classics_lack(room: pathlib.Path) -> Iterator[str]:
+    """Exploring names the classics that nodes can't do, and for want of what; and says if scripts aren't asked at once any more."""
+    process = InPlace()
+    process.process = subprocess.Popen("true")
+    process.process.wait()
+    given = [TreeScript("one", tuple(script("add-nodes 1", "# node: restart 1 / campaign 1"))), TreeScript("two", tuple(script("add-nodes 1", "# network: reverse 1 / compact 1 3")))]
+    for lacks, wanted in (
+        ({}, []), ({"calls": frozenset()}, ["without `restart`, steps are left out in 1 classic: one"]),
+        ({"is_ordered": True}, ["without an unordered network, steps are left out in 1 classic: two"]), ({"without": frozenset({"compact"})}, ["directives are left out in 1 classic: two"]),
+        ({"without": frozenset({"campaign", "log"})}, ["directives are left out in 2 classics: one, two"]),
+    ):
+        explorer = Lacking(**lacks)
+        explorer.process.process = process.process
+        if (came := lacking_lines(explorer, given)) != wanted:
+            yield f"{lacks}: {came}"
+    for has_batch, tried, agreed, wanted_so in ((True, 40, 6, True), (True, 40, 7, False), (True, 39, 0, False), (False, 99, 0, False)):
+        explorer = Lacking(has_batch=has_batch)
+        explorer.tried, explorer.agreed = tried, agreed
+        if explorer.has_given_up() != wanted_so or explorer.may_ask_at_once() == (wanted_so or not has_batch):
+            yield f"{has_batch}, {agreed} of {tried}: {explorer.has_given_up()}"
 
 
 class InOrder(Noted):
