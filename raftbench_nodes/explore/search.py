@@ -13,7 +13,8 @@ from ..process.workers import Fleet
 from .explorer import WITHIN, CorpusScript, Explorer, ScriptResult, ShownKind, Spec
 from .library import TreeScript
 
-ROUND, CHUNK = 96, 6
+# A slow script holds up those in its chunk alone, so chunks are short.
+ROUND, CHUNK = 96, 2
 # Rounds under way: a round is made when this many before it are through.
 AHEAD = 2
 MOST_CANDIDATES = 12

@@ -162,17 +162,21 @@ class Promises:
         """A leader's commit has moved: the entry there is of its term, and a quorum has it."""
         if not self.shows("log", "commit", "config") or node.commit <= node.base:
             return
-        at = node.commit
-        entry = next((entry for index, entry in node.entries_from(at) if index == at), None)
+        at, entry = node.commit, self.look_at_own_term(node)
 
         def holds(id: int) -> bool:
             other = nodes.get(id)
             return id == node.id or other is not None and (other.base >= at or (at, entry) in other.entries_from(at))
 
-        if entry is None or entry.term != node.term:
-            self.note(f"a quorum holds what a leader commits: {node.id} commits {at}, which is not of its term {node.term}")
-        elif not both(node.config, holds):
+        if entry and entry.term == node.term and not both(node.config, holds):
             self.note(f"a quorum holds what a leader commits: {node.id} commits {at}, which {[id for id in sorted(nodes) if holds(id)]} have")
+
+    def look_at_own_term(self, node: AnyNode) -> Entry | None:
+        """What a leader has committed last is of its term (3.6.2); answers the entry."""
+        entry = next((entry for index, entry in node.entries_from(node.commit) if index == node.commit), None)
+        if entry is None or entry.term != node.term:
+            self.note(f"a quorum holds what a leader commits: {node.id} commits {node.commit}, which is not of its term {node.term}")
+        return entry
 
     # After each directive
 

@@ -28,7 +28,14 @@ class TermRules(Ruled):
     def start_from(self, disk: Disk) -> None:
         super().start_from(disk)
         if self.is_lone_leader():
-            self.lead_on()
+            self.lead_alone()
+
+    def lead_alone(self) -> None:
+        """A lone voter leads, in its term or in the next."""
+        if self.on("lone-voter-begins-term"):
+            self.reset(self.term + 1)
+            self.vote = self.id
+        self.lead_on()
 
     def is_lone_leader(self) -> bool:
         return self.on("lone-voter-leads") and self.config.voters() == {self.id}
@@ -107,7 +114,7 @@ class TermRules(Ruled):
 
     def campaign(self, kind: str = "usual") -> None:
         if self.is_lone_leader() and self.why_not_now(kind) is None:
-            return self.lead_on()
+            return self.lead_alone()
         timeout = self.timeout
         if self.role == "candidate" and kind == "usual":
             kind = self.kind_again()
@@ -200,7 +207,10 @@ class TermRules(Ruled):
         if self.on("quorum-by-last-answers"):
             self.elapsed = 0
             self.end_transfer()
-        return self.on("quorum-by-last-answers") or super().keeps_lead()
+        is_kept = self.on("quorum-by-last-answers") or super().keeps_lead()
+        if not is_kept and self.on("lost-quorum-asks-at-once"):
+            self.campaign()
+        return is_kept
 
     def is_of_next_term(self, m: Message) -> bool:
         """Whether a precandidate is refused in the term that it asks for."""

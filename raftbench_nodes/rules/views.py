@@ -219,6 +219,8 @@ class ViewRules(Ruled):
             return self.install(m, m.snapshot)
         if m.snapshot.index > self.commit and self.is_left_out(m.snapshot.config):
             return self.answer_append(m, index=self.commit)
+        if self.on("skipped-snapshot-keeps-commit") and m.snapshot.index > self.commit and self.term_at(m.snapshot.index) == m.snapshot.term:
+            return self.answer_append(m, index=m.snapshot.index)
         return super().take_snapshot(m)
 
     def install(self, m: Message, new: Snapshot) -> None:

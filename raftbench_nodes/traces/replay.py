@@ -233,6 +233,7 @@ class Replay:
         self.is_by_hand = self.is_by_hand or name == "changed" or name == "start" and id in self.nodes
         if name == "snapshot":
             return
+        was = (self.nodes[id].role, self.nodes[id].term, self.nodes[id].commit) if id in self.nodes else None
         if name not in ("log", "ready", "status"):
             state = state_of(Parts(record.answer, ""), without)
             if id not in self.nodes:
@@ -246,11 +247,14 @@ class Replay:
             node.shown_log = log_in(Parts(shows_log.answer, ""), without)
         if name not in ("ready", "status"):
             node.is_log_known = shows_log is not None and "log" not in without
-        if self.is_by_hand:
-            return
         self.promises.without = without if node.is_log_known else without | {"log"}
-        self.note_unchecked(node, node.is_log_known, name)
-        self.look(record, node)
+        if not self.is_by_hand:
+            self.note_unchecked(node, node.is_log_known, name)
+            self.look(record, node)
+        elif name not in ("changed", "start", "restart") and was and was[:2] == ("leader", node.term) and node.commit > max(was[2], node.base):
+            # Whatever was done to it before.
+            if self.promises.shows("log", "commit"):
+                self.promises.look_at_own_term(node)
         for text in self.promises.broken[self.broken:]:
             if name_of(text) not in self.ignored:
                 yield TraceFinding(f"promise broken: {name_of(text)}", record.place, (), (text,))
