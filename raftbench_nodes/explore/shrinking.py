@@ -140,12 +140,15 @@ class Shrinking:
         for _ in range(ROUNDS - 1):
             cut = [at for at, result in enumerate(results) if result.is_cut]
             cut = [at for at, share in zip(cut, self.purse.shares(len(cut))) if share >= LEAST_SHARE]
-            if not cut or time.monotonic() >= self.until:
+            if not cut or self.is_late():
                 break
             again = [dataclasses.replace(tasks[at], candidate=tasks[at].candidate._replace(steps=tuple(results[at].steps))) for at in cut]
             for at, result in zip(cut, self.round(again)):
                 results[at] = result
         return results
+
+    def is_late(self) -> bool:
+        return time.monotonic() >= self.until
 
     def round(self, tasks: Sequence[ShrinkTask]) -> list[ShrunkKind]:
         for task, share in zip(tasks, self.purse.shares(len(tasks))):
@@ -163,7 +166,7 @@ class Shrinking:
             free = next((each for each in kind.candidates[1:] if hidden and not contains(each.steps, hidden)), None)
             if free:
                 again[at] = dataclasses.replace(task, candidate=free)
-        if again and self.purse.shares(len(again))[-1] >= LEAST_SHARE:
+        if again and self.purse.shares(len(again))[-1] >= LEAST_SHARE and not self.is_late():
             for at, result in zip(again, self.round(list(again.values()))):
                 results[at] = result
         return results
@@ -174,7 +177,7 @@ class Shrinking:
         tried = []
         for at, (task, result) in enumerate(zip(tasks, results)):
             shorter = [list(steps) for steps in scripts if len(steps) < len(result.steps)]
-            if shorter and self.purse.pay(sum(map(len, shorter))):
+            if shorter and not self.is_late() and self.purse.pay(sum(map(len, shorter))):
                 tried.append(at)
                 self.fleet.give(adopt, [AdoptTask(task, result, shorter)])
         for at in tried:

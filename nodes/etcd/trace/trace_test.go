@@ -20,8 +20,48 @@ var traceFile = os.Getenv("RAFT_TRACE")
 var tracer struct {
 	out     *os.File
 	network *network
+	alone   *raft             // of a test without a network
 	known   map[uint64]string // what each node was after its last call
 	elapsed map[uint64]int
+}
+
+func init() {
+	if traceFile != "" {
+		stepHook = stepAlone
+	}
+}
+
+// stepAlone is a step that a test takes by hand, with a node of no network. The trace says that the node was changed before: so it isn't compared.
+func stepAlone(r *raft, m pb.Message) error {
+	if !isOfTest() || tracer.network != nil && tracer.network.peers[r.id] == stateMachine(r) || !canBeShown(r) {
+		return r.stepped(m)
+	}
+	if tracer.alone != r {
+		open()
+		tracer.network, tracer.alone = nil, r
+		write(object{"call": "reset", "name": testName()}, object{})
+	}
+	call := callOf(r, m)
+	write(object{"call": "changed", "node": r.id}, object{"state": shownState(r)})
+	err := r.stepped(m)
+	if canBeShown(r) {
+		write(call, object{"state": shownState(r)})
+		write(object{"call": "log", "node": r.id}, shownLog(r))
+	}
+	return err
+}
+
+// canBeShown says whether a test has made up a node of which not even a log can be read.
+func canBeShown(r *raft) (can bool) {
+	defer func() { can = recover() == nil }()
+	shownLog(r)
+	return true
+}
+
+// isOfTest says whether a test itself takes a step.
+func isOfTest() bool {
+	caller, file, _, ok := runtime.Caller(3)
+	return ok && strings.HasSuffix(file, "_test.go") && strings.Contains(runtime.FuncForPC(caller).Name(), ".Test")
 }
 
 // tracedStep is what `network.send` does with a message: it delivers it, and takes what the node sends.
@@ -51,16 +91,22 @@ func (nw *network) begin() {
 	if tracer.network == nw {
 		return
 	}
-	if tracer.out == nil {
-		var err error
-		if tracer.out, err = os.Create(traceFile); err != nil {
-			panic(err)
-		}
-		without := []string{"applied", "config", "content", "durable", "ready", "status", "sync", "torn"}
-		write(object{"call": "hello", "protocol": 1}, object{"name": "etcd's unit tests", "protocol": 1, "without": without})
-	}
-	tracer.network, tracer.known, tracer.elapsed = nw, map[uint64]string{}, map[uint64]int{}
+	open()
+	tracer.alone, tracer.network, tracer.known, tracer.elapsed = nil, nw, map[uint64]string{}, map[uint64]int{}
 	write(object{"call": "reset", "name": testName()}, object{})
+}
+
+// open begins the trace.
+func open() {
+	if tracer.out != nil {
+		return
+	}
+	var err error
+	if tracer.out, err = os.Create(traceFile); err != nil {
+		panic(err)
+	}
+	without := []string{"applied", "content", "durable", "ready", "status", "sync", "torn"}
+	write(object{"call": "hello", "protocol": 1}, object{"name": "etcd's unit tests", "protocol": 1, "without": without})
 }
 
 // resume writes what has happened to a node since its last call. A test may let time pass, or change a node by hand: a follower then
@@ -123,7 +169,9 @@ func callOf(r *raft, m pb.Message) object {
 
 func shownState(r *raft) object {
 	role := strings.ToLower(strings.TrimPrefix(r.state.String(), "State"))
-	return object{"role": role, "term": r.Term, "vote": r.Vote, "lead": r.lead, "commit": r.raftLog.committed, "ready": false}
+	s := r.prs.ConfState()
+	config := object{"voters": s.Voters, "outgoing": s.VotersOutgoing, "learners": s.Learners, "next": s.LearnersNext, "auto": s.AutoLeave}
+	return object{"role": role, "term": r.Term, "vote": r.Vote, "lead": r.lead, "commit": r.raftLog.committed, "config": config, "ready": false}
 }
 
 func shownLog(r *raft) object {

@@ -15,11 +15,17 @@ import (
 )
 
 // A cluster of etcd's nodes that runs by the real clock: a goroutine a node, ticks of 10 ms, timeouts that are drawn, and a network that loses and
-// delays messages. Each node writes its calls and answers into a file of its own, as a trace for nodes/replay.
+// delays messages, and cuts one node off now and then, so that leaders change while entries are on their way. Each node writes its calls and answers into a file of its own, as a trace for nodes/replay.
 //
 //     live FOLDER SECONDS
 
 const liveNodes = 3
+
+// An append has one entry: so a new leader brings what a follower lacks of earlier terms before its own.
+const mostBytes = 1
+
+// A node is cut off for this long, and then for as long none.
+const cutOff = 150 * time.Millisecond
 
 // answer is an object of the protocol, by its parts.
 type answer map[string]interface{}
@@ -58,10 +64,10 @@ func begin(folder string, id uint64, ids []uint64) *member {
 	must(err)
 	m := &member{out: out, inbox: make(chan pb.Message, 1000), propose: make(chan []byte, 1000)}
 	base := raftbench.Snapshot{Index: 10, Term: 1, Config: raftbench.Config{Voters: ids}}
-	m.node = start(raftbench.Start{Node: id, Base: base, Options: raftbench.Options{Inflight: 256}})
+	m.node = start(raftbench.Start{Node: id, Base: base, Options: raftbench.Options{Inflight: 256, MaxSizePerMsg: mostBytes}})
 	m.write(answer{"call": "hello", "protocol": 1}, answer{"name": "live cluster", "protocol": 1, "without": []string{"status", "sync"}})
 	m.Settle()
-	m.write(answer{"call": "start", "node": id, "at": seconds(), "base": base, "options": answer{"inflight": 256}}, m.said())
+	m.write(answer{"call": "start", "node": id, "at": seconds(), "base": base, "options": answer{"inflight": 256, "max_size_per_msg": mostBytes}}, m.said())
 	return m
 }
 
@@ -119,7 +125,7 @@ func (m *member) declined(err error) {
 	}
 }
 
-// handleReady saves and applies, and then sends: a tenth of the messages is lost, and all are late.
+// handleReady saves and applies, and then sends: a tenth of the messages is lost, all of a node that is cut off, and all are late.
 func (m *member) handleReady(members map[uint64]*member) {
 	at := seconds()
 	shown := m.Ready()
@@ -128,10 +134,16 @@ func (m *member) handleReady(members map[uint64]*member) {
 	m.call("advance", answer{}, m.Advance)
 	for _, message := range messages {
 		message := message
-		if rand.Intn(10) > 0 {
+		if rand.Intn(10) > 0 && !isCutOff(message.From) && !isCutOff(message.To) {
 			time.AfterFunc(time.Duration(rand.Intn(8))*time.Millisecond, func() { members[message.To].inbox <- message })
 		}
 	}
+}
+
+// isCutOff says whether it is now a node's turn to be cut off.
+func isCutOff(id uint64) bool {
+	turn := uint64(time.Since(begun) / cutOff)
+	return turn%2 == 1 && turn/2%liveNodes+1 == id
 }
 
 var begun = time.Now()
