@@ -18,9 +18,11 @@ from .shrinker import Budget
 MOST_SHRUNK = 12
 # Shrinking may carry out this many directives in any case. Else it may carry out a part of those of the search: many of these were asked at once, which
 # takes a third of the time.
-LEAST_DIRECTIVES, PART = 4000, 3
+LEAST_DIRECTIVES, PART = 8000, 3
+# So many kinds are shrunk at first, and then so many, and then the others: what a short script shows too needs no shrinking.
+FIRST = 1, 3
 # Scripts whose share didn't suffice get what others have left, in so many rounds; shares of fewer directives are none.
-ROUNDS, LEAST_SHARE = 3, 100
+ROUNDS, LEAST_SHARE = 2, 100
 # So many scripts of other kinds are tried for one.
 MOST_SHORTER = 3
 
@@ -37,13 +39,17 @@ class ShrinkTask:
 
 
 class ShrunkKind(NamedTuple):
-    """A kind with its shortest script, how many kinds that script shows before it, the directives that it took, and whether more might shorten it."""
+    """A kind with its shortest script, all kinds that this shows, the directives that it took, and whether more might shorten it."""
 
     result: KindResult
     steps: list[Step]
-    rank: int
+    kinds: tuple[str, ...] = ()
     used: int = 0
     is_cut: bool = False
+
+    def rank(self) -> int:
+        """How many kinds the script shows before this one."""
+        return self.kinds.index(self.result.kind) if self.result.kind in self.kinds else len(self.kinds)
 
 
 class AdoptTask(NamedTuple):
@@ -76,8 +82,7 @@ def shown_by(explorer: Explorer, item: ShrinkTask, steps: list[Step]) -> ShrunkK
     text = explorer.script(steps, [first_line, *(line for line in shown if line[:2] in ("- ", "+ "))])
     texts = [step.text() for step in steps]
     result = KindResult(kind, item.count, candidate.seed, candidate.place, texts, shown, text.decode("latin-1"), first=item.first, origin=candidate.origin)
-    kinds = [name for name, _ in explorer.kinds_of(steps, candidate.is_alone)]
-    return ShrunkKind(result, steps, kinds.index(kind) if kind in kinds else len(kinds))
+    return ShrunkKind(result, steps, tuple(name for name, _ in explorer.kinds_of(steps, candidate.is_alone)))
 
 
 def shown_of(explorer: Explorer, kind: str, steps: Sequence[Step], is_alone: bool) -> list[str] | None:
@@ -135,23 +140,41 @@ class Shrinking:
         self.fleet, self.purse, self.until = fleet, purse, until
 
     def shrunk(self, tasks: Sequence[ShrinkTask]) -> list[ShrunkKind]:
-        """Shrinks each script, and those whose share didn't suffice again."""
-        results = self.round(tasks)
-        for _ in range(ROUNDS - 1):
-            cut = [at for at, result in enumerate(results) if result.is_cut]
-            cut = [at for at, share in zip(cut, self.purse.shares(len(cut))) if share >= LEAST_SHARE]
+        """Shrinks each script, but those of kinds that a shorter one shows; and at the end those again whose share didn't suffice."""
+        results: dict[int, ShrunkKind] = {}
+        for size in (*FIRST, len(tasks)):
+            waiting = [at for at in range(len(tasks)) if at not in results]
+            batch = waiting[:size]
+            results.update(zip(batch, self.round([tasks[at] for at in batch], self.purse.shares(len(waiting)))))
+            results.update(self.adopted(tasks, [results[at] for at in batch], waiting[size:]))
+        for _ in range(ROUNDS):
+            cut = [at for at in range(len(tasks)) if results[at].is_cut]
+            shares = self.purse.shares(len(cut))
+            cut = [at for at, share in zip(cut, shares) if share >= LEAST_SHARE]
             if not cut or self.is_late():
                 break
             again = [dataclasses.replace(tasks[at], candidate=tasks[at].candidate._replace(steps=tuple(results[at].steps))) for at in cut]
-            for at, result in zip(cut, self.round(again)):
-                results[at] = result
-        return results
+            results.update(zip(cut, self.round(again, shares)))
+        return [results[at] for at in range(len(tasks))]
+
+    def adopted(self, tasks: Sequence[ShrinkTask], shorter: Sequence[ShrunkKind], waiting: Sequence[int]) -> dict[int, ShrunkKind]:
+        """The kinds of tasks that wait, which one of some shorter scripts shows too."""
+        tried = []
+        for at in waiting:
+            task = tasks[at]
+            found = next((each for each in shorter if task.kind in each.kinds and len(each.steps) < len(task.candidate.steps)), None)
+            if found and self.purse.pay(len(found.steps)):
+                tried.append(at)
+                unshrunk_yet = ShrunkKind(found.result, list(task.candidate.steps), is_cut=True)
+                self.fleet.give(adopt, [AdoptTask(task, unshrunk_yet, [found.steps])])
+        adopted = {at: self.fleet.take()[0] for at in tried}
+        return {at: result for at, result in adopted.items() if result.result.kind == tasks[at].kind}
 
     def is_late(self) -> bool:
         return time.monotonic() >= self.until
 
-    def round(self, tasks: Sequence[ShrinkTask]) -> list[ShrunkKind]:
-        for task, share in zip(tasks, self.purse.shares(len(tasks))):
+    def round(self, tasks: Sequence[ShrinkTask], shares: Sequence[int]) -> list[ShrunkKind]:
+        for task, share in zip(tasks, shares):
             self.fleet.give(shrink, [dataclasses.replace(task, budget=Budget(MOST_RUNS, share, self.until))])
         results: list[ShrunkKind] = [self.fleet.take()[0] for _ in tasks]
         self.purse.pay(min(self.purse.left, sum(result.used for result in results)))
@@ -167,7 +190,7 @@ class Shrinking:
             if free:
                 again[at] = dataclasses.replace(task, candidate=free)
         if again and self.purse.shares(len(again))[-1] >= LEAST_SHARE and not self.is_late():
-            for at, result in zip(again, self.round(list(again.values()))):
+            for at, result in zip(again, self.round(list(again.values()), self.purse.shares(len(again)))):
                 results[at] = result
         return results
 
@@ -218,7 +241,7 @@ def joined(results: Sequence[ShrunkKind]) -> list[ShrunkKind]:
     same: dict[tuple[Step, ...], list[ShrunkKind]] = {}
     for result in results:
         same.setdefault(tuple(result.steps), []).append(result)
-    groups = (sorted(group, key=lambda shrunk: (surprise(shrunk.result.kind), shrunk.rank)) for group in same.values())
+    groups = (sorted(group, key=lambda shrunk: (surprise(shrunk.result.kind), shrunk.rank())) for group in same.values())
     return [
         first._replace(result=dataclasses.replace(first.result, also=[other.result.kind for other in others])) for first, *others in groups
     ]

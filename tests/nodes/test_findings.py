@@ -78,7 +78,7 @@ def test_states_within_directives(room: pathlib.Path) -> Iterator[str]:
 
 
 def shrunk(kind: str, *lines: str) -> ShrunkKind:
-    return ShrunkKind(KindResult(kind, 1, 0, len(lines), list(lines), [], ""), script(*lines), 0)
+    return ShrunkKind(KindResult(kind, 1, 0, len(lines), list(lines), [], ""), script(*lines))
 
 
 def test_causes(room: pathlib.Path) -> Iterator[str]:
@@ -115,7 +115,7 @@ class Spending:
         while len(steps) > 1 and used + 20 <= item.budget.directives:
             steps, used = steps[:-1], used + 20
         self.used.append(used)
-        self.results.append(ShrunkKind(KindResult(item.kind, 1, 0, len(steps), [step.text() for step in steps], [], ""), steps, 0, used, len(steps) > 1))
+        self.results.append(ShrunkKind(KindResult(item.kind, 1, 0, len(steps), [step.text() for step in steps], [], ""), steps, (), used, len(steps) > 1))
 
     def take(self) -> list[ShrunkKind]:
         return [self.results.pop(0)]
@@ -128,7 +128,7 @@ def test_shrinking_costs_no_more_than_finding(room: pathlib.Path) -> Iterator[st
         kinds.append(Kind(f"promise broken: {at:02}"))
         steps = tuple(Step(f"campaign {at + 1}") for _ in range(40))
         kinds[-1].candidates.append(Candidate(40, at, at, False, steps, f"script {at}"))
-    for directives, most, fully in ((0, LEAST_DIRECTIVES, 1), (30_000, 10_000, 6), (90_000, 30_000, 25)):
+    for directives, most, fully in ((0, LEAST_DIRECTIVES, 3), (30_000, 10_000, 5), (90_000, 30_000, 25)):
         fleet = Spending()
         results = shrunk_kinds(fleet, kinds, directives, 1e18)  # type: ignore[arg-type]
         lengths = [len(result.steps) for result in sorted(results, key=lambda result: result.kind)]

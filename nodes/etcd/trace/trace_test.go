@@ -21,6 +21,7 @@ var tracer struct {
 	out     *os.File
 	network *network
 	alone   *raft             // of a test without a network
+	steps   int               // that were taken with it
 	known   map[uint64]string // what each node was after its last call
 	elapsed map[uint64]int
 }
@@ -31,6 +32,9 @@ func init() {
 	}
 }
 
+// A test may take thousands of steps by hand: so many of one node are written.
+const mostAlone = 20
+
 // stepAlone is a step that a test takes by hand, with a node of no network. The trace says that the node was changed before: so it isn't compared.
 func stepAlone(r *raft, m pb.Message) error {
 	if !isOfTest() || tracer.network != nil && tracer.network.peers[r.id] == stateMachine(r) || !canBeShown(r) {
@@ -38,8 +42,11 @@ func stepAlone(r *raft, m pb.Message) error {
 	}
 	if tracer.alone != r {
 		open()
-		tracer.network, tracer.alone = nil, r
+		tracer.network, tracer.alone, tracer.steps = nil, r, 0
 		write(object{"call": "reset", "name": testName()}, object{})
+	}
+	if tracer.steps++; tracer.steps > mostAlone {
+		return r.stepped(m)
 	}
 	call := callOf(r, m)
 	write(object{"call": "changed", "node": r.id}, object{"state": shownState(r)})
