@@ -272,7 +272,11 @@ class Replay:
         else:
             self.note_options(record, id)
             self.look_at_saved(record, node)
-            self.promises.look(node, self.nodes, name == "restart", message_of(record))
+            message = message_of(record)
+            if message and message.kind == "MsgVoteResp" and not message.refused and message.sender not in self.nodes:
+                # Of nodes that aren't in the trace no more than that is known.
+                self.promises.votes.setdefault((message.sender, message.term), id)
+            self.promises.look(node, self.nodes, name == "restart", message)
 
     def look_at_ready(self, node: TracedNode, ready: Ready) -> None:
         """What is ready is saved once `advance` follows. Reads are looked at if the trace says where they were asked for."""
