@@ -60,6 +60,7 @@ SWITCHES = {
     "pre-vote-ignores-vote": "a pre-vote is granted whoever the node voted for in that term",
     "pre-vote-refusal-keeps-term": "a pre-vote that is refused in the next term changes nothing at a precandidate",
     "pre-vote-answer-has-asked-term": "a refused pre-vote is answered with the term that was asked for",
+    "pre-vote-brings-term": "a request for a pre-vote brings the term before the one that it asks for: its sender's",
     "transfer-needs-whole-log": "who is told to campaign does so only if the leader that it knows tells it, and if its log ends as the leader's",
     "nonvoter-refuses": "a node that isn't a voter of its configuration refuses candidates",
     "known-leader-refuses": "a node that knows a leader refuses candidates, even if it has heard nothing for long",

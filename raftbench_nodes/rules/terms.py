@@ -64,6 +64,8 @@ class TermRules(Ruled):
         return super().count_vote(m)
 
     def raise_term(self, m: Message) -> None:
+        if self.on("pre-vote-brings-term") and m.kind == "MsgPreVote" and m.term - 1 > self.term:
+            return self.follow(m.term - 1, 0)
         if self.on("heartbeat-answers-have-no-term") and m.kind == "MsgHeartbeatResp":
             return
         if self.on("answers-need-their-role") and m.kind in ANSWERS and self.role not in ASKERS.get(m.kind, ("leader",)):
@@ -186,7 +188,8 @@ class TermRules(Ruled):
 
     def lead_on(self) -> None:
         self.led_at, self.heard = self.ticks, {}
-        self.commit = max(self.commit, self.durable) if self.is_lone_leader() else self.commit
+        if self.is_lone_leader() and not self.on("lone-voter-begins-term"):
+            self.commit = max(self.commit, self.durable)
         super().lead_on()
 
     def new_view(self, id: int, active: bool) -> None:

@@ -141,6 +141,7 @@ LEADERS = [
     Row("quorum-by-last-answers", ("add-nodes 2 voters=(1,2) index=10 checkquorum=true", "campaign 1", "stabilize", *["tick-heartbeat 1"] * 3), of(1, "role"), ("leader",), ("leader",)),
     Row("quorum-by-last-answers", ("add-nodes 2 voters=(1,2) index=10 checkquorum=true", "campaign 1", "stabilize", *["tick-heartbeat 1"] * 4), of(1, "role"), ("leader",), ("follower",)),
     Row("lost-quorum-asks-at-once", ("add-nodes 2 voters=(1,2) index=10 checkquorum=true prevote=true", "campaign 1", "stabilize", *["tick-heartbeat 1"] * 6), of(1, "role"), ("follower",), ("precandidate",)),
+    Row("pre-vote-brings-term", ("add-nodes 3 voters=(1,2,3) index=10 prevote=true", "campaign 1", "stabilize 1 2", "deliver-msgs drop=3", "campaign 2", "process-ready 2", "deliver-msgs 3"), of(3, "term"), (0,), (1,)),
     Row("lone-voter-begins-term", ("add-nodes 1 voters=1 index=10",), of(1, "role", "term", "vote"), ("leader", 0, 0), ("leader", 1, 1), ("lone-voter-leads",)),
     Row("lone-voter-begins-term", ("add-nodes 1 voters=1 index=10", "process-ready 1", "# node: restart 1 / raft-state"), of(1, "role", "term"), ("leader", 0), ("leader", 2), ("lone-voter-leads",)),
     Row("skipped-snapshot-keeps-commit", (*THREE, "propose 1 a", "process-ready 1", "deliver-msgs 2", "process-ready 2", "stabilize 1 3", "send-snapshot 1 2", "deliver-msgs 2 type=MsgSnap"), of(2, "commit"), (12,), (11,)),
