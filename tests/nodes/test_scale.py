@@ -125,7 +125,7 @@ def test_a_fault_is_no_finding(room: pathlib.Path) -> None:
 
 
 # What each tool of nodes/ prints goes to a full disk.
-PRINTING = {
+PRINTING: dict[str, list[str]] = {
     "run": ["--with", "nodes/plain", "examples/tour/01-election.txt"], "promises": ["--with", "nodes/plain", "examples/tour/01-election.txt"],
     "explore": ["--with", "nodes/first", "--count", "1", "--fresh", "--jobs", "1", "--seed", "0"], "switches": ["--with", "nodes/plain", "examples/tour/01-election.txt"],
     "shrink": ["--with", "nodes/first", "examples/tour/01-election.txt"], "replay": ["nodes/trace/refused.txt"], "merge": ["--help"], "plain": [],
