@@ -277,11 +277,12 @@ def test_what_classics_lack(room: pathlib.Path) -> Iterator[str]:
     process.process = subprocess.Popen("true")
     process.process.wait()
     given = [TreeScript("one", tuple(script("add-nodes 1", "# node: restart 1 / campaign 1"))), TreeScript("two", tuple(script("add-nodes 1", "# network: reverse 1 / compact 1 3")))]
-    for lacks, wanted in (
+    cases: list[tuple[dict[str, Any], list[str]]] = [
         ({}, []), ({"calls": frozenset()}, ["without `restart`, steps are left out in 1 classic: one"]),
         ({"is_ordered": True}, ["without an unordered network, steps are left out in 1 classic: two"]), ({"without": frozenset({"compact"})}, ["directives are left out in 1 classic: two"]),
         ({"without": frozenset({"campaign", "log"})}, ["directives are left out in 2 classics: one, two"]),
-    ):
+    ]
+    for lacks, wanted in cases:
         explorer = Lacking(**lacks)
         explorer.process.process = process.process
         if (came := lacking_lines(explorer, given)) != wanted:
