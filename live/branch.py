@@ -79,7 +79,7 @@ class Branch:
     def run(self, data: bytes) -> Rows:
         if len(data) > MOST_BYTES:
             raise Refused("the script would be longer than 4,194,304 bytes")
-        return self.program.rows(data).sharing(self.shown.rows) if data else Rows()
+        return self.program.rows(data, self.shown.rows) if data else Rows()
 
     def show_text(self, data: bytes) -> None:
         """Takes a text as the script. Raises Refused, and keeps the old one, if the program refuses it."""

@@ -46,6 +46,11 @@ class Live:
         self.home = 1
         first.keep(0)
 
+    def warm(self) -> None:
+        """Loads the session that the first edit needs."""
+        with self.lock:
+            self.branches[self.home].ready()
+
     def close(self) -> None:
         with self.lock:
             for branch in self.branches.values():

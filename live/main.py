@@ -43,6 +43,7 @@ def words_of(words: list[str]) -> argparse.Namespace:
 
 def watch(live: Live) -> None:
     """Looks a few times a second whether another program changed the file."""
+    live.warm()
     while True:
         time.sleep(LOOKS_EVERY)
         if live.file.has_changed():

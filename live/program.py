@@ -9,16 +9,17 @@ import shutil
 import subprocess
 from collections.abc import Sequence
 
-from .rows import Rows, read
+from .rows import NO_ROWS, Rows, read
 
 MOST_SECONDS = 120
-BEGIN, END = b'<script type="application/json" id="steps">', b"</script>"
+BEGIN = b'<script type="application/json" id="steps">'
 
 
-def rows_in(page: bytes) -> bytes | None:
-    """The rows that a page has."""
+def rows_in(page: bytes) -> tuple[int, int] | None:
+    """Between which places a page has its rows."""
     start = page.find(BEGIN) + len(BEGIN)
-    return page[start:page.index(END, start)] if start >= len(BEGIN) else None
+    # Rows have no character of an element: the first one ends them.
+    return (start, page.index(b"<", start)) if start >= len(BEGIN) else None
 
 
 class Refused(Exception):
@@ -46,13 +47,13 @@ class Program:
     path: pathlib.Path
     may_save: bool = True
 
-    def rows(self, data: bytes) -> Rows:
-        """Runs a script. Raises Refused with what is wrong with it."""
+    def rows(self, data: bytes, old: Rows = NO_ROWS) -> Rows:
+        """Runs a script. Shares the texts of other rows where they are equal. Raises Refused with what is wrong with the script."""
         status, output, said = self.page(data)
         found = rows_in(output)
         if found is None:
             raise Refused(said.removeprefix("raftbench: ") or f"the program ended with status {status}")
-        return read(found)
+        return read(output, *found, old)
 
     def page(self, data: bytes) -> tuple[int, bytes, str]:
         """The page of a script, as the program writes it."""

@@ -14,6 +14,8 @@ from typing import Any
 from .blocks import Block
 
 STEP = b'\n["step",'
+HEAD = STEP + b"%d],"
+NUMBER = re.compile(re.escape(STEP) + rb"(\d+)\],")
 END = re.compile(rb'\n(?=\["(?:warning|end)",)')
 
 
@@ -33,24 +35,52 @@ class Rows:
     def of_directive(self, place: int) -> list[list[Any]]:
         return listed(self.steps[place - 1])
 
-    def sharing(self, old: Rows) -> Rows:
-        """The same, with the old one's texts where they are equal: what is kept of both is kept once."""
-        front, back = ends(self.steps, old.steps)
-        steps = (*old.steps[:front], *self.steps[front:len(self.steps) - back], *old.steps[len(old.steps) - back:])
-        return dataclasses.replace(self, steps=steps)
+
+NO_ROWS = Rows()
 
 
-def read(raw: bytes) -> Rows:
-    """Cuts rows as the program writes them."""
-    front, *parts = raw.split(STEP)
-    *rest, last = parts or [front]
-    cut = END.search(last)
-    at, after = (cut.start(), cut.end()) if cut else (len(last), len(last))
-    end = last[after:].rstrip(b"\n")
-    if not parts:
-        return Rows(front[:at], (), (), end)
-    pairs = [part.split(b"],", 1) for part in [*rest, last[:at]]]
-    return Rows(front, tuple(int(line) for line, _ in pairs), tuple(step for _, step in pairs), end)
+def read(page: bytes, start: int, stop: int, old: Rows = NO_ROWS) -> Rows:
+    """Cuts the rows that are between two places of a page. Directives at the beginning and at the end whose rows are as they were aren't cut again:
+    the old texts are kept of them."""
+    first = page.find(STEP, start, stop)
+    cut = END.search(page, page.rfind(STEP, start, stop) if first >= 0 else start, stop)
+    last, rest = (cut.start(), page[cut.end():stop]) if cut else (stop, b"")
+    if first < 0:
+        return Rows(page[start:last], (), (), rest.rstrip(b"\n"))
+    front, begin = _same_front(page, first, last, old)
+    back, until, moved = _same_back(page, begin, last, old, front)
+    pairs = [part.split(b"],", 1) for part in page[begin:until].split(STEP)[1:]]
+    after = len(old.steps) - back
+    heads = (*old.heads[:front], *(int(line) for line, _ in pairs), *(line + moved for line in old.heads[after:]))
+    return Rows(page[start:first], heads, (*old.steps[:front], *(step for _, step in pairs), *old.steps[after:]), rest.rstrip(b"\n"))
+
+
+def _same_front(page: bytes, at: int, last: int, old: Rows) -> tuple[int, int]:
+    """How many directives from a place of a page on have the rows that the first ones had, and where they end."""
+    for count, (line, step) in enumerate(zip(old.heads, old.steps)):
+        label = HEAD % line
+        begin = at + len(label)
+        end = begin + len(step)
+        # What follows a directive is the next one, or the end: otherwise it has more rows than it had.
+        if not page.startswith(label, at) or not page.startswith(step, begin) or end != last and not page.startswith(STEP, end):
+            return count, at
+        at = end
+    return len(old.steps), at
+
+
+def _same_back(page: bytes, least: int, at: int, old: Rows, front: int) -> tuple[int, int, int]:
+    """How many directives up to a place of a page have the rows that the last ones had, where they begin, and how far their lines have moved."""
+    moved = 0
+    for count in range(len(old.steps) - front):
+        line, step = old.heads[-1 - count], old.steps[-1 - count]
+        begin = at - len(step)
+        if count == 0 and begin > least and (found := NUMBER.match(page, max(least, page.rfind(STEP, least, begin)), begin)):
+            moved = int(found[1]) - line
+        label = HEAD % (line + moved)
+        if begin < least or not page.endswith(step, least, at) or not page.endswith(label, least, begin):
+            return count, at, moved
+        at = begin - len(label)
+    return len(old.steps) - front, at, moved
 
 
 def listed(rows: bytes) -> list[list[Any]]:

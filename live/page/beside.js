@@ -7,6 +7,8 @@ export class Beside {
     this.number = 0;
     /** @type {HTMLIFrameElement | null} */
     this.frame = null;
+    /** @type {import("./types.js").Position} what is chosen here */
+    this.position = { place: 1, event: 0 };
   }
 
   /** @param {number} number the branch that is shown beside, or is no longer */
@@ -18,6 +20,7 @@ export class Beside {
     document.body.classList.toggle("beside", !isOff);
     if (!isOff) {
       this.frame = /** @type {HTMLIFrameElement} */ (withAttributes(element("iframe", "", ""), { src: `?beside#branch=${number}`, title: `branch ${number}` }));
+      this.frame.addEventListener("load", () => this.follow(this.position));
       byId("panes").append(this.frame);
     }
     dispatchEvent(new Event("resize"));
@@ -25,6 +28,7 @@ export class Beside {
 
   /** @param {import("./types.js").Position} position */
   follow(position) {
+    this.position = position;
     this.frame?.contentWindow?.postMessage(position, location.origin);
   }
 

@@ -3,11 +3,12 @@
 import { Bar } from "./bar.js";
 import { Beside } from "./beside.js";
 import { byId, element, withAttributes } from "./dom.js";
+import { follow } from "./following.js";
 import { begin, editChosen } from "./forms.js";
 import { makeLegend } from "./legend.js";
 import { LivePage } from "./livepage.js";
 import { Motion } from "./motion.js";
-import { Page, tellCounts } from "./page.js";
+import { tellCounts } from "./page.js";
 import { instantAt } from "./position.js";
 import { Run } from "./run.js";
 import { Gone, Refusal, Talk } from "./talk.js";
@@ -68,6 +69,8 @@ export class Live {
     this.hasGone = false;
     this.placed = 0;
     this.isAsking = false;
+    /** The newest version that was heard of. */
+    this.heard = 0;
     this.ways = new Ways("");
     this.motion = new Motion();
     this.beside = new Beside();
@@ -91,13 +94,13 @@ export class Live {
    * Shows a script. What is chosen stays where somebody else changed it.
    * @param {Told} told
    * @param {boolean} isOwn
+   * @returns {Promise<void>}
    */
-  take(told, isOwn) {
+  async take(told, isOwn) {
     const { rows, since, stretch, ...state } = told;
     const isBased = since === this.state?.version && state.branch === this.state?.branch;
     if (stretch && !(isBased && this.run?.change(stretch))) {
-      this.talk.post("state", { branch: state.branch }).then((whole) => this.take(whole, isOwn));
-      return;
+      return this.take(await this.talk.post("state", { branch: state.branch }), isOwn);
     }
     this.run = rows ? new Run(rows) : this.run;
     this.keepingFocus(() => {
@@ -182,14 +185,26 @@ export class Live {
     this.isAsking = true;
     this.question = null;
     try {
-      const told = await this.talk.post("do", { branch: this.state.branch, at: this.page?.chosen.place, ...what, version: this.state.version, has: this.state.version });
-      this.take(told, true);
+      const { branch, version } = this.state;
+      await this.take(await this.talk.post("do", { branch, at: this.page?.chosen.place, ...what, version, has: version }), true);
       return true;
     } catch (fault) {
       this.failed(fault, what, doubt, yes);
       return false;
     } finally {
       this.isAsking = false;
+      this.hear(this.heard);
+    }
+  }
+
+  /**
+   * Looks again if there is a version that isn't shown, unless an answer is on its way.
+   * @param {number} version
+   */
+  hear(version) {
+    this.heard = Math.max(this.heard, version);
+    if (this.state && this.heard > this.state.version && !this.isAsking && !this.hasGone) {
+      this.refresh().catch((fault) => this.failed(fault, {}, "", ""));
     }
   }
 
@@ -207,7 +222,7 @@ export class Live {
       const does = () => this.ask({ ...what, isSure: true });
       this.question = { text: doubt && !fault.asks ? doubt : fault.message, yes: asks, does };
       this.bar.say(fault.message);
-      this.refresh();
+      this.refresh().catch((it) => this.failed(it, {}, "", ""));
     } else {
       throw fault;
     }
@@ -219,7 +234,7 @@ export class Live {
     if (this.state) {
       const told = await this.talk.post("state", { branch: this.state.branch, has: this.state.version });
       if (told.version !== this.state.version || told.branch !== this.state.branch) {
-        this.take(told, false);
+        await this.take(told, false);
       }
     }
   }
@@ -349,7 +364,7 @@ export class Live {
     if (this.beside.number === number) {
       this.beside.toggle(number);
     }
-    this.take(told, true);
+    await this.take(told, true);
   }
 
   /**
@@ -403,47 +418,6 @@ export class Live {
   }
 }
 
-/**
- * A branch beside another, which follows it.
- * @param {Talk} talk
- * @param {number} branch
- */
-async function follow(talk, branch) {
-  document.body.classList.add("follows");
-  /** @type {Page | null} */
-  let page = null;
-  /** @type {Run | null} */
-  let run = null;
-  let version = -1;
-  const renew = async () => {
-    const told = await talk.post("state", { branch, has: version });
-    version = told.version;
-    if (!told.stretch || !run?.change(told.stretch)) {
-      run = new Run(told.rows ?? (await talk.post("state", { branch })).rows);
-    }
-    run.goOn(run.steps.length);
-    const { model } = run;
-    byId("panes").hidden = byId("notice").hidden = model.steps.length > 0;
-    byId("panes").hidden = model.steps.length === 0;
-    byId("name").textContent = branch === told.home ? `${told.name}, the file` : `${told.name}, branch ${branch}`;
-    if (page) {
-      page.replace(model, page.chosen);
-    } else if (model.steps.length > 0) {
-      makeLegend();
-      page = new Page(model);
-      page.choose({ place: model.steps.length, event: 0 });
-    }
-  };
-  await renew();
-  window.addEventListener("message", ({ origin, data }) => {
-    if (origin === location.origin && data === "renew") {
-      renew();
-    } else if (origin === location.origin && page) {
-      page.choose(data);
-    }
-  });
-}
-
 async function start() {
   const talk = new Talk();
   const beside = /^#branch=(\d+)$/.exec(location.hash)?.[1];
@@ -455,8 +429,8 @@ async function start() {
     }
     const told = await talk.post("state", {});
     const live = new Live(talk);
-    live.take(told, true);
-    talk.hear((version) => version !== live.state?.version && !live.isAsking && live.refresh()).catch((fault) => live.failed(fault, {}, "", ""));
+    await live.take(told, true);
+    talk.hear((version) => live.hear(version)).catch((fault) => live.failed(fault, {}, "", ""));
   } catch (fault) {
     byId("notice").hidden = false;
     byId("notice").textContent = fault instanceof Refusal ? fault.message : fault instanceof Gone ? "raftbench-live doesn't answer." : String(fault);

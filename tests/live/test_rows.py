@@ -9,7 +9,7 @@ from live.blocks import joined
 from live.branch import Branch
 from live.edits import EDITS
 from live.program import Program
-from live.rows import Shown, stretch
+from live.rows import Rows, Shown, read, stretch
 from tests.harness import PROGRAM, TOP
 
 ELECTION = TOP / "examples" / "tour" / "01-election.txt"
@@ -63,3 +63,38 @@ def test_a_stretch_put_in_gives_the_rows_of_the_new_script() -> Iterator[str]:
         spared += len(given["rows"]) < len(now.blocks) // 2
     if spared < 6:
         yield f"only {spared} edits send less than half of the rows"
+
+
+def rows_of(steps: list[tuple[int, str]]) -> bytes:
+    """Rows as a page has them: of each directive its line, and rows."""
+    body = "".join(f'\n["step",{line}],{rows}' for line, rows in steps)
+    return f'[["raftbench",2,"x"],\n["text","y"],{body}\n["end",{len(steps)},0]]'.encode()
+
+
+def test_rows_are_cut_alike_whatever_was_shown_before() -> Iterator[str]:
+    """A directive that has one row more, or fewer, or the beginning or the end of another's rows, isn't taken for it."""
+    one, two, three = '\n["output","a"],', '\n["output","a"],\n["output","b"],', '\n["output","b"],'
+    texts: list[list[str]] = [
+        [], [one], [two], [three], [one, two], [two, one], [three, two], [two, three], [one, one, one], [one, two, one], [two, two], [""], ["", one], [one, ""], [three, one, two, three, one],
+    ]
+    pages = [rows_of([(first + 3 * at, text) for at, text in enumerate(given)]) for given in texts for first in (1, 98)]
+    for page in pages:
+        plain = read(page, 0, len(page))
+        if plain.raw != page or len(plain.steps) != page.count(b'"step"'):
+            yield f"{page!r}: {plain}"
+        for other in pages:
+            if read(page, 0, len(page), read(other, 0, len(other))) != plain:
+                yield f"{page!r} after {other!r}"
+
+
+def test_the_rows_of_a_script_are_cut_alike_after_edits() -> Iterator[str]:
+    shared = 0
+    for what, before, now in changes(ELECTION.read_bytes()):
+        raw = now.rows.raw
+        for old in (Rows(), before.rows):
+            found = read(raw, 0, len(raw), old)
+            if found != now.rows:
+                yield f"{what}: {found}"
+            shared += sum(any(step is it for it in before.rows.steps) for step in found.steps)
+    if shared < 20:
+        yield f"only {shared} texts are shared"
