@@ -10,6 +10,7 @@ import { LivePage } from "./livepage.js";
 import { Motion } from "./motion.js";
 import { tellCounts } from "./page.js";
 import { instantAt } from "./position.js";
+import { countPresses } from "./presses.js";
 import { Run } from "./run.js";
 import { Gone, Refusal, Talk } from "./talk.js";
 import { Theirs } from "./theirs.js";
@@ -76,6 +77,7 @@ export class Live {
     this.beside = new Beside();
     this.theirs = new Theirs(this);
     this.bar = new Bar(this);
+    countPresses();
     document.addEventListener("keydown", (event) => this.pressed(event));
     window.addEventListener("beforeunload", (event) => this.state && this.state.branches.some(({ number, isSaved }) => number === this.state?.home && !isSaved) && event.preventDefault());
   }

@@ -53,6 +53,23 @@ class LiveState extends State {
   }
 
   /**
+   * Also in motion buttons stay where they are, and the focus on them.
+   * @param {Position} position
+   */
+  choose(position) {
+    const { pane, isOpen, live } = this;
+    const top = pane.scrollTop;
+    live.keepingFocus(() => super.choose(position));
+    if (live.motion.isMoving && !isOpen) {
+      this.isOpen = false;
+      /** @type {HTMLDetailsElement} */ (pane.querySelector("details")).open = false;
+    }
+    if (live.motion.isMoving || position.event === 0) {
+      pane.scrollTop = top;
+    }
+  }
+
+  /**
    * @param {import("./rows.js").Node} node
    * @param {import("./position.js").Instant} instant
    * @param {number} before

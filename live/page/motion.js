@@ -13,6 +13,8 @@ export class Motion {
   constructor() {
     /** @type {ReturnType<typeof setTimeout> | undefined} */
     this.timer = undefined;
+    /** Whether what is chosen now is an event that is drawn in motion. */
+    this.isMoving = false;
   }
 
   stop() {
@@ -39,7 +41,9 @@ export class Motion {
         return;
       }
       event = event < count ? event + 1 : 0;
+      this.isMoving = true;
       page.choose({ place, event });
+      this.isMoving = false;
       if (event > 0) {
         requestAnimationFrame(() => this.travel(page, each));
         this.timer = setTimeout(next, each);

@@ -279,6 +279,33 @@ def other_programs_and_windows_are_seen(browser: Browser) -> None:
     on_script(browser, START + CAMPAIGN, does)
 
 
+def presses_count_and_the_focus_stays(browser: Browser) -> None:
+    """Also where the page is drawn again between press and release, or while what a button did is drawn in motion."""
+    def does(player: Player, server: Running, path: pathlib.Path) -> None:
+        x, y = player.box('[data-key="tick-heartbeat 2"]')
+        for kind in ("mouseMoved", "mousePressed"):
+            player.browser.call("Input.dispatchMouseEvent", type=kind, x=x, y=y, button="none" if kind == "mouseMoved" else "left", clickCount=int(kind == "mousePressed"))
+        player.key("k")
+        player.at(1, 2)
+        player.browser.call("Input.dispatchMouseEvent", type="mouseReleased", x=x, y=y, button="left", clickCount=1)
+        player.at(2, 3)
+        same("the head", player.text("#script .chosen .head").strip(), "tick-heartbeat 2")
+        player.key("j")
+        player.at(3, 3)
+        player.key("c")
+        for _ in range(3):
+            player.key("Tab")
+        player.comes("document.activeElement.dataset.key", "process-ready 1")
+        player.key("Enter")
+        player.at(4, 4)
+        # Its last event in motion, and then all of it.
+        player.comes("document.getElementById('where').textContent.includes(', event ')")
+        player.comes("document.getElementById('where').textContent.includes(', event ')", False)
+        same("the focus", player.browser.value("document.activeElement.dataset.key"), "process-ready 1")
+        same("whether what happened is folded still", player.browser.value("document.querySelector('#state details').open"), False)
+    on_script(browser, START + CAMPAIGN, does)
+
+
 def filters_stay(browser: Browser) -> None:
     def does(player: Player, server: Running, path: pathlib.Path) -> None:
         player.browser.value("(() => { const it = document.getElementById('filter-node'); it.value = '2'; it.dispatchEvent(new Event('change')); document.getElementById('directives').focus(); })()")
@@ -313,7 +340,8 @@ def own_nodes_stand_in_two_halves(browser: Browser) -> None:
 TESTS = [
     a_run_that_goes_on_is_as_a_fresh_one, a_page_that_went_on_is_as_a_fresh_one, a_long_page_goes_on_in_parts,
     election_by_mouse, election_by_keys, figure_by_mouse, repair_by_mouse, figure_and_repair_by_keys, arrows_are_clicked, what_can_t_be_done_says_why, the_key_leaves_the_address,
-    directives_are_edited_in_place, words_are_offered, branches_stand_beside_each_other, other_programs_and_windows_are_seen, filters_stay, nothing_of_a_script_acts,
+    directives_are_edited_in_place, words_are_offered, branches_stand_beside_each_other, other_programs_and_windows_are_seen,
+    presses_count_and_the_focus_stays, filters_stay, nothing_of_a_script_acts,
     own_nodes_stand_in_two_halves,
 ]
 
