@@ -17,6 +17,7 @@ from .rows import stretch
 from .scriptfile import ScriptFile, Theirs
 
 MOST_BRANCHES = 20
+OTHER = "the file has another text, which isn't shown here"
 UNPROVED = "the program isn't proved, so it doesn't write into scripts: RAFTBENCH_UNPROVED=1 in the environment allows it"
 
 
@@ -40,7 +41,8 @@ class Live:
         try:
             first = Branch(1, program, data)
         except Refused as refused:
-            self.fault = f"the script can't be read: {refused}"
+            # What can't be shown is as another's: it isn't written over without a question.
+            self.fault, self.theirs, self.file.known = f"the script can't be read: {refused}", data, None
             first = Branch(1, program, b"")
         self.branches = {1: first}
         self.home = 1
@@ -96,6 +98,8 @@ class Live:
         """Writes the file. It is followed by this branch from then on."""
         if not self.program.may_save:
             raise Refused(UNPROVED)
+        if self.fault and self.theirs is not None and not asked.get("isSure"):
+            raise Theirs(OTHER)
         try:
             self.file.save(branch.data, bool(asked.get("isSure")))
         except Theirs:
@@ -141,7 +145,7 @@ class Live:
         with self.lock:
             home = self.branches[self.home]
             was_saved = home.data == (self.file.known or b"") or not home.past and not home.future
-            self.fault = ""
+            self.fault, data = "", self.theirs
             try:
                 data = self.file.read()
                 if data == self.file.known or data == home.data:
@@ -155,7 +159,7 @@ class Live:
                 else:
                     self.theirs = data
             except Refused as refused:
-                self.fault = f"the file as it is now can't be shown: {refused}"
+                self.fault, self.theirs = f"the file as it is now can't be shown: {refused}", data
             self.renew()
         self.tell()
 

@@ -13,6 +13,11 @@ MOST_BYTES = 4_194_304
 Stamp = tuple[int, int, int]
 
 
+def stamp_of(found: os.stat_result) -> Stamp:
+    """What tells a file from a changed one: its time, its size and its number."""
+    return found.st_mtime_ns, found.st_size, found.st_ino
+
+
 class Theirs(Refused):
     """Somebody else has changed the file."""
 
@@ -40,28 +45,27 @@ class ScriptFile:
             raise Refused("that isn't a file")
         with open(handle, "rb") as file:
             data = file.read(MOST_BYTES + 1)
-        self.stamp = (found.st_mtime_ns, found.st_size, found.st_ino)
+        self.stamp = stamp_of(found)
         return data
 
     def has_changed(self) -> bool:
-        """Whether the file isn't the one that was last read, by its time, size and number."""
+        """Whether the file isn't the one that was last read."""
         try:
             found = os.stat(self.path)
         except OSError:
             return self.stamp is not None
-        return (found.st_mtime_ns, found.st_size, found.st_ino) != self.stamp
+        return stamp_of(found) != self.stamp
 
     def save(self, data: bytes, over_theirs: bool = False) -> None:
         """Writes the script. Raises Theirs if the file isn't what it was, unless it may be written over; then nothing is changed."""
-        if data == self.known and not self.has_changed():
-            return
         now = self.read()
-        if now != self.known and not over_theirs:
+        if now not in (self.known, data) and not over_theirs:
             raise Theirs("the file is gone" if now is None else "the file was changed by somebody else")
-        try:
-            self._replace(data, self._old())
-        except OSError as fault:
-            raise Refused(f"the file can't be written: {fault.strerror}") from None
+        if now != data:
+            try:
+                self._replace(data, self._old(now is None))
+            except OSError as fault:
+                raise Refused(f"the file can't be written: {fault.strerror}") from None
         self.known = data
         self.has_read(data)
 
@@ -70,14 +74,19 @@ class ScriptFile:
         if self.read() != data:
             raise Theirs("the file was changed by somebody else while it was saved")
 
-    def _old(self) -> os.stat_result | None:
-        """The file that is replaced, which has to be one that may be written."""
+    def _old(self, is_new: bool) -> os.stat_result | None:
+        """The file that is replaced, which has to be the one that was read, and one that may be written."""
         try:
             handle = os.open(self.path, os.O_WRONLY | os.O_NONBLOCK | os.O_CLOEXEC)
         except FileNotFoundError:
-            return None
+            if is_new:
+                return None
+            raise Theirs("the file is gone") from None
         with open(handle, "wb", closefd=True):
-            return os.fstat(handle)
+            old = os.fstat(handle)
+        if stamp_of(old) != self.stamp:
+            raise Theirs("the file was changed by somebody else")
+        return old
 
     def _replace(self, data: bytes, old: os.stat_result | None) -> None:
         """Writes a new file in the same folder, with the old one's owner, group and permissions, and renames it."""
@@ -107,6 +116,6 @@ class ScriptFile:
             new.unlink()
             return
         now = os.stat(target)
-        if (now.st_mtime_ns, now.st_size, now.st_ino) != (old.st_mtime_ns, old.st_size, old.st_ino):
+        if stamp_of(now) != stamp_of(old):
             raise Theirs("the file was changed by somebody else")
         os.rename(new, target)

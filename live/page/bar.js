@@ -162,8 +162,11 @@ export class Bar {
     /** @type {(text: string, ...more: Node[]) => HTMLElement} */
     const alert = (text, ...more) => withAttributes(element("div", "live-alert", `! ${text} `, ...more), { role: "alert" });
     const { question } = live;
+    const theirs = fault ? "The file has another text, which isn't shown here." : "The file was changed by somebody else.";
+    const load = button("load theirs", "load", fault, "", () => (fault ? live.refuse(fault) : live.ask({ do: "load" })));
+    const over = button("save mine over it", "over", "", "", () => live.ask({ do: "save", isSure: true }));
     return [
-      ...(isTheirs ? [alert("The file was changed by somebody else.", button("load theirs", "load", "", "", () => live.ask({ do: "load" })), button("save mine over it", "over", "", "", () => live.ask({ do: "save", isSure: true })))] : []),
+      ...(isTheirs ? [alert(theirs, load, over)] : []),
       ...(fault ? [alert(fault)] : []),
       ...notes.map((note) => alert(note)),
       ...(question ? [alert(question.text, ...(question.yes ? [button(question.yes, "yes", "", "", question.does), button("no", "no", "", "", () => live.answer())] : []))] : []),

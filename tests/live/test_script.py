@@ -5,7 +5,7 @@ import os
 import pathlib
 import shutil
 import subprocess
-from collections.abc import Iterator
+from collections.abc import Callable, Iterator
 from typing import Any
 
 from live.blocks import cut, joined, new_block
@@ -246,6 +246,18 @@ def test_a_file_that_vanishes_is_made_again(room: pathlib.Path) -> None:
         assert server.state["isSaved"] and not server.state["isTheirs"]
 
 
+class Watched(ScriptFile):
+    """A file to which somebody does something just when it has been read to be saved."""
+
+    def __init__(self, path: pathlib.Path, does: Callable[[], object]) -> None:
+        super().__init__(path)
+        self.does = does
+
+    def _old(self, is_new: bool) -> os.stat_result | None:
+        self.does()
+        return super()._old(is_new)
+
+
 def test_what_can_t_be_written_stays(room: pathlib.Path) -> Iterator[str]:
     """A folder that takes no file, as a user without rights: the script stays, and the reason is said."""
     path = room / "script.txt"
@@ -258,6 +270,15 @@ def test_what_can_t_be_written_stays(room: pathlib.Path) -> Iterator[str]:
     except Theirs as theirs:
         if str(theirs) != "the file was changed by somebody else" or path.read_bytes() != CAMPAIGN:
             yield f"{theirs}"
+    meanwhile: list[tuple[Callable[[], object], str]] = [(lambda: path.write_bytes(START), "the file was changed by somebody else"), (path.unlink, "the file is gone")]
+    for does, said in meanwhile:
+        file = Watched(path, does)
+        try:
+            file.save(START + CAMPAIGN)
+            yield "it wrote over what came once it had looked"
+        except Theirs as theirs:
+            if str(theirs) != said or path.exists() and path.read_bytes() != START:
+                yield f"{theirs}"
     gone = ScriptFile(room / "new.txt")
     (room / "new.txt").write_bytes(b"x")
     try:

@@ -185,6 +185,32 @@ def test_a_refused_script_is_told_and_waited_for(room: pathlib.Path) -> None:
         assert (server.state["fault"], server.state["isSaved"]) == ("", True)
 
 
+def test_what_cant_be_shown_isnt_written_over(room: pathlib.Path) -> Iterator[str]:
+    """A file that is no script, from the beginning or since: it stays as it is, also if it is touched, until the user is sure."""
+    for number, data in enumerate([b"campaign 1\n", b"# x\n" * 1_100_000]):
+        path = script(room, data)
+        with Running(path).enter() as server:
+            if number == 0:
+                os.utime(path)
+                server.comes("version", 1)
+            if not (server.state["fault"] and server.state["isTheirs"]) or server.state["isSaved"]:
+                yield f"{server.state}"
+            for does in ("nothing", "insert"):
+                status, told = server.do("save")
+                if status != 409 or "another text" not in told["fault"] or path.read_bytes() != data:
+                    yield f"saved after {does}: {status} {told}"
+                assert does == "insert" or server.do("insert", place=0, text="log-level debug")[0] == 200
+            assert server.do("load")[0] == 409 and server.do("save", isSure=True)[0] == 200
+            if path.read_bytes() != b"log-level debug\n----\nok\n\n" or not server.state["isSaved"] or server.state["fault"] or server.state["isTheirs"]:
+                yield f"{path.read_bytes()!r} {server.state}"
+            path.write_bytes(data)
+            server.comes("fault", "can't be shown")
+            status, told = server.do("save")
+            if status != 409 or "another text" not in told["fault"] or path.read_bytes() != data or not server.look()["isTheirs"]:
+                yield f"saved over what came later: {status} {told}"
+            assert server.do("save", isSure=True)[0] == 200 and path.read_bytes() == b"log-level debug\n----\nok\n\n"
+
+
 def test_ends_by_an_interrupt_without_a_word(room: pathlib.Path) -> None:
     with Running(script(room)).enter() as server:
         assert server.stop() == (0, "")
