@@ -3,7 +3,7 @@
     python3 -m bench.faults [KIND..] [--count N]
 
 KIND is one of those below; all, where none is given. N bounds the places of each command, the names, the scripts of a folder.
-RAFTBENCH names the program. The status is 0 if nothing is wrong, else 1. tests/faults/many makes reads, writes and allocations fail.
+RAFTBENCH names the program. The status is 0 if nothing is wrong, else 1. tests/faults/many makes each byte's read and write fail, too.
 """
 from __future__ import annotations
 
@@ -12,7 +12,7 @@ import dataclasses
 import sys
 from collections.abc import Callable, Iterator
 
-from bench.faults import changing, crowds, full_disk, names, system_calls
+from bench.faults import changing, crowds, full_disk, memory, names, system_calls
 from bench.faults.verdict import Tried
 
 MOST_SHOWN = 20
@@ -30,6 +30,7 @@ class Kind:
 
 KINDS = {
     "system-calls": Kind("each system call of each command fails", system_calls.all_failing, is_here=system_calls.is_here),
+    "memory": Kind("each allocation of each command is refused", memory.tried, is_here=memory.is_here),
     "kills": Kind("a kill at each system call of check --accept", system_calls.all_killed, is_here=system_calls.is_here),
     "full-disk": Kind("a file system without room", full_disk.tried, is_here=full_disk.is_here),
     "changing": Kind("scripts that change while they are read", changing.tried, is_here=changing.is_here),

@@ -42,6 +42,8 @@ COMMANDS = (
     Command("accept", ("check", "--accept", "--accept-errors", "--force", "--color", "never", NAME), accepts=True, reports=True),
     Command("look", ("look", "--color", "never", f"{NAME}:1")),
     Command("page", ("page", NAME)),
+    Command("site", ("page", "--out", "site", NAME)),
+    Command("pages", ("check", "--pages", "site", "--color", "never", NAME), reports=True),
     Command("chart", ("chart", NAME)),
     Command("trace", ("trace", NAME)),
     Command("directives", ("directives", "--color", "never")),
@@ -70,8 +72,8 @@ def room_with(script: bytes = SCRIPT) -> Iterator[pathlib.Path]:
 
 
 def files_in(place: pathlib.Path) -> dict[str, bytes]:
-    """The files of a folder, by name."""
-    return {path.name: path.read_bytes() for path in sorted(place.iterdir()) if path.is_file()}
+    """The files of a folder and of those below, by their paths in it."""
+    return {str(path.relative_to(place)): path.read_bytes() for path in sorted(place.rglob("*")) if path.is_file()}
 
 
 def call(command: Command, place: pathlib.Path, below: Sequence[str] = (), around: Mapping[str, str] | None = None) -> Came:

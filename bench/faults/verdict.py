@@ -34,10 +34,16 @@ def torn(plain: Came, came: Came) -> str | None:
     return None if script in (SCRIPT, plain.files[NAME]) else f"the script is torn: {end_of(script or b'')}"
 
 
-def left(came: Came, is_killed: bool) -> str | None:
-    """Which files were left that aren't the script; a call that is killed may leave the one that it was writing."""
-    names = [name for name in came.files if name != NAME and not (is_killed and TEMPORARY.fullmatch(name))]
-    return f"it left {names}" if names else None
+def left(plain: Came, came: Came, is_killed: bool) -> str | None:
+    """Which files were left that aren't the script, nor pages that are written; a call that is killed may leave the one that it was writing."""
+    names = [name for name in came.files if name not in plain.files and not (is_killed and TEMPORARY.fullmatch(name))]
+    torn_ones = [name for name, text in came.files.items() if name != NAME and name in plain.files and text != plain.files[name] and not is_killed]
+    return f"it left {names}" if names else f"it tore {torn_ones}" if torn_ones else None
+
+
+def is_plain(plain: Came, came: Came) -> bool:
+    """Whether a call gave what it gives if nothing fails; of the script it is known already."""
+    return (came.output, came.status, came.files.keys()) == (plain.output, plain.status, plain.files.keys())
 
 
 def is_framed(command: Command, came: Came) -> bool:
@@ -53,7 +59,7 @@ def is_framed(command: Command, came: Came) -> bool:
 
 def unsaid(command: Command, plain: Came, came: Came) -> str | None:
     """What is wrong with the status, the output and the errors of a call that may have failed."""
-    if (came.output, came.status) == (plain.output, plain.status) or is_framed(command, came):
+    if is_plain(plain, came) or is_framed(command, came):
         return None
     if came.status not in STATUSES or came.status < 3 and not command.reports:
         return f"status {came.status}, {end_of(came.output)}, {end_of(came.errors)}"
@@ -71,7 +77,7 @@ def problem_of(command: Command, plain: Came, came: Came, is_killed: bool = Fals
     """What is wrong with what came of a call, or None."""
     if BROKEN.search(came.errors):
         return f"it said {end_of(came.errors)}"
-    kept = torn(plain, came) or left(came, is_killed)
+    kept = torn(plain, came) or left(plain, came, is_killed)
     if kept or is_killed:
         return kept
     return unsaid(command, plain, came)

@@ -9,12 +9,13 @@ from bench.faults.__main__ import KINDS
 from tests.harness import TOP, NotHere
 
 # How many of each kind the gate makes.
-COUNTS = {"system-calls": 2, "kills": 6, "full-disk": 2, "changing": 2, "crowds": 1500, "names": 3}
+COUNTS = {"system-calls": 2, "memory": 2, "kills": 6, "full-disk": 2, "changing": 2, "crowds": 1500, "names": 3}
 # Of what is found at few places, or at the first.
 MANY = {"system-calls": 20, "names": 1}
 # A program in raftbench's place, by the kind of fault that shows what is wrong with it, and what is said of it.
 WRONG = {
     "system-calls": ("cat script.txt || exit 9", "status 9"),
+    "memory": ("cat script.txt", "status"),
     "kills": ('case "$*" in *--accept*) printf "" >script.txt; printf "%s" whole >script.txt;; esac', "torn"),
     "full-disk": ('case "$*" in *--accept*) printf "" >script.txt;  head -c 100000 /dev/zero >script.txt;; esac', "torn"),
     "changing": ("echo $$", "status 0"),
@@ -41,6 +42,10 @@ def problem_of(kind: str) -> Iterator[str]:
 
 def test_system_calls() -> Iterator[str]:
     yield from problem_of("system-calls")
+
+
+def test_memory() -> Iterator[str]:
+    yield from problem_of("memory")
 
 
 def test_kills() -> Iterator[str]:
