@@ -13,6 +13,7 @@ import tempfile
 from collections.abc import Callable, Iterator
 
 from tests.harness import PROGRAM, TOP, Result, results_of
+from tests.live.each_message import ways_take_what_they_say
 from tests.live.going_on import a_long_page_goes_on_in_parts, a_page_that_went_on_is_as_a_fresh_one, a_run_that_goes_on_is_as_a_fresh_one
 from tests.live.player import SHIFT, Player
 from tests.live.playing import on_script
@@ -339,7 +340,7 @@ def own_nodes_stand_in_two_halves(browser: Browser) -> None:
 
 TESTS = [
     a_run_that_goes_on_is_as_a_fresh_one, a_page_that_went_on_is_as_a_fresh_one, a_long_page_goes_on_in_parts,
-    election_by_mouse, election_by_keys, figure_by_mouse, repair_by_mouse, figure_and_repair_by_keys, arrows_are_clicked, what_can_t_be_done_says_why, the_key_leaves_the_address,
+    ways_take_what_they_say, election_by_mouse, election_by_keys, figure_by_mouse, repair_by_mouse, figure_and_repair_by_keys, arrows_are_clicked, what_can_t_be_done_says_why, the_key_leaves_the_address,
     directives_are_edited_in_place, words_are_offered, branches_stand_beside_each_other, other_programs_and_windows_are_seen,
     presses_count_and_the_focus_stays, filters_stay, nothing_of_a_script_acts,
     own_nodes_stand_in_two_halves,
