@@ -185,10 +185,11 @@ class Handler(http.server.BaseHTTPRequestHandler):
     # ---- what the page hears
 
     def events(self) -> None:
-        """Tells of each change, and every few seconds that the server is there."""
+        """Tells which version there is, at each change and every few seconds: so the server is there, and whoever missed a change hears of it."""
         told: queue.Queue[str] = queue.Queue(100)
         live = self.served.live
         live.watchers.append(told)
+        told.put(f"version {live.version}")
         try:
             self.send_response(200)
             self.add_headers({"Content-Type": "text/event-stream", "Connection": "close"})
@@ -198,7 +199,7 @@ class Handler(http.server.BaseHTTPRequestHandler):
                 try:
                     text = told.get(timeout=5)
                 except queue.Empty:
-                    text = "alive"
+                    text = f"version {live.version}"
                 self.wfile.write(f"data: {text}\n\n".encode())
                 self.wfile.flush()
         finally:
