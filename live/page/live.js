@@ -206,7 +206,7 @@ export class Live {
   hear(version) {
     this.heard = Math.max(this.heard, version);
     if (this.state && this.heard > this.state.version && !this.isAsking && !this.hasGone) {
-      this.refresh().catch((fault) => this.failed(fault, {}, "", ""));
+      this.refresh().catch((fault) => this.lost(fault));
     }
   }
 
@@ -224,10 +224,19 @@ export class Live {
       const does = () => this.ask({ ...what, isSure: true });
       this.question = { text: doubt && !fault.asks ? doubt : fault.message, yes: asks, does };
       this.bar.say(fault.message);
-      this.refresh().catch((it) => this.failed(it, {}, "", ""));
+      this.refresh().catch((it) => this.lost(it));
     } else {
       throw fault;
     }
+    this.bar.draw();
+  }
+
+  /** @param {unknown} fault what came of looking again: once more wouldn't help */
+  lost(fault) {
+    if (!(fault instanceof Gone || fault instanceof Refusal)) {
+      throw fault;
+    }
+    this.hasGone = this.hasGone || fault instanceof Gone;
     this.bar.draw();
   }
 
