@@ -195,12 +195,13 @@ class Shrinking:
         return results
 
     def with_shorter(self, tasks: Sequence[ShrinkTask], results: list[ShrunkKind]) -> list[ShrunkKind]:
-        """Kinds that a shorter script of another shows too have that."""
+        """Kinds that a shorter script of another shows too have that. Trying a few short scripts is never too dear."""
         scripts = sorted({tuple(result.steps) for result in results}, key=lambda steps: (len(steps), [step.text() for step in steps]))[:MOST_SHORTER]
         tried = []
         for at, (task, result) in enumerate(zip(tasks, results)):
             shorter = [list(steps) for steps in scripts if len(steps) < len(result.steps)]
-            if shorter and not self.is_late() and self.purse.pay(sum(map(len, shorter))):
+            if shorter and not self.is_late():
+                self.purse.pay(min(self.purse.left, sum(map(len, shorter))))
                 tried.append(at)
                 self.fleet.give(adopt, [AdoptTask(task, result, shorter)])
         for at in tried:
