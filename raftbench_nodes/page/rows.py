@@ -30,7 +30,6 @@ EVENTS = [
     (re.compile(r"(\d+) ends transfer to (\d+)"), "transfer-ends"),
     (re.compile(r"(\d+) lost its quorum"), "lost-quorum"),
     (re.compile(r"(\d+) started at .*"), "started"),
-    (re.compile(r"(\d+) restarted at term=(\d+) vote=(\d+) log=(\d+)\.\.(\d+) commit=(\d+)"), "restarted"),
 ]
 VOTE = re.compile(r"(\d+) has (\w+) (granted|refused) from (\d+): (\w+)")
 VERBS = {"queue": "queue", "deliver": "deliver", "drop": "drop", "no room for": "no-room"}

@@ -1,6 +1,6 @@
 //! Nodes that differ in one field of what a node knows. The fields of a copy are written, each by itself.
 
-use super::making::{Player, install_of};
+use super::making::Player;
 use super::moves::{PLAIN, START};
 use crate::tests::is_in_row;
 use crate::tests::logs::making::{change, payload};
@@ -71,8 +71,6 @@ enum Field {
     Log(LogOf),
     /// The entry after index 10 adds this voter.
     LogOfChange(u64),
-    /// The saved snapshot: its term and its index.
-    Saves(u64, u64),
     /// A log without entries.
     EmptyLog,
     Content,
@@ -179,7 +177,7 @@ static NUMBERS: [Pair; 20] = [
     ),
 ];
 
-static LISTS: [Pair; 39] = [
+static LISTS: [Pair; 36] = [
     (
         Field::Nothing,
         Field::Options(Options {
@@ -196,9 +194,6 @@ static LISTS: [Pair; 39] = [
     (Field::Nothing, Field::LogOfChange(4)),
     (Field::LogOfChange(4), Field::LogOfChange(5)),
     (Field::Nothing, Field::EmptyLog),
-    (Field::Nothing, Field::Saves(1, 9)),
-    (Field::Saves(1, 9), Field::Saves(1, 8)),
-    (Field::Saves(1, 9), Field::Saves(2, 9)),
     (Field::Nothing, Field::Content),
     // the configuration
     (Field::Nothing, Field::Member(Set::Incoming, 4)),
@@ -400,7 +395,6 @@ fn write_list<L: RaftLog>(rt: &impl Abort, alloc: Global, state: &mut State<L>, 
         Field::Log(log) => state.log = log_of(rt, alloc, log),
         Field::LogOfChange(id) => state.log = log_of_change(rt, alloc, id),
         Field::EmptyLog => state.log = <L as Tested>::begin(rt, alloc, 10, 1),
-        Field::Saves(term, index) => state.start = install_of(rt, alloc, term, index),
         Field::Content => state.content.append(b"c").expect(rt, "memory"),
         _ => write_messages(rt, alloc, state, field),
     }
