@@ -58,7 +58,7 @@ def wrong(command: Command, plain: Came, came: Came) -> str | None:
 
 
 def tried(count: int) -> Iterator[Tried]:
-    """At most so many allocations of each command, evenly spread, each alone and with all later ones."""
+    """Refuses at most `count` allocations of each command, evenly spread, each alone and with all later ones."""
     for command in COMMANDS:
         plain, whole = plain_of(command), allocations_of(command)
         taken = min(count, whole)

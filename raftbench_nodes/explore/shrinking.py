@@ -1,4 +1,4 @@
-"""Shrinks the kinds that a search found. All of them together cost no more than the search did."""
+"""Shrinks the kinds that a search found, all of them together with a bounded number of directives."""
 from __future__ import annotations
 
 import dataclasses
@@ -19,11 +19,11 @@ MOST_SHRUNK = 12
 # Shrinking may carry out this many directives in any case. Else it may carry out a part of those of the search: many of these were asked at once, which
 # takes a third of the time.
 LEAST_DIRECTIVES, PART = 8000, 3
-# So many kinds are shrunk at first, and then so many, and then the others: what a short script shows too needs no shrinking.
+# How many kinds are shrunk first, and how many next; the others follow. A kind that a short script shows too needs no shrinking.
 FIRST = 1, 3
-# Scripts whose share didn't suffice get what others have left, in so many rounds; shares of fewer directives are none.
+# In how many rounds scripts whose share didn't suffice get what others have left, and the least share that is worth a round.
 ROUNDS, LEAST_SHARE = 2, 100
-# So many scripts of other kinds are tried for one.
+# How many scripts of other kinds are tried for one.
 MOST_SHORTER = 3
 
 
@@ -195,7 +195,7 @@ class Shrinking:
         return results
 
     def with_shorter(self, tasks: Sequence[ShrinkTask], results: list[ShrunkKind]) -> list[ShrunkKind]:
-        """Kinds that a shorter script of another shows too have that. Trying a few short scripts is never too dear."""
+        """Kinds that a shorter script of another shows too have that. A few short scripts are tried even if the purse is empty."""
         scripts = sorted({tuple(result.steps) for result in results}, key=lambda steps: (len(steps), [step.text() for step in steps]))[:MOST_SHORTER]
         tried = []
         for at, (task, result) in enumerate(zip(tasks, results)):

@@ -100,7 +100,7 @@ def test_causes(room: pathlib.Path) -> Iterator[str]:
 
 
 class Spending:
-    """A fleet that shrinks: a script of so many steps takes twenty directives for each step but one, and is cut where its share doesn't suffice."""
+    """A fleet that shrinks: removing a step costs twenty directives, and shrinking stops when the script's share is spent."""
 
     def __init__(self) -> None:
         self.results, self.used = list[ShrunkKind](), list[int]()

@@ -2,7 +2,7 @@ package raft
 
 import pb "go.etcd.io/etcd/raft/raftpb"
 
-// stepHook, if there is one, takes the place of a step, and takes it.
+// stepHook, if set, is called instead of a step, and takes the step itself.
 var stepHook func(*raft, pb.Message) error
 
 // Step is etcd's, whose name here is `stepped`.

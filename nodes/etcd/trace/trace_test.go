@@ -32,7 +32,7 @@ func init() {
 	}
 }
 
-// A test may take thousands of steps by hand: so many of one node are written.
+// mostAlone is how many steps of one node are written: a test may take thousands by hand.
 const mostAlone = 20
 
 // stepAlone is a step that a test takes by hand, with a node of no network. The trace says that the node was changed before: so it isn't compared.

@@ -15,7 +15,8 @@ import (
 )
 
 // A cluster of etcd's nodes that runs by the real clock: a goroutine a node, ticks of 10 ms, timeouts that are drawn, and a network that loses and
-// delays messages, and cuts one node off now and then, so that leaders change while entries are on their way. Each node writes its calls and answers into a file of its own, as a trace for nodes/replay.
+// delays messages, and cuts one node off now and then, so that leaders change while entries are in flight. Each node writes its calls and answers
+// into a file of its own, as a trace for nodes/replay.
 //
 //     live FOLDER SECONDS
 
