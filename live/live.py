@@ -8,10 +8,9 @@ import queue
 import threading
 from typing import Any
 
-from .blocks import Block, joined
+from .blocks import joined
 from .branch import Branch
 from .edits import EDITS, Asked
-from .losing import losses
 from .may import Offers
 from .program import Program, Refused
 from .rows import stretch
@@ -191,24 +190,14 @@ class Live:
             rows = b',"stretch":' + stretch(was, now) if was and since else b',"rows":' + now.rows.raw
             return json.dumps({**self.about(branch), **since}).encode()[:-1] + rows + b"}"
 
-    def up_to(self, asked: Asked) -> tuple[list[Block], dict[str, Any]]:
-        """The directives up to the one that is asked about, and of which version that is said."""
-        with self.lock:
-            branch, place = self.branch(asked), asked.get("place")
-            if not isinstance(place, int) or not 0 < place <= branch.count:
-                raise Refused("there is no such directive")
-            return branch.blocks()[0][:place], {"version": self.version, "place": place}
-
     def may(self, asked: Asked) -> bytes:
         """What each node may do after a directive, and why not."""
-        blocks, about = self.up_to(asked)
-        return json.dumps({**about, "nodes": self.offers.after(blocks)}).encode()
-
-    def lost(self, asked: Asked) -> bytes:
-        """What each node would lose if it restarted after a directive."""
-        blocks, about = self.up_to(asked)
-        nodes = self.offers.after(blocks) if "restart" in self.names else {}
-        return json.dumps({**about, "nodes": losses(self.program, blocks, nodes) if nodes else {}}).encode()
+        with self.lock:
+            branch, place, version = self.branch(asked), asked.get("place"), self.version
+            if not isinstance(place, int) or not 0 < place <= branch.count:
+                raise Refused("there is no such directive")
+            blocks = branch.blocks()[0][:place]
+        return json.dumps({"version": version, "place": place, "nodes": self.offers.after(blocks)}).encode()
 
 
 OTHERS = {"save": Live.save, "load": Live.load, "fork": Live.fork, "close": Live.drop}

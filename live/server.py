@@ -119,16 +119,13 @@ class Handler(http.server.BaseHTTPRequestHandler):
         asked = self.body(int(length))
         if path == "enter":
             return self.enter(asked)
-        live = self.served.live
-        answers: dict[str, Callable[[dict[str, Any]], bytes]] = {
-            "do": self.do, "state": self.state, "may": live.may, "lost": live.lost, "ask": self.ask, "theirs": self.theirs,
-        }
+        answers: dict[str, Callable[[dict[str, Any]], bytes]] = {"do": self.do, "state": self.state, "may": self.served.live.may, "ask": self.ask, "theirs": self.theirs}
         if path not in answers:
             raise Bad(404, "that can't be asked for")
         try:
             return self.answer(200, answers[path](asked), JSON)
         except (Refused, OSError) as fault:
-            said = {"fault": str(fault), "asks": isinstance(fault, Doubtful), "version": live.version}
+            said = {"fault": str(fault), "asks": isinstance(fault, Doubtful), "version": self.served.live.version}
             return self.answer(409, json.dumps(said).encode(), JSON)
 
     def body(self, length: int) -> dict[str, Any]:

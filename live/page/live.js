@@ -65,8 +65,6 @@ export class Live {
     this.reading = undefined;
     /** @type {Record<string, Record<string, string>>} by node, why it can't do what */
     this.may = {};
-    /** @type {Record<string, string>} by node, what it would lose if it restarted */
-    this.lost = {};
     /** @type {{ text: string, yes: string, does: () => void } | null} */
     this.question = null;
     this.hasGone = false;
@@ -113,7 +111,7 @@ export class Live {
       this.state = state;
       this.motion.stop();
       this.ways = new Ways(state.directives["deliver-msgs"] ?? "");
-      this.forgetOffers();
+      this.may = {};
       for (const id of ["panes", "keys", "search"]) {
         byId(id).hidden = state.of === 0;
       }
@@ -257,43 +255,22 @@ export class Live {
     this.bar.draw();
   }
 
-  forgetOffers() {
-    this.may = {};
-    this.lost = {};
-  }
-
-  /** Asks what nodes may do after the chosen directive, and then what they would lose by a restart. */
   async askMay() {
-    const nodes = await this.askOfNodes("may");
-    if (nodes) {
-      this.may = nodes;
-      this.keepingFocus(() => this.page?.state.renewButtons());
-      const lost = await this.askOfNodes("lost");
-      if (lost && Object.keys(lost).length > 0) {
-        this.lost = lost;
-        this.keepingFocus(() => this.page?.state.renewButtons());
-      }
-    }
-  }
-
-  /**
-   * What the server says of each node after the chosen directive; nothing once something else is shown or chosen.
-   * @param {string} what
-   * @returns {Promise<Record<string, any> | null>}
-   */
-  async askOfNodes(what) {
     const { state, page } = this;
     if (!state || !page) {
-      return null;
+      return;
     }
+    const { place } = page.chosen;
     try {
-      const told = await this.talk.post(what, { branch: state.branch, place: page.chosen.place });
-      return told.version === this.state?.version && told.place === this.page?.chosen.place ? told.nodes : null;
+      const told = await this.talk.post("may", { branch: state.branch, place });
+      if (this.page && told.version === this.state?.version && told.place === this.page.chosen.place) {
+        this.may = told.nodes;
+        this.keepingFocus(() => this.page?.state.renewButtons());
+      }
     } catch (fault) {
       if (!(fault instanceof Refusal)) {
         this.failed(fault, {}, "", "");
       }
-      return null;
     }
   }
 
@@ -302,7 +279,7 @@ export class Live {
     const place = this.page ? this.page.chosen.place : 0;
     if (this.page && this.placed !== place) {
       this.placed = place;
-      this.forgetOffers();
+      this.may = {};
       this.bar.draw();
       this.askMay();
     }
@@ -427,17 +404,6 @@ export class Live {
   /** @param {string} selector */
   focus(selector) {
     /** @type {HTMLElement | null} */ (document.querySelector(selector))?.focus({ preventScroll: false });
-  }
-
-  /**
-   * Goes to the first button of the first of some elements or, from one of them, of the next one.
-   * @param {string} selector
-   */
-  focusNext(selector) {
-    const all = [...document.querySelectorAll(selector)];
-    const own = document.activeElement?.closest(selector);
-    const next = all[((own ? all.indexOf(own) : -1) + 1) % all.length];
-    /** @type {HTMLElement | null | undefined} */ (next?.querySelector("button"))?.focus();
   }
 
   /**

@@ -86,17 +86,14 @@ class LiveState extends State {
     const why = live.may[id] ?? {};
     const there = live.state?.directives ?? {};
     const pending = live.pending();
-    const lost = live.lost[id] ?? "";
     const own = OF_NODE.filter(([name]) => name in there).map(([name, text]) => {
-      const says = `${name} ${id}${name === "restart" && lost ? `, which loses ${lost}` : ""}`;
-      return button(text, `${name} ${id}`, why[name] ?? "", says, () => live.ofNode(name, id, why[name] ?? ""));
+      return button(text, `${name} ${id}`, why[name] ?? "", `${name} ${id}`, () => live.ofNode(name, id, why[name] ?? ""));
     });
     const [to, from] = [live.ways.allTo(id, pending), live.ways.allFrom(id, pending, this.model.nodes.map((node) => node.id))];
     return [
       ...own,
       button(`all to it (${to.takes.length})`, `all-to ${id}`, to.why, to.text, () => live.takeWay(to)),
       button(`all from it (${from.takes.length})`, `all-from ${id}`, from.why, from.text, () => live.takeWay(from)),
-      ...(lost ? [withAttributes(element("span", "live-lost", `restart loses ${lost}`), { title: lost })] : []),
     ];
   }
 
@@ -133,8 +130,6 @@ export class LivePage extends Page {
     LivePage.made = live;
     super(model);
     this.live = live;
-    /** @type {{ spans: import("./mail.js").Spans | null, place: number, messages: Message[] }} */
-    this.found = { spans: null, place: 0, messages: [] };
     const { drawing } = this.picture;
     drawing.addEventListener("click", (event) => this.clicked(event), { capture: true });
     drawing.addEventListener("pointermove", (event) => drawing.classList.toggle("can-deliver", this.messageAt(event) !== null));
@@ -159,8 +154,8 @@ export class LivePage extends Page {
     /** @type {[string[], string, () => void][]} */
     const own = [
       [["i"], "write a directive", () => live.bar.write()],
-      [["c"], "go to what the next node may do", () => live.focusNext("#state [data-node]")],
-      [["d"], "go to the next message on its way", () => live.focusNext(".live-message")],
+      [["c"], "go to what the first node may do", () => live.focus("#state [data-node] button")],
+      [["d"], "go to the first message on its way", () => live.focus(".live-message button")],
       [["s"], "stabilize", () => live.insert("stabilize")],
       [["e"], "edit the directive", () => live.edit()],
       [["u"], "undo", () => live.ask({ do: "undo" })],
@@ -205,10 +200,7 @@ export class LivePage extends Page {
    */
   goFurther(front) {
     const { picture, script, model, chosen } = this;
-    // A filter's type may be in what isn't read yet.
-    if (this.live.run?.isWhole) {
-      this.search.replace(model);
-    }
+    this.search.replace(model);
     if (!placeFrom(picture.layout, front)) {
       picture.replace(model, chosen);
     }
@@ -270,13 +262,10 @@ export class LivePage extends Page {
     }
   }
 
-  /** The messages that are on their way after the chosen directive. They are found once, and asked for at each button. */
+  /** The messages that are on their way after the chosen directive. */
   pendingNow() {
-    const { model: { spans }, chosen: { place } } = this;
-    if (this.found.spans !== spans || this.found.place !== place) {
-      this.found = { spans, place, messages: spans.pendingAfter(place, instantAt(this.model, { place, event: 0 }).serial) };
-    }
-    return this.found.messages;
+    const { step, serial } = instantAt(this.model, { place: this.chosen.place, event: 0 });
+    return this.model.spans.pendingAfter(step.place, serial);
   }
 }
 /** @type {Live} whose page is being made: a class that is extended calls what it is made of before it has fields of its own */

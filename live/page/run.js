@@ -1,9 +1,8 @@
 // A run that changes: its rows are kept by directive. An edit cuts off what was read from there on, and reading goes on with the rows that are
 // new, and then with those that stayed. What comes of it is what reading all rows of the new script gives.
 
-import { mailOf, pendingIn, skippedBy } from "./chosen.js";
 import { firstAbove } from "./history.js";
-import { Spans } from "./mail.js";
+import { Mail, Spans } from "./mail.js";
 import { Reader } from "./rows.js";
 import { shown, spellFor } from "./text.js";
 
@@ -31,7 +30,7 @@ function linesOf(text) {
   return lines[lines.length - 1] === "" ? lines.slice(0, -1) : lines;
 }
 
-/** Reads rows by directive, and remembers of each message which term its receiver had when it was sent. */
+/** Reads rows, and remembers of each message which term its receiver had when it was sent. */
 class Remembering extends Reader {
   constructor() {
     super();
@@ -47,21 +46,6 @@ class Remembering extends Reader {
     const message = super.sends(name, cells);
     this.sentTerms[message.number] = message.metTerm;
     return message;
-  }
-
-  /** @param {Row[]} rows those of a directive */
-  readStep([first, ...rows]) {
-    this.read(first);
-    const pending = this.step.head.some((line) => line.includes("skip=")) ? pendingIn(this.mail) : [];
-    const skipped = new Set(skippedBy(this.step.head, pending));
-    if (skipped.size > 0) {
-      this.mail = mailOf(pending.filter((message) => !skipped.has(message)));
-    }
-    rows.forEach((row) => this.read(row));
-    if (skipped.size > 0) {
-      this.mail = mailOf(pending.filter(({ met }) => met === null));
-    }
-    this.step.moment = this.moment;
   }
 }
 
@@ -110,7 +94,8 @@ export class Run {
     const { reader, steps } = this;
     const until = Math.min(steps.length, this.count + most);
     for (; this.count < until; this.count += 1) {
-      reader.readStep(steps[this.count]);
+      steps[this.count].forEach((row) => reader.read(row));
+      reader.step.moment = reader.moment;
     }
     if (until === steps.length && !reader.isWhole) {
       this.end.forEach((row) => reader.read(row));
@@ -176,12 +161,15 @@ export class Run {
     const sent = firstAbove(model.messages.map(({ sentAt }) => sentAt), serial - 1);
     model.messages.length = sent;
     reader.sentTerms.length = sent;
+    reader.mail = new Mail();
     for (const message of model.messages) {
       if (message.met && message.met.place > front) {
         Object.assign(message, { met: null, metAt: 0, fate: "waiting", metTerm: reader.sentTerms[message.number], end: undefined });
       }
+      if (!message.met) {
+        reader.mail.push(message);
+      }
     }
-    reader.mail = mailOf(model.messages.filter(({ met }) => met === null));
   }
 }
 

@@ -103,28 +103,15 @@ def a_page_that_went_on_is_as_a_fresh_one(browser: Browser) -> None:
     on_script(browser, START + CAMPAIGN, does)
 
 
-# How high the picture is, whenever that changes.
-HEIGHTS = """(() => {
-  window.heights = [];
-  const extent = document.getElementById('extent');
-  new MutationObserver(() => window.heights.push(parseInt(extent.style.height))).observe(extent, { attributes: true });
-})()"""
-
-
 def a_long_page_goes_on_in_parts(browser: Browser) -> None:
     """Of a long script 200 directives show at once after an edit, and then the rest. At the end all is as on a fresh page."""
     def does(player: Player, server: Running, path: pathlib.Path) -> None:
         player.browser.call("Emulation.setEmulatedMedia", features=[{"name": "prefers-reduced-motion", "value": "reduce"}])
         player.browser.value("document.getElementById('directives').focus(), location.hash = '#1', 1")
         player.at(1, 802)
-        whole = player.browser.value("parseInt(document.getElementById('extent').style.height)")
-        player.browser.value(HEIGHTS)
         player.directive("campaign 2")
         player.at(2, 803)
         player.key("Escape")
-        player.comes("document.getElementById('counts').textContent", "803 directives, 0 mismatches, 3 nodes")
-        heights = player.browser.value("window.heights")
-        # Those of 202 directives, and of 803.
-        same(f"whether {heights} begin with some of {whole}", (whole / 5 < heights[0] < whole / 3, heights[-1] > whole, heights == sorted(heights)), (True, True, True))
+        same("counts", player.text("#counts"), "803 directives, 0 mismatches, 3 nodes")
         same_after_a_load(player, server, [1, 2, 201, 402, 403, 404, 703, 803], 803)
     on_script(browser, START + LEVEL * 400 + CAMPAIGN + LEVEL * 400, does)

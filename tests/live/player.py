@@ -2,8 +2,6 @@
 from __future__ import annotations
 
 import json
-import os
-import pathlib
 import time
 from typing import Any
 
@@ -13,8 +11,6 @@ from tests.page.scripts import same
 MOST_SECONDS = 120
 MOST_CLICKS = 3
 SHIFT = 8
-# Where what is seen is written to, to look at.
-SEEN = pathlib.Path(os.environ["SEEN"]) if "SEEN" in os.environ else None
 
 
 class Player:
@@ -34,12 +30,6 @@ class Player:
         """Nothing may stand in the console but what the page asks of its own server, and what the server refuses."""
         faults = [it for it in self.browser.faults if not it.startswith(("fetches http://127.0.0.1:", "log: Failed to load resource: the server responded with a status of 409"))]
         same("what the console has", faults, [])
-
-    def seen(self, name: str) -> None:
-        """Looks whether all is quiet, and keeps a picture if that is wanted."""
-        self.quiet()
-        if SEEN:
-            self.browser.picture(SEEN / f"{name}.png")
 
     def box(self, selector: str) -> list[float]:
         """Scrolls an element into view and gives its middle. Waits until it is there, since the page replaces its buttons."""

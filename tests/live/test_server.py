@@ -33,7 +33,7 @@ def test_listens_on_this_machine_alone(room: pathlib.Path) -> None:
 
 def test_refuses_those_without_the_token(room: pathlib.Path) -> Iterator[str]:
     with Running(script(room)) as server:
-        for path in ("/state", "/do", "/may", "/lost", "/ask", "/theirs"):
+        for path in ("/state", "/do", "/may", "/ask", "/theirs"):
             for token in ("", "Bearer ", "Bearer wrong", f"Bearer {server.key}"):
                 status, told = server.post(path, {}, Authorization=token)
                 if status != 401 or "printed" not in str(told):
