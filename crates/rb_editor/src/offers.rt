@@ -18,7 +18,7 @@ mod unfinished;
 mod words;
 mod writing;
 
-pub(crate) use above::{begun_lines, line_begin};
+pub(crate) use above::begun_lines;
 pub(crate) use block_lines::{all_lines, blocks_of, script_of};
 pub use block_lines::{BlockLines, begins_rule};
 pub use completion::add_completion;
@@ -33,6 +33,5 @@ pub use laws::{
 };
 pub use place::CompletionPlace;
 pub use symbols::{MAX_NAME, add_symbols};
-pub(crate) use symbols::line_at;
-pub(crate) use writing::{add_position, add_range};
+pub(crate) use writing::add_range;
 pub use writing::add_range_member;
