@@ -2,6 +2,7 @@ pub mod AcceptLaws
 pub mod AnswerLaws
 pub mod AskingLaws
 pub mod CommentLaws
+pub mod EndingLaws
 pub mod FormatLaws
 pub mod LineLaws
 pub mod LostLaws
@@ -11,8 +12,8 @@ pub mod QuietLaws
 pub mod ReasonLaws
 pub mod ReportLaws
 pub mod ReviewLaws
-pub mod RunLaws
 pub mod ShownLaws
+pub mod SuiteLaws
 pub mod TargetLaws
 pub mod VisibleLaws
 pub mod XmlLaws

@@ -4,12 +4,13 @@ pub mod Escapes
 pub mod Replaced
 pub mod Objects
 pub mod Commands
-pub mod Results
-pub mod Subjects
+pub mod Counts
+pub mod Findings
 pub mod Xml
 pub mod Junit
 pub mod Formats
 pub mod Endings
+pub mod Listed
 pub mod Lost
 pub mod Place
 pub mod Reasons
