@@ -33,7 +33,7 @@ use Rattle.rb_check.specs.Counts.{ran_as, counts_after}
 use Rattle.rb_check.specs.Endings.{IsAnswered}
 use Rattle.rb_check.specs.Listed.{ListedScript, Lists}
 use Rattle.rb_check.specs.Lost.{counted_failures, lost_failures, lost_text}
-use Rattle.rb_bench.specs.Reasons.{asked_reasons}
+use Rattle.rb_check.specs.Reasons.{asked_reasons}
 use Rattle.rb_check.specs.Reviews.{review_end}
 use Rattle.rb_check.specs.ScriptTexts.{PlainChecked}
 use Rattle.rb_check.specs.Shown.{GoesOut, begun_text, colors_in, lacks_memory, last_text, noticed_text, own_after, remark_text, shown_in, started}
