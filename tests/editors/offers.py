@@ -10,7 +10,7 @@ from typing import Any
 
 from plain import script
 from plain.cluster import Cluster
-from tests.editors.oracle import line_starts, position, shown
+from tests.editors.oracle import line_starts, position
 from tests.editors.served import served
 from tests.harness import TOP, matched
 
@@ -20,9 +20,7 @@ LONGEST_NAME = 80
 CODE = re.compile(r"`([^`]*)`")
 TOKEN = r"[^ \t=()]"
 WHOLE_NAME = re.compile(rf"[ \t]*({TOKEN}+)(?=[ \t])")
-VALUE_OF_KEY = r"=(?:\([^()]*\)|(?!\()[^ \t]*)"
-# A value without a key is an error, and what is behind it continues as it does behind others.
-WHOLE_ARGUMENT = re.compile(rf"[ \t]+(?:{TOKEN}+(?:{VALUE_OF_KEY})?|{VALUE_OF_KEY})(?=[ \t])")
+WHOLE_ARGUMENT = re.compile(rf"[ \t]+{TOKEN}+(?:=(?:\([^()]*\)|(?!\()[^ \t]*))?(?=[ \t])")
 NAME = re.compile(rf"[ \t]*({TOKEN}*)\Z")
 ARGUMENT = re.compile(rf"[ \t]+({TOKEN}*)\Z")
 VALUE_OF = re.compile(rf"[ \t]+({TOKEN}*)=(?!\()([^ \t]*)\Z")
@@ -80,7 +78,7 @@ def symbols(text: str, encoding: str) -> Any:
         start = start_of(text, head, encoding)
         name = lines[head].rstrip("\r").lstrip(" \t")[:LONGEST_NAME]
         range_ = {"start": start, "end": start_of(text, end, encoding)}
-        found.append({"name": shown(name), "kind": EVENT, "range": range_, "selectionRange": {"start": start, "end": start_of(text, behind, encoding)}})
+        found.append({"name": name, "kind": EVENT, "range": range_, "selectionRange": {"start": start, "end": start_of(text, behind, encoding)}})
     return found
 
 
@@ -91,41 +89,15 @@ def is_cut(text: str, at: int) -> bool:
     return text[at - 1:at + 1] == "\r\n"
 
 
-def read(text: str) -> script.Script | None:
-    """The script of a text, or None where it is no script."""
-    try:
-        return script.read_script(text.encode())
-    except script.Fault:
-        return None
-
-
-def formatted(meant: script.Script) -> str:
-    """The canonical text without the empty line that closes its last block."""
-    text = meant.text().decode()
-    return text.removesuffix("\n") if meant.blocks and not meant.tail else text
-
-
 def formatting(text: str, encoding: str) -> Any:
-    """One edit of what differs from that, around which the texts are the same."""
-    meant = read(text)
-    return [] if meant is None else edits_between(text, formatted(meant), encoding)
-
-
-def range_formatting(text: str, first: int, last: int, encoding: str) -> Any:
-    """The same of the directives that have a line from `first` to `last`, counted from 0, if the script stays as it is."""
-    touched = [it for it in blocks(text) if it[0] <= last and first < it[3]]
-    if (meant := read(text)) is None or not touched:
+    """One edit of what differs from the canonical text without the empty line that closes its last block, around which the texts are the same."""
+    try:
+        meant = script.read_script(text.encode())
+    except script.Fault:
         return []
-    starts = [*line_starts(text), len(text)]
-    start, end = starts[touched[0][0]], starts[min(touched[-1][3], len(starts) - 1)]
-    if (part := read(text[start:end])) is None:
-        return []
-    new = text[:start] + formatted(part) + text[end:]
-    return edits_between(text, new, encoding) if read(new) == meant else []
-
-
-def edits_between(text: str, new: str, encoding: str) -> Any:
-    """One edit of what differs between two texts, if something does."""
+    new = meant.text().decode()
+    if meant.blocks and not meant.tail:
+        new = new.removesuffix("\n")
     if new == text:
         return []
     front = next((n for n, (a, b) in enumerate(zip(text, new)) if a != b), min(len(text), len(new)))

@@ -20,7 +20,7 @@ from plain.texts import entry_text
 from tests.harness import TOP
 from tests.page.plain_steps import DIRECTIVES, Row, rows_of
 from tests.page.program import REFUSED, answer, put
-from tests.page.scripts import FULL, HOSTILE, LOST, MANY, NOBODY, RARE, RESTARTS, SELF, SEVERAL, TOUR, same
+from tests.page.scripts import FULL, HOSTILE, LOST, MANY, NOBODY, RARE, SELF, SEVERAL, TOUR, same
 
 Event = dict[str, Any]
 # The rows of a page that say something else than what happens.
@@ -30,7 +30,6 @@ MEMBERS = ["directive", "line", "node?", "message?", "type?", "from?", "to?", "t
 # More messages than are kept on their way.
 MOST = 4096
 # What has no line of its own, but a reason.
-LOSSES = re.compile(r"entry \d+|entries \d+\.\.\d+|term \d+|the vote for \d+|a snapshot|the snapshot")
 UNPRINTED = re.compile(r"DEBUG \d+ (?:refused Msg|removed entries)")
 
 
@@ -80,7 +79,7 @@ def status_of(data: bytes) -> int:
 
 def scripts() -> Iterator[tuple[str, bytes]]:
     yield from ((path.name, path.read_bytes()) for path in TOUR)
-    named = {"hostile": HOSTILE, "lost": LOST, "many": MANY, "nobody": NOBODY, "rare": RARE, "self": SELF, "full": FULL, "restarts": RESTARTS, "empty": b""}
+    named = {"hostile": HOSTILE, "lost": LOST, "many": MANY, "nobody": NOBODY, "rare": RARE, "self": SELF, "full": FULL, "empty": b""}
     yield from named.items()
 
 
@@ -150,7 +149,7 @@ def nodes_are_those_of_the_rows() -> None:
 
 
 def messages_keep_their_numbers() -> None:
-    """Of the messages that say the same the earliest is delivered or dropped first; those without room are the last that were sent."""
+    """Of the messages of one type to one node the earliest is delivered or dropped first; those without room are the last that were sent."""
     for name, data in scripts():
         sent, pending = 0, collections.deque[tuple[int, Row]]()
         for event in traced(data, status_of(data)):
@@ -166,25 +165,23 @@ def messages_keep_their_numbers() -> None:
             elif verb == "no-room" and len(pending) <= MOST:
                 number = sent = sent + 1
             else:
-                like = [it for it in list(pending)[MOST if verb == "no-room" else 0:] if it[1] == cells]
+                like = [it for it in list(pending)[MOST if verb == "no-room" else 0:] if it[1][1:3] == cells[1:3]]
                 number = like[0][0]
+                same(f"message {number} of {name}", like[0][1], cells)
                 pending.remove(like[0])
             same(f"the number of {event} in {name}", event["message"], number)
 
 
 def reasons_are_told() -> None:
-    """Each ignored message, refused vote and removal has a reason, which `check --why` shows; nothing else has one, but a restart that loses something."""
+    """Each ignored message, refused vote and removal has a reason, which `check --why` shows; nothing else has one."""
     for name, data in scripts():
         events = traced(data, status_of(data))
         ignored = [event for event in events if event.get("row", [""])[0] == "ignored" or UNPRINTED.match(event["text"])]
-        reasoned = [event for event in events if "reason" in event]
-        lost = [event for event in reasoned if event.get("row", [""])[0] == "restarted"]
-        same(f"what has a reason in {name}", [event for event in reasoned if event not in lost], ignored)
-        same(f"what restarts lose in {name}", [event["reason"] for event in lost if not LOSSES.match(event["reason"])], [])
+        same(f"what has a reason in {name}", [event for event in events if "reason" in event], ignored)
     with tempfile.TemporaryDirectory() as room:
         for path in TOUR:
             why = answer(["check", "--why", "-v", "--color", "never", put(room, path.name, path.read_bytes())])[0].decode()
-            told = re.findall(r"^\^   (?:ignored: |refused: |lost: )?(.*)$", why, re.M)
+            told = re.findall(r"^\^   (?:ignored: |refused: )?(.*)$", why, re.M)
             reasons = [event["reason"] for event in traced(path.read_bytes()) if "reason" in event]
             same(f"the reasons of {path.name}", [reason for reason in told if reason not in reasons], [])
 

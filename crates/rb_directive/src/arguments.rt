@@ -44,8 +44,6 @@ pub(crate) struct Arguments<'d> {
     pub(crate) inflight: Option<u64>,
     pub(crate) rounds: Option<u64>,
     pub(crate) timeout: Option<u64>,
-    pub(crate) skip: Option<u64>,
-    pub(crate) messages: Option<u64>,
     pub(crate) payload: Option<ScriptWord<'d>>,
     pub(crate) content: Option<ScriptWord<'d>>,
     pub(crate) level: Option<Level>,
@@ -75,8 +73,6 @@ impl<'d> Arguments<'d> {
             inflight: None,
             rounds: None,
             timeout: None,
-            skip: None,
-            messages: None,
             payload: None,
             content: None,
             level: None,
@@ -105,8 +101,6 @@ impl<'d> Arguments<'d> {
             Number::Inflight => self.inflight,
             Number::Rounds => self.rounds,
             Number::Timeout => self.timeout,
-            Number::Skip => self.skip,
-            Number::Messages => self.messages,
         }
     }
 
@@ -197,8 +191,6 @@ impl<'d> Arguments<'d> {
             Number::Inflight => self.inflight = Some(number),
             Number::Rounds => self.rounds = Some(number),
             Number::Timeout => self.timeout = Some(number),
-            Number::Skip => self.skip = Some(number),
-            Number::Messages => self.messages = Some(number),
         }
     }
 

@@ -2,7 +2,6 @@ pub mod Diagnostics
 pub mod Came
 pub mod Findings
 pub mod Comparisons
-pub mod ShownMessages
 pub mod Published
 pub mod Work
 pub mod Stops
@@ -11,9 +10,6 @@ pub mod Served
 pub mod Layouts
 pub mod Extents
 pub mod Hovers
-pub mod Messages
-pub mod MessagePlaces
-pub mod RangeFormatting
 pub mod Corrections
 pub mod Actions
 pub mod Completing

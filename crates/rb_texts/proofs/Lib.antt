@@ -7,4 +7,3 @@ pub mod ShownLaws
 pub mod PrintedLaws
 pub mod FewLaws
 pub mod FieldLaws
-pub mod LostLaws

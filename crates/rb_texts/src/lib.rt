@@ -10,7 +10,6 @@ mod fields;
 mod form;
 mod item;
 mod laws;
-mod lost;
 mod messages;
 mod piece;
 mod reason;

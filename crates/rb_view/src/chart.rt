@@ -11,7 +11,6 @@ mod builder;
 mod canvas;
 mod canvas_arrows;
 mod chart;
-mod choice;
 mod columns;
 mod css_class;
 mod draw;

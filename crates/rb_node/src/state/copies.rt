@@ -19,7 +19,6 @@ impl<L: RaftLog> State<L> {
             lead: self.lead,
             role: self.role,
             log: self.log.try_copy()?,
-            start: self.start.clone()?,
             commit: self.commit,
             applied: self.applied,
             content: self.content.try_copy()?,
@@ -92,7 +91,6 @@ impl<L: RaftLog> State<L> {
             && self.sent.same(&other.sent)
             && self.waiting.same(&other.waiting)
             && self.log.same(&other.log)
-            && self.start.snapshot().same(other.start.snapshot())
             && self.content.same(&other.content)
     }
 

@@ -26,7 +26,6 @@ pub const LEADER: Role = Role::Leader;
 pub enum Told {
     Nothing,
     Started,
-    Restarted,
     Became,
     CannotAsLeader,
     CannotAsNoVoter,
@@ -154,7 +153,6 @@ fn counted(outcome: VoteResult) -> Told {
 fn event_told(event: &Event) -> Told {
     match &event.kind {
         EventKind::Started { .. } => Told::Started,
-        EventKind::Restarted { .. } => Told::Restarted,
         EventKind::Became { .. } => Told::Became,
         EventKind::CannotCampaign { why, .. } => reason(*why),
         EventKind::VoteCounted {
