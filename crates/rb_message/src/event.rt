@@ -3,7 +3,9 @@
 //! An event reports a decision that the node's state doesn't show: why it ignores a message or refuses a vote, what it counted, what it
 //! dropped. Each event names its node.
 
+use crate::hard_state::HardState;
 use crate::role::Role;
+use crate::unsaved::Unsaved;
 use rb_raftlog::Entries;
 use rb_tracker::{ChangeFault, Config, VoteResult};
 use rb_vocab::MessageType;
@@ -129,6 +131,13 @@ pub enum EventKind {
         term: u64,
         index: u64,
         config: Config,
+    },
+    /// It restarted with a saved hard state, and the entries after `base` up to `last`.
+    Restarted {
+        saved: HardState,
+        base: u64,
+        last: u64,
+        lost: Unsaved,
     },
     /// It took a role.
     Became {

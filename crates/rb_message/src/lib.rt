@@ -13,6 +13,7 @@ mod limits;
 mod message;
 mod outbox;
 mod role;
+mod unsaved;
 
 pub use append::Append;
 pub use event::{Event, EventKind, WhyIgnored, WhyNoCampaign, WhyRefused, WhyReplaced};
@@ -22,3 +23,4 @@ pub use kind::MessageKind;
 pub use message::Message;
 pub use outbox::Outbox;
 pub use role::Role;
+pub use unsaved::Unsaved;

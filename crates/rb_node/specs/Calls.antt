@@ -1,8 +1,6 @@
--- The calls of a node, except ticks and readies
-use Rattle.std.specs.Prelude.{ℕ, ◌≡◌, min, Result, Option, Some, None, List, [], ◌∷◌, ◌++◌, if◌then◌else◌}
-use Rattle.rb_raftlog.specs.declared.raft_log.CompactFault.{CompactFault}
+-- The calls of a node, except ticks, readies, compacting and restarts
+use Rattle.std.specs.Prelude.{ℕ, Option, Some, None, List, [], ◌∷◌, ◌++◌, if◌then◌else◌}
 use Rattle.rb_raftlog.specs.declared.snapshot.Snapshot.{Snapshot}
-use Rattle.rb_raftlog.specs.Log.{IsCompacted}
 use Rattle.rb_tracker.specs.Progresses.{PlainProgress, probed}
 use Rattle.rb_tracker.specs.Trackers.{place, view_at}
 use Rattle.rb_message.specs.declared.event.Event.{Event}
@@ -50,8 +48,3 @@ reported_at (Some at) n = reported_with (view_at n.tracker.views at) n at
 
 abbrev pub reported : PlainNode → ℕ → PlainNode
 reported n id = if is_leader n.role then reported_at (place n.tracker.views id) n else n
-
--- the log is compacted to an index that is applied and durable
-abbrev pub IsCompactedTo : PlainNode → ℕ → Result (Unit {0}) CompactFault → PlainNode → Type 0
-IsCompactedTo old index result new =
-    IsCompacted old.log index (min old.applied old.log.durable) result new.log × (new ≡ record old { log = new.log })

@@ -28,4 +28,4 @@ HaveSameNumbers a b = HaveSameRole a b × HaveSameIndexes a b × HaveSameCounter
 abbrev pub HaveSameLists : PlainNode → PlainNode → Type 0
 HaveSameLists a b =
     (a.votes ≡ b.votes) × (a.tracker ≡ b.tracker) × (a.sent ≡ b.sent) × (a.waiting ≡ b.waiting)
-    × (a.log ≡ b.log) × (a.content ≡ b.content)
+    × (a.log ≡ b.log) × (a.start ≡ b.start) × (a.content ≡ b.content)

@@ -67,7 +67,7 @@ append_entries_handled t from append =
 abbrev pub restored_to : PlainNode → Snapshot → PlainNode
 restored_to n snapshot =
     record n {
-      log = restored snapshot;
+      log = restored n.log snapshot;
       commit = snapshot.index;
       applied = snapshot.index;
       content = snapshot.content;

@@ -3,12 +3,14 @@ pub mod Calls
 pub mod Campaigns
 pub mod Changing
 pub mod Clocks
+pub mod Compacting
 pub mod Comparing
 pub mod Following
 pub mod Leading
 pub mod Node
 pub mod Proposing
 pub mod Readying
+pub mod Restarting
 pub mod Sends
 pub mod Step
 pub mod Terms

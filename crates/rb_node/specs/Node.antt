@@ -30,6 +30,8 @@ pub record PlainNode : Type 0 where
   pub lead : ℕ
   pub role : Role
   pub log : LogValue
+  -- the saved snapshot, which a restart begins at: the state at the base of the saved entries
+  pub start : Snapshot
   -- the last index known to be committed, and the last applied index
   pub commit : ℕ
   pub applied : ℕ
@@ -63,6 +65,7 @@ started id start options = record {
   lead = 0;
   role = role.Follower;
   log = fresh start.index start.term;
+  start = start;
   commit = start.index;
   applied = start.index;
   content = start.content;
@@ -91,9 +94,10 @@ abbrev pub with_timeout : PlainNode → ℕ → PlainNode
 with_timeout n ticks = record n { clock = record n.clock { timeout = ticks } }
 
 -- the invariant of a node
-pub record IsNode (commit applied : ℕ) : Type 0 where
+pub record IsNode (commit applied saved_commit : ℕ) : Type 0 where
   pub commit_fits : commit ≤ MAX_INDEX
   pub applied_fits : applied ≤ MAX_INDEX
+  pub saved_fits : saved_commit ≤ MAX_INDEX
 
 -- a step so far: the node, and its events
 pub record NodeStep : Type 0 where

@@ -2,10 +2,12 @@
 use Rattle.std.specs.Prelude.{ℕ, Bool, false, ◌&&◌, ◌||◌, not, List, [], ◌∷◌, ◌++◌, Option, Some, None, if◌then◌else◌, filter, length, nat_lt, ◌==◌}
 use Rattle.rb_raftlog.specs.declared.entry.Entry.{Entry}
 use Rattle.rb_raftlog.specs.Log.{last, between, not_durable, made_durable}
+use Rattle.rb_raftlog.specs.declared.snapshot.Snapshot.{Snapshot}
 use Rattle.rb_message.specs.declared.hard_state.HardState.{HardState}
 use Rattle.rb_message.specs.declared.message.Message.{Message}
 use Rattle.rb_node.specs.Node.{PlainNode, NodeStep, with_node}
 use Rattle.rb_node.specs.Changing.{applied_all, joint_left}
+use Rattle.rb_node.specs.Sends.{snapshot_of}
 use Rattle.rb_node.specs.Step.{stepped}
 
 abbrev pub hard_state : PlainNode → HardState
@@ -51,9 +53,13 @@ ready n = record {
   send = outgoing n;
 }
 
+-- the snapshot that is saved: a restored one takes the place of the one before
+abbrev pub saved_start : PlainNode → Snapshot
+saved_start n = if n.restored then snapshot_of n else n.start
+
 -- everything is durable, and both lists of messages are empty
 abbrev pub saved : PlainNode → PlainNode
-saved n = record n { saved = hard_state n; log = made_durable n.log; restored = false; sent = []; waiting = [] }
+saved n = record n { saved = hard_state n; log = made_durable n.log; start = saved_start n; restored = false; sent = []; waiting = [] }
 
 -- the node's own answers, in order
 abbrev pub own_answers_stepped : ℕ → NodeStep → List Message → NodeStep

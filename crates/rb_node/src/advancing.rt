@@ -7,12 +7,12 @@ ghost use Rattle.std.specs.Prelude.{◌≡◌, ◌+◌, ◌≤◌, ◌++◌, [],
 ghost use Rattle.rb_raftlog.specs.declared.limits.TheConstants.{MAX_INDEX};
 ghost use Rattle.rb_node.specs.Node.{node_step};
 ghost use Rattle.rb_node.specs.Changing.{applied_all};
-ghost use Rattle.rb_node.specs.Readying.{applying, others, outgoing, saved, own_answers_stepped, advanced};
+ghost use Rattle.rb_node.specs.Readying.{applying, others, outgoing, saved_start, saved, own_answers_stepped, advanced};
 
 use crate::node::Node;
 use crate::ready::{applying_entry, applying_len, hard_state};
 use crate::state::State;
-use rb_message::{Event, Message};
+use rb_message::{Event, Install, Message};
 use rb_raftlog::{Entry, RaftLog};
 use std::alloc::AllocError;
 
@@ -37,12 +37,24 @@ fn applying_copies<L: RaftLog>(state: &State<L>) -> Result<Vec<Entry>, AllocErro
     Ok(copies)
 }
 
+// Saves a restored snapshot.
+fn save_start<L: RaftLog>(state: &mut State<L>) -> Result<(), AllocError>
+    ensures { OnOk result (state.new ≡ record state.old { start = saved_start state.old }) }
+{
+    if state.restored {
+        let snapshot = state.snapshot()?;
+        state.start = Install::new(state.alloc, snapshot)?;
+    }
+    Ok(())
+}
+
 // Marks everything as durable, and takes both lists of messages.
 fn save<L: RaftLog>(state: &mut State<L>) -> Result<Outgoing, AllocError>
     ensures node { OnOk result (state.new ≡ saved state.old) }
     ensures sent { IfOk result (λ taken. taken.sent.items ≡ state.old.sent) }
     ensures waiting { IfOk result (λ taken. taken.waiting.items ≡ state.old.waiting) }
 {
+    save_start(state)?;
     state.saved = hard_state(state);
     state.log.mark_durable()?;
     state.restored = false;

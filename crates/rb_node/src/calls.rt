@@ -8,7 +8,9 @@ ghost use Rattle.rb_node.specs.Node.{node_step, with_timeout};
 ghost use Rattle.rb_node.specs.Campaigns.{campaigned};
 ghost use Rattle.rb_node.specs.Sends.{snapshot_of};
 ghost use Rattle.rb_node.specs.Step.{stepped};
-ghost use Rattle.rb_node.specs.Calls.{called, leader_forgotten, reported, IsCompactedTo};
+ghost use Rattle.rb_node.specs.Calls.{called, leader_forgotten, reported};
+ghost use Rattle.rb_node.specs.Compacting.{IsCompactedTo};
+ghost use Rattle.rb_node.specs.Restarting.{node_restarted};
 
 use crate::node::Node;
 use rb_message::{Event, Message, MessageKind, Role};
@@ -110,12 +112,18 @@ impl<L: RaftLog> Node<L> {
         self.state.snapshot()
     }
 
-    /// Drops the log's entries up to an applied index.
+    /// Restarts the node from what it saved: it loses what it did since it last advanced, and applies committed entries again.
+    pub fn restart(&mut self, events: &mut Vec<Event>) -> Result<(), AllocError>
+        ensures { OnOk result (node_step self.new events.new.items ≡ node_restarted (node_step self.old events.old.items)) }
+    {
+        self.state.restart(events)
+    }
+
+    /// Drops the log's entries up to an applied index. The cost is theirs, since the snapshot that a restart begins at moves too.
     pub fn compact(&mut self, index: u64) -> Result<(), CompactFault>
         ensures { IsCompactedTo self.old index result self.new }
     {
-        let applied = self.state.applied.min(self.state.log.durable());
-        self.state.log.compact(index, applied)
+        self.state.compact(index)
     }
 
     /// Sets the election timeout in ticks, until the next reset. Takes no memory.

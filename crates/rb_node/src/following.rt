@@ -158,7 +158,7 @@ impl<L: RaftLog> State<L> {
     {
         let content = snapshot.content.try_copy()?;
         let config = Config::of_state(self.alloc, &snapshot.config)?;
-        self.log.restore(snapshot);
+        self.log.restore(snapshot)?;
         self.commit = snapshot.index;
         self.applied = snapshot.index;
         self.content = content;

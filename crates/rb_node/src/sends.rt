@@ -99,7 +99,7 @@ impl<L: RaftLog> State<L> {
         Sending::Entries
     }
 
-    fn term_or_0(&self, index: u64) -> u64
+    pub(crate) fn term_or_0(&self, index: u64) -> u64
         ensures { result ≡ term_or_0 self.now.log index }
     {
         self.log.term_at(index).unwrap_or(0)

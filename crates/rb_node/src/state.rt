@@ -8,7 +8,9 @@ mod copies;
 
 use crate::clock::Clock;
 use crate::options::Options;
-use rb_message::{Event, EventKind, HardState, Message, MessageKind, Outbox, Role, WhyIgnored};
+use rb_message::{
+    Event, EventKind, HardState, Install, Message, MessageKind, Outbox, Role, WhyIgnored,
+};
 use rb_raftlog::{Content, RaftLog, Snapshot};
 use rb_tracker::{Config, Tracker, Votes};
 use std::alloc::{AllocError, Global};
@@ -26,6 +28,8 @@ pub struct State<L: RaftLog> {
     pub lead: u64,
     pub role: Role,
     pub log: L,
+    /// The saved snapshot, which a restart begins at.
+    pub start: Install,
     /// The last index known to be committed.
     pub commit: u64,
     /// The last applied index.
@@ -66,6 +70,7 @@ impl<L: RaftLog> Model for State<L> {
       lead = n.lead;
       role = n.role;
       log = L.plain n.log;
+      start = n.start;
       commit = n.commit;
       applied = n.applied;
       content = n.content;
@@ -81,7 +86,7 @@ impl<L: RaftLog> Model for State<L> {
       options = n.options;
     } };
 
-    ghost invariant = { λ n. IsNode n.commit n.applied };
+    ghost invariant = { λ n. IsNode n.commit n.applied n.saved.commit };
 }
 
 impl<L: RaftLog> State<L> {
@@ -99,6 +104,7 @@ impl<L: RaftLog> State<L> {
         let log = L::fresh(alloc, index, start.term)?;
         let content = start.content.try_copy()?;
         let config = Config::of_state(alloc, &start.config)?;
+        let start = Install::new(alloc, start.try_copy()?)?;
         Ok(State {
             id,
             term: 0,
@@ -106,6 +112,7 @@ impl<L: RaftLog> State<L> {
             lead: 0,
             role: Role::Follower,
             log,
+            start,
             commit: index,
             applied: index,
             content,

@@ -9,6 +9,7 @@ pub mod MatchLaws
 pub mod PageLaws
 pub mod PartLaws
 pub mod PlaceLaws
+pub mod SavedLaws
 pub mod SearchLaws
 pub mod SumLaws
 pub mod TermLaws

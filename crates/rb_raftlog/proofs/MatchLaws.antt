@@ -174,11 +174,11 @@ compacted-matches u v b term m low is =
 pub written-matches : (u v : LogValue) → AreMatching u v → AreMatching u (made_durable v)
 written-matches u v m = record { terms = m.terms; entries = m.entries }
 
-pub restored-matches : (u : LogValue) (s : Snapshot) → AreMatching u (restored s)
-restored-matches u s = record {
+pub restored-matches : (u v : LogValue) (s : Snapshot) → AreMatching u (restored v s)
+restored-matches u v s = record {
   terms = λ i j t at there low in_u in_v.
-      (let here : i ≡ s.index = omega (arith, (held_in (restored s) i t there).0, (held_in (restored s) i t there).1) in
+      (let here : i ≡ s.index = omega (arith, (held_in (restored v s) i t there).0, (held_in (restored v s) i t there).1) in
       let same : j ≡ i = omega (arith, low, in_v, here) in
-      ap (term_at u) same ∙ at ∙ sym there ∙ sym (ap (term_at (restored s)) same));
-  entries = λ i j t at there low in_u in_v. absurd (omega (arith, low, in_v, (held_in (restored s) i t there).1));
+      ap (term_at u) same ∙ at ∙ sym there ∙ sym (ap (term_at (restored v s)) same));
+  entries = λ i j t at there low in_u in_v. absurd (omega (arith, low, in_v, (held_in (restored v s) i t there).1));
 }

@@ -55,8 +55,8 @@ compacted-ends v i term low high =
     let size : length (drop (i - v.base) v.entries) ≡ length v.entries - (i - v.base) = length-drop (i - v.base) v.entries in
     (refl, omega arith, refl)
 
-pub restored-ends : (s : Snapshot) → (term_at (restored s) s.index ≡ Ok s.term) × (last (restored s) ≡ s.index) × ((restored s).durable ≡ s.index)
-restored-ends s = (term_base (restored s), omega arith, refl)
+pub restored-ends : (v : LogValue) (s : Snapshot) → (term_at (restored v s) s.index ≡ Ok s.term) × (last (restored v s) ≡ s.index) × ((restored v s).durable ≡ s.index)
+restored-ends v s = (term_base (restored v s), omega arith, refl)
 
 -- ---- lists of entries
 

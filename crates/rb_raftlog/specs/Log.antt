@@ -1,5 +1,8 @@
 -- A log: entries after a base, and the last index that is durable.
 --
+-- What is saved is not always the log up to there: an append or a snapshot may have replaced durable entries since the last save. They stay in
+-- stable storage until the next one, so a restart brings them back.
+--
 -- The entry at index i is the one at place i - base - 1 of the list. At the base there is no entry any more, but its term is known.
 -- (Logs and their matching: Ongaro's thesis, sections 3.5 and 3.6; compacting: chapter 5.)
 use Rattle.std.specs.Prelude.{◌≡◌, ℕ, zero, suc, ◌+◌, ◌-◌, ◌≤◌, Bool, false, ◌&&◌, ◌||◌, not, List, [], ◌∷◌, ◌++◌, length, take, drop, Option, Some, None, Result, Ok, Err, if◌then◌else◌, nat_lt, nat_le, ◌==◌, min, slice_get}
@@ -22,6 +25,8 @@ pub record LogValue : Type 0 where
   pub base_term : ℕ
   pub entries : List Entry
   pub durable : ℕ
+  -- the durable entries that were replaced since the last save
+  pub overwritten : List Entry
 
 abbrev pub first : LogValue → ℕ
 first v = v.base + 1
@@ -37,7 +42,15 @@ pub record IsLog (v : LogValue) : Type 0 where
 
 -- a log with only a base
 abbrev pub fresh : ℕ → ℕ → LogValue
-fresh index term = record { base = index; base_term = term; entries = []; durable = index }
+fresh index term = record { base = index; base_term = term; entries = []; durable = index; overwritten = [] }
+
+-- the durable entries from place n on, and those that were replaced
+abbrev pub durable_from : LogValue → ℕ → List Entry
+durable_from v n = drop n (take (v.durable - v.base) v.entries) ++ v.overwritten
+
+-- the saved entries: those that a restart finds
+abbrev pub saved_entries : LogValue → List Entry
+saved_entries v = durable_from v 0
 
 -- ---- what is held at an index
 
@@ -115,7 +128,7 @@ abbrev pub not_durable : LogValue → List Entry
 not_durable v = drop (v.durable - v.base) v.entries
 
 abbrev pub made_durable : LogValue → LogValue
-made_durable v = record v { durable = last v }
+made_durable v = record v { durable = last v; overwritten = [] }
 
 -- a leader's own entry at the end
 abbrev pub own : LogValue → Entry → LogValue
@@ -134,6 +147,7 @@ replaced v prev es None = v
 replaced v prev es (Some c) = record v {
   entries = take (c - 1 - v.base) v.entries ++ drop (c - 1 - prev) es;
   durable = min v.durable (c - 1);
+  overwritten = durable_from v (c - 1 - v.base);
 }
 
 abbrev pub appended : LogValue → ℕ → ℕ → List Entry → ℕ → LogValue
@@ -189,5 +203,16 @@ IsCompacted v i applied (Err OutOfMemory) w = (compact_fault v i applied ≡ Non
 IsCompacted v i applied (Err AlreadyCompacted) w = (compact_fault v i applied ≡ Some AlreadyCompacted) × (w ≡ v)
 IsCompacted v i applied (Err PastApplied) w = (compact_fault v i applied ≡ Some PastApplied) × (w ≡ v)
 
-abbrev pub restored : Snapshot → LogValue
-restored snapshot = fresh snapshot.index snapshot.term
+-- a snapshot replaces the log; until the next save, what was saved stays in stable storage
+abbrev pub restored : LogValue → Snapshot → LogValue
+restored v snapshot = record (fresh snapshot.index snapshot.term) { overwritten = saved_entries v }
+
+-- the log of a restart: the saved entries, after the snapshot that was saved with them (Ongaro's thesis, section 3.8)
+abbrev pub restarted : LogValue → Snapshot → LogValue
+restarted v start = record {
+  base = start.index;
+  base_term = start.term;
+  entries = saved_entries v;
+  durable = start.index + length (saved_entries v);
+  overwritten = [];
+}

@@ -3,7 +3,7 @@
 //! A leader sends the same entries to many followers, and a session keeps hundreds of clusters with messages in flight. So a message has
 //! one pointer to a list that never changes. Copies share the list, and it shares the pages of its log. No entries take no memory.
 
-ghost use Rattle.std.specs.Prelude.{◌≡◌, ◌-◌, ◌<◌, ◌≤◌, ◌↔◌, [], length, drop, slice_index_or, vec_len, IsTrue, IfOk};
+ghost use Rattle.std.specs.Prelude.{◌≡◌, ◌++◌, ◌-◌, ◌<◌, ◌≤◌, ◌↔◌, [], length, take, drop, slice_index_or, vec_len, IsTrue, IfOk};
 ghost use Rattle.rb_raftlog.specs.Log.{last_of};
 ghost use Rattle.rb_raftlog.specs.Equals.{same_lists, lists_per_entry};
 
@@ -37,6 +37,20 @@ impl Model for Entries {
     ghost Value = { List Entry };
 
     ghost view = { λ e. entries_behind e.list };
+}
+
+// A copy of the first n items.
+#[tactic(auto, using(crate::proofs::SavedLaws::all_taken))]
+fn first_of(list: &Pages<Entry>, n: usize) -> Result<Pages<Entry>, AllocError>
+    requires { n ≤ length list.now }
+    ensures { IfOk result (λ front. front ≡ take n list.now) }
+{
+    let mut front = list.try_copy()?;
+    if n == front.len() {
+        return Ok(front);
+    }
+    front.cut(n)?;
+    Ok(front)
 }
 
 impl Entries {
@@ -124,6 +138,24 @@ impl Entries {
             None => Pieces::one(&[]),
             Some(list) => Pieces::of(list, 0),
         }
+    }
+
+    /// The first n of these entries, followed by others. The cost is at most a page, and the others. More entries than there are indexes are
+    /// refused like a lack of memory.
+    #[tactic(auto, using(crate::proofs::SavedLaws::all_taken))]
+    pub(crate) fn followed_by(&self, n: usize, others: &Entries) -> Result<Entries, AllocError>
+        requires { n ≤ length self.now }
+        ensures { IfOk result (λ both. both ≡ take n self.now ++ others.now) }
+    {
+        let Some(list) = &self.list else {
+            return others.try_copy();
+        };
+        if n.saturating_add(others.len()) as u64 > MAX_INDEX {
+            return Err(AllocError);
+        }
+        let mut list = first_of(list, n)?;
+        append_from(&mut list, others, 0)?;
+        Entries::of(list)
     }
 
     /// Copies the entries, at one pointer.

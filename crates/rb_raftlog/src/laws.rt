@@ -3,12 +3,12 @@
 //! The contracts of [`crate::RaftLog`] state each call's result by these definitions. The laws state what Raft requires of a log: committed
 //! entries stay, appended ones match, and a candidate with an older log gets no vote. Laws have no code.
 
-ghost use Rattle.std.specs.Prelude.{◌≡◌, ◌↔◌, ℕ, ◌+◌, ◌-◌, ◌<◌, ◌≤◌, ◌⊎◌, List, [], Ok, Some, None, length, slice_get, min, true, false};
+ghost use Rattle.std.specs.Prelude.{◌≡◌, ◌↔◌, ℕ, ◌+◌, ◌-◌, ◌<◌, ◌≤◌, ◌⊎◌, List, [], Ok, Some, None, length, drop, slice_get, min, true, false};
 ghost use Rattle.rb_raftlog.specs.declared.entry.Entry.{Entry};
 ghost use Rattle.rb_raftlog.specs.declared.snapshot.Snapshot.{Snapshot};
 ghost use Rattle.rb_raftlog.specs.declared.limits.TheConstants.{MAX_INDEX};
 ghost use Rattle.rb_raftlog.specs.declared.raft_log.Appended.TheVariants.{Matched, Refused, BelowCommit};
-ghost use Rattle.rb_raftlog.specs.Log.{LogValue, IsLog, last, fresh, term_at, entry_at, is_term, first_new, appended, given_way, answer, own, made_durable, compacted, restored, hint, is_up_to_date, entries_from, between, not_durable};
+ghost use Rattle.rb_raftlog.specs.Log.{LogValue, IsLog, last, fresh, term_at, entry_at, is_term, first_new, appended, given_way, answer, own, made_durable, compacted, restored, restarted, saved_entries, hint, is_up_to_date, entries_from, between, not_durable};
 ghost use Rattle.rb_raftlog.specs.Laws.{IsHint, log_is_up_to_date, IsAsNew, IsConflicting, IsFirstConflict, HasLost, AreMatching, AreOfLog};
 
 /// No append changes an entry up to commit.
@@ -55,6 +55,22 @@ pub fn durable_is_what_was_written()
     ensures written_entries { (v : LogValue) → (made_durable v).entries ≡ v.entries }
 {}
 
+/// What a restart finds is what the last save left, whatever came since: an append, an own entry or a snapshot changes none of it. Compacting only
+/// drops its beginning.
+pub fn saved_entries_stay()
+    ensures appended { (v : LogValue) (prev term commit : ℕ) (es : List Entry) → saved_entries (appended v prev term es commit) ≡ saved_entries v }
+    ensures own { (v : LogValue) (e : Entry) → IsLog v → saved_entries (own v e) ≡ saved_entries v }
+    ensures restored { (v : LogValue) (s : Snapshot) → saved_entries (restored v s) ≡ saved_entries v }
+    ensures restarted { (v : LogValue) (s : Snapshot) → saved_entries (restarted v s) ≡ saved_entries v }
+    ensures written { (v : LogValue) → saved_entries (made_durable v) ≡ v.entries }
+    ensures compacted { (v : LogValue) (i term : ℕ) → IsLog v → v.base < i → i ≤ v.durable → saved_entries (compacted v i (Ok term)) ≡ drop (i - v.base) (saved_entries v) }
+{}
+
+/// A log that restarts has the entries up to the durable index, unless some of them were replaced since the last save.
+pub fn restarted_logs_have_what_is_durable()
+    ensures { (v : LogValue) (s : Snapshot) (i : ℕ) → IsLog v → v.overwritten ≡ [] → s.index ≡ v.base → s.term ≡ v.base_term → i ≤ v.durable → entry_at (restarted v s) i ≡ entry_at v i }
+{}
+
 /// What an append is answered says what is held: that all that was sent is, or that the entry to append after isn't, or where what is
 /// committed conflicts. In the last two cases the log stays.
 pub fn answers_say_what_is_held()
@@ -72,7 +88,7 @@ pub fn logs_keep_matching()
     ensures own { (u v : LogValue) (e : Entry) → AreMatching u v → (term_at u (last v + 1) ≡ Ok e.term → ⊥) → AreMatching u (own v e) }
     ensures compacted { (u v : LogValue) (i term : ℕ) → AreMatching u v → v.base < i → term_at v i ≡ Ok term → AreMatching u (compacted v i (Ok term)) }
     ensures written { (u v : LogValue) → AreMatching u v → AreMatching u (made_durable v) }
-    ensures restored { (u : LogValue) (s : Snapshot) → AreMatching u (restored s) }
+    ensures restored { (u v : LogValue) (s : Snapshot) → AreMatching u (restored v s) }
 {}
 
 /// Appending the same again changes nothing, so a message may be delivered twice.
@@ -109,13 +125,14 @@ pub fn durable_stays_within()
     ensures own { (v : LogValue) (e : Entry) → IsLog v → last v < MAX_INDEX → IsLog (own v e) }
     ensures made_durable { (v : LogValue) → IsLog v → IsLog (made_durable v) }
     ensures compacted { (v : LogValue) (i term : ℕ) → IsLog v → v.base < i → i ≤ v.durable → IsLog (compacted v i (Ok term)) }
-    ensures restored { (s : Snapshot) → s.index ≤ MAX_INDEX → IsLog (restored s) }
+    ensures restored { (v : LogValue) (s : Snapshot) → s.index ≤ MAX_INDEX → IsLog (restored v s) }
+    ensures restarted { (v : LogValue) (s : Snapshot) → s.index + length (saved_entries v) ≤ MAX_INDEX → IsLog (restarted v s) }
 {}
 
 /// Compacting only moves the base. A restored snapshot replaces the log.
 pub fn bases_move()
     ensures compacted { (v : LogValue) (i term : ℕ) → v.base < i → i ≤ last v → ((compacted v i (Ok term)).base ≡ i) × (last (compacted v i (Ok term)) ≡ last v) × ((compacted v i (Ok term)).durable ≡ v.durable) }
-    ensures restored { (s : Snapshot) → (term_at (restored s) s.index ≡ Ok s.term) × (last (restored s) ≡ s.index) × ((restored s).durable ≡ s.index) }
+    ensures restored { (v : LogValue) (s : Snapshot) → (term_at (restored v s) s.index ≡ Ok s.term) × (last (restored v s) ≡ s.index) × ((restored v s).durable ≡ s.index) }
 {}
 
 /// Lists of entries have each entry at its index.

@@ -32,7 +32,8 @@ pub use laws::{
     committed_entries_stay, compacting_keeps_terms, conflicting_entries_go,
     durable_is_what_was_written, durable_stays_within, entries_stand_at_their_indexes,
     held_entries_stay, hints_are_greatest, logs_are_ordered, logs_keep_matching,
-    newer_is_by_term_and_length, what_gives_way_is_gone,
+    newer_is_by_term_and_length, restarted_logs_have_what_is_durable, saved_entries_stay,
+    what_gives_way_is_gone,
 };
 pub use limits::{MAX_INDEX, MAX_TERM, limits_are};
 pub use log::Log;

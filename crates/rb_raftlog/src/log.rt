@@ -5,7 +5,7 @@
 ghost use Rattle.std.specs.Prelude.{◌≡◌, ◌+◌, ◌-◌, ◌<◌, ◌≤◌, length, take, drop, IsTrue, IfSome, IfOk, OnOk};
 ghost use Rattle.std.specs.List.{list_any};
 ghost use Rattle.rb_raftlog.specs.Bodies.{is_change};
-ghost use Rattle.rb_raftlog.specs.Log.{LogValue, term_at, is_term, is_term_up_to, first_new, replaced, is_conflict, conflict, appended, answer};
+ghost use Rattle.rb_raftlog.specs.Log.{LogValue, term_at, is_term, is_term_up_to, first_new, replaced, is_conflict, conflict, appended, answer, durable_from};
 
 use crate::entries::Entries;
 use crate::entry::Entry;
@@ -17,6 +17,7 @@ use crate::snapshot::Snapshot;
 use crate::store::Store;
 use std::alloc::{AllocError, Global};
 use std::marker::Model;
+use std::mem;
 
 /// A log: a base, and the entries after it in a store. Contracts see the plain log.
 #[derive(Drop)]
@@ -24,6 +25,8 @@ pub struct Log<S: Store> {
     base: u64,
     base_term: u64,
     store: S,
+    // The durable entries that were replaced since the last save.
+    overwritten: Entries,
 }
 
 impl<S: Store> Model for Log<S> {
@@ -34,7 +37,7 @@ impl<S: Store> Model for Log<S> {
 
     ghost Value = { LogValue };
 
-    ghost view = { λ log. log_of log.base log.base_term (S.held log.store) };
+    ghost view = { λ log. log_of log.base log.base_term (S.held log.store) log.overwritten };
 
     ghost invariant = { λ log. log.base + length (S.held log.store).entries ≤ MAX_INDEX };
 }
@@ -119,6 +122,20 @@ impl<S: Store> Log<S> {
 }
 
 impl<S: Store> Log<S> {
+    // The durable entries from place `n` on, and those that were replaced before. Takes memory only if there are any to keep.
+    #[tactic(auto, using(crate::proofs::SavedLaws::none_durable, crate::proofs::SavedLaws::durable_rest))]
+    fn durable_from(&self, n: usize) -> Result<Entries, AllocError>
+        ensures { IfOk result (λ kept. kept ≡ durable_from self.now n) }
+    {
+        let durable_len = self.store.durable_len();
+        if n >= durable_len {
+            return self.overwritten.try_copy();
+        }
+        self.store
+            .share(n)?
+            .followed_by(durable_len - n, &self.overwritten)
+    }
+
     // Replaces the log from `index` on by the entries, the first of which goes to prev + 1.
     fn replace<E: EntryList>(
         &mut self,
@@ -131,7 +148,10 @@ impl<S: Store> Log<S> {
         requires fits { prev + length (E.listed entries.now) ≤ MAX_INDEX }
         ensures { OnOk result (self.new ≡ replaced self.old prev (E.listed entries.now) (Some index)) }
     {
-        self.store.cut((index - 1 - self.base) as usize)?;
+        let kept = (index - 1 - self.base) as usize;
+        let overwritten = self.durable_from(kept)?;
+        self.store.cut(kept)?;
+        self.overwritten = overwritten;
         self.store.extend(entries, (index - 1 - prev) as usize)
     }
 
@@ -171,6 +191,7 @@ impl<S: Store> RaftLog for Log<S> {
             base: index,
             base_term: term,
             store: S::new(alloc),
+            overwritten: Entries::empty(),
         })
     }
 
@@ -311,6 +332,7 @@ impl<S: Store> RaftLog for Log<S> {
     }
 
     fn mark_durable(&mut self) -> Result<(), AllocError> {
+        self.overwritten = Entries::empty();
         self.store.mark_all_durable()
     }
 
@@ -329,10 +351,27 @@ impl<S: Store> RaftLog for Log<S> {
         Ok(())
     }
 
-    fn restore(&mut self, snapshot: &Snapshot) {
+    fn restore(&mut self, snapshot: &Snapshot) -> Result<(), AllocError> {
+        let saved = self.durable_from(0)?;
+        self.overwritten = saved;
         self.store.clear();
         self.base = snapshot.index;
         self.base_term = snapshot.term;
+        Ok(())
+    }
+
+    fn restart(&mut self, start: &Snapshot) -> Result<(), AllocError> {
+        let durable_len = self.store.durable_len();
+        let saved_len = durable_len.saturating_add(self.overwritten.len()) as u64;
+        if start.index.saturating_add(saved_len) > MAX_INDEX {
+            return Err(AllocError);
+        }
+        self.store.cut(durable_len)?;
+        let overwritten = mem::replace(&mut self.overwritten, Entries::empty());
+        self.base = start.index;
+        self.base_term = start.term;
+        self.store.extend(&overwritten, 0)?;
+        self.store.mark_all_durable()
     }
 
     fn try_copy(&self) -> Result<Log<S>, AllocError> {
@@ -340,6 +379,7 @@ impl<S: Store> RaftLog for Log<S> {
             base: self.base,
             base_term: self.base_term,
             store: self.store.try_copy()?,
+            overwritten: self.overwritten.try_copy()?,
         })
     }
 
@@ -349,6 +389,7 @@ impl<S: Store> RaftLog for Log<S> {
             || self.store.durable_len() != other.store.durable_len()
             || self.store.len() != other.store.len()
             || self.last_term() != other.last_term()
+            || !self.overwritten.same(&other.overwritten)
         {
             return false;
         }

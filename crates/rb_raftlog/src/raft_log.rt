@@ -8,7 +8,7 @@
 //! number of entries and p the number of pages, about n / 64. A copy of an entry costs a pointer.
 
 ghost use Rattle.std.specs.Prelude.{◌≡◌, ◌≢◌, ◌+◌, ◌-◌, ◌<◌, ◌≤◌, ◌↔◌, Ok, Err, length, IsTrue, IsOk, IfOk, IfErr, OnOk};
-ghost use Rattle.rb_raftlog.specs.Log.{LogValue, IsLog, IsCompacted, fresh, first, last, last_term, is_up_to_date, term_at, entry_at, entries_from, entries_after, has_change, hint, appended, given_way, answer, own, not_durable, made_durable, restored};
+ghost use Rattle.rb_raftlog.specs.Log.{LogValue, IsLog, IsCompacted, fresh, first, last, last_term, is_up_to_date, term_at, entry_at, entries_from, entries_after, has_change, hint, appended, given_way, answer, own, not_durable, made_durable, restored, restarted};
 
 use crate::entries::Entries;
 use crate::entry::Entry;
@@ -160,7 +160,7 @@ pub trait RaftLog: Drop {
     fn not_durable(&self) -> Pieces<'_>
         ensures { result ≡ not_durable (plain self.now) };
 
-    /// Marks all entries as durable. Both logs only change a number.
+    /// Marks all entries as durable: what they replaced is gone.
     fn mark_durable(&mut self) -> Result<(), AllocError>
         ensures { OnOk result (plain self.new ≡ made_durable (plain self.old)) };
 
@@ -171,10 +171,16 @@ pub trait RaftLog: Drop {
         ensures value { IsCompacted (plain self.old) index applied result (plain self.new) }
         ensures memory { result ≢ Err CompactFault.OutOfMemory };
 
-    /// Replaces all entries by a snapshot. Takes no memory.
-    fn restore(&mut self, snapshot: &Snapshot)
+    /// Replaces all entries by a snapshot. Until the log is marked as durable, what was saved is kept, at what `entries_after` costs.
+    fn restore(&mut self, snapshot: &Snapshot) -> Result<(), AllocError>
         requires { snapshot.now.index ≤ MAX_INDEX }
-        ensures { plain self.new ≡ restored snapshot.now };
+        ensures { OnOk result (plain self.new ≡ restored (plain self.old) snapshot.now) };
+
+    /// Goes back to the saved entries, after the snapshot that was saved with them. The cost is the entries that come back. More of them than
+    /// there are indexes after the snapshot are refused like a lack of memory.
+    fn restart(&mut self, start: &Snapshot) -> Result<(), AllocError>
+        requires { start.now.index ≤ MAX_INDEX }
+        ensures { OnOk result (plain self.new ≡ restarted (plain self.old) start.now) };
 
     /// Copies the log. A plain log copies n entries; a split one copies p pointers to pages.
     fn try_copy(&self) -> Result<Self, AllocError>

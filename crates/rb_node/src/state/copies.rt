@@ -19,6 +19,7 @@ impl<L: RaftLog> State<L> {
             lead: self.lead,
             role: self.role,
             log: self.log.try_copy()?,
+            start: self.start.clone()?,
             commit: self.commit,
             applied: self.applied,
             content: self.content.try_copy()?,
@@ -91,6 +92,7 @@ impl<L: RaftLog> State<L> {
             && self.sent.same(&other.sent)
             && self.waiting.same(&other.waiting)
             && self.log.same(&other.log)
+            && self.start.snapshot().same(other.start.snapshot())
             && self.content.same(&other.content)
     }
 

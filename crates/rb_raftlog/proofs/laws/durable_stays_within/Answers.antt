@@ -1,4 +1,5 @@
 use Rattle.rb_raftlog.proofs.AppendLaws.{appended-is_log}
+use Rattle.rb_raftlog.proofs.SavedLaws.{restored-is_log, restarted-is_log}
 use Rattle.rb_raftlog.proofs.VoteLaws.{fresh-is_log, own-is_log, made_durable-is_log, compacted-is_log}
 use Rattle.rb_raftlog.proofs.laws.durable_stays_within.Goals as goal
 
@@ -18,4 +19,7 @@ pub returns-clause-compacted : goal.returns-clause-compacted
 returns-clause-compacted c = compacted-is_log
 
 pub returns-clause-restored : goal.returns-clause-restored
-returns-clause-restored c = λ s fits. fresh-is_log s.index s.term fits
+returns-clause-restored c = λ v s fits. restored-is_log v s fits
+
+pub returns-clause-restarted : goal.returns-clause-restarted
+returns-clause-restarted c = restarted-is_log
