@@ -7,3 +7,4 @@ pub mod ShownLaws
 pub mod PrintedLaws
 pub mod FewLaws
 pub mod FieldLaws
+pub mod LostLaws

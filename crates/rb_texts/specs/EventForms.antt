@@ -12,6 +12,7 @@ use Rattle.rb_message.specs.declared.event.WhyNoCampaign.{WhyNoCampaign}
 use Rattle.rb_message.specs.declared.event.WhyNoCampaign.TheVariants as no_campaign
 use Rattle.rb_message.specs.declared.event.WhyReplaced.{WhyReplaced}
 use Rattle.rb_message.specs.declared.event.WhyReplaced.TheVariants as replaced
+use Rattle.rb_message.specs.declared.hard_state.HardState.{HardState}
 use Rattle.rb_message.specs.declared.role.Role.{Role}
 use Rattle.rb_message.specs.declared.role.Role.TheVariants as roles
 use Rattle.rb_tracker.specs.declared.changes.ChangeFault.{ChangeFault}
@@ -62,11 +63,12 @@ short_text type = drop 3 (type_text type)
 
 -- ---- forms
 
--- words, and the value after them: none, a number, a term and an index, a name, an answer, or a configuration
+-- words, and the value after them: none, a number, a term and an index, two indexes, a name, an answer, or a configuration
 pub data PlainPiece : Type 0 where
   words : (before : List ℕ) → PlainPiece
   numbered : (before : List ℕ) → ℕ → PlainPiece
   placed : (before : List ℕ) → (term index : ℕ) → PlainPiece
+  ranged : (before : List ℕ) → (first last : ℕ) → PlainPiece
   named : (before name : List ℕ) → PlainPiece
   answered : (before : List ℕ) → (granted : Bool) → PlainPiece
   configured : (before : List ℕ) → Config → PlainPiece
@@ -75,6 +77,7 @@ abbrev pub plain_piece : EventPiece → PlainPiece
 plain_piece (given.Words before) = words before.now
 plain_piece (given.Number before n) = numbered before.now n
 plain_piece (given.Place before term index) = placed before.now term index
+plain_piece (given.Range before first last) = ranged before.now first last
 plain_piece (given.Name before name) = named before.now name.now
 plain_piece (given.Answer before granted) = answered before.now granted
 plain_piece (given.Config before c) = configured before.now c.now
@@ -142,6 +145,13 @@ hidden pieces = record { level = levels.Debug; shown = shown.Nothing; name = [];
 abbrev pub started : ℕ → ℕ → Config → PlainForm
 started term index c =
     record (told levels.Info (codes "started") (two (placed (codes " started at ") term index) (configured (codes " with ") c)) mark.Quiet none) { shown = shown.Node }
+
+-- what it begins with: the saved hard state, and its log from the base to the last index
+abbrev pub restarted : HardState → ℕ → ℕ → PlainForm
+restarted saved base last =
+    told levels.Info (codes "restarted")
+    (numbered (codes " restarted at term=") saved.term ∷ numbered (codes " vote=") saved.vote ∷ ranged (codes " log=") base last ∷ numbered (codes " commit=") saved.commit ∷ [])
+    mark.Restart (one (numbered (codes "restarted, t") saved.term))
 
 abbrev pub role_mark : Role → EventMark
 role_mark roles.Leader = mark.Leads
@@ -218,6 +228,7 @@ transfer_ends to =
 -- by the node's id and what happened there
 unfoldable pub kind_form : ℕ → EventKind → PlainForm
 kind_form id (events.Started term index c) = started term index c
+kind_form id (events.Restarted saved base last lost) = restarted saved base last
 kind_form id (events.Became role term) = became role term
 kind_form id (events.CannotCampaign why) = cannot_campaign why
 kind_form id (events.VoteCounted type granted from result) = vote_counted (from == id) type granted from result

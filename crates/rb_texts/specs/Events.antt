@@ -7,7 +7,7 @@ use Rattle.rb_message.specs.declared.event.Event.{Event}
 use Rattle.rb_texts.specs.Configs.{config_text}
 use Rattle.rb_texts.specs.Entries.{place_text}
 use Rattle.rb_texts.specs.declared.form.EventPiece.{EventPiece}
-use Rattle.rb_texts.specs.EventForms.{PlainPiece, plain_piece, words, numbered, placed, named, answered, configured, event_form}
+use Rattle.rb_texts.specs.EventForms.{PlainPiece, plain_piece, words, numbered, placed, ranged, named, answered, configured, event_form}
 use Rattle.rb_texts.specs.Messages.{answer_text}
 
 -- the level at the beginning of an event's line (no event has one of the last two)
@@ -23,6 +23,7 @@ abbrev pub event_piece_text : PlainPiece → List ℕ
 event_piece_text (words before) = before
 event_piece_text (numbered before n) = before ++ decimal n
 event_piece_text (placed before term index) = before ++ place_text term index
+event_piece_text (ranged before first last) = before ++ decimal first ++ codes ".." ++ decimal last
 event_piece_text (named before name) = before ++ name
 event_piece_text (answered before granted) = before ++ answer_text granted
 event_piece_text (configured before c) = before ++ config_text c

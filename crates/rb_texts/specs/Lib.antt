@@ -13,4 +13,5 @@ pub mod Events
 pub mod Errors
 pub mod Texts
 pub mod Pieces
+pub mod Lost
 pub mod Reasons

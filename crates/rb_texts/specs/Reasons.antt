@@ -1,4 +1,5 @@
--- The line of a reason: why a node does nothing with a message, or refuses a vote, or which entries of its log give way. (This project's texts.)
+-- The line of a reason: why a node does nothing with a message, or refuses a vote, which entries of its log give way, or what its restart loses.
+-- (This project's texts.)
 use Rattle.std.specs.Prelude.{ℕ, zero, suc, ◌-◌, ◌==◌, length, Bool, nat_le, if◌then◌else◌, codes, decimal, List, [], ◌∷◌, ◌++◌, Option, Some, None}
 use Rattle.rb_vocab.specs.declared.level.Level.{Level}
 use Rattle.rb_vocab.specs.declared.level.Level.TheVariants as levels
@@ -10,21 +11,28 @@ use Rattle.rb_message.specs.declared.event.WhyIgnored.{WhyIgnored}
 use Rattle.rb_message.specs.declared.event.WhyIgnored.TheVariants as ignored
 use Rattle.rb_message.specs.declared.event.WhyRefused.{WhyRefused}
 use Rattle.rb_message.specs.declared.event.WhyRefused.TheVariants as refused
+use Rattle.rb_message.specs.declared.hard_state.HardState.{HardState}
+use Rattle.rb_message.specs.declared.unsaved.Unsaved.{Unsaved}
 use Rattle.rb_raftlog.specs.declared.entry.Entry.{Entry}
 use Rattle.rb_script.specs.Lines.{Line}
 use Rattle.rb_texts.specs.declared.reason.Reason.{Reason}
-use Rattle.rb_texts.specs.declared.reason.Reason.TheVariants.{Ignored, Refused, GivesWay}
+use Rattle.rb_texts.specs.declared.reason.Reason.TheVariants.{Ignored, Refused, GivesWay, Lost}
 use Rattle.rb_texts.specs.declared.reason.TheConstants.{MAX_ENTRIES}
 use Rattle.rb_texts.specs.Entries.{place_text, entry_text}
 use Rattle.rb_texts.specs.Items.{PlainItem, event}
+use Rattle.rb_texts.specs.Lost.{loses, lost_text}
 use Rattle.rb_texts.specs.States.{role_text}
 
 -- ---- which item has one
+
+abbrev pub lost_reason : HardState → Unsaved → Option Reason
+lost_reason saved unsaved = if loses saved unsaved then Some (Lost saved unsaved) else None
 
 abbrev pub kind_reason : EventKind → Option Reason
 kind_reason (events.Ignored type from why) = Some (Ignored why)
 kind_reason (events.RefusedVote type from why) = Some (Refused why)
 kind_reason (events.RemovedEntries last es) = Some (GivesWay last es)
+kind_reason (events.Restarted saved base last unsaved) = lost_reason saved unsaved
 kind_reason what = None
 
 abbrev pub event_reason : Event → Option Reason
@@ -90,12 +98,14 @@ unfoldable pub reason_text : Reason → List ℕ
 reason_text (Ignored why) = codes "  ignored: " ++ why_ignored_text why
 reason_text (Refused why) = codes "  refused: " ++ why_refused_text why
 reason_text (GivesWay last es) = gives_way_text last es
+reason_text (Lost saved unsaved) = codes "  lost: " ++ lost_text saved unsaved
 
--- the number of its bytes before what it says: blanks, and whether the message is ignored or a vote is refused
+-- the number of its bytes before what it says: blanks, and whether the message is ignored, a vote refused or something lost
 abbrev pub reason_front : Reason → ℕ
 reason_front (Ignored why) = 11
 reason_front (Refused why) = 11
 reason_front (GivesWay last es) = 2
+reason_front (Lost saved unsaved) = 8
 
 -- ---- its line
 

@@ -1,11 +1,11 @@
 //! The form of each event: everything that lines, rows and pictures show of it.
 
 ghost use Rattle.std.specs.Prelude.{◌≡◌};
-ghost use Rattle.rb_texts.specs.EventForms.{no_campaign_text, replaced_text, votes_text, fault_text, short_text, one, words, numbered, plain_pieces, plain_form, role_mark, role_words, started, became, few_of_vote, vote_counted, turned_down, ignored, conflict, switched, restored, transfer_starts, transfer_ends, cannot_campaign, dropped_proposal, replaced_change, refused_change, kind_form, event_form};
+ghost use Rattle.rb_texts.specs.EventForms.{no_campaign_text, replaced_text, votes_text, fault_text, short_text, one, words, numbered, plain_pieces, plain_form, role_mark, role_words, started, restarted, became, few_of_vote, vote_counted, turned_down, ignored, conflict, switched, restored, transfer_starts, transfer_ends, cannot_campaign, dropped_proposal, replaced_change, refused_change, kind_form, event_form};
 
 use crate::form::{EventForm, EventMark, EventPiece, EventPieces, EventShown};
 use crate::states::role_name;
-use rb_message::{Event, EventKind, Role, WhyNoCampaign, WhyReplaced};
+use rb_message::{Event, EventKind, HardState, Role, WhyNoCampaign, WhyReplaced};
 use rb_tracker::{ChangeFault, Config, VoteResult};
 use rb_vocab::{Level, MessageType};
 
@@ -80,6 +80,19 @@ fn started_form<'a>(term: u64, index: u64, config: &'a Config) -> EventForm<'a>
         mark: EventMark::Quiet,
         few: EventPieces::none(),
     }
+}
+
+fn restarted_form(saved: HardState, base: u64, last: u64) -> EventForm<'static>
+    ensures { plain_form result ≡ restarted saved base last }
+{
+    let pieces = EventPieces::four([
+        EventPiece::Number(b" restarted at term=", saved.term),
+        EventPiece::Number(b" vote=", saved.vote),
+        EventPiece::Range(b" log=", base, last),
+        EventPiece::Number(b" commit=", saved.commit),
+    ]);
+    let few = EventPieces::one(EventPiece::Number(b"restarted, t", saved.term));
+    EventForm::told(Level::Info, b"restarted", pieces, EventMark::Restart, few)
 }
 
 fn role_mark(role: Role) -> EventMark
@@ -308,6 +321,12 @@ fn kind_form<'a>(id: u64, kind: &'a EventKind) -> EventForm<'a>
             index,
             config,
         } => started_form(*term, *index, config),
+        EventKind::Restarted {
+            saved,
+            base,
+            last,
+            ..
+        } => restarted_form(*saved, *base, *last),
         EventKind::Became { role, term } => became_form(*role, *term),
         EventKind::CannotCampaign { why } => cannot_form(*why),
         EventKind::VoteCounted {

@@ -42,6 +42,13 @@ fn add_event_piece(line: &mut LineText, piece: EventPiece<'_>) -> Result<(), All
             line,
             &[LinePiece::Bytes(before), LinePiece::Place(term, index)],
         ),
+        EventPiece::Range(before, first, last) => add_pieces(
+            line,
+            &[
+                LinePiece::Field(before, first),
+                LinePiece::Field(b"..", last),
+            ],
+        ),
         EventPiece::Name(before, name) => add_pieces(
             line,
             &[LinePiece::Bytes(before), LinePiece::Bytes(name)],

@@ -14,6 +14,8 @@ pub enum EventPiece<'a> {
     Number(&'a [u8], u64),
     /// A term and an index.
     Place(&'a [u8], u64, u64),
+    /// Two indexes, from one to the other.
+    Range(&'a [u8], u64, u64),
     /// The name of something.
     Name(&'a [u8], &'a [u8]),
     /// Whether a vote is granted.
@@ -94,6 +96,8 @@ pub enum EventMark {
     Change,
     /// A node restores a snapshot.
     Snapshot,
+    /// A node restarts.
+    Restart,
 }
 
 /// Everything that is shown of an event.

@@ -10,6 +10,7 @@ mod fields;
 mod form;
 mod item;
 mod laws;
+mod lost;
 mod messages;
 mod piece;
 mod reason;

@@ -1,18 +1,19 @@
 //! The line of a reason.
 //!
 //! It is indented below a message, and says why the message is ignored or a vote is refused, or which entries of a follower's log give way to its
-//! leader's (Ongaro's thesis, section 3.5).
+//! leader's (Ongaro's thesis, section 3.5). Below a restart it says what the node lost.
 
 ghost use Rattle.std.specs.Prelude.{◌≡◌, ◌-◌, ◌++◌, length, codes, decimal, IfOk, OnOk};
 ghost use Rattle.rb_texts.specs.Items.{plain_item};
-ghost use Rattle.rb_texts.specs.Reasons.{event_reason, reason_of, earlier_text, outdated_text, why_ignored_text, end_text, older_text, why_refused_text, few_entries_text, more_text, give_way_text, gives_way_text, reason_text, reason_front, shows_reasons, reason_line};
+ghost use Rattle.rb_texts.specs.Reasons.{lost_reason, event_reason, reason_of, earlier_text, outdated_text, why_ignored_text, end_text, older_text, why_refused_text, few_entries_text, more_text, give_way_text, gives_way_text, reason_text, reason_front, shows_reasons, reason_line};
 ghost use Rattle.rb_texts.specs.States.{role_text};
 
 use crate::entries::add_entry;
 use crate::item::Item;
+use crate::lost::{add_lost, loses};
 use crate::piece::{LinePiece, add_bytes, add_field, add_numbered, add_pieces};
 use crate::states::role_name;
-use rb_message::{Event, EventKind, Role, WhyIgnored, WhyRefused};
+use rb_message::{Event, EventKind, HardState, Role, Unsaved, WhyIgnored, WhyRefused};
 use rb_raftlog::Entries;
 use rb_script::{LineText, Lines, WrittenLine};
 use rb_vocab::Level;
@@ -21,13 +22,25 @@ use std::alloc::AllocError;
 // The most entries that a reason shows.
 const MAX_ENTRIES: usize = 3;
 
-/// Why a message has no effect, or which entries of a log give way to those of a message.
+/// Why a message has no effect, which entries of a log give way to those of a message, or what a restart loses.
 #[derive(Drop)]
 pub enum Reason {
     Ignored(WhyIgnored),
     Refused(WhyRefused),
     /// The entries, and the index of the last of them.
     GivesWay { last: u64, entries: Entries },
+    /// The saved hard state, and what the node had when it restarted.
+    Lost { saved: HardState, unsaved: Unsaved },
+}
+
+fn lost_reason(saved: HardState, unsaved: Unsaved) -> Option<Reason>
+    ensures { result ≡ lost_reason saved unsaved }
+{
+    if loses(saved, unsaved) {
+        Some(Reason::Lost { saved, unsaved })
+    } else {
+        None
+    }
 }
 
 fn event_reason(event: &Event) -> Result<Option<Reason>, AllocError>
@@ -40,11 +53,13 @@ fn event_reason(event: &Event) -> Result<Option<Reason>, AllocError>
             last: *last,
             entries: entries.try_copy()?,
         })),
+        EventKind::Restarted { saved, lost, .. } => Ok(lost_reason(*saved, *lost)),
         _ => Ok(None),
     }
 }
 
-/// The reason that an item tells: an event that a message is ignored, a vote refused, or that entries give way. Entries cost a pointer.
+/// The reason that an item tells: an event that a message is ignored, a vote refused, that entries give way, or that a restart loses something.
+/// Entries cost a pointer.
 pub fn reason_of(item: &Item<'_>) -> Result<Option<Reason>, AllocError>
     ensures { IfOk result (λ reason. reason ≡ reason_of (plain_item item.now)) }
 {
@@ -271,17 +286,23 @@ impl WrittenLine for Reason {
                 add_why_refused(text, *why)
             }
             Reason::GivesWay { last, entries } => add_gives_way(text, *last, entries),
+            Reason::Lost { saved, unsaved } => {
+                add_bytes(text, b"  lost: ")?;
+                add_lost(text, *saved, *unsaved)
+            }
         }
     }
 }
 
-/// The number of bytes at the beginning of a reason's line, before what it says: blanks, and whether the message is ignored or a vote is refused.
+/// The number of bytes at the beginning of a reason's line, before what it says: blanks, and whether the message is ignored, a vote refused or
+/// something lost.
 pub fn reason_front(reason: &Reason) -> usize
     ensures { result ≡ reason_front reason.now }
 {
     match reason {
         Reason::Ignored(_) | Reason::Refused(_) => 11,
         Reason::GivesWay { .. } => 2,
+        Reason::Lost { .. } => 8,
     }
 }
 
