@@ -2,7 +2,7 @@
 use Rattle.std.proofs.Common.{◌≡◌, ◌⊎◌, ℕ, zero, suc, ◌+◌, ◌-◌, Bool, true, false, not, ◌&&◌, ◌||◌, ◌==◌, List, [], ◌∷◌, ◌++◌, length, length-append, Option, Some, None, Result, Ok, Err, refl, ap, sym, subst, ◌∙◌, arith, if◌then◌else◌, inl, inr, append_assoc, append-nil, eq-eqb}
 use Rattle.std.specs.Prelude.{Contains, slice_get, slice_set}
 use Rattle.std.specs.List.{list_any}
-use Rattle.std.proofs.lemmas.Bool.{false≢true, or_parts, lt-ltb, cond-false}
+use Rattle.std.proofs.lemmas.Bool.{false≢true, or_parts, lt-ltb}
 use Rattle.std.proofs.lemmas.List.{set-set}
 use Rattle.std.proofs.lemmas.List.Elements.{Contains-push, Contains-append_right}
 use Rattle.std.proofs.lemmas.List.Folds.{list_any_at}
@@ -10,8 +10,9 @@ use Rattle.rb_script.specs.Directive.{PlainDirective}
 use Rattle.rb_vocab.specs.declared.directive_error.DirectiveError.{DirectiveError}
 use Rattle.rb_directive.specs.declared.build.Asked.{Asked}
 use Rattle.rb_directive.specs.declared.requests.DeliverMsgs.{DeliverMsgs}
+use Rattle.rb_directive.specs.declared.requests.MailChoice.{MailChoice}
 use Rattle.rb_directive.specs.declared.requests.Request.{Request}
-use Rattle.rb_directive.specs.Requests.{request}
+use Rattle.rb_directive.specs.Requests.{request, all_mail}
 use Rattle.rb_tracker.proofs.SetLaws.{if_both}
 use Rattle.rb_message.specs.declared.kind.MessageKind.TheVariants as kinds
 use Rattle.rb_message.specs.declared.message.Message.{Message}
@@ -26,10 +27,11 @@ use Rattle.rb_machine.specs.Deliveries.{left_by, received, all_received, deliver
 use Rattle.rb_machine.specs.Effects.{Effect, followed_by, acted_by, acted}
 use Rattle.rb_machine.specs.Observations.{Observation, Shown, Settled, items_of}
 use Rattle.rb_machine.specs.Outcome.{effect, refusal_of, refusal, unless_refused, execution_of, execution, outcome}
-use Rattle.rb_machine.specs.Pending.{is_for, mail, other_mail, with_pending, has_room, pushed, sent, all_sent}
+use Rattle.rb_machine.specs.Pending.{is_for, is_meant, Quota, quota_of, chooses, after_one, chosen_by, left_over, mail, other_mail, with_pending, has_room, pushed, sent, all_sent}
 use Rattle.rb_machine.specs.Readies.{advanced_by, whole_ready_processed, ready_processed_by, ready_processed}
 use Rattle.rb_machine.specs.Rounds.{is_ready_by, is_ready, has_mail, is_at_work, has_work, round, rounds_run}
 use Rattle.rb_machine.specs.Snapshots.{queued, snapshot_sent_by, snapshot_sent, with_base, compact_by, compact}
+use Rattle.rb_cluster.proofs.ChoiceLaws.{not_zero}
 use Rattle.rb_cluster.specs.Directives.{Does, addressed, elsewhere, after_all, HasRoom, IsIdle}
 
 -- ---- a directive that isn't refused has its effect
@@ -81,25 +83,22 @@ ready_goes_out c id n at has room =
 
 -- ---- messages that are delivered
 
-no_and : (b : Bool) → (b && true) ≡ false → b ≡ false
-no_and true e = e
-no_and false e = refl
-
-one_for : (b : Bool) (m : Message) (ms : List Message) → (if b && true then m ∷ ms else ms) ≡ (if b then m ∷ ms else ms)
+-- all of a node's are those that are addressed to it
+one_for : (b : Bool) (m : Message) (ms : List Message) → (if (b && true) && true then m ∷ ms else ms) ≡ (if b then m ∷ ms else ms)
 one_for true m ms = refl
 one_for false m ms = refl
 
-mail_is : (id : ℕ) (ms : List Message) → mail ms id None ≡ addressed id ms
+mail_is : (id : ℕ) (ms : List Message) → mail ms id all_mail ≡ addressed id ms
 mail_is id [] = refl
-mail_is id (m ∷ ms) = one_for (m.to == id) m (mail ms id None) ∙ ap (λ (l : List Message). if m.to == id then m ∷ l else l) (mail_is id ms)
+mail_is id (m ∷ ms) = one_for (m.to == id) m (mail ms id all_mail) ∙ ap (λ (l : List Message). if m.to == id then m ∷ l else l) (mail_is id ms)
 
-one_other : (b : Bool) (m : Message) (ms : List Message) → (if not (b && true) then m ∷ ms else ms) ≡ (if b then ms else m ∷ ms)
+one_other : (b : Bool) (m : Message) (ms : List Message) → (if (b && true) && true then ms else m ∷ ms) ≡ (if b then ms else m ∷ ms)
 one_other true m ms = refl
 one_other false m ms = refl
 
-other_is : (id : ℕ) (ms : List Message) → other_mail ms id None ≡ elsewhere id ms
+other_is : (id : ℕ) (ms : List Message) → other_mail ms id all_mail ≡ elsewhere id ms
 other_is id [] = refl
-other_is id (m ∷ ms) = one_other (m.to == id) m (other_mail ms id None) ∙ ap (λ (l : List Message). if m.to == id then l else m ∷ l) (other_is id ms)
+other_is id (m ∷ ms) = one_other (m.to == id) m (other_mail ms id all_mail) ∙ ap (λ (l : List Message). if m.to == id then l else m ∷ l) (other_is id ms)
 
 set_at : {X : Type 0} → (xs : List X) (k : ℕ) (x y : X) → slice_get xs k ≡ Some x → slice_get (slice_set xs k y) k ≡ Some y
 set_at [] k x y is = cc
@@ -121,58 +120,74 @@ receives id (m ∷ ms) c n at =
     ∙ receives id ms x next (set_at c.nodes (id - 1) n next at)
     ∙ ap (λ (nodes : List PlainNode). record c { nodes = nodes }) (set-set c.nodes (id - 1) next (after_all next ms))
 
-pub delivers : (c : Cluster) (id : ℕ) (n : PlainNode) → node_at c id ≡ Some n
-    → (delivered None c id).cluster ≡ with_pending (with_node c id (after_all n (addressed id c.pending))) (elsewhere id c.pending)
+pub delivers : (c : Cluster) (choice : MailChoice) (id : ℕ) (n : PlainNode) → node_at c id ≡ Some n
+    → (delivered choice c id).cluster ≡ with_pending (with_node c id (after_all n (mail c.pending id choice))) (other_mail c.pending id choice)
 unfolding delivered
-delivers c id n at =
-    receives id (mail c.pending id None) (left_by c id None) n at
-    ∙ ap (λ (ms : List Message). with_pending (with_node c id (after_all n ms)) (other_mail c.pending id None)) (mail_is id c.pending)
-    ∙ ap (λ (ms : List Message). with_pending (with_node c id (after_all n (addressed id c.pending))) ms) (other_is id c.pending)
+delivers c choice id n at = receives id (mail c.pending id choice) (left_by c id choice) n at
 
--- ---- the directive `deliver-msgs`, of one node and all types
+-- ---- the directive `deliver-msgs`, of one node
 
-any_same : {X : Type 0} → (p q : X → Bool) (xs : List X) → ((x : X) → p x ≡ q x) → list_any p xs ≡ list_any q xs
-any_same p q [] h = refl
-any_same p q (x ∷ xs) h = rw (h x, any_same p q xs h) refl
+-- where no message is chosen, all stay
+none_first : (b : Bool) (m : Message) (chosen left ms : List Message) → (chosen ≡ [] → left ≡ ms) → (if b then m ∷ chosen else chosen) ≡ [] → (if b then left else m ∷ left) ≡ m ∷ ms
+none_first true m chosen left ms rest none = cc
+none_first false m chosen left ms rest none = ap (λ (l : List Message). m ∷ l) (rest none)
 
-or_none : (b : Bool) → ((b || false) || false) ≡ b
-or_none true = refl
-or_none false = refl
+none_chosen : (meant : Message → Bool) (q : Quota) (ms : List Message) → chosen_by meant q ms ≡ [] → left_over meant q ms ≡ ms
+none_chosen meant q [] = λ none. refl
+none_chosen meant q (m ∷ ms) =
+    let next = after_one q in
+    elim (meant m) as (λ b.
+    (if b then (if chooses q then m ∷ chosen_by meant next ms else chosen_by meant next ms) else chosen_by meant q ms) ≡ []
+    → (if b then (if chooses q then left_over meant next ms else m ∷ left_over meant next ms) else m ∷ left_over meant q ms) ≡ m ∷ ms) [
+      | true ↦ none_first (chooses q) m (chosen_by meant next ms) (left_over meant next ms) ms (none_chosen meant next ms)
+      | false ↦ λ none. ap (λ (l : List Message). m ∷ l) (none_chosen meant q ms none)
+    ]
 
-none_or : (b : Bool) → (false || (b || false)) ≡ b
-none_or true = refl
-none_or false = refl
+empty_if : (ms : List Message) → ((not (length ms == 0) || false) || false) ≡ false → ms ≡ []
+empty_if [] none = refl
+empty_if (m ∷ ms) none = absurd (false≢true (sym none ∙ ap (λ (b : Bool). (not b || false) || false) (not_zero (length ms))))
 
--- without a message to a node, all are for others
-none_addressed : (id : ℕ) (ms : List Message) → has_mail ms id ≡ false → (addressed id ms ≡ []) × (elsewhere id ms ≡ ms)
-none_addressed id [] none = (refl, refl)
-none_addressed id (m ∷ ms) none =
-    let parts = or_parts (is_for id None m) (has_mail ms id) none in
-    let rest = none_addressed id ms parts.1 in
-    let other : (m.to == id) ≡ false = no_and (m.to == id) parts.0 in
-    (cond-false (m.to == id) (m ∷ addressed id ms) (addressed id ms) other ∙ rest.0, cond-false (m.to == id) (elsewhere id ms) (m ∷ elsewhere id ms) other ∙ ap (λ (l : List Message). m ∷ l) rest.1)
+empty_then : (ms : List Message) → (false || (not (length ms == 0) || false)) ≡ false → ms ≡ []
+empty_then [] none = refl
+empty_then (m ∷ ms) none = absurd (false≢true (sym none ∙ ap (λ (b : Bool). false || (not b || false)) (not_zero (length ms))))
 
-pub delivers_msgs : (c : Cluster) (asked : DeliverMsgs) (id : ℕ) (n : PlainNode) → asked.nodes ≡ id ∷ [] → asked.drop ≡ [] → asked.types ≡ None → node_at c id ≡ Some n
-    → (msgs_delivered asked c).cluster ≡ with_pending (with_node c id (after_all n (addressed id c.pending))) (elsewhere id c.pending)
+pub delivers_msgs : (c : Cluster) (asked : DeliverMsgs) (id : ℕ) (n : PlainNode) → asked.nodes ≡ id ∷ [] → asked.drop ≡ [] → node_at c id ≡ Some n
+    → (msgs_delivered asked c).cluster ≡ with_pending (with_node c id (after_all n (mail c.pending id asked.choice))) (other_mail c.pending id asked.choice)
 unfolding msgs_delivered
-delivers_msgs c asked id n nodes drop types at =
-    let goal : Cluster = with_pending (with_node c id (after_all n (addressed id c.pending))) (elsewhere id c.pending) in
-    rw (nodes, drop, types)
-    (if_both (λ (e : Effect). e.cluster ≡ goal) (list_any (λ (m : Message). (is_for id None m || false) || false) c.pending) _ _
-    (λ _. delivers c id n at)
-    (λ none. (let no = none_addressed id c.pending (sym (any_same (λ (m : Message). (is_for id None m || false) || false) (is_for id None) c.pending (λ m. or_none (is_for id None m))) ∙ none) in
-    sym (ap (λ (ms : List Message). with_pending (with_node c id (after_all n ms)) (elsewhere id c.pending)) no.0
-    ∙ ap (λ (ms : List Message). with_pending (with_node c id n) ms) no.1
+delivers_msgs c asked id n nodes drop at =
+    let choice = asked.choice in
+    let chosen : List Message = mail c.pending id choice in
+    let goal : Cluster = with_pending (with_node c id (after_all n chosen)) (other_mail c.pending id choice) in
+    rw (nodes, drop)
+    (if_both (λ (e : Effect). e.cluster ≡ goal) ((not (length chosen == 0) || false) || false) _ _
+    (λ _. delivers c choice id n at)
+    (λ none. (let no = empty_if chosen none in
+    sym (ap (λ (ms : List Message). with_pending (with_node c id (after_all n ms)) (other_mail c.pending id choice)) no
+    ∙ ap (λ (ms : List Message). with_pending (with_node c id n) ms) (none_chosen (is_meant id choice) (quota_of choice) c.pending no)
     ∙ ap (λ (ns : List PlainNode). record c { nodes = ns }) (set_itself c.nodes (id - 1) n at)))))
 
-pub drops_msgs : (c : Cluster) (asked : DeliverMsgs) (id : ℕ) → asked.nodes ≡ [] → asked.drop ≡ id ∷ [] → asked.types ≡ None
-    → (msgs_delivered asked c).cluster ≡ with_pending c (elsewhere id c.pending)
+pub drops_msgs : (c : Cluster) (asked : DeliverMsgs) (id : ℕ) → asked.nodes ≡ [] → asked.drop ≡ id ∷ [] → (msgs_delivered asked c).cluster ≡ with_pending c (other_mail c.pending id asked.choice)
 unfolding msgs_delivered dropped
-drops_msgs c asked id nodes drop types =
-    rw (nodes, drop, types)
-    (if_both (λ (e : Effect). e.cluster ≡ with_pending c (elsewhere id c.pending)) (list_any (λ (m : Message). false || (is_for id None m || false)) c.pending) _ _
-    (λ _. ap (with_pending c) (other_is id c.pending))
-    (λ none. sym (ap (with_pending c) (none_addressed id c.pending (sym (any_same (λ (m : Message). false || (is_for id None m || false)) (is_for id None) c.pending (λ m. none_or (is_for id None m))) ∙ none)).1)))
+drops_msgs c asked id nodes drop =
+    let choice = asked.choice in
+    let chosen : List Message = mail c.pending id choice in
+    rw (nodes, drop)
+    (if_both (λ (e : Effect). e.cluster ≡ with_pending c (other_mail c.pending id choice)) (false || (not (length chosen == 0) || false)) _ _
+    (λ _. refl)
+    (λ none. sym (ap (with_pending c) (none_chosen (is_meant id choice) (quota_of choice) c.pending (empty_then chosen none)))))
+
+-- without a choice, all of the node's messages
+pub delivers_all_msgs : (c : Cluster) (asked : DeliverMsgs) (id : ℕ) (n : PlainNode) → asked.nodes ≡ id ∷ [] → asked.drop ≡ [] → asked.choice ≡ all_mail → node_at c id ≡ Some n
+    → (msgs_delivered asked c).cluster ≡ with_pending (with_node c id (after_all n (addressed id c.pending))) (elsewhere id c.pending)
+delivers_all_msgs c asked id n nodes drop choice at =
+    delivers_msgs c asked id n nodes drop at
+    ∙ ap (λ (x : MailChoice). with_pending (with_node c id (after_all n (mail c.pending id x))) (other_mail c.pending id x)) choice
+    ∙ ap (λ (ms : List Message). with_pending (with_node c id (after_all n ms)) (other_mail c.pending id all_mail)) (mail_is id c.pending)
+    ∙ ap (λ (ms : List Message). with_pending (with_node c id (after_all n (addressed id c.pending))) ms) (other_is id c.pending)
+
+pub drops_all_msgs : (c : Cluster) (asked : DeliverMsgs) (id : ℕ) → asked.nodes ≡ [] → asked.drop ≡ id ∷ [] → asked.choice ≡ all_mail → (msgs_delivered asked c).cluster ≡ with_pending c (elsewhere id c.pending)
+drops_all_msgs c asked id nodes drop choice =
+    drops_msgs c asked id nodes drop ∙ ap (λ (x : MailChoice). with_pending c (other_mail c.pending id x)) choice ∙ ap (with_pending c) (other_is id c.pending)
 
 -- ---- snapshots
 

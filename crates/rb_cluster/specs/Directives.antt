@@ -1,5 +1,5 @@
 -- What directives do, in the words of their names (etcd raft's interaction tests)
-use Rattle.std.specs.Prelude.{ℕ, ◌≡◌, ◌+◌, ◌≤◌, false, List, [], ◌∷◌, length, Some, None, Ok, Contains, if◌then◌else◌, ◌==◌}
+use Rattle.std.specs.Prelude.{ℕ, ◌≡◌, ◌+◌, ◌≤◌, false, List, [], ◌∷◌, length, take, Option, Some, None, Ok, Contains, if◌then◌else◌, ◌==◌}
 use Rattle.rb_script.specs.Directive.{PlainDirective}
 use Rattle.rb_directive.specs.declared.build.Asked.{Asked}
 use Rattle.rb_directive.specs.declared.requests.Request.{Request}
@@ -30,6 +30,11 @@ addressed id (m ∷ ms) = if m.to == id then m ∷ addressed id ms else addresse
 abbrev pub elsewhere : ℕ → List Message → List Message
 elsewhere id [] = []
 elsewhere id (m ∷ ms) = if m.to == id then elsewhere id ms else m ∷ elsewhere id ms
+
+-- the first of some messages, or all if there is no number
+abbrev pub first_few : Option ℕ → List Message → List Message
+first_few None ms = ms
+first_few (Some n) ms = take n ms
 
 -- a node after messages, the first of them first
 abbrev pub after_all : PlainNode → List Message → PlainNode

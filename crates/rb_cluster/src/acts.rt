@@ -1,8 +1,8 @@
-//! Directives that call one node.
+//! Directives that call nodes.
 
 ghost use Rattle.std.specs.Prelude.{◌≡◌, OnOk};
 ghost use Rattle.rb_node.specs.Node.{node_step};
-ghost use Rattle.rb_machine.specs.Acts.{ticked_times, step_by, act, propose, set_timeout, transfer, report_unreachable};
+ghost use Rattle.rb_machine.specs.Acts.{ticked_times, step_by, act, propose, set_timeout, transfer, restart, restart_each, report_unreachable};
 ghost use Rattle.rb_machine.specs.Effects.{acted};
 ghost use Rattle.rb_machine.specs.Observers.{watched, after};
 ghost use Rattle.rb_cluster.specs.Calls.{step_of};
@@ -61,6 +61,8 @@ pub(crate) enum NodeCall<'m> {
     ProposeChange(Transition, Shared<Word>),
     /// Leadership is to be transferred to a node.
     Transfer(u64),
+    /// The node restarts.
+    Restart,
     /// A message is stepped.
     Step(&'m Message),
 }
@@ -79,6 +81,7 @@ fn make_call<L: RaftLog>(
             node.propose_change(transition, words, events)
         }
         NodeCall::Transfer(to) => node.transfer(to, events),
+        NodeCall::Restart => node.restart(events),
         NodeCall::Step(message) => node.step(message, events),
     }
 }
@@ -148,6 +151,27 @@ impl<L: RaftLog> Cluster<L> {
         ensures { OnOk result (watched self.new (O.meaning observer.new) ≡ after O.taking O.settling (O.meaning observer.old) (transfer from to self.old)) }
     {
         self.call_and_settle(from, NodeCall::Transfer(to), observer)
+    }
+
+    // Restarts a node.
+    fn restart_one<O: Observer<L>>(&mut self, id: u64, observer: &mut O) -> Result<(), AllocError>
+        ensures { OnOk result (watched self.new (O.meaning observer.new) ≡ after O.taking O.settling (O.meaning observer.old) (restart self.old id)) }
+    {
+        self.call_and_settle(id, NodeCall::Restart, observer)
+    }
+
+    /// Restarts nodes, in their order.
+    pub(crate) fn restart<O: Observer<L>>(
+        &mut self,
+        ids: &[u8],
+        observer: &mut O,
+    ) -> Result<(), AllocError>
+        ensures { OnOk result (watched self.new (O.meaning observer.new) ≡ after O.taking O.settling (O.meaning observer.old) (restart_each self.old ids.now)) }
+    {
+        for id in ids {
+            self.restart_one(u64::from(*id), observer)?;
+        }
+        Ok(())
     }
 
     /// Reports to a node that another can't be reached.

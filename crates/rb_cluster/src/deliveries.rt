@@ -1,15 +1,16 @@
 //! `deliver-msgs`: delivers or drops pending messages.
 
 ghost use Rattle.std.specs.Prelude.{◌≡◌, IfOk, OnOk, fold, map};
+ghost use Rattle.std.specs.List.{list_any};
 ghost use Rattle.rb_machine.specs.Pending.{mail, other_mail, with_pending};
-ghost use Rattle.rb_machine.specs.Deliveries.{received, all_received, delivered, delivered_each, drop_item, dropped, dropped_each, is_for_any, selects_any, msgs_delivered};
+ghost use Rattle.rb_machine.specs.Deliveries.{has_chosen, received, all_received, delivered, delivered_each, drop_item, dropped, dropped_each, chooses_any, msgs_delivered};
 ghost use Rattle.rb_machine.specs.Observers.{watched, after};
 
 use crate::acts::NodeCall;
 use crate::cluster::Cluster;
-use crate::pending::{is_for, split};
+use crate::pending::{has_chosen, split};
 use crate::shared_message::SharedMessage;
-use rb_directive::{DeliverMsgs, TypeSet};
+use rb_directive::{DeliverMsgs, MailChoice};
 use rb_machine::Observer;
 use rb_message::Message;
 use rb_raftlog::RaftLog;
@@ -30,23 +31,20 @@ fn show_dropped<L: RaftLog, O: Observer<L>>(
     Ok(())
 }
 
-// Whether a message is for one of the nodes.
-fn is_for_any(ids: &[u8], types: &Option<TypeSet>, message: &Message) -> bool
-    ensures { result ≡ is_for_any ids.now types.now message.now }
+// Whether a message to one of these nodes is chosen.
+fn any_chosen(choice: &MailChoice, pending: &[SharedMessage], ids: &[u8]) -> bool
+    ensures { result ≡ list_any (has_chosen choice.now pending.now) ids.now }
 {
-    ids.iter().any(|id| is_for(u64::from(*id), types, message))
+    ids.iter()
+        .any(|id| has_chosen(choice, pending, u64::from(*id)))
 }
 
-// Whether a pending message is selected, to be delivered or dropped.
-fn selects_any(asked: &DeliverMsgs, pending: &[SharedMessage]) -> bool
-    ensures { result ≡ selects_any asked.now pending.now }
+// Whether a pending message is chosen, to be delivered or dropped.
+fn chooses_any(asked: &DeliverMsgs, pending: &[SharedMessage]) -> bool
+    ensures { result ≡ chooses_any asked.now pending.now }
 {
-    let nodes = asked.nodes.as_slice();
-    let dropped = asked.drop.as_slice();
-    pending.iter().any(|shared| {
-        let message = shared.message();
-        is_for_any(nodes, &asked.types, message) || is_for_any(dropped, &asked.types, message)
-    })
+    any_chosen(&asked.choice, pending, asked.nodes.as_slice())
+        || any_chosen(&asked.choice, pending, asked.drop.as_slice())
 }
 
 impl<L: RaftLog> Cluster<L> {
@@ -78,73 +76,69 @@ impl<L: RaftLog> Cluster<L> {
         Ok(())
     }
 
-    // Removes a node's pending messages of the types, and returns them.
-    fn take_mail(
-        &mut self,
-        id: u64,
-        types: &Option<TypeSet>,
-    ) -> Result<Vec<SharedMessage>, AllocError>
-        ensures mail { IfOk result (λ taken. taken.items ≡ mail self.old.pending id types.now) }
-        ensures left { OnOk result (self.new ≡ with_pending self.old (other_mail self.old.pending id types.now)) }
+    // Removes a node's chosen messages, and returns them.
+    fn take_mail(&mut self, id: u64, choice: &MailChoice) -> Result<Vec<SharedMessage>, AllocError>
+        ensures mail { IfOk result (λ taken. taken.items ≡ mail self.old.pending id choice.now) }
+        ensures left { OnOk result (self.new ≡ with_pending self.old (other_mail self.old.pending id choice.now)) }
     {
         let pending = mem::replace(&mut self.pending, Vec::new(self.alloc));
-        let sorted_mail = split(self.alloc, pending, id, types)?;
+        let sorted_mail = split(self.alloc, pending, id, choice)?;
         self.pending = sorted_mail.rest;
         Ok(sorted_mail.for_node)
     }
 
-    /// Delivers a node's pending messages of the types.
+    /// Delivers a node's chosen messages.
     #[tactic(auto, unfolding(rb_machine::specs::Deliveries::delivered))]
     pub(crate) fn deliver<O: Observer<L>>(
         &mut self,
         id: u64,
-        types: &Option<TypeSet>,
+        choice: &MailChoice,
         observer: &mut O,
     ) -> Result<(), AllocError>
-        ensures { OnOk result (watched self.new (O.meaning observer.new) ≡ after O.taking O.settling (O.meaning observer.old) (delivered types.now self.old id)) }
+        ensures { OnOk result (watched self.new (O.meaning observer.new) ≡ after O.taking O.settling (O.meaning observer.old) (delivered choice.now self.old id)) }
     {
-        let mail = self.take_mail(id, types)?;
+        let mail = self.take_mail(id, choice)?;
         self.receive_all(id, &mail, observer)
     }
 
     fn deliver_each<O: Observer<L>>(
         &mut self,
         ids: &[u8],
-        types: &Option<TypeSet>,
+        choice: &MailChoice,
         observer: &mut O,
     ) -> Result<(), AllocError>
-        ensures { OnOk result (watched self.new (O.meaning observer.new) ≡ after O.taking O.settling (O.meaning observer.old) (delivered_each types.now self.old ids.now)) }
+        ensures { OnOk result (watched self.new (O.meaning observer.new) ≡ after O.taking O.settling (O.meaning observer.old) (delivered_each choice.now self.old ids.now)) }
     {
         for id in ids {
-            self.deliver(u64::from(*id), types, observer)?;
+            self.deliver(u64::from(*id), choice, observer)?;
         }
         Ok(())
     }
 
-    // Drops a node's pending messages of the types.
+    // Drops a node's chosen messages.
     #[tactic(auto, unfolding(rb_machine::specs::Deliveries::dropped))]
     fn drop_mail<O: Observer<L>>(
         &mut self,
         id: u64,
-        types: &Option<TypeSet>,
+        choice: &MailChoice,
         observer: &mut O,
     ) -> Result<(), AllocError>
-        ensures { OnOk result (watched self.new (O.meaning observer.new) ≡ after O.taking O.settling (O.meaning observer.old) (dropped types.now self.old id)) }
+        ensures { OnOk result (watched self.new (O.meaning observer.new) ≡ after O.taking O.settling (O.meaning observer.old) (dropped choice.now self.old id)) }
     {
-        let mail = self.take_mail(id, types)?;
+        let mail = self.take_mail(id, choice)?;
         show_dropped(observer, &mail)
     }
 
     fn drop_each<O: Observer<L>>(
         &mut self,
         ids: &[u8],
-        types: &Option<TypeSet>,
+        choice: &MailChoice,
         observer: &mut O,
     ) -> Result<(), AllocError>
-        ensures { OnOk result (watched self.new (O.meaning observer.new) ≡ after O.taking O.settling (O.meaning observer.old) (dropped_each types.now self.old ids.now)) }
+        ensures { OnOk result (watched self.new (O.meaning observer.new) ≡ after O.taking O.settling (O.meaning observer.old) (dropped_each choice.now self.old ids.now)) }
     {
         for id in ids {
-            self.drop_mail(u64::from(*id), types, observer)?;
+            self.drop_mail(u64::from(*id), choice, observer)?;
         }
         Ok(())
     }
@@ -158,10 +152,10 @@ impl<L: RaftLog> Cluster<L> {
     ) -> Result<(), AllocError>
         ensures { OnOk result (watched self.new (O.meaning observer.new) ≡ after O.taking O.settling (O.meaning observer.old) (msgs_delivered asked.now self.old)) }
     {
-        if !selects_any(asked, &self.pending) {
+        if !chooses_any(asked, &self.pending) {
             return observer.observe(&Item::NoMessages);
         }
-        self.deliver_each(asked.nodes.as_slice(), &asked.types, observer)?;
-        self.drop_each(asked.drop.as_slice(), &asked.types, observer)
+        self.deliver_each(asked.nodes.as_slice(), &asked.choice, observer)?;
+        self.drop_each(asked.drop.as_slice(), &asked.choice, observer)
     }
 }

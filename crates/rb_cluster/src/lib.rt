@@ -16,6 +16,7 @@ mod lists;
 mod meter;
 mod outcome;
 mod pending;
+mod quota;
 mod readies;
 mod rounds;
 mod shared_message;
@@ -25,14 +26,15 @@ mod views;
 
 pub use cluster::Cluster;
 pub use directives::{
-    directives_call_their_nodes, messages_are_delivered_in_order, readies_are_processed,
-    snapshots_are_sent_by_hand, stabilizing_leaves_nothing_to_do,
+    directives_call_their_nodes, messages_are_chosen_by_number, messages_are_delivered_in_order,
+    readies_are_processed, snapshots_are_sent_by_hand, stabilizing_leaves_nothing_to_do,
 };
 pub use laws::{
     add_nodes_keeps_nodes, log_level_sets_the_level, outputs_can_be_expected, outputs_have_lines,
     reading_is_the_same_everywhere, refused_changes_nothing, views_change_nothing,
 };
 pub use meter::Meter;
+pub use pending::is_meant;
 pub use shared_node::SharedNode;
 
 // The traits of a cluster and of its meter, from rb_machine.

@@ -145,6 +145,7 @@ impl<L: RaftLog> Cluster<L> {
             Request::NodeCommandWithArg(what, id, number) => self.act_with(
                 *what, *id, *number, observer,
             ),
+            Request::Restart(ids) => self.restart(ids.as_slice(), observer),
             Request::LogLevel(level) => {
                 self.level = *level;
                 Ok(())

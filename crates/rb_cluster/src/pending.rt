@@ -4,12 +4,14 @@
 
 ghost use Rattle.std.specs.Prelude.{◌≡◌, IfOk, OnOk};
 ghost use Rattle.rb_machine.specs.Cluster as plain;
-ghost use Rattle.rb_machine.specs.Pending.{is_selected, is_for, mail, other_mail, has_room, sent, all_sent, with_pending};
+ghost use Rattle.rb_machine.specs.Deliveries.{has_chosen};
+ghost use Rattle.rb_machine.specs.Pending.{is_selected, is_for, is_from, is_meant, mail, other_mail, has_room, sent, all_sent, with_pending};
 ghost use Rattle.rb_machine.specs.Observers.{watched, after};
 
 use crate::cluster::Cluster;
+use crate::quota::Quota;
 use crate::shared_message::SharedMessage;
-use rb_directive::TypeSet;
+use rb_directive::{MailChoice, TypeSet};
 use rb_machine::{MAX_PENDING, Observer};
 use rb_message::Message;
 use rb_raftlog::RaftLog;
@@ -27,41 +29,65 @@ fn is_selected(types: &Option<TypeSet>, message_type: MessageType) -> bool
     }
 }
 
-/// Whether a message is for this node, and of one of the types.
-pub(crate) fn is_for(id: u64, types: &Option<TypeSet>, message: &Message) -> bool
+// Whether a message is for this node, and of one of the types.
+fn is_for(id: u64, types: &Option<TypeSet>, message: &Message) -> bool
     ensures { result ≡ is_for id types.now message.now }
 {
     message.to == id && is_selected(types, message.kind.message_type())
 }
 
-/// Whether there is room for another message.
-pub(crate) fn has_room(pending: &[SharedMessage]) -> bool
-    ensures { result ≡ has_room pending.now }
+// Whether a message is from this node, if one is named.
+fn is_from(from: Option<u64>, message: &Message) -> bool
+    ensures { result ≡ is_from from message.now }
 {
-    pending.len() < MAX_PENDING
+    match from {
+        Some(id) => message.from == id,
+        None => true,
+    }
 }
 
-/// Pending messages, split into those for a node and the rest, each in their order.
+/// Whether a message is for this node, and one of those of which some are chosen.
+pub fn is_meant(id: u64, choice: &MailChoice, message: &Message) -> bool
+    ensures { result ≡ is_meant id choice.now message.now }
+{
+    is_for(id, &choice.types, message) && is_from(choice.from, message)
+}
+
+/// Whether a message to this node is chosen.
+pub(crate) fn has_chosen(choice: &MailChoice, pending: &[SharedMessage], id: u64) -> bool
+    ensures { result ≡ has_chosen choice.now pending.now id }
+{
+    let mut quota = Quota::of(choice);
+    for shared in pending {
+        if quota.takes(is_meant(id, choice, shared.message())) {
+            return true;
+        }
+    }
+    false
+}
+
+/// Pending messages, split into a node's chosen ones and the rest, each in their order.
 #[derive(Drop)]
 pub(crate) struct SplitMail {
     pub(crate) for_node: Vec<SharedMessage>,
     pub(crate) rest: Vec<SharedMessage>,
 }
 
-/// Splits off the messages of the types for a node.
+/// Splits off a node's chosen messages.
 pub(crate) fn split(
     alloc: Global,
     pending: Vec<SharedMessage>,
     id: u64,
-    types: &Option<TypeSet>,
+    choice: &MailChoice,
 ) -> Result<SplitMail, AllocError>
-    ensures for_node { IfOk result (λ p. p.for_node.items ≡ mail pending.items id types.now) }
-    ensures rest { IfOk result (λ p. p.rest.items ≡ other_mail pending.items id types.now) }
+    ensures for_node { IfOk result (λ p. p.for_node.items ≡ mail pending.items id choice.now) }
+    ensures rest { IfOk result (λ p. p.rest.items ≡ other_mail pending.items id choice.now) }
 {
+    let mut quota = Quota::of(choice);
     let mut mail = Vec::new(alloc);
     let mut others = Vec::new(alloc);
     for shared in pending {
-        if is_for(id, types, shared.message()) {
+        if quota.takes(is_meant(id, choice, shared.message())) {
             mail.push(shared)?;
         } else {
             others.push(shared)?;
@@ -71,6 +97,13 @@ pub(crate) fn split(
         for_node: mail,
         rest: others,
     })
+}
+
+/// Whether there is room for another message.
+pub(crate) fn has_room(pending: &[SharedMessage]) -> bool
+    ensures { result ≡ has_room pending.now }
+{
+    pending.len() < MAX_PENDING
 }
 
 /// Appends a message to the pending ones, or drops it if there is no room.

@@ -3,7 +3,8 @@
 //! A round first processes the ready of each chosen node, and then delivers each one's pending messages. One pass over the pending messages
 //! marks their receivers, so a round doesn't search them once a node.
 
-ghost use Rattle.std.specs.Prelude.{◌≡◌, OnOk, IfOk, None};
+ghost use Rattle.std.specs.Prelude.{◌≡◌, OnOk, IfOk};
+ghost use Rattle.rb_directive.specs.Requests.{all_mail};
 ghost use Rattle.rb_machine.specs.Deliveries.{delivered_each};
 ghost use Rattle.rb_machine.specs.Rounds.{is_chosen, chosen, is_ready, has_mail, has_work, each_ready_processed, round, rounds_run, stabilized};
 ghost use Rattle.rb_cluster.specs.Receivers.{IsMarked, is_marked};
@@ -11,7 +12,7 @@ ghost use Rattle.rb_machine.specs.Observers.{watched, after};
 
 use crate::cluster::Cluster;
 use crate::shared_message::SharedMessage;
-use rb_directive::{IdList, MAX_ID};
+use rb_directive::{IdList, MAX_ID, MailChoice};
 use rb_machine::Observer;
 use rb_raftlog::RaftLog;
 use rb_texts::Item;
@@ -124,12 +125,13 @@ impl<L: RaftLog> Cluster<L> {
         ids: &[u64],
         observer: &mut O,
     ) -> Result<(), AllocError>
-        ensures { OnOk result (watched self.new (O.meaning observer.new) ≡ after O.taking O.settling (O.meaning observer.old) (delivered_each None self.old ids.now)) }
+        ensures { OnOk result (watched self.new (O.meaning observer.new) ≡ after O.taking O.settling (O.meaning observer.old) (delivered_each all_mail self.old ids.now)) }
     {
         let receivers = Receivers::of(&self.pending);
+        let all = MailChoice::all();
         for id in ids {
             if receivers.has(*id) {
-                self.deliver(*id, &None, observer)?;
+                self.deliver(*id, &all, observer)?;
             }
         }
         Ok(())

@@ -29,7 +29,7 @@ use Rattle.rb_directive.specs.declared.requests.AddNodes.{AddNodes}
 use Rattle.rb_directive.specs.declared.requests.Request.{Request}
 use Rattle.rb_directive.specs.declared.requests.Request.TheVariants as requests
 use Rattle.rb_directive.specs.declared.build.Asked.{Asked}
-use Rattle.rb_directive.specs.declared.limits.TheConstants.{MAX_ID, MAX_NODES, MAX_FIRST_INDEX, MAX_COMPACTED, MAX_BYTES, MAX_WINDOW, MAX_ROUNDS, MAX_TIMEOUT, MAX_IDS, WINDOW, ROUNDS}
+use Rattle.rb_directive.specs.declared.limits.TheConstants.{MAX_ID, MAX_NODES, MAX_FIRST_INDEX, MAX_COMPACTED, MAX_BYTES, MAX_WINDOW, MAX_ROUNDS, MAX_TIMEOUT, MAX_MESSAGES, MAX_IDS, WINDOW, ROUNDS}
 use Rattle.rb_directive.specs.Forms.{Word, is_within, within}
 use Rattle.rb_directive.specs.IdLists.{id_of, with_id, with_ids}
 use Rattle.rb_directive.specs.Names.{number_text}
@@ -84,6 +84,7 @@ ids_are (w ∷ words) ids last are h =
 -- the least and the greatest number that a directive takes
 abbrev least : Number → ℕ
 least numbers.Index = 0
+least numbers.Skip = 0
 least which = 1
 
 abbrev pub greatest_index : Name → ℕ
@@ -100,6 +101,8 @@ greatest name numbers.Index = greatest_index name
 greatest name numbers.Inflight = MAX_WINDOW
 greatest name numbers.Rounds = MAX_ROUNDS
 greatest name numbers.Timeout = MAX_TIMEOUT
+greatest name numbers.Skip = MAX_MESSAGES
+greatest name numbers.Messages = MAX_MESSAGES
 
 abbrev fewest : Bytes → ℕ
 fewest bytes.Payload = 1
@@ -154,6 +157,10 @@ number_still P numbers.Rounds n g h p numbers.Rounds = h
 number_still P numbers.Rounds n g h p other = p other
 number_still P numbers.Timeout n g h p numbers.Timeout = h
 number_still P numbers.Timeout n g h p other = p other
+number_still P numbers.Skip n g h p numbers.Skip = h
+number_still P numbers.Skip n g h p other = p other
+number_still P numbers.Messages n g h p numbers.Messages = h
+number_still P numbers.Messages n g h p other = p other
 
 number_kept : (name : Name) (which : Number) (n : ℕ) (g : Arguments) → IsFrom (least which) (greatest name which) n → IsGivenWithin name g → IsGivenWithin name (number_set which n g)
 number_kept name which n g h p = record {
@@ -284,10 +291,19 @@ built_within names.Propose g inputs r p h =
     wanted_within (λ (w : Word). IsFrom 1 MAX_BYTES (length w)) (IsWithin r) (codes "payload") g.payload _ r (p.bytes bytes.Payload) rest (λ payload few e. done_within _ r e (is, few)))
 built_within names.ProposeConfChange g inputs r p h = node_within names.ProposeConfChange g _ r p h (λ id is e. done_within _ r e is)
 built_within names.ProcessReady g inputs r p h = wanted_within AreIds (IsWithin r) (codes "id") g.nodes _ r (p.lists lists.Nodes) h (λ ids are e. done_within _ r e are)
-built_within names.DeliverMsgs g inputs r p h = done_within (deliver_msgs g) r h (or_none g.nodes (p.lists lists.Nodes), or_none g.drop (p.lists lists.Drop))
+built_within names.DeliverMsgs g inputs r p h = done_within (deliver_msgs g) r h (
+  or_none g.nodes (p.lists lists.Nodes),
+  or_none g.drop (p.lists lists.Drop),
+  record {
+    from = p.numbers numbers.From;
+    skip = (or_else 0 MAX_MESSAGES 0 g.skip (omega arith, omega arith) (p.numbers numbers.Skip)).1;
+    count = p.numbers numbers.Messages;
+  },
+)
 built_within names.Stabilize g inputs r p h =
     done_within (stabilize g) r h (or_none g.nodes (p.lists lists.Nodes), or_else 1 MAX_ROUNDS ROUNDS g.rounds (omega arith, omega arith) (p.numbers numbers.Rounds))
 built_within (names.NodeCommandWithArg node_command) g inputs r p h = with_within node_command g r p h
+built_within names.Restart g inputs r p h = wanted_within AreIds (IsWithin r) (codes "id") g.nodes _ r (p.lists lists.Nodes) h (λ ids are e. done_within _ r e are)
 built_within names.LogLevel g inputs r p h = let level = wanted_some (codes "level") g.level _ r h in done_within _ r level.2 tt
 built_within names.RaftLog g inputs r p h = node_within names.RaftLog g _ r p h (λ id is e. done_within _ r e is)
 built_within names.Status g inputs r p h = node_within names.Status g _ r p h (λ id is e. done_within _ r e is)

@@ -85,6 +85,7 @@ built_named names.ProcessReady g inputs r h = let nodes = wanted_some (codes "id
 built_named names.DeliverMsgs g inputs r h = done_named names.DeliverMsgs (deliver_msgs g) r h refl
 built_named names.Stabilize g inputs r h = done_named names.Stabilize (stabilize g) r h refl
 built_named (names.NodeCommandWithArg node_command) g inputs r h = let id = wanted_some (number_text (required node_command).0) (number_given (required node_command).0 g) _ r h in let value = wanted_some (number_text (required node_command).1) (number_given (required node_command).1 g) _ r id.2 in done_named (names.NodeCommandWithArg node_command) _ r value.2 refl
+built_named names.Restart g inputs r h = let nodes = wanted_some (codes "id") g.nodes _ r h in done_named names.Restart _ r nodes.2 refl
 built_named names.LogLevel g inputs r h = let level = wanted_some (codes "level") g.level _ r h in done_named names.LogLevel _ r level.2 refl
 built_named names.RaftLog g inputs r h = node_named requests.RaftLog names.RaftLog (λ id. refl) g r h
 built_named names.Status g inputs r h = node_named requests.Status names.Status (λ id. refl) g r h

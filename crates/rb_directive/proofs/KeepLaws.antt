@@ -144,7 +144,7 @@ map_some f (Some x) y h = (x, refl, cc)
 
 -- the numbers, the bytes and the lists alone
 abbrev pub numbers_of : Arguments → Arguments
-numbers_of g = record nothing { count = g.count; id = g.id; peer = g.peer; from = g.from; to = g.to; index = g.index; inflight = g.inflight; rounds = g.rounds; timeout = g.timeout }
+numbers_of g = record nothing { count = g.count; id = g.id; peer = g.peer; from = g.from; to = g.to; index = g.index; inflight = g.inflight; rounds = g.rounds; timeout = g.timeout; skip = g.skip; messages = g.messages }
 
 abbrev pub bytes_of : Arguments → Arguments
 bytes_of g = record nothing { payload = g.payload; content = g.content }

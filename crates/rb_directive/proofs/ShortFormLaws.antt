@@ -40,6 +40,7 @@ Asks told asked = IfSome told (λ r. asked ≡ asks r)
 
 ids_ask : (name : Name) (inputs : List Line) (w : Word) (id : ℕ) → Asks (of_ids name (id ∷ [])) (from name inputs (or_bad w (ids_kept lists.Nodes None begun (Some (id ∷ [])))))
 ids_ask names.ProcessReady inputs w id = refl
+ids_ask names.Restart inputs w id = refl
 ids_ask names.DeliverMsgs inputs w id = refl
 ids_ask names.Stabilize inputs w id = refl
 ids_ask name inputs w id = tt

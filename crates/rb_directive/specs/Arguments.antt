@@ -31,6 +31,8 @@ nothing = record {
   inflight = None;
   rounds = None;
   timeout = None;
+  skip = None;
+  messages = None;
   payload = None;
   content = None;
   level = None;
@@ -56,6 +58,8 @@ number_given numbers.Index g = g.index
 number_given numbers.Inflight g = g.inflight
 number_given numbers.Rounds g = g.rounds
 number_given numbers.Timeout g = g.timeout
+number_given numbers.Skip g = g.skip
+number_given numbers.Messages g = g.messages
 
 abbrev pub flag_given : Flag → Arguments → Option Bool
 flag_given which g = value_in g.flags which
@@ -108,6 +112,8 @@ number_set numbers.Index n g = record g { index = Some n }
 number_set numbers.Inflight n g = record g { inflight = Some n }
 number_set numbers.Rounds n g = record g { rounds = Some n }
 number_set numbers.Timeout n g = record g { timeout = Some n }
+number_set numbers.Skip n g = record g { skip = Some n }
+number_set numbers.Messages n g = record g { messages = Some n }
 
 abbrev pub flag_set : Flag → Bool → Arguments → Arguments
 flag_set which b g = record g { flags = with_value which b g.flags }

@@ -42,6 +42,7 @@ name_text names.ProcessReady = codes "process-ready"
 name_text names.DeliverMsgs = codes "deliver-msgs"
 name_text names.Stabilize = codes "stabilize"
 name_text (names.NodeCommandWithArg node_command) = node_command_with_arg_text node_command
+name_text names.Restart = codes "restart"
 name_text names.LogLevel = codes "log-level"
 name_text names.RaftLog = codes "raft-log"
 name_text names.Status = codes "status"
@@ -57,6 +58,8 @@ number_text numbers.Index = codes "index"
 number_text numbers.Inflight = codes "inflight"
 number_text numbers.Rounds = codes "rounds"
 number_text numbers.Timeout = codes "timeout"
+number_text numbers.Skip = codes "skip"
+number_text numbers.Messages = codes "count"
 
 abbrev pub bytes_text : Bytes → List ℕ
 bytes_text bytes.Payload = codes "payload"

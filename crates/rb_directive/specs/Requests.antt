@@ -18,12 +18,13 @@ use Rattle.rb_vocab.specs.declared.change.Transition.TheVariants as transitions
 use Rattle.rb_directive.specs.declared.table.Row.{Row}
 use Rattle.rb_directive.specs.declared.arguments.Arguments.{Arguments}
 use Rattle.rb_directive.specs.declared.requests.AddNodes.{AddNodes}
+use Rattle.rb_directive.specs.declared.requests.MailChoice.{MailChoice}
 use Rattle.rb_directive.specs.declared.requests.Request.{Request}
 use Rattle.rb_directive.specs.declared.requests.Request.TheVariants as requests
 use Rattle.rb_directive.specs.declared.requests.Named.{Named}
 use Rattle.rb_directive.specs.declared.requests.Named.TheVariants as named
 use Rattle.rb_directive.specs.declared.build.Asked.{Asked}
-use Rattle.rb_directive.specs.declared.limits.TheConstants.{MAX_ID, MAX_NODES, MAX_FIRST_INDEX, MAX_COMPACTED, MAX_BYTES, MAX_WINDOW, MAX_ROUNDS, MAX_TIMEOUT, MAX_IDS, WINDOW, ROUNDS}
+use Rattle.rb_directive.specs.declared.limits.TheConstants.{MAX_ID, MAX_NODES, MAX_FIRST_INDEX, MAX_COMPACTED, MAX_BYTES, MAX_WINDOW, MAX_ROUNDS, MAX_TIMEOUT, MAX_MESSAGES, MAX_IDS, WINDOW, ROUNDS}
 use Rattle.rb_directive.specs.Forms.{Word}
 use Rattle.rb_directive.specs.Table.{directives, row_in}
 use Rattle.rb_directive.specs.Arguments.{nothing, flag_given, number_given}
@@ -76,9 +77,20 @@ propose_conf_change g inputs =
 abbrev pub process_ready : Arguments → Result Request DirectiveError
 process_ready g = and_then (require (codes "id") g.nodes) (λ ids. Ok (requests.ProcessReady ids))
 
--- messages of all types if none is given
+abbrev pub restart : Arguments → Result Request DirectiveError
+restart g = and_then (require (codes "id") g.nodes) (λ ids. Ok (requests.Restart ids))
+
+-- each message
+abbrev pub all_mail : MailChoice
+all_mail = record { types = None; from = None; skip = 0; count = None }
+
+-- messages of all types if none is given, and of all senders
 abbrev pub deliver_msgs : Arguments → Request
-deliver_msgs g = requests.DeliverMsgs (record { nodes = unwrap_or g.nodes []; types = g.types; drop = unwrap_or g.drop [] })
+deliver_msgs g = requests.DeliverMsgs (record {
+  nodes = unwrap_or g.nodes [];
+  choice = record { types = g.types; from = g.from; skip = unwrap_or g.skip 0; count = g.messages };
+  drop = unwrap_or g.drop [];
+})
 
 abbrev pub stabilize : Arguments → Request
 stabilize g = requests.Stabilize (unwrap_or g.nodes []) (unwrap_or g.rounds ROUNDS)
@@ -107,6 +119,7 @@ built names.ProcessReady g inputs = process_ready g
 built names.DeliverMsgs g inputs = Ok (deliver_msgs g)
 built names.Stabilize g inputs = Ok (stabilize g)
 built (names.NodeCommandWithArg node_command) g inputs = node_command_with_arg node_command g
+built names.Restart g inputs = restart g
 built names.LogLevel g inputs = and_then (require (codes "level") g.level) (λ level. Ok (requests.LogLevel level))
 built names.RaftLog g inputs = at_node requests.RaftLog g
 built names.Status g inputs = at_node requests.Status g
@@ -138,6 +151,7 @@ nodes_of (requests.ProcessReady ids) = named.Many ids
 nodes_of (requests.DeliverMsgs r) = named.Many r.nodes
 nodes_of (requests.Stabilize ids rounds) = named.Many ids
 nodes_of (requests.NodeCommandWithArg node_command id number) = named.One id
+nodes_of (requests.Restart ids) = named.Many ids
 nodes_of (requests.LogLevel level) = named.None
 nodes_of (requests.RaftLog id) = named.One id
 nodes_of (requests.Status id) = named.One id
@@ -169,6 +183,12 @@ pub record AreNodes (r : AddNodes) : Type 0 where
   pub content : IfSome r.content (λ w. length w ≤ MAX_BYTES)
   pub inflight : IsFrom 1 MAX_WINDOW r.inflight
 
+-- a choice of messages
+pub record IsChoice (c : MailChoice) : Type 0 where
+  pub from : IfSome c.from IsId
+  pub skip : c.skip ≤ MAX_MESSAGES
+  pub count : IfSome c.count (IsFrom 1 MAX_MESSAGES)
+
 -- the request is within the limits
 unfoldable pub IsWithin : Request → Type 0
 IsWithin (requests.AddNodes r) = AreNodes r
@@ -176,9 +196,10 @@ IsWithin (requests.NodeCommand node_command id) = IsId id
 IsWithin (requests.Propose id payload) = IsId id × IsFrom 1 MAX_BYTES (length payload)
 IsWithin (requests.ProposeConfChange r) = IsId r.id
 IsWithin (requests.ProcessReady ids) = AreIds ids
-IsWithin (requests.DeliverMsgs r) = AreIds r.nodes × AreIds r.drop
+IsWithin (requests.DeliverMsgs r) = AreIds r.nodes × AreIds r.drop × IsChoice r.choice
 IsWithin (requests.Stabilize ids rounds) = AreIds ids × IsFrom 1 MAX_ROUNDS rounds
 IsWithin (requests.NodeCommandWithArg node_command id number) = IsId id × IsNumber (required node_command).1 number
+IsWithin (requests.Restart ids) = AreIds ids
 IsWithin (requests.LogLevel level) = ⊤
 IsWithin (requests.RaftLog id) = IsId id
 IsWithin (requests.Status id) = IsId id

@@ -16,6 +16,7 @@ use Rattle.rb_directive.specs.declared.build.Asked.{Asked}
 use Rattle.rb_directive.specs.declared.limits.TheConstants.{ROUNDS}
 use Rattle.rb_directive.specs.Forms.{Word, within}
 use Rattle.rb_directive.specs.IdLists.{id_of}
+use Rattle.rb_directive.specs.Requests.{all_mail}
 
 -- the request, with no level of its own
 abbrev pub asks : Request → Result Asked DirectiveError
@@ -24,7 +25,8 @@ asks r = Ok (record { request = r; log_level = None })
 -- with these ids, if it takes ids instead of words
 abbrev pub of_ids : Name → List ℕ → Option Request
 of_ids names.ProcessReady ids = Some (requests.ProcessReady ids)
-of_ids names.DeliverMsgs ids = Some (requests.DeliverMsgs (record { nodes = ids; types = None; drop = [] }))
+of_ids names.Restart ids = Some (requests.Restart ids)
+of_ids names.DeliverMsgs ids = Some (requests.DeliverMsgs (record { nodes = ids; choice = all_mail; drop = [] }))
 of_ids names.Stabilize ids = Some (requests.Stabilize ids ROUNDS)
 of_ids name ids = None
 

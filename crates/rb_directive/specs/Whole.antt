@@ -17,6 +17,7 @@ name_of (requests.ProcessReady ids) = names.ProcessReady
 name_of (requests.DeliverMsgs r) = names.DeliverMsgs
 name_of (requests.Stabilize ids rounds) = names.Stabilize
 name_of (requests.NodeCommandWithArg node_command id number) = names.NodeCommandWithArg node_command
+name_of (requests.Restart ids) = names.Restart
 name_of (requests.LogLevel level) = names.LogLevel
 name_of (requests.RaftLog id) = names.RaftLog
 name_of (requests.Status id) = names.Status

@@ -21,6 +21,10 @@ pub enum Number {
     Inflight,
     Rounds,
     Timeout,
+    /// The number of messages that are skipped.
+    Skip,
+    /// The most messages that are chosen.
+    Messages,
 }
 
 /// The bytes that arguments give.
@@ -95,6 +99,8 @@ impl Number {
             Number::Inflight => b"inflight",
             Number::Rounds => b"rounds",
             Number::Timeout => b"timeout",
+            Number::Skip => b"skip",
+            Number::Messages => b"count",
         }
     }
 }

@@ -44,6 +44,8 @@ pub(crate) struct Arguments<'d> {
     pub(crate) inflight: Option<u64>,
     pub(crate) rounds: Option<u64>,
     pub(crate) timeout: Option<u64>,
+    pub(crate) skip: Option<u64>,
+    pub(crate) messages: Option<u64>,
     pub(crate) payload: Option<ScriptWord<'d>>,
     pub(crate) content: Option<ScriptWord<'d>>,
     pub(crate) level: Option<Level>,
@@ -73,6 +75,8 @@ impl<'d> Arguments<'d> {
             inflight: None,
             rounds: None,
             timeout: None,
+            skip: None,
+            messages: None,
             payload: None,
             content: None,
             level: None,
@@ -101,6 +105,8 @@ impl<'d> Arguments<'d> {
             Number::Inflight => self.inflight,
             Number::Rounds => self.rounds,
             Number::Timeout => self.timeout,
+            Number::Skip => self.skip,
+            Number::Messages => self.messages,
         }
     }
 
@@ -191,6 +197,8 @@ impl<'d> Arguments<'d> {
             Number::Inflight => self.inflight = Some(number),
             Number::Rounds => self.rounds = Some(number),
             Number::Timeout => self.timeout = Some(number),
+            Number::Skip => self.skip = Some(number),
+            Number::Messages => self.messages = Some(number),
         }
     }
 

@@ -5,7 +5,7 @@
 ghost use Rattle.std.specs.Prelude.{◌≡◌, [], codes, IfOk};
 ghost use Rattle.std.specs.Option.{unwrap_or};
 ghost use Rattle.rb_script.specs.Tokens.{plain};
-ghost use Rattle.rb_directive.specs.Requests.{require, add_nodes, propose, propose_conf_change, process_ready, deliver_msgs, stabilize, node_command_with_arg, built, asked_of, request, IsWithin};
+ghost use Rattle.rb_directive.specs.Requests.{require, add_nodes, propose, propose_conf_change, process_ready, restart, deliver_msgs, stabilize, node_command_with_arg, built, asked_of, request, IsWithin};
 
 use crate::argument::Flag;
 use crate::arguments::Arguments;
@@ -15,7 +15,7 @@ use crate::limits::{ROUNDS, WINDOW};
 use crate::name::Name;
 use crate::node_command_with_arg::NodeCommandWithArg;
 use crate::reading::read;
-use crate::requests::{AddNodes, DeliverMsgs, ProposeConfChange, Request};
+use crate::requests::{AddNodes, DeliverMsgs, MailChoice, ProposeConfChange, Request};
 use crate::short_form::short_request;
 use crate::table::{Row, row_of};
 use rb_script::DirectiveRef;
@@ -108,12 +108,23 @@ fn process_ready(given: Arguments<'_>) -> Result<Request<'_>, DirectiveError<'_>
     Ok(Request::ProcessReady(require(given.nodes, b"id")?))
 }
 
+fn restart(given: Arguments<'_>) -> Result<Request<'_>, DirectiveError<'_>>
+    ensures { result ≡ restart given.entry }
+{
+    Ok(Request::Restart(require(given.nodes, b"id")?))
+}
+
 fn deliver_msgs(given: Arguments<'_>) -> Request<'_>
     ensures { result ≡ deliver_msgs given.entry }
 {
     Request::DeliverMsgs(DeliverMsgs {
         nodes: ids_or_none(given.nodes),
-        types: given.types,
+        choice: MailChoice {
+            types: given.types,
+            from: given.from,
+            skip: given.skip.unwrap_or(0),
+            count: given.messages,
+        },
         drop: ids_or_none(given.drop),
     })
 }
@@ -157,6 +168,7 @@ fn built<'d>(
         Name::DeliverMsgs => Ok(deliver_msgs(given)),
         Name::Stabilize => Ok(stabilize(given)),
         Name::NodeCommandWithArg(node_command) => node_command_with_arg(node_command, &given),
+        Name::Restart => restart(given),
         Name::LogLevel => Ok(Request::LogLevel(require(given.level, b"level")?)),
         Name::RaftLog => Ok(Request::RaftLog(require_id(&given)?)),
         Name::Status => Ok(Request::Status(require_id(&given)?)),

@@ -1,7 +1,7 @@
 //! The limits of requests.
 
 ghost use Rattle.std.specs.Prelude.{◌≡◌};
-ghost use Rattle.rb_directive.specs.declared.limits.TheConstants.{MAX_ID, MAX_NODES, MAX_FIRST_INDEX, MAX_COMPACTED, MAX_BYTES, MAX_WINDOW, MAX_ROUNDS, MAX_TIMEOUT, MAX_IDS, WINDOW, ROUNDS};
+ghost use Rattle.rb_directive.specs.declared.limits.TheConstants.{MAX_ID, MAX_NODES, MAX_FIRST_INDEX, MAX_COMPACTED, MAX_BYTES, MAX_WINDOW, MAX_ROUNDS, MAX_TIMEOUT, MAX_MESSAGES, MAX_IDS, WINDOW, ROUNDS};
 
 /// The greatest id.
 pub const MAX_ID: u64 = 32;
@@ -27,6 +27,9 @@ pub const MAX_ROUNDS: u64 = 1_000;
 /// The most ticks of an election timeout.
 pub const MAX_TIMEOUT: u64 = 1_000;
 
+/// The most messages that a directive chooses or skips: as many as may be pending.
+pub const MAX_MESSAGES: u64 = 4_096;
+
 /// The most ids of one list: the most values of an argument, and the most arguments of a directive.
 pub const MAX_IDS: usize = 64;
 
@@ -46,6 +49,7 @@ pub fn limits_are()
     ensures window { MAX_WINDOW ≡ 256 }
     ensures rounds { MAX_ROUNDS ≡ 1000 }
     ensures timeout { MAX_TIMEOUT ≡ 1000 }
+    ensures messages { MAX_MESSAGES ≡ 4096 }
     ensures list { MAX_IDS ≡ 64 }
     ensures default_window { WINDOW ≡ 256 }
     ensures default_rounds { ROUNDS ≡ 200 }

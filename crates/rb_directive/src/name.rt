@@ -19,6 +19,7 @@ pub enum Name {
     Stabilize,
     /// A command to one node, with a number.
     NodeCommandWithArg(NodeCommandWithArg),
+    Restart,
     LogLevel,
     RaftLog,
     Status,
@@ -39,6 +40,7 @@ impl Name {
             Name::DeliverMsgs => b"deliver-msgs",
             Name::Stabilize => b"stabilize",
             Name::NodeCommandWithArg(node_command) => node_command.text(),
+            Name::Restart => b"restart",
             Name::LogLevel => b"log-level",
             Name::RaftLog => b"raft-log",
             Name::Status => b"status",

@@ -4,7 +4,7 @@
 //! `Option`s.
 
 ghost use Rattle.std.specs.Prelude.{◌≡◌};
-ghost use Rattle.rb_directive.specs.Requests.{nodes_of};
+ghost use Rattle.rb_directive.specs.Requests.{all_mail, nodes_of};
 
 use crate::change::Inputs;
 use crate::id_list::IdList;
@@ -49,13 +49,41 @@ pub struct ProposeConfChange<'d> {
     pub fault: Option<DirectiveError<'d>>,
 }
 
+/// Which of a node's pending messages are chosen, in their order: of those of the types and the sender, not the first few, and then at most so
+/// many.
+#[derive(Drop)]
+pub struct MailChoice {
+    /// The types of the messages; all types if it isn't given.
+    pub types: Option<TypeSet>,
+    /// The sender; any if it isn't given.
+    pub from: Option<u64>,
+    /// The number of messages that are skipped.
+    pub skip: u64,
+    /// The most messages; all if it isn't given.
+    pub count: Option<u64>,
+}
+
+impl MailChoice {
+    /// All messages.
+    pub fn all() -> MailChoice
+        ensures { result ≡ all_mail }
+    {
+        MailChoice {
+            types: None,
+            from: None,
+            skip: 0,
+            count: None,
+        }
+    }
+}
+
 /// `deliver-msgs`: delivers or drops pending messages.
 #[derive(Drop)]
 pub struct DeliverMsgs {
     /// The receivers of delivered messages, in order.
     pub nodes: IdList,
-    /// The types of the messages; all types if it isn't given.
-    pub types: Option<TypeSet>,
+    /// Which messages of each receiver.
+    pub choice: MailChoice,
     /// The receivers of messages that are then dropped, in order.
     pub drop: IdList,
 }
@@ -76,6 +104,8 @@ pub enum Request<'d> {
     Stabilize(IdList, u64),
     /// A command, the node, and the number.
     NodeCommandWithArg(NodeCommandWithArg, u64, u64),
+    /// Restarts the nodes, in order.
+    Restart(IdList),
     LogLevel(Level),
     RaftLog(u64),
     Status(u64),
@@ -99,7 +129,9 @@ impl<'d> Request<'d> {
             Request::AddNodes(_) | Request::LogLevel(_) | Request::RaftState => Named::None,
             Request::ProposeConfChange(change) => Named::One(change.id),
             Request::DeliverMsgs(deliver) => Named::Many(deliver.nodes.copy()),
-            Request::ProcessReady(ids) | Request::Stabilize(ids, _) => Named::Many(ids.copy()),
+            Request::ProcessReady(ids) | Request::Restart(ids) | Request::Stabilize(ids, _) => {
+                Named::Many(ids.copy())
+            }
             Request::NodeCommand(_, id)
             | Request::Propose(id, _)
             | Request::NodeCommandWithArg(_, id, _)

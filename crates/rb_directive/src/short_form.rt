@@ -12,7 +12,7 @@ use crate::form::{id_of, number_within};
 use crate::id_list::IdList;
 use crate::limits::ROUNDS;
 use crate::name::Name;
-use crate::requests::{DeliverMsgs, Request};
+use crate::requests::{DeliverMsgs, MailChoice, Request};
 use crate::table::Row;
 use rb_script::DirectiveRef;
 
@@ -22,9 +22,10 @@ fn of_ids<'d>(name: Name, ids: IdList) -> Option<Request<'d>>
 {
     match name {
         Name::ProcessReady => Some(Request::ProcessReady(ids)),
+        Name::Restart => Some(Request::Restart(ids)),
         Name::DeliverMsgs => Some(Request::DeliverMsgs(DeliverMsgs {
             nodes: ids,
-            types: None,
+            choice: MailChoice::all(),
             drop: IdList::new(),
         })),
         Name::Stabilize => Some(Request::Stabilize(ids, ROUNDS)),

@@ -8,8 +8,8 @@ ghost use Rattle.rb_directive.specs.Table.{directives, options, row_in, is_name,
 use crate::argument::{Argument, Bytes, Flag, Ids, LevelFor, Number};
 use crate::arguments::WordPlace;
 use crate::limits::{
-    MAX_BYTES, MAX_COMPACTED, MAX_FIRST_INDEX, MAX_ID, MAX_NODES, MAX_ROUNDS, MAX_TIMEOUT,
-    MAX_WINDOW,
+    MAX_BYTES, MAX_COMPACTED, MAX_FIRST_INDEX, MAX_ID, MAX_MESSAGES, MAX_NODES, MAX_ROUNDS,
+    MAX_TIMEOUT, MAX_WINDOW,
 };
 use crate::name::Name;
 use crate::node_command::NodeCommand;
@@ -54,6 +54,10 @@ const ROUNDS: Argument = Argument::Number(Number::Rounds, 1, MAX_ROUNDS);
 
 const TIMEOUT: Argument = Argument::Number(Number::Timeout, 1, MAX_TIMEOUT);
 
+const SKIP: Argument = Argument::Number(Number::Skip, 0, MAX_MESSAGES);
+
+const MESSAGES: Argument = Argument::Number(Number::Messages, 1, MAX_MESSAGES);
+
 const PAYLOAD: Argument = Argument::Bytes(Bytes::Payload, 1, MAX_BYTES);
 
 const CONTENT: Argument = Argument::Bytes(Bytes::Content, 0, MAX_BYTES);
@@ -72,7 +76,7 @@ const LEARNERS: Argument = Argument::Ids(Ids::Learners, Some(Ids::Voters));
 
 /// The directives and their words.
 #[rattlefmt::skip]
-pub(crate) static DIRECTIVES: [Row; 19] = [
+pub(crate) static DIRECTIVES: [Row; 20] = [
     Row { name: Name::AddNodes, first: Some(COUNT), second: None, takes_ids: false },
     Row { name: Name::NodeCommand(NodeCommand::Campaign), first: Some(ID), second: None, takes_ids: false },
     Row { name: Name::Propose, first: Some(ID), second: Some(PAYLOAD), takes_ids: false },
@@ -88,6 +92,7 @@ pub(crate) static DIRECTIVES: [Row; 19] = [
     Row { name: Name::NodeCommandWithArg(NodeCommandWithArg::ReportUnreachable), first: Some(ID), second: Some(PEER), takes_ids: false },
     Row { name: Name::NodeCommandWithArg(NodeCommandWithArg::SendSnapshot), first: Some(FROM), second: Some(TO), takes_ids: false },
     Row { name: Name::NodeCommandWithArg(NodeCommandWithArg::Compact), first: Some(ID), second: Some(COMPACTED), takes_ids: false },
+    Row { name: Name::Restart, first: None, second: None, takes_ids: true },
     Row { name: Name::LogLevel, first: Some(LEVEL), second: None, takes_ids: false },
     Row { name: Name::RaftLog, first: Some(ID), second: None, takes_ids: false },
     Row { name: Name::Status, first: Some(ID), second: None, takes_ids: false },
@@ -96,7 +101,7 @@ pub(crate) static DIRECTIVES: [Row; 19] = [
 
 /// The options of the directives.
 #[rattlefmt::skip]
-pub(crate) static OPTIONS: [OptionRow; 16] = [
+pub(crate) static OPTIONS: [OptionRow; 19] = [
     OptionRow { name: Name::AddNodes, option: VOTERS },
     OptionRow { name: Name::AddNodes, option: LEARNERS },
     OptionRow { name: Name::AddNodes, option: BASE },
@@ -109,6 +114,9 @@ pub(crate) static OPTIONS: [OptionRow; 16] = [
     OptionRow { name: Name::ProposeConfChange, option: TRANSITION },
     OptionRow { name: Name::DeliverMsgs, option: TYPES },
     OptionRow { name: Name::DeliverMsgs, option: DROP },
+    OptionRow { name: Name::DeliverMsgs, option: FROM },
+    OptionRow { name: Name::DeliverMsgs, option: SKIP },
+    OptionRow { name: Name::DeliverMsgs, option: MESSAGES },
     OptionRow { name: Name::Stabilize, option: ROUNDS },
     OptionRow { name: Name::NodeCommandWithArg(NodeCommandWithArg::SetRandomizedElectionTimeout), option: TIMEOUT },
     OptionRow { name: Name::NodeCommandWithArg(NodeCommandWithArg::TransferLeadership), option: FROM },

@@ -98,6 +98,7 @@ effect (requests.ProcessReady ids) c = ready_processed_each c ids
 effect (requests.DeliverMsgs asked) c = msgs_delivered asked c
 effect (requests.Stabilize ids rounds) c = stabilized ids rounds c
 effect (requests.NodeCommandWithArg what id number) c = act_with what id number c
+effect (requests.Restart ids) c = acts.restart_each c ids
 effect (requests.LogLevel level) c = quiet (level_set level c)
 effect (requests.RaftLog id) c = log_shown id c
 effect (requests.Status id) c = status_shown id c

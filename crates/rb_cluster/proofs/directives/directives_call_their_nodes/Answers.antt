@@ -1,4 +1,4 @@
-use Rattle.std.proofs.Common.{◌∙◌}
+use Rattle.std.proofs.Common.{◌∙◌, [], ◌∷◌}
 use Rattle.rb_directive.specs.declared.node_command.NodeCommand.TheVariants as commands
 use Rattle.rb_directive.specs.declared.node_command_with_arg.NodeCommandWithArg.TheVariants as withs
 use Rattle.rb_directive.specs.declared.requests.Request.TheVariants as requests
@@ -6,6 +6,7 @@ use Rattle.rb_message.specs.declared.kind.MessageKind.TheVariants as kinds
 use Rattle.rb_raftlog.specs.declared.entry.Body.TheVariants.{Payload, Change}
 use Rattle.rb_node.specs.Calls.{called, reported}
 use Rattle.rb_node.specs.Node.{with_timeout}
+use Rattle.rb_node.specs.Restarting.{node_restarted}
 use Rattle.rb_directive.specs.Changes.{input_words}
 use Rattle.rb_machine.specs.Acts.{step_by}
 use Rattle.rb_machine.specs.Changes.{words_of}
@@ -41,3 +42,6 @@ returns-clause-change x = λ c d asked n does at. done c d (requests.ProposeConf
 
 pub returns-clause-compact : goal.returns-clause-compact
 returns-clause-compact x = λ c d id index n does at. done c d (requests.NodeCommandWithArg withs.Compact id index) does ∙ compacts c id index n at
+
+pub returns-clause-restart : goal.returns-clause-restart
+returns-clause-restart x = λ c d id n does at. done c d (requests.Restart (id ∷ [])) does ∙ acts c id n node_restarted at

@@ -1,4 +1,6 @@
-use Rattle.std.proofs.Common.{◌≡◌, None, get_or, ◌∙◌, ap, sym}
+use Rattle.std.proofs.Common.{◌≡◌, get_or, ◌∙◌, ap, sym}
+use Rattle.rb_directive.specs.declared.requests.MailChoice.{MailChoice}
+use Rattle.rb_directive.specs.Requests.{all_mail}
 use Rattle.rb_machine.specs.Deliveries.{delivered}
 use Rattle.rb_machine.specs.Observers.{Watched, watched, after}
 use Rattle.rb_machine.specs.Rounds.{has_mail}
@@ -12,11 +14,12 @@ loop-id-preserved g c =
     let before = watched c.loop-id.self (g.O.Observer.meaning c.loop-id.observer) in
     let next = watched c.if-has.self (g.O.Observer.meaning c.if-has.observer) in
     let id = get_or c.args.ids.now c.loop-id.id-index 0 in
-    let goes = each_next g.O.Observer.taking g.O.Observer.settling (delivered None) c.args.ids.now c.loop-id.id-index 0 before next c.loop-id-test.true in
+    let goes = each_next g.O.Observer.taking g.O.Observer.settling (delivered all_mail) c.args.ids.now c.loop-id.id-index 0 before next c.loop-id-test.true in
     elim c.if-has.branch [
       | then-has+in_ok-deliver w ↦
-          (let is : next ≡ after g.O.Observer.taking g.O.Observer.settling (g.O.Observer.meaning c.loop-id.observer) (delivered None c.loop-id.self id) =
-          ap (λ s. watched s (g.O.Observer.meaning c.if-has.observer)) w.self-is ∙ ap (λ o. watched w.deliver.new.self (g.O.Observer.meaning o)) w.observer-is ∙ w.in_ok-deliver.ensures in record {
+          (let is : next ≡ after g.O.Observer.taking g.O.Observer.settling (g.O.Observer.meaning c.loop-id.observer) (delivered all_mail c.loop-id.self id) =
+          ap (λ s. watched s (g.O.Observer.meaning c.if-has.observer)) w.self-is ∙ ap (λ o. watched w.deliver.new.self (g.O.Observer.meaning o)) w.observer-is ∙ w.in_ok-deliver.ensures
+          ∙ ap (λ (x : MailChoice). after g.O.Observer.taking g.O.Observer.settling (g.O.Observer.meaning c.loop-id.observer) (delivered x c.loop-id.self id)) c.all-all.ensures in record {
             rest = c.loop-id.invariant.rest ∙ goes is;
             unmarked = λ other h. ap (λ (s : Watched _). has_mail s.cluster.pending other) is ∙ no_mail_after c.loop-id.self id other (c.loop-id.invariant.unmarked other h);
           })
