@@ -13,15 +13,15 @@ use Rattle.rb_message.specs.declared.kind.MessageKind.TheVariants as kind
 use Rattle.rb_message.specs.declared.message.Message.{Message}
 use Rattle.rb_message.specs.declared.role.Role.TheVariants as role
 use Rattle.rb_node.specs.Node.{PlainNode}
-use Rattle.rb_laws.specs.Sound.{IsSound}
-use Rattle.rb_laws.specs.Words.{IsYes}
-use Rattle.rb_laws.proofs.Goes.{Ways}
-use Rattle.rb_laws.proofs.Moves.{CameNow, MaySay}
-use Rattle.rb_laws.proofs.Saying.{Words, words}
+use Rattle.rb_calls.specs.Sound.{IsSound}
+use Rattle.rb_calls.specs.Words.{IsYes}
+use Rattle.rb_calls.proofs.Goes.{Ways}
+use Rattle.rb_calls.proofs.Moves.{CameNow, MaySay}
+use Rattle.rb_calls.proofs.Saying.{Words, words}
 use Rattle.rb_laws.specs.Safety.{IsHarmless, IsGenuine}
 use Rattle.rb_laws.specs.Votes.{IsCast}
 use Rattle.rb_laws.proofs.LinkedLogs.{log_from}
-use Rattle.rb_laws.proofs.ListLaws.{some_at}
+use Rattle.rb_calls.proofs.ListLaws.{some_at}
 use Rattle.rb_laws.proofs.Spots.{spot, Descends, line, stop}
 use Rattle.rb_laws.proofs.Completeness.{Ack, History, out_of, IsOfTerm}
 use Rattle.rb_laws.proofs.KeptEntries.{IsOn}

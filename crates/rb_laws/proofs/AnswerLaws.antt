@@ -25,8 +25,8 @@ use Rattle.rb_node.specs.Node.{PlainNode, NodeStep, with_node, ignored}
 use Rattle.rb_node.specs.Terms.{became_follower, stepped_later, stepped_later_by, stepped_earlier, stepped_earlier_by, term_revealed, answers_earlier, ignores_campaign}
 use Rattle.rb_node.specs.Following.{after_log, with_appended, removal_reported, append_entries_handled}
 use Rattle.rb_node.specs.Step.{as_follower, leader_followed, as_precandidate, as_candidate, as_leader, by_role_of, at_term_by, at_term, stepped}
-use Rattle.rb_laws.specs.Sound.{IsSound}
-use Rattle.rb_laws.specs.Words.{HasEntries, IsAnswered}
+use Rattle.rb_calls.specs.Sound.{IsSound}
+use Rattle.rb_calls.specs.Words.{HasEntries, IsAnswered}
 
 -- ---- a log
 

@@ -30,24 +30,24 @@ use Rattle.rb_node.specs.Node.{PlainNode, NodeStep, message}
 use Rattle.rb_node.specs.Proposing.{proposal_appended, proposal_handled}
 use Rattle.rb_node.specs.Sends.{with_view_at}
 use Rattle.rb_node.specs.Step.{as_leader, by_role_of, stepped}
-use Rattle.rb_laws.specs.Calling.{Step, Propose, after, run}
+use Rattle.rb_calls.specs.Calling.{Step, Propose, after, run}
 use Rattle.rb_laws.specs.Committing.{HasCommittedAll, HasCommittedEntry, CommitsAll, AwaitsAnswers, ack_from, acks, IsHeldWith}
 use Rattle.rb_laws.specs.Proposals.{TakesProposals}
-use Rattle.rb_laws.specs.Sound.{IsSound, HasViewsOfMembers}
+use Rattle.rb_calls.specs.Sound.{IsSound, HasViewsOfMembers}
 use Rattle.rb_laws.proofs.ActiveLaws.{view_there}
-use Rattle.rb_laws.proofs.CallLaws.{calls}
+use Rattle.rb_calls.proofs.CallLaws.{calls}
 use Rattle.rb_laws.proofs.CommitCallLaws.{call_all}
 use Rattle.rb_laws.proofs.ConfigLaws.{keeps_config}
-use Rattle.rb_laws.proofs.Goes.{core}
+use Rattle.rb_calls.proofs.Goes.{core}
 use Rattle.rb_laws.proofs.LinkedLogs.{entry_term}
-use Rattle.rb_laws.proofs.MatchViewLaws.{of, place_set, place_here, heard_place}
+use Rattle.rb_calls.proofs.MatchViewLaws.{of, place_set, place_here, heard_place}
 use Rattle.rb_laws.proofs.MemberMoveLaws.{called_members}
-use Rattle.rb_laws.proofs.Moves.{Way, TellMove, over_way}
-use Rattle.rb_laws.proofs.ProgressLaws.{same_match, acked_matched, freed_matched}
+use Rattle.rb_calls.proofs.Moves.{Way, TellMove, over_way}
+use Rattle.rb_calls.proofs.ProgressLaws.{same_match, acked_matched, freed_matched}
 use Rattle.rb_laws.proofs.ProposalLaws.{at_leader, taken, with_room, payload_is_next}
 use Rattle.rb_laws.proofs.StepCases.{by_term}
-use Rattle.rb_laws.proofs.TellWays.{Rest, rest, keeps_rest, keeps_match, commit_or_sent_way, append_broadcast_way}
-use Rattle.rb_laws.proofs.Turns.{own_size}
+use Rattle.rb_calls.proofs.TellWays.{Rest, rest, keeps_rest, keeps_match, commit_or_sent_way, append_broadcast_way}
+use Rattle.rb_calls.proofs.Turns.{own_size}
 use Rattle.rb_laws.proofs.WinLaws.{no_majority}
 
 -- ---- who has a view has a place

@@ -19,6 +19,7 @@ use Rattle.rb_message.specs.declared.role.Role.{Role}
 use Rattle.rb_message.specs.declared.role.Role.TheVariants as role
 use Rattle.rb_node.specs.Campaigns.{campaigned}
 use Rattle.rb_node.specs.Changing.{change_applied, body_applied, applied_one, applied_all, joint_left}
+use Rattle.rb_node.specs.Compacting.{config_with}
 use Rattle.rb_node.specs.Leading.{in_lead}
 use Rattle.rb_node.specs.Node.{PlainNode, NodeStep, with_node, with_elapsed, message}
 use Rattle.rb_node.specs.Readying.{applying, saved, advanced}
@@ -26,19 +27,18 @@ use Rattle.rb_node.specs.Ticking.{activity_reset, active_quorum_checked, has_los
 use Rattle.rb_node.specs.Terms.{became_follower}
 use Rattle.rb_node.specs.Transferring.{transfer_ended}
 use Rattle.rb_node.specs.declared.limits.TheConstants.{ELECTION_TICKS}
-use Rattle.rb_laws.specs.Calling.{Call, Step, Campaign, Propose, Transfer, Tick, Advance, ForgetLeader, ReportUnreachable, SetTimeout, Compact, compacted_unless, after}
-use Rattle.rb_laws.specs.Rules.{config_with}
-use Rattle.rb_laws.specs.Sound.{IsSound}
-use Rattle.rb_laws.specs.Words.{SendsBy, AnswersBy}
-use Rattle.rb_laws.proofs.CallLaws.{calls}
-use Rattle.rb_laws.proofs.CallWays.{Changes, change_way, with_members_only, body_brought, beats_due_way, left_way, own_way, forgotten_way, reported_way, ready_within}
+use Rattle.rb_calls.specs.Calling.{Call, Step, Campaign, Propose, Transfer, Tick, Advance, ForgetLeader, ReportUnreachable, SetTimeout, Compact, compacted_unless, after}
+use Rattle.rb_calls.specs.Sound.{IsSound}
+use Rattle.rb_calls.specs.Words.{SendsBy, AnswersBy}
+use Rattle.rb_calls.proofs.CallLaws.{calls}
+use Rattle.rb_calls.proofs.CallWays.{Changes, change_way, with_members_only, body_brought, beats_due_way, left_way, own_way, forgotten_way, reported_way, ready_within}
 use Rattle.rb_laws.proofs.ConfigLaws.{keeps_config, change_config}
-use Rattle.rb_laws.proofs.Goes.{Ways, anyone}
-use Rattle.rb_laws.proofs.LeaderLaws.{with_views_only}
-use Rattle.rb_laws.proofs.LeaderWays.{transfer_ended_way}
-use Rattle.rb_laws.proofs.MoveLaws.{step_keeps, change_keeps, call_keeps}
-use Rattle.rb_laws.proofs.Moves.{Whole, Allows, TellMove, Idle, Sent, StepMove, StepTells, Came, Passes, Waits, Leads, Restores, ChangeMove, Revises, in_config, Saves, Goes_on, over}
-use Rattle.rb_laws.proofs.StepWays.{campaigned_way, stepped_way}
+use Rattle.rb_calls.proofs.Goes.{Ways, anyone}
+use Rattle.rb_calls.proofs.LeaderLaws.{with_views_only}
+use Rattle.rb_calls.proofs.LeaderWays.{transfer_ended_way}
+use Rattle.rb_calls.proofs.MoveLaws.{step_keeps, change_keeps, call_keeps}
+use Rattle.rb_calls.proofs.Moves.{Whole, Allows, TellMove, Idle, Sent, StepMove, StepTells, Came, Passes, Waits, Leads, Restores, ChangeMove, Revises, in_config, Saves, Goes_on, over}
+use Rattle.rb_calls.proofs.StepWays.{campaigned_way, stepped_way}
 
 -- the configuration of each index from a base on, and what the entry of each index makes of it
 pub record Timeline : Type 0 where
@@ -70,7 +70,7 @@ Both g n = IsSound n × Suit g n
 abbrev fair : Timeline → Ways
 fair g = record { given = λ _ _. Unit {0}; elected = λ _. Unit {0}; matched = λ _ _ _. Unit {0}; came = Fits g }
 
-read_back : (c : Config) → IsConfig c → config_of (state_of c) ≡ c
+pub read_back : (c : Config) → IsConfig c → config_of (state_of c) ≡ c
 read_back d is = rw (set_of_ascending d.incoming is.incoming, set_of_ascending d.outgoing is.outgoing, set_of_ascending d.learners is.learners, set_of_ascending d.next is.next) refl
 
 -- ---- what is said
@@ -169,19 +169,19 @@ record Is_at (g : Timeline) (n : PlainNode) (before : Config) : Type 0 where
   sent : All (Fits g) n.sent
   waiting : All (Fits g) n.waiting
 
-body_suits : (g : Timeline) (body : Body) (t : NodeStep) (before : Config) → g.conf t.node.applied ≡ config_with body before → Is_at g t.node before → Both g (body_applied body t).node
+body_suits : (g : Timeline) (body : Body) (t : NodeStep) (before : Config) → g.conf t.node.applied ≡ config_with before body → Is_at g t.node before → Both g (body_applied body t).node
 body_suits g (Payload bytes) t before makes a = (a.sound, record { reached = a.reached; is = a.is ∙ sym makes; sent = a.sent; waiting = a.waiting })
 body_suits g (Change transition words) t before makes a =
     let c : Changes t (change_applied t transition words) = change_way t transition words in
     let to : PlainNode = c.to in
     let stays : (change_applied t transition words).node.tracker.config ≡ to.tracker.config = over keeps_config c.next in
-    let is : to.tracker.config ≡ g.conf t.node.applied = sym stays ∙ change_config t transition words ∙ ap (config_with (Change transition words)) a.is ∙ sym makes in
+    let is : to.tracker.config ≡ g.conf t.node.applied = sym stays ∙ change_config t transition words ∙ ap (λ (x : Config). config_with x (Change transition words)) a.is ∙ sym makes in
     let sound : IsSound to = ((change_keeps {w = anyone} c.first).goes a.sound).ordered in
     over (tells g) c.next (sound, change_suits g c.first is a.reached a.sent a.waiting)
 
 -- these entries follow an index, and each makes the configuration of the next of it
 abbrev pub Make : Timeline → ℕ → List Entry → Type 0
-Make g i es = (k : ℕ) (e : Entry) → slice_get es k ≡ Some e → g.conf (i + 1 + k) ≡ config_with e.body (g.conf (i + k))
+Make g i es = (k : ℕ) (e : Entry) → slice_get es k ≡ Some e → g.conf (i + 1 + k) ≡ config_with (g.conf (i + k)) e.body
 
 all_suit : (g : Timeline) (t : NodeStep) (i : ℕ) (es : List Entry) → t.node.applied ≡ i → i + length es ≤ t.node.commit → i + length es ≤ t.node.log.durable → Make g i es → Both g t.node → Both g (applied_all t i es).node
 all_suit g t i [] at known durable makes p = p
@@ -196,7 +196,7 @@ all_suit g t i (e ∷ es) at known durable makes p =
     let low = h.reached in
     let next : i + 1 ≡ i + 1 + 0 = omega arith in
     let here : i ≡ i + 0 = omega arith in
-    let first : g.conf (i + 1) ≡ config_with e.body (g.conf i) = ap g.conf next ∙ makes 0 e refl ∙ ap (λ (j : ℕ). config_with e.body (g.conf j)) (sym here) in
+    let first : g.conf (i + 1) ≡ config_with (g.conf i) e.body = ap g.conf next ∙ makes 0 e refl ∙ ap (λ (j : ℕ). config_with (g.conf j) e.body) (sym here) in
     let sound : IsSound u.node = record {
       past_base = omega (arith, below, at);
       is_durable = omega (arith, durable);
@@ -209,7 +209,7 @@ all_suit g t i (e ∷ es) at known durable makes p =
     let up = b.commit in
     let same : v.node.log.durable ≡ t.node.log.durable = ap (λ (x : LogValue). x.durable) b.log in
     all_suit g v (i + 1) es b.applied (omega (arith, known, up)) (omega (arith, durable, same))
-    (λ k x is. (let one_more : i + 1 + 1 + k ≡ i + 1 + suc k = omega arith in let more : i + suc k ≡ i + 1 + k = omega arith in ap g.conf one_more ∙ makes (suc k) x is ∙ ap (λ (j : ℕ). config_with x.body (g.conf j)) more)) one
+    (λ k x is. (let one_more : i + 1 + 1 + k ≡ i + 1 + suc k = omega arith in let more : i + suc k ≡ i + 1 + k = omega arith in ap g.conf one_more ∙ makes (suc k) x is ∙ ap (λ (j : ℕ). config_with (g.conf j) x.body) more)) one
 
 advance_suits : (g : Timeline) (t : NodeStep) → Make g t.node.applied (applying t.node) → Both g t.node → Both g (after Advance t).node
 unfolding advanced

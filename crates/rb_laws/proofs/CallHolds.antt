@@ -5,10 +5,10 @@ use Rattle.std.proofs.lemmas.List.Elements.{All-contains}
 use Rattle.rb_raftlog.specs.Bodies.{is_change}
 use Rattle.rb_message.specs.declared.message.Message.{Message}
 use Rattle.rb_node.specs.Node.{PlainNode, NodeStep}
-use Rattle.rb_laws.specs.Calling.{Call, Step, Propose, Transfer, Advance, after}
-use Rattle.rb_laws.specs.Sound.{IsSound}
-use Rattle.rb_laws.proofs.CallWays.{ways, called_way}
-use Rattle.rb_laws.proofs.Moves.{over}
+use Rattle.rb_calls.specs.Calling.{Call, Step, Propose, Transfer, Advance, after}
+use Rattle.rb_calls.specs.Sound.{IsSound}
+use Rattle.rb_calls.proofs.CallWays.{ways, called_way}
+use Rattle.rb_calls.proofs.Moves.{over}
 use Rattle.rb_laws.proofs.Holding.{World, IsOwn, IsChain, Holds}
 use Rattle.rb_laws.proofs.MoveHolds.{Gives, IsHeard, Hears, moves_hold}
 

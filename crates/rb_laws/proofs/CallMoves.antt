@@ -3,23 +3,25 @@ use Rattle.std.proofs.Common.{◌≡◌, ℕ, ◌-◌, ◌<◌, ◌≤◌, List,
 use Rattle.std.proofs.lemmas.List.Elements.{All-nil}
 use Rattle.rb_raftlog.specs.declared.entry.Entry.{Entry}
 use Rattle.rb_raftlog.specs.declared.raft_log.LogFault.{LogFault}
+use Rattle.rb_raftlog.specs.declared.snapshot.Snapshot.{Snapshot}
 use Rattle.rb_raftlog.specs.Log.{LogValue, last, last_term, term_at, compacted, made_durable}
 use Rattle.rb_raftlog.proofs.TermLaws.{held_in}
 use Rattle.rb_raftlog.proofs.VoteLaws.{compacted-term}
 use Rattle.rb_tracker.specs.Active.{others_marked_inactive}
 use Rattle.rb_message.specs.declared.message.Message.{Message}
+use Rattle.rb_node.specs.Compacting.{start_at}
 use Rattle.rb_node.specs.Node.{PlainNode, NodeStep}
 use Rattle.rb_node.specs.Readying.{saved}
 use Rattle.rb_laws.specs.Choices.{bytes_of}
-use Rattle.rb_laws.specs.Calling.{Call, after}
-use Rattle.rb_laws.specs.Sound.{IsSound, HasSoundViews}
-use Rattle.rb_laws.specs.Words.{IsYes}
-use Rattle.rb_laws.proofs.CallWays.{ways, called_way}
-use Rattle.rb_laws.proofs.Goes.{Ways}
-use Rattle.rb_laws.proofs.MatchViewLaws.{unmarked_match}
-use Rattle.rb_laws.proofs.MoveLaws.{call_keeps, compact_within}
-use Rattle.rb_laws.proofs.Moves.{IsNext, Allows, over, CallMove, CallChanges, CallSteps, Applies, Fills, Unmarks, Gives_up, Saves, Compacts}
-use Rattle.rb_laws.proofs.Saying.{words}
+use Rattle.rb_calls.specs.Calling.{Call, after}
+use Rattle.rb_calls.specs.Sound.{IsSound, HasSoundViews}
+use Rattle.rb_calls.specs.Words.{IsYes}
+use Rattle.rb_calls.proofs.CallWays.{ways, called_way}
+use Rattle.rb_calls.proofs.Goes.{Ways}
+use Rattle.rb_calls.proofs.MatchViewLaws.{unmarked_match}
+use Rattle.rb_calls.proofs.MoveLaws.{call_keeps, compact_within}
+use Rattle.rb_calls.proofs.Moves.{IsNext, Allows, over, CallMove, CallChanges, CallSteps, Applies, Fills, Unmarks, Gives_up, Saves, Compacts}
+use Rattle.rb_calls.proofs.Saying.{words}
 use Rattle.rb_laws.proofs.ViewLaws.{call_views}
 use Rattle.rb_laws.proofs.Holding.{World, AreOnce, Holds, IsSaid}
 use Rattle.rb_laws.proofs.LinkedLogs.{entry_term, compacted_linked}
@@ -38,7 +40,7 @@ use Rattle.rb_laws.proofs.StepMoves.{Brings, onward_more, follows_around, step_a
 compacted_last : (v : LogValue) (i term : ℕ) → v.base < i → i ≤ last v → last (compacted v i (Ok term)) ≡ last v
 compacted_last v i term low within = let size : length (drop (i - v.base) v.entries) ≡ length v.entries - (i - v.base) = length-drop (i - v.base) v.entries in omega (arith, low, within, size)
 
-compacted_tip : (v : LogValue) (i term : ℕ) → v.base < i → term_at v i ≡ Ok term → tip (compacted v i (Ok term)) ≡ tip v
+pub compacted_tip : (v : LogValue) (i term : ℕ) → v.base < i → term_at v i ≡ Ok term → tip (compacted v i (Ok term)) ≡ tip v
 compacted_tip v i term low at =
     let w = compacted v i (Ok term) in
     let within = (held_in v i term at).1 in
@@ -78,12 +80,12 @@ module _ {g : Ground} {said : List Message} {id : ℕ} {others : Company} where
       still_around st n (saved n) h (saves_knows g st id n h.knows)
       (record { voted = All-nil (λ (m : Message). IsYes m → (m.from ≡ id) × (m.term ≤ n.term)); none = All-nil (λ (m : Message). IsYes m → ⊥) }) (omega arith)
 
-  compacts_by : (st : History) (n : PlainNode) (i : ℕ) (r : Result ℕ LogFault) → term_at n.log i ≡ r → n.log.base < i → i ≤ n.applied → n.applied ≤ n.commit → Around g said id others st n → Onwards g said id others st (record n { log = compacted n.log i r })
-  compacts_by st n i (Err fault) at low upto known h = still_around st n (record n { log = compacted n.log i (Err fault) }) h h.knows h.speaks (omega arith)
-  compacts_by st n i (Ok term) at low upto known h =
+  compacts_by : (st : History) (n : PlainNode) (i : ℕ) (from : Snapshot) (r : Result ℕ LogFault) → term_at n.log i ≡ r → n.log.base < i → i ≤ n.applied → n.applied ≤ n.commit → Around g said id others st n → Onwards g said id others st (record n { log = compacted n.log i r; start = from })
+  compacts_by st n i from (Err fault) at low upto known h = still_around st n (record n { log = compacted n.log i (Err fault); start = from }) h h.knows h.speaks (omega arith)
+  compacts_by st n i from (Ok term) at low upto known h =
       let k = h.knows in
       let v = compacted n.log i (Ok term) in
-      let m : PlainNode = record n { log = v } in
+      let m : PlainNode = record n { log = v; start = from } in
       let ends : tip v ≡ tip n.log = compacted_tip n.log i term low at in
       let last_same = ap (λ (x : Spot). x.index) ends in
       let terms = ap (λ (x : Spot). x.term) ends in
@@ -167,7 +169,7 @@ module _ {g : Ground} {said : List Message} {id : ℕ} {others : Company} where
       let within = compact_within n.log i (min n.applied n.log.durable) is in
       let upto = within.1 in
       let known = s.is_committed in
-      compacts_by st n i (term_at n.log i) refl within.0 (omega (arith, upto)) known h
+      compacts_by st n i (start_at n i) (term_at n.log i) refl within.0 (omega (arith, upto)) known h
 
 -- what holds of a node through a call
 record Through (g : Ground) (said : List Message) (id : ℕ) (others : Company) (st : History) (w : World) (n : PlainNode) : Type 0 where

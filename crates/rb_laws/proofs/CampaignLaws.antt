@@ -18,12 +18,12 @@ use Rattle.rb_node.specs.Campaigns.{why_no_campaign, asked_one, asked, candidate
 use Rattle.rb_node.specs.Node.{PlainNode, NodeStep, message, with_node, with_elapsed, is_leader}
 use Rattle.rb_node.specs.Ticking.{next_count, is_due, non_leader_ticked, ticked_by, ticked}
 use Rattle.rb_node.specs.declared.limits.TheConstants.{MAX_TICKS}
-use Rattle.rb_laws.specs.Calling.{run}
+use Rattle.rb_calls.specs.Calling.{run}
 use Rattle.rb_laws.specs.Choices.{MayCampaign}
 use Rattle.rb_laws.specs.Timing.{AsksForVotes, AsksForPreVotes, HasCampaigned, CanTimeOut, ticks}
-use Rattle.rb_laws.proofs.Goes.{Core}
+use Rattle.rb_calls.proofs.Goes.{Core}
 use Rattle.rb_laws.proofs.PreVoteLaws.{asked_same}
-use Rattle.rb_laws.proofs.StepWays.{asked_one_same}
+use Rattle.rb_calls.proofs.StepWays.{asked_one_same}
 
 -- ---- each other voter is asked
 

@@ -1,12 +1,11 @@
 -- How many changes a log has past an index: at most one, or none. What an own entry, an append and compacting do with that.
-use Rattle.std.proofs.Common.{◌≡◌, ◌⊎◌, ℕ, ◌+◌, ◌-◌, ◌<◌, ◌≤◌, true, false, max, min, List, length, Result, Ok, Err, sym, ap, ◌∙◌, arith, inl, inr}
+use Rattle.std.proofs.Common.{◌≡◌, ◌⊎◌, ℕ, ◌+◌, ◌-◌, ◌<◌, ◌≤◌, true, false, max, min, List, [], length, Result, Ok, Err, sym, ap, ◌∙◌, arith, inl, inr}
 use Rattle.std.proofs.lemmas.Bool.{cases_lt, false≢true}
 use Rattle.rb_raftlog.specs.Bodies.{is_change}
 use Rattle.rb_raftlog.specs.declared.entry.Entry.{Entry}
 use Rattle.rb_raftlog.specs.declared.raft_log.LogFault.{LogFault}
-use Rattle.rb_raftlog.specs.declared.snapshot.Snapshot.{Snapshot}
 use Rattle.rb_raftlog.specs.Laws.{AreOfLog}
-use Rattle.rb_raftlog.specs.Log.{LogValue, last, term_at, entry_at, own, has_change, compacted, restored}
+use Rattle.rb_raftlog.specs.Log.{LogValue, last, term_at, entry_at, own, has_change, compacted}
 use Rattle.rb_raftlog.proofs.AppendLaws.{put}
 use Rattle.rb_raftlog.proofs.PlaceLaws.{ok_is, own-last, own-held}
 use Rattle.rb_raftlog.proofs.VoteLaws.{compacted-entry}
@@ -15,9 +14,9 @@ use Rattle.rb_laws.specs.Configurations.{HasOneChangePast}
 use Rattle.rb_laws.specs.Rules.{NoChangePast}
 use Rattle.rb_laws.proofs.Links.{Link, IsLinked, AreSingle, past_base, linked_match}
 use Rattle.rb_laws.proofs.LinkedLogs.{log_from, entry_term, entry_within, Puts, put_last, put_sent_term, put_linked}
-use Rattle.rb_laws.proofs.ListLaws.{some_at}
+use Rattle.rb_calls.proofs.ListLaws.{some_at}
 use Rattle.rb_laws.proofs.StateLaws.{change_is_seen}
-use Rattle.rb_laws.proofs.Turns.{own_size}
+use Rattle.rb_calls.proofs.Turns.{own_size}
 
 pub one_further : (v : LogValue) (low high : ℕ) → low ≤ high → HasOneChangePast v low → HasOneChangePast v high
 one_further v low high up one = λ i j e f past over. one i j e f (omega (arith, up, past)) (omega (arith, up, over))
@@ -73,11 +72,11 @@ change_one v e index none = λ i j x y past over at there changes too.
 
 -- ---- other logs
 
-pub restored_one : (s : Snapshot) (index : ℕ) → HasOneChangePast (restored s) index
-restored_one s index = λ i j e f past over at there changes too.
-    (let low = past_base (restored s) i e at in
-    let high = entry_within (restored s) i e at in
-    absurd (omega (arith, low, high)))
+pub empty_one : (v : LogValue) (index : ℕ) → v.entries ≡ [] → HasOneChangePast v index
+empty_one v index none = λ i j e f past over at there changes too.
+    (let low = past_base v i e at in
+    let high = entry_within v i e at in
+    absurd (omega (arith, low, high, ap length none)))
 
 pub compacted_one : (v : LogValue) (i : ℕ) (r : Result ℕ LogFault) (index : ℕ) → v.base < i → HasOneChangePast v index → HasOneChangePast (compacted v i r) index
 compacted_one v i (Err fault) index low one = one

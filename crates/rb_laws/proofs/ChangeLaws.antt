@@ -9,9 +9,9 @@ use Rattle.rb_node.specs.Changing.{body_applied, applied_all, applied_one, joint
 use Rattle.rb_node.specs.Leading.{appended_change, is_log_full}
 use Rattle.rb_node.specs.Node.{NodeStep, with_node}
 use Rattle.rb_laws.specs.Choices.{bytes_of, payloads}
-use Rattle.rb_laws.proofs.CallWays.{Untouched, changed_leaves, change_way, one_brought}
-use Rattle.rb_laws.proofs.Moves.{over_way}
-use Rattle.rb_laws.proofs.TellWays.{keeps_rest, append_broadcast_way, Rest}
+use Rattle.rb_calls.proofs.CallWays.{Untouched, changed_leaves, change_way, one_brought}
+use Rattle.rb_calls.proofs.Moves.{over_way}
+use Rattle.rb_calls.proofs.TellWays.{keeps_rest, append_broadcast_way, Rest}
 
 body_fills : (body : Body) (t : NodeStep) → (body_applied body t).node.content ≡ t.node.content ++ bytes_of body
 body_fills (Payload bytes) t = refl

@@ -36,10 +36,10 @@ use Rattle.rb_node.specs.Ticking.{active_quorum_checked, has_lost_quorum, next_c
 use Rattle.rb_node.specs.Transferring.{transfer_leader_handled, cannot_take_lead}
 use Rattle.rb_node.specs.declared.limits.TheConstants.{ELECTION_TICKS}
 use Rattle.rb_laws.specs.Choices.{MayCampaign, PutsChange, MayTakeLead, StepsDown}
-use Rattle.rb_laws.proofs.LeaderWays.{applied_all_changes}
-use Rattle.rb_laws.proofs.Moves.{over_way}
-use Rattle.rb_laws.proofs.StepWays.{of_term}
-use Rattle.rb_laws.proofs.TellWays.{Rest, keeps_rest, append_broadcast_way}
+use Rattle.rb_calls.proofs.LeaderWays.{applied_all_changes}
+use Rattle.rb_calls.proofs.Moves.{over_way}
+use Rattle.rb_calls.proofs.StepWays.{of_term}
+use Rattle.rb_calls.proofs.TellWays.{Rest, keeps_rest, append_broadcast_way}
 
 -- ---- who campaigns
 

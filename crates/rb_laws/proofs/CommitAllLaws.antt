@@ -22,10 +22,10 @@ use Rattle.rb_node.specs.Node.{PlainNode, NodeStep}
 use Rattle.rb_node.specs.Sends.{with_view_at}
 use Rattle.rb_node.specs.declared.sends.SendReason.{SendReason}
 use Rattle.rb_laws.specs.Committing.{IsHeldUpTo, HasCommittedAll}
-use Rattle.rb_laws.proofs.MatchViewLaws.{of, place_set, heard_place}
-use Rattle.rb_laws.proofs.Moves.{Whole, TellMove, Idle, Sent, Viewed, Commits, Allows, over_way}
-use Rattle.rb_laws.proofs.ProgressLaws.{same_match, acked_matched, freed_matched, sound_freed, sound_marked}
-use Rattle.rb_laws.proofs.TellWays.{append_broadcast_way, sends_way, tells_way}
+use Rattle.rb_calls.proofs.MatchViewLaws.{of, place_set, heard_place}
+use Rattle.rb_calls.proofs.Moves.{Whole, TellMove, Idle, Sent, Viewed, Commits, Allows, over_way}
+use Rattle.rb_calls.proofs.ProgressLaws.{same_match, acked_matched, freed_matched, sound_freed, sound_marked}
+use Rattle.rb_calls.proofs.TellWays.{append_broadcast_way, sends_way, tells_way}
 
 -- ---- what a quorum holds
 

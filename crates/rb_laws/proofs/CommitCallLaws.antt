@@ -4,7 +4,7 @@ use Rattle.rb_raftlog.specs.declared.entry.Body.{Body}
 use Rattle.rb_raftlog.specs.declared.entry.Body.TheVariants.{Payload, Change}
 use Rattle.rb_raftlog.specs.declared.entry.Entry.{Entry}
 use Rattle.rb_raftlog.specs.declared.raft_log.CompactFault.{CompactFault}
-use Rattle.rb_raftlog.specs.Log.{LogValue, last, term_at, is_term, compact_fault, compacted}
+use Rattle.rb_raftlog.specs.Log.{LogValue, last, term_at, is_term, compact_fault}
 use Rattle.rb_vocab.specs.declared.change.Transition.{Transition}
 use Rattle.rb_vocab.specs.declared.change.Transition.TheVariants.{Auto}
 use Rattle.rb_vocab.specs.declared.change.Word.{Word}
@@ -31,26 +31,26 @@ use Rattle.rb_node.specs.Terms.{became_follower, stepped_earlier_by, stepped_lat
 use Rattle.rb_node.specs.Ticking.{due_heartbeats_sent, has_lost_quorum, activity_reset, active_quorum_checked, counters_advanced, leader_ticked, ticked_by}
 use Rattle.rb_node.specs.Transferring.{transfer_ended}
 use Rattle.rb_node.specs.declared.limits.TheConstants.{ELECTION_TICKS}
-use Rattle.rb_laws.specs.Calling.{Call, Step, Campaign, Propose, Transfer, Tick, Advance, ForgetLeader, ReportUnreachable, SetTimeout, Compact, compacted_unless, after, run}
+use Rattle.rb_calls.specs.Calling.{Call, Step, Campaign, Propose, Transfer, Tick, Advance, ForgetLeader, ReportUnreachable, SetTimeout, Compact, compacted_at, compacted_unless, after, run}
 use Rattle.rb_laws.specs.Committing.{HasCommittedAll}
-use Rattle.rb_laws.specs.Elections.{own_turn}
-use Rattle.rb_laws.specs.Sound.{IsSound, HasViewsOfMembers}
-use Rattle.rb_laws.proofs.CallLaws.{calls, runs}
-use Rattle.rb_laws.proofs.CallWays.{change_way, follower_of, forgotten_way, reported_way, beats_due_way, with_members_only, ready_way}
+use Rattle.rb_calls.specs.Elections.{own_turn}
+use Rattle.rb_calls.specs.Sound.{IsSound, HasViewsOfMembers}
+use Rattle.rb_calls.proofs.CallLaws.{calls, runs}
+use Rattle.rb_calls.proofs.CallWays.{change_way, follower_of, forgotten_way, reported_way, beats_due_way, with_members_only, ready_way}
 use Rattle.rb_laws.proofs.ChoiceLaws.{may_campaign}
 use Rattle.rb_laws.proofs.CommitAllLaws.{IsWithin, still_all, telling_all, tells_all, checked_commit_all, accepted_all, own_all}
-use Rattle.rb_laws.proofs.Goes.{Ways, Core, Goes, Keeps, anyone, core, self, and_then, anyhow, goes_then, middle_term, middle_leads}
-use Rattle.rb_laws.proofs.LeaderLaws.{leading_same, strangers_only}
-use Rattle.rb_laws.proofs.LeaderWays.{transfer_ended_way}
-use Rattle.rb_laws.proofs.MatchViewLaws.{of, with_views_at_most, strangers_less, unmarked_match}
+use Rattle.rb_calls.proofs.Goes.{Ways, Core, Goes, Keeps, anyone, core, self, and_then, anyhow, goes_then, middle_term, middle_leads}
+use Rattle.rb_calls.proofs.LeaderLaws.{leading_same, strangers_only}
+use Rattle.rb_calls.proofs.LeaderWays.{transfer_ended_way}
+use Rattle.rb_calls.proofs.MatchViewLaws.{of, with_views_at_most, strangers_less, unmarked_match}
 use Rattle.rb_laws.proofs.MemberMoveLaws.{telling_members, change_members, called_members}
-use Rattle.rb_laws.proofs.MoveLaws.{no_leader, step_keeps, call_keeps, calls_keep}
-use Rattle.rb_laws.proofs.Moves.{StepMove, StepTells, Follows, Asks, Stands, Leads, Appends, Takes, Learns, Restores, Acks, ChangeMove, Unchanged, Configures, Resigns, Revises, in_config, with_members, Compacts, TellMove, Path, Allows, over, over_way}
+use Rattle.rb_calls.proofs.MoveLaws.{no_leader, step_keeps, call_keeps, calls_keep}
+use Rattle.rb_calls.proofs.Moves.{StepMove, StepTells, Follows, Asks, Stands, Leads, Appends, Takes, Learns, Restores, Acks, ChangeMove, Unchanged, Configures, Resigns, Revises, in_config, with_members, Compacts, TellMove, Path, Allows, over, over_way}
 use Rattle.rb_laws.proofs.SendLaws.{append_broadcast_only}
 use Rattle.rb_laws.proofs.StepCases.{by_term}
-use Rattle.rb_laws.proofs.StepWays.{campaigned_way, stepped_way}
-use Rattle.rb_laws.proofs.TellWays.{Rest, keeps_rest, append_broadcast_way}
-use Rattle.rb_laws.proofs.Turns.{all_durable}
+use Rattle.rb_calls.proofs.StepWays.{campaigned_way, stepped_way}
+use Rattle.rb_calls.proofs.TellWays.{Rest, keeps_rest, append_broadcast_way}
+use Rattle.rb_calls.proofs.Turns.{all_durable}
 
 -- a leader that leads on in its term commits what it may
 pub record LeavesNone (a b : PlainNode) : Type 0 where
@@ -310,7 +310,7 @@ compacted_all : (o : Option CompactFault) (n : PlainNode) (i : ℕ) → compact_
     → HasCommittedAll (compacted_unless o n i)
 compacted_all (Some fault) n i is s leads h = h
 compacted_all None n i is s leads h =
-    let new : PlainNode = record n { log = compacted n.log i (term_at n.log i) } in
+    let new : PlainNode = compacted_at n i in
     let g = (call_keeps {sound = Unit {0}} {w = anyone} tt (Compacts n i is)).goes s in
     let grown = g.own leads leads refl in
     let base = g.ordered.past_base in

@@ -16,21 +16,21 @@ use Rattle.rb_node.specs.Changing.{change_applied}
 use Rattle.rb_node.specs.Node.{PlainNode, NodeStep}
 use Rattle.rb_node.specs.Sends.{with_view_at}
 use Rattle.rb_node.specs.Step.{stepped}
-use Rattle.rb_laws.specs.Calling.{Call, run}
-use Rattle.rb_laws.specs.Matches.{IsHeldBetween}
-use Rattle.rb_laws.specs.Sound.{IsSound}
-use Rattle.rb_laws.specs.Words.{IsLater}
-use Rattle.rb_laws.proofs.CallLaws.{Carried, over_calls}
-use Rattle.rb_laws.proofs.CallWays.{with_members_only, change_way}
+use Rattle.rb_calls.specs.Calling.{Call, run}
+use Rattle.rb_calls.specs.Matches.{IsHeldBetween}
+use Rattle.rb_calls.specs.Sound.{IsSound}
+use Rattle.rb_calls.specs.Words.{IsLater}
+use Rattle.rb_calls.proofs.CallLaws.{Carried, over_calls}
+use Rattle.rb_calls.proofs.CallWays.{with_members_only, change_way}
 use Rattle.rb_laws.proofs.ChoiceLaws.{may_campaign}
-use Rattle.rb_laws.proofs.Goes.{Keeps, anyone, core, self, and_then, middle_term, Ways, Goes, middle_leads, goes_then, anyhow}
-use Rattle.rb_laws.proofs.MatchViewLaws.{of, place_set, place_here}
-use Rattle.rb_laws.proofs.MoveLaws.{no_leader, step_keeps, call_keeps}
-use Rattle.rb_laws.proofs.Moves.{TellMove, Idle, Whole, Viewed, Commits, Sent, Allows, StepMove, StepTells, Follows, Asks, Stands, Leads, Takes, Learns, Restores, Acks, over, ChangeMove, Revises, in_config, CallMove, CallChanges, CallSteps}
-use Rattle.rb_laws.proofs.ProgressLaws.{acked_matched, same_match}
-use Rattle.rb_laws.proofs.Saying.{with_sent}
-use Rattle.rb_laws.proofs.StepWays.{stepped_way}
-use Rattle.rb_laws.proofs.TellWays.{Rest, tells_rest}
+use Rattle.rb_calls.proofs.Goes.{Keeps, anyone, core, self, and_then, middle_term, Ways, Goes, middle_leads, goes_then, anyhow}
+use Rattle.rb_calls.proofs.MatchViewLaws.{of, place_set, place_here}
+use Rattle.rb_calls.proofs.MoveLaws.{no_leader, step_keeps, call_keeps}
+use Rattle.rb_calls.proofs.Moves.{TellMove, Idle, Whole, Viewed, Commits, Sent, Allows, StepMove, StepTells, Follows, Asks, Stands, Leads, Takes, Learns, Restores, Acks, over, ChangeMove, Revises, in_config, CallMove, CallChanges, CallSteps}
+use Rattle.rb_calls.proofs.ProgressLaws.{acked_matched, same_match}
+use Rattle.rb_calls.proofs.Saying.{with_sent}
+use Rattle.rb_calls.proofs.StepWays.{stepped_way}
+use Rattle.rb_calls.proofs.TellWays.{Rest, tells_rest}
 
 -- the commit stays, or a quorum holds it by the views after
 abbrev pub CommitHolds : ℕ → PlainNode → Type 0

@@ -2,7 +2,6 @@
 use Rattle.std.proofs.Common.{◌≡◌, ℕ, zero, suc, ◌+◌, ◌-◌, ◌<◌, ◌≤◌, List, [], ◌∷◌, Option, Some, None, Result, Ok, Err, refl, sym, ap, subst, ◌∙◌, arith, inl, inr}
 use Rattle.std.specs.Prelude.{All, slice_get}
 use Rattle.std.proofs.lemmas.List.Elements.{All-nil, All-append, All-contains}
-use Rattle.std.specs.Result.{result_unwrap_or}
 use Rattle.rb_raftlog.proofs.PlaceLaws.{between-entries, ok_is}
 use Rattle.rb_raftlog.specs.declared.entry.Body.{Body}
 use Rattle.rb_raftlog.specs.declared.entry.Body.TheVariants.{Payload, Change}
@@ -15,43 +14,43 @@ use Rattle.rb_tracker.specs.declared.changes.ChangeFault.{ChangeFault}
 use Rattle.rb_tracker.specs.declared.config.Config.{Config}
 use Rattle.rb_message.specs.declared.kind.MessageKind.{MessageKind}
 use Rattle.rb_message.specs.declared.kind.MessageKind.TheVariants as kind
+use Rattle.rb_node.specs.Compacting.{changed_or_same, config_with}
 use Rattle.rb_node.specs.Node.{PlainNode, node_step}
 use Rattle.rb_node.specs.Readying.{applying}
-use Rattle.rb_laws.specs.Calling.{Call, Step, Advance, after}
+use Rattle.rb_calls.specs.Calling.{Call, Step, Advance, after}
 use Rattle.rb_laws.specs.Configurations.{config_after_all, AreChosen, BringsNoState, IsStateKnown, AreAgreed}
 use Rattle.rb_laws.specs.Network.{Network, Happening, put_out, happened_to, happened, run, IsStarted}
-use Rattle.rb_laws.specs.Rules.{config_with}
 use Rattle.rb_laws.specs.Safety.{StartsAlike}
 use Rattle.rb_laws.proofs.AppliedConfigs.{Timeline, Fits, FitsBy, Suit, Both, Brings, Make, state_fits, called_suits}
-use Rattle.rb_laws.proofs.ListLaws.{each_set}
+use Rattle.rb_calls.proofs.ListLaws.{each_set}
 
 -- ---- the configuration of each index
 
-body_good : (body : Body) (c : Config) → IsConfig c → IsConfig (config_with body c)
+body_good : (body : Body) (c : Config) → IsConfig c → IsConfig (config_with c body)
 body_good (Payload bytes) c good = good
 body_good (Change transition words) c good =
-    let either : (r : Result Config ChangeFault) → changed c transition words ≡ r → IsConfig (result_unwrap_or r c) = λ r is.
-    (elim r as (λ x. changed c transition words ≡ x → IsConfig (result_unwrap_or x c)) [ Ok d ↦ λ e. changed_is c d transition words good e | Err fault ↦ λ _. good ] is) in
+    let either : (r : Result Config ChangeFault) → changed c transition words ≡ r → IsConfig (changed_or_same c r) = λ r is.
+    (elim r as (λ x. changed c transition words ≡ x → IsConfig (changed_or_same c x)) [ Ok d ↦ λ e. changed_is c d transition words good e | Err fault ↦ λ _. good ] is) in
     either (changed c transition words) refl
 
-all_good : (chosen : ℕ → Entry) (c : Config) (base k : ℕ) → IsConfig c → IsConfig (config_after_all chosen c base k)
+pub all_good : (chosen : ℕ → Entry) (c : Config) (base k : ℕ) → IsConfig c → IsConfig (config_after_all chosen c base k)
 all_good chosen c base zero good = good
 all_good chosen c base (suc k) good = body_good (chosen (base + suc k)).body (config_after_all chosen c base k) (all_good chosen c base k good)
 
-abbrev timeline : (chosen : ℕ → Entry) (c : Config) (base : ℕ) → IsConfig c → Timeline
+abbrev pub timeline : (chosen : ℕ → Entry) (c : Config) (base : ℕ) → IsConfig c → Timeline
 timeline chosen c base good = record { base = base; conf = λ i. config_after_all chosen c base (i - base); good = λ i. all_good chosen c base (i - base) good }
 
-makes_next : (chosen : ℕ → Entry) (c : Config) (base i : ℕ) → base ≤ i → config_after_all chosen c base (i + 1 - base) ≡ config_with (chosen (i + 1)).body (config_after_all chosen c base (i - base))
+pub makes_next : (chosen : ℕ → Entry) (c : Config) (base i : ℕ) → base ≤ i → config_after_all chosen c base (i + 1 - base) ≡ config_with (config_after_all chosen c base (i - base)) (chosen (i + 1)).body
 makes_next chosen c base i low =
     let steps : i + 1 - base ≡ suc (i - base) = omega (arith, low) in
     let place : base + suc (i - base) ≡ i + 1 = omega (arith, low) in
-    ap (config_after_all chosen c base) steps ∙ ap (λ (j : ℕ). config_with (chosen j).body (config_after_all chosen c base (i - base))) place
+    ap (config_after_all chosen c base) steps ∙ ap (λ (j : ℕ). config_with (config_after_all chosen c base (i - base)) (chosen j).body) place
 
 -- ---- a network
 
-record AllSuit (g : Timeline) (s : Network) : Type 0 where
-  nodes : (k : ℕ) (n : PlainNode) → slice_get s.nodes k ≡ Some n → Both g n
-  said : All (Fits g) s.said
+pub record AllSuit (g : Timeline) (s : Network) : Type 0 where
+  pub nodes : (k : ℕ) (n : PlainNode) → slice_get s.nodes k ≡ Some n → Both g n
+  pub said : All (Fits g) s.said
 
 none_brought : (g : Timeline) (k : MessageKind) → BringsNoState k → FitsBy g k
 none_brought g (kind.Snapshot snapshot) none = absurd none
@@ -87,9 +86,9 @@ module _ (chosen : ℕ → Entry) (c : Config) (base : ℕ) (good : IsConfig c) 
       let held : entry_at n.log (i + 1) ≡ Ok e = ap (entry_at n.log) (sym next) ∙ there.0 in
       let same : chosen (i + 1) ≡ e = ok_is (entry_at n.log (i + 1)) (chosen (i + 1)) e (are k (i + 1) n at past known) held in
       ap (λ (x : ℕ). config_after_all chosen c base (x - base)) next ∙ makes_next chosen c base i (omega (arith, low))
-      ∙ ap (λ (x : Entry). config_with x.body (config_after_all chosen c base (i - base))) same
+      ∙ ap (λ (x : Entry). config_with (config_after_all chosen c base (i - base)) x.body) same
 
-  happened_suits : (s : Network) (h : Happening) (o : Option PlainNode) → slice_get s.nodes h.place ≡ o → AreChosen chosen s.nodes → IsStateKnown s h.call → AllSuit (timeline chosen c base good) s → AllSuit (timeline chosen c base good) (happened_to o s h)
+  pub happened_suits : (s : Network) (h : Happening) (o : Option PlainNode) → slice_get s.nodes h.place ≡ o → AreChosen chosen s.nodes → IsStateKnown s h.call → AllSuit (timeline chosen c base good) s → AllSuit (timeline chosen c base good) (happened_to o s h)
   happened_suits s h None at are known a = a
   happened_suits s h (Some n) at are known a =
       let g = timeline chosen c base good in
@@ -105,7 +104,7 @@ module _ (chosen : ℕ → Entry) (c : Config) (base : ℕ) (good : IsConfig c) 
   run_suits [] s agreed a = a
   run_suits (h ∷ hs) s agreed a = run_suits hs (happened s h) agreed.2 (happened_suits s h (slice_get s.nodes h.place) refl agreed.0 agreed.1 a)
 
-begun_suits : (chosen : ℕ → Entry) (s : Network) (a : StartsAlike s) (good : IsConfig (config_of a.members)) → AllSuit (timeline chosen (config_of a.members) a.index good) s
+pub begun_suits : (chosen : ℕ → Entry) (s : Network) (a : StartsAlike s) (good : IsConfig (config_of a.members)) → AllSuit (timeline chosen (config_of a.members) a.index good) s
 begun_suits chosen s a good =
     let c = config_of a.members in
     let g = timeline chosen c a.index good in

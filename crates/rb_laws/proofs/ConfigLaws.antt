@@ -1,6 +1,5 @@
 -- Changes of the configuration that take effect, and leaving a joint configuration (Ongaro's thesis, sections 4.1 and 4.3)
 use Rattle.std.proofs.Common.{◌≡◌, ℕ, ◌+◌, ◌<◌, ◌≤◌, Bool, true, ◌&&◌, ◌==◌, nat_le, List, [], ◌∷◌, Result, Ok, Err, refl, sym, ap, ◌∙◌, arith}
-use Rattle.std.specs.Result.{result_unwrap_or}
 use Rattle.std.proofs.lemmas.Bool.{false≢true, leb-true, le-leb, eq-eqb}
 use Rattle.rb_raftlog.specs.declared.entry.Body.{Body}
 use Rattle.rb_raftlog.specs.declared.entry.Body.TheVariants.{Payload, Change}
@@ -20,14 +19,14 @@ use Rattle.rb_message.specs.declared.event.EventKind.TheVariants as event
 use Rattle.rb_message.specs.Events.{event_at}
 use Rattle.rb_message.specs.declared.role.Role.TheVariants as role
 use Rattle.rb_node.specs.Changing.{views_updated, continued_after_switch, steps_down, switched, change_applied, body_applied, applied_one, applied_all, leaves_joint, joint_left}
+use Rattle.rb_node.specs.Compacting.{changed_or_same, config_with, config_after}
 use Rattle.rb_node.specs.Leading.{appended_change, is_log_full, all_sent_append}
 use Rattle.rb_node.specs.Node.{PlainNode, NodeStep, with_event, with_node, is_leader}
 use Rattle.rb_node.specs.Readying.{applying, saved}
-use Rattle.rb_laws.specs.Elections.{own_turn}
-use Rattle.rb_laws.specs.Rules.{config_with, config_after}
-use Rattle.rb_laws.proofs.CallWays.{revised_way, with_members_only}
-use Rattle.rb_laws.proofs.Moves.{Whole, TellMove, Idle, Allows, over, over_way}
-use Rattle.rb_laws.proofs.TellWays.{Rest, keeps_rest, append_broadcast_way}
+use Rattle.rb_calls.specs.Elections.{own_turn}
+use Rattle.rb_calls.proofs.CallWays.{revised_way, with_members_only}
+use Rattle.rb_calls.proofs.Moves.{Whole, TellMove, Idle, Allows, over, over_way}
+use Rattle.rb_calls.proofs.TellWays.{Rest, keeps_rest, append_broadcast_way}
 
 -- ---- what telling leaves
 
@@ -48,15 +47,15 @@ led_on_config t =
     let P : NodeStep → Type 0 = λ u. u.node.tracker.config ≡ t.node.tracker.config in
     if_both P (is_leader t.node.role) _ t (λ _. if_both P (steps_down t.node) _ _ (λ _. refl) (λ _. revised_config t)) (λ _. refl)
 
-switched_config : (r : Result Config ChangeFault) (t : NodeStep) → (switched r t).node.tracker.config ≡ result_unwrap_or r t.node.tracker.config
+switched_config : (r : Result Config ChangeFault) (t : NodeStep) → (switched r t).node.tracker.config ≡ changed_or_same t.node.tracker.config r
 switched_config (Ok c) t = led_on_config (with_event (with_node t (record t.node { tracker = configured t.node.tracker c })) (event_at t.node.id (event.Switched c)))
 switched_config (Err fault) t = refl
 
-pub change_config : (t : NodeStep) (transition : Transition) (words : List Word) → (change_applied t transition words).node.tracker.config ≡ result_unwrap_or (changed t.node.tracker.config transition words) t.node.tracker.config
+pub change_config : (t : NodeStep) (transition : Transition) (words : List Word) → (change_applied t transition words).node.tracker.config ≡ changed_or_same t.node.tracker.config (changed t.node.tracker.config transition words)
 unfolding change_applied
 change_config t transition words = switched_config (changed t.node.tracker.config transition words) t
 
-body_config : (body : Body) (t : NodeStep) → (body_applied body t).node.tracker.config ≡ config_with body t.node.tracker.config
+body_config : (body : Body) (t : NodeStep) → (body_applied body t).node.tracker.config ≡ config_with t.node.tracker.config body
 body_config (Payload bytes) t = refl
 body_config (Change transition words) t = change_config t transition words
 

@@ -13,22 +13,22 @@ use Rattle.rb_message.specs.declared.role.Role.TheVariants as role
 use Rattle.rb_node.specs.Node.{PlainNode, NodeStep}
 use Rattle.rb_node.specs.Readying.{saved, own_answers_stepped, advanced}
 use Rattle.rb_node.specs.Step.{stepped}
-use Rattle.rb_laws.specs.Calling.{Call, run, after, Step, Advance}
-use Rattle.rb_laws.specs.Elections.{own_turn}
-use Rattle.rb_laws.specs.Matches.{IsOwnAnswer, HasOwnAnswers, IsOfOthers, CountsDurable, Tells, Told}
-use Rattle.rb_laws.specs.Sound.{IsGrown, IsSound, HasSoundViews, HasViewsOfMembers}
-use Rattle.rb_laws.specs.Words.{Sends, Answers, AnswersBy}
-use Rattle.rb_laws.proofs.CallLaws.{calls}
-use Rattle.rb_laws.proofs.CallWays.{own_way, OwnTells, ready_way, Accepted, ways}
-use Rattle.rb_laws.proofs.Goes.{Goes, anyone, core, Keeps, same, and_then}
+use Rattle.rb_calls.specs.Calling.{Call, run, after, Step, Advance}
+use Rattle.rb_calls.specs.Elections.{own_turn}
+use Rattle.rb_calls.specs.Matches.{IsOwnAnswer, HasOwnAnswers, IsOfOthers, CountsDurable, Tells, Told}
+use Rattle.rb_calls.specs.Sound.{IsGrown, IsSound, HasSoundViews, HasViewsOfMembers}
+use Rattle.rb_calls.specs.Words.{Sends, Answers, AnswersBy}
+use Rattle.rb_calls.proofs.CallLaws.{calls}
+use Rattle.rb_calls.proofs.CallWays.{own_way, OwnTells, ready_way, Accepted, ways}
+use Rattle.rb_calls.proofs.Goes.{Goes, anyone, core, Keeps, same, and_then}
 use Rattle.rb_laws.proofs.MatchLaws.{IsBounded, called_bounded, accepted_less}
-use Rattle.rb_laws.proofs.MatchViewLaws.{of}
+use Rattle.rb_calls.proofs.MatchViewLaws.{of}
 use Rattle.rb_laws.proofs.MemberMoveLaws.{called_members}
-use Rattle.rb_laws.proofs.MoveLaws.{steps_keep, calls_keep}
-use Rattle.rb_laws.proofs.Moves.{over}
+use Rattle.rb_calls.proofs.MoveLaws.{steps_keep, calls_keep}
+use Rattle.rb_calls.proofs.Moves.{over}
 use Rattle.rb_laws.proofs.SaidLaws.{Says, run_says, called_says}
-use Rattle.rb_laws.proofs.Saying.{words, Words, with_sent, with_waiting}
-use Rattle.rb_laws.proofs.Turns.{all_durable}
+use Rattle.rb_calls.proofs.Saying.{words, Words, with_sent, with_waiting}
+use Rattle.rb_calls.proofs.Turns.{all_durable}
 use Rattle.rb_laws.proofs.ViewLaws.{called_views}
 
 -- ---- answers that wait

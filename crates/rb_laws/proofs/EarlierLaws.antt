@@ -13,11 +13,11 @@ use Rattle.rb_node.specs.Terms.{stepped_earlier_by, stepped_later, stepped_later
 use Rattle.rb_node.specs.Votes.{pre_vote_request_handled, grants, can_vote_for}
 use Rattle.rb_node.specs.declared.limits.TheConstants.{ELECTION_TICKS}
 use Rattle.rb_laws.specs.Rules.{ShowsTerm, HasNoLease}
-use Rattle.rb_laws.proofs.Goes.{Core, Ways, anyone}
-use Rattle.rb_laws.proofs.LeaderLaws.{leading_same}
-use Rattle.rb_laws.proofs.Moves.{Whole, TellMove, Idle, StepMove, StepTells, Follows, Stands, Leads, Allows, over}
+use Rattle.rb_calls.proofs.Goes.{Core, Ways, anyone}
+use Rattle.rb_calls.proofs.LeaderLaws.{leading_same}
+use Rattle.rb_calls.proofs.Moves.{Whole, TellMove, Idle, StepMove, StepTells, Follows, Stands, Leads, Allows, over}
 use Rattle.rb_laws.proofs.StepCases.{by_term}
-use Rattle.rb_laws.proofs.StepWays.{term_way, brings_later}
+use Rattle.rb_calls.proofs.StepWays.{term_way, brings_later}
 
 -- ---- an earlier term
 

@@ -12,10 +12,10 @@ use Rattle.rb_message.specs.declared.message.Message.{Message}
 use Rattle.rb_node.specs.Leading.{in_lead, leading, with_views}
 use Rattle.rb_node.specs.Node.{PlainNode}
 use Rattle.rb_node.specs.Sends.{with_view_at}
-use Rattle.rb_laws.specs.Sound.{IsSound}
-use Rattle.rb_laws.proofs.LeaderLaws.{with_views_only}
-use Rattle.rb_laws.proofs.MatchViewLaws.{of, with_views_at_most, place_set}
-use Rattle.rb_laws.proofs.ProgressLaws.{acked_matched}
+use Rattle.rb_calls.specs.Sound.{IsSound}
+use Rattle.rb_calls.proofs.LeaderLaws.{with_views_only}
+use Rattle.rb_calls.proofs.MatchViewLaws.{of, with_views_at_most, place_set}
+use Rattle.rb_calls.proofs.ProgressLaws.{acked_matched}
 use Rattle.rb_laws.proofs.Holding.{leader_stands}
 use Rattle.rb_laws.proofs.Spots.{spot}
 use Rattle.rb_laws.proofs.Completeness.{Election, History}

@@ -190,7 +190,7 @@ restores_knows g said st id n s w follows settled content above other h =
     let m = restored_to n s in
     let x = spot s.index s.term in
     let tree = w.lawful.history.tree in
-    let ends : tip m.log ≡ x = restored_tip s in
+    let ends : tip m.log ≡ x = restored_tip n.log s in
     let on : IsOn g.root g.setting.config st n.term (tip m.log) = inr (subst (IsSettled g.root g.setting.config st n.term) (sym ends) settled) in
     let rooted : Descends st.links x g.root =
     elim settled as (λ _. Descends st.links x g.root) [

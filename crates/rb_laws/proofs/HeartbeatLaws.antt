@@ -18,10 +18,10 @@ use Rattle.rb_node.specs.Node.{PlainNode, NodeStep, message, with_node, with_ela
 use Rattle.rb_node.specs.Ticking.{next_count, heartbeat_sent_to, heartbeat_sent_to_each, due_heartbeats_sent, has_lost_quorum, activity_reset, active_quorum_checked, counters_advanced, leader_ticked, ticked_by, ticked}
 use Rattle.rb_node.specs.Transferring.{transfer_ended}
 use Rattle.rb_node.specs.declared.limits.TheConstants.{ELECTION_TICKS, HEARTBEAT_TICKS}
-use Rattle.rb_laws.specs.Sound.{HasViewsOfMembers}
+use Rattle.rb_calls.specs.Sound.{HasViewsOfMembers}
 use Rattle.rb_laws.specs.Timing.{heartbeat, IsSupported}
-use Rattle.rb_laws.proofs.MatchViewLaws.{unmarked_match}
-use Rattle.rb_laws.proofs.MemberLaws.{ids_unmarked}
+use Rattle.rb_calls.proofs.MatchViewLaws.{unmarked_match}
+use Rattle.rb_calls.proofs.MemberLaws.{ids_unmarked}
 
 -- ---- to each
 

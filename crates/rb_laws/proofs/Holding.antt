@@ -14,8 +14,8 @@ use Rattle.rb_message.specs.declared.message.Message.{Message}
 use Rattle.rb_message.specs.declared.role.Role.{Role}
 use Rattle.rb_message.specs.declared.role.Role.TheVariants as role
 use Rattle.rb_node.specs.Node.{PlainNode}
-use Rattle.rb_laws.specs.Words.{IsYes}
-use Rattle.rb_laws.proofs.Saying.{with_sent, with_waiting}
+use Rattle.rb_calls.specs.Words.{IsYes}
+use Rattle.rb_calls.proofs.Saying.{with_sent, with_waiting}
 use Rattle.rb_laws.specs.Honesty.{IsPlain, KeepsBy, Keeps}
 use Rattle.rb_laws.specs.Votes.{IsCast, IsChosen}
 use Rattle.rb_laws.proofs.Links.{Link, IsLinked, AreSingle, Extends}

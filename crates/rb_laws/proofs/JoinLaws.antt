@@ -1,8 +1,9 @@
 -- Nodes that a script adds are nodes that were silent so far: a fact of nodes, of others that are silent yet, and of messages lasts through a script,
 -- if it lasts where the silent ones come to speak
-use Rattle.std.proofs.Common.{◌≡◌, ◌⊎◌, ℕ, zero, suc, ◌+◌, ◌≤◌, true, List, [], ◌∷◌, ◌++◌, map, take, length, length-append, append_assoc, append-nil, Option, Some, None, Result, Ok, Err, refl, sym, ap, subst, ◌∙◌, arith, inl, inr}
+use Rattle.std.proofs.Common.{◌≡◌, ◌⊎◌, ℕ, zero, suc, ◌+◌, ◌≤◌, true, false, List, [], ◌∷◌, ◌++◌, map, take, length, length-append, append_assoc, append-nil, Option, Some, None, Result, Ok, Err, refl, sym, ap, subst, ◌∙◌, arith, inl, inr}
 use Rattle.std.specs.Prelude.{All, Contains, slice_get, slice_set}
 use Rattle.std.specs.List.{range_with_len}
+use Rattle.std.proofs.lemmas.Bool.{false≢true}
 use Rattle.std.proofs.lemmas.List.{length-set}
 use Rattle.std.proofs.lemmas.List.Elements.{All-contains_itself}
 use Rattle.std.proofs.lemmas.Option.{none-some, same_Some}
@@ -18,11 +19,12 @@ use Rattle.rb_message.specs.declared.message.Message.{Message}
 use Rattle.rb_node.specs.declared.options.Options.{Options}
 use Rattle.rb_node.specs.Node.{PlainNode, started}
 use Rattle.rb_node.specs.Calls.{node_started}
+use Rattle.rb_node.specs.Restarting.{node_restarted}
 use Rattle.rb_machine.specs.AddNodes.{start, options, node_added, added_each, nodes_added}
 use Rattle.rb_machine.specs.Cluster.{Cluster, empty}
 use Rattle.rb_machine.specs.Outcome.{missing_node, own_fault, fault, effect, unless_refused, execution_of, execution, outcome}
 use Rattle.rb_replay.specs.Run.{led}
-use Rattle.rb_laws.specs.Calling.{Advance, after}
+use Rattle.rb_calls.specs.Calling.{Advance, after}
 use Rattle.rb_laws.specs.Clusters.{IsSteadyRequest, IsSteadyBy, AreSteady}
 use Rattle.rb_laws.proofs.DirectiveLaws.{Lasts, IsCovered, neither, has_effect}
 
@@ -52,7 +54,7 @@ none_sent from given (id ∷ ids) x = none_sent from given ids (node_added x (no
 -- ---- a fact that lasts where they join
 
 pub record Joins (P : List PlainNode → List PlainNode → List Message → Type 0) : Type 0 where
-  pub lasts : (silent : List PlainNode) → Lasts true (P silent)
+  pub lasts : (silent : List PlainNode) → Lasts true false (P silent)
   pub joins : (silent news nodes : List PlainNode) (ms : List Message) → P (news ++ silent) nodes ms → P silent (nodes ++ news) ms
 
 module _ {P : List PlainNode → List PlainNode → List Message → Type 0} (w : Joins P) where
@@ -71,16 +73,17 @@ module _ {P : List PlainNode → List PlainNode → List Message → Type 0} (w 
   by_effect : (starts : Snapshot → Type 0) (r : Request) (c : Cluster) (rest : List PlainNode) → (missing_node c.nodes (nodes_of r) ≡ None) × (own_fault r c ≡ None) → IsSteadyRequest starts r → IsCovered (P (come_with None r c ++ rest)) c → IsCovered (P rest) (effect r c).cluster
   by_effect starts (requests.AddNodes asked) c rest may steady h = adds asked c rest h
   by_effect starts (requests.ProposeConfChange asked) c rest may steady h = absurd steady
-  by_effect starts (requests.NodeCommand what id) c rest may steady h = has_effect (w.lasts rest) (requests.NodeCommand what id) c h.0 (λ _. tt) may h.1
-  by_effect starts (requests.Propose id payload) c rest may steady h = has_effect (w.lasts rest) (requests.Propose id payload) c h.0 (λ _. tt) may h.1
-  by_effect starts (requests.ProcessReady ids) c rest may steady h = has_effect (w.lasts rest) (requests.ProcessReady ids) c h.0 (λ _. tt) may h.1
-  by_effect starts (requests.DeliverMsgs asked) c rest may steady h = has_effect (w.lasts rest) (requests.DeliverMsgs asked) c h.0 (λ _. tt) may h.1
-  by_effect starts (requests.Stabilize ids rounds) c rest may steady h = has_effect (w.lasts rest) (requests.Stabilize ids rounds) c h.0 (λ _. tt) may h.1
-  by_effect starts (requests.NodeCommandWithArg what id arg) c rest may steady h = has_effect (w.lasts rest) (requests.NodeCommandWithArg what id arg) c h.0 (λ _. tt) may h.1
-  by_effect starts (requests.LogLevel level) c rest may steady h = has_effect (w.lasts rest) (requests.LogLevel level) c h.0 (λ _. tt) may h.1
-  by_effect starts (requests.RaftLog id) c rest may steady h = has_effect (w.lasts rest) (requests.RaftLog id) c h.0 (λ _. tt) may h.1
-  by_effect starts (requests.Status id) c rest may steady h = has_effect (w.lasts rest) (requests.Status id) c h.0 (λ _. tt) may h.1
-  by_effect starts requests.RaftState c rest may steady h = has_effect (w.lasts rest) requests.RaftState c h.0 (λ _. tt) may h.1
+  by_effect starts (requests.NodeCommand what id) c rest may steady h = has_effect (w.lasts rest) (requests.NodeCommand what id) c h.0 (λ _. tt) (λ no. absurd (false≢true no)) may h.1
+  by_effect starts (requests.Propose id payload) c rest may steady h = has_effect (w.lasts rest) (requests.Propose id payload) c h.0 (λ _. tt) (λ no. absurd (false≢true no)) may h.1
+  by_effect starts (requests.ProcessReady ids) c rest may steady h = has_effect (w.lasts rest) (requests.ProcessReady ids) c h.0 (λ _. tt) (λ no. absurd (false≢true no)) may h.1
+  by_effect starts (requests.DeliverMsgs asked) c rest may steady h = has_effect (w.lasts rest) (requests.DeliverMsgs asked) c h.0 (λ _. tt) (λ no. absurd (false≢true no)) may h.1
+  by_effect starts (requests.Stabilize ids rounds) c rest may steady h = has_effect (w.lasts rest) (requests.Stabilize ids rounds) c h.0 (λ _. tt) (λ no. absurd (false≢true no)) may h.1
+  by_effect starts (requests.NodeCommandWithArg what id arg) c rest may steady h = has_effect (w.lasts rest) (requests.NodeCommandWithArg what id arg) c h.0 (λ _. tt) (λ no. absurd (false≢true no)) may h.1
+  by_effect starts (requests.Restart ids) c rest may steady h = has_effect (w.lasts rest) (requests.Restart ids) c h.0 (λ _. tt) (λ no. absurd (false≢true no)) may h.1
+  by_effect starts (requests.LogLevel level) c rest may steady h = has_effect (w.lasts rest) (requests.LogLevel level) c h.0 (λ _. tt) (λ no. absurd (false≢true no)) may h.1
+  by_effect starts (requests.RaftLog id) c rest may steady h = has_effect (w.lasts rest) (requests.RaftLog id) c h.0 (λ _. tt) (λ no. absurd (false≢true no)) may h.1
+  by_effect starts (requests.Status id) c rest may steady h = has_effect (w.lasts rest) (requests.Status id) c h.0 (λ _. tt) (λ no. absurd (false≢true no)) may h.1
+  by_effect starts requests.RaftState c rest may steady h = has_effect (w.lasts rest) requests.RaftState c h.0 (λ _. tt) (λ no. absurd (false≢true no)) may h.1
 
   by_fault : (starts : Snapshot → Type 0) (o : Option DirectiveError) (a : Asked) (c : Cluster) (rest : List PlainNode) → fault a.request c ≡ o → IsSteadyRequest starts a.request → IsCovered (P (come_with o a.request c ++ rest)) c → IsCovered (P rest) (unless_refused o a c).cluster
   unfolding fault
@@ -116,6 +119,7 @@ numbered n = record {
     advances = λ nodes ms k t at h. omega (arith, h, length-set nodes k (after Advance t).node);
     shows = λ nodes ms k from to x at h. h;
     joins = λ free. absurd (free refl);
+    restarts = λ free nodes ms k t at h. omega (arith, h, length-set nodes k (node_restarted t).node);
   };
   joins = λ silent news nodes ms h. omega (arith, h, length-append news silent, length-append nodes news);
 }

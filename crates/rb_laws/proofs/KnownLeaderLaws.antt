@@ -25,13 +25,13 @@ use Rattle.rb_node.specs.Proposing.{why_replaced, change_or_empty_appended, prop
 use Rattle.rb_node.specs.Step.{as_follower, as_precandidate, as_candidate, as_leader, by_role_of, at_term_by, at_term, stepped}
 use Rattle.rb_node.specs.Terms.{became_follower, stepped_later, stepped_later_by, stepped_earlier_by, answers_earlier}
 use Rattle.rb_node.specs.Votes.{voted_for, grants, can_vote_for, decided, pre_decided, vote_counted, count_of}
-use Rattle.rb_laws.specs.Learning.{IsLeaders}
+use Rattle.rb_calls.specs.Learning.{IsLeaders}
 use Rattle.rb_laws.specs.Rules.{KnowsLeader}
-use Rattle.rb_laws.proofs.LeaderLaws.{with_views_only}
+use Rattle.rb_calls.proofs.LeaderLaws.{with_views_only}
 use Rattle.rb_laws.proofs.SendLaws.{append_broadcast_only}
 use Rattle.rb_laws.proofs.StandingLaws.{Standing, append_broadcast_standing, accepted_standing, refused_standing, beat_standing, transferred_standing}
 use Rattle.rb_laws.proofs.StepCases.{by_term}
-use Rattle.rb_laws.proofs.StepWays.{leaders_have_term}
+use Rattle.rb_calls.proofs.StepWays.{leaders_have_term}
 use Rattle.rb_laws.proofs.TimerLaws.{Hears, role_hears, raised_hears}
 
 -- ---- what a leader appends

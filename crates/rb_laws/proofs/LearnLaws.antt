@@ -29,9 +29,9 @@ use Rattle.rb_node.specs.Node.{PlainNode, NodeStep, with_event, with_node}
 use Rattle.rb_node.specs.Step.{as_follower, leader_followed, as_precandidate, as_candidate, as_leader, by_role_of, at_term_by, stepped}
 use Rattle.rb_node.specs.Terms.{became_follower, stepped_later_by, stepped_earlier}
 use Rattle.rb_node.specs.Votes.{grants, decided, pre_decided, vote_counted, count_of}
-use Rattle.rb_laws.specs.Learning.{LearnsBy}
-use Rattle.rb_laws.proofs.Goes.{Core}
-use Rattle.rb_laws.proofs.LeaderLaws.{leading_same}
+use Rattle.rb_calls.specs.Learning.{LearnsBy}
+use Rattle.rb_calls.proofs.Goes.{Core}
+use Rattle.rb_calls.proofs.LeaderLaws.{leading_same}
 use Rattle.rb_laws.proofs.PreVoteLaws.{asked_same, became_precandidate_core, lowered_same}
 use Rattle.rb_laws.proofs.SendLaws.{append_broadcast_only}
 use Rattle.rb_laws.proofs.StepCases.{by_term}
@@ -132,7 +132,7 @@ snapshot_learns t from s =
     if_both P (nat_le s.index t.node.commit) _ _ (λ _. inl refl)
     (λ _. if_both P (is_term (term_at t.node.log s.index) s.term) _ (new_snapshot_handled t from s)
     (λ holds. inr (refl, is_term_is (term_at t.node.log s.index) s.term holds))
-    (λ _. inr (refl, term_base (restored s))))
+    (λ _. inr (refl, term_base (restored t.node.log s))))
 
 follower_learns : (k : MessageKind) (t : NodeStep) (m : Message) → Learns t.node k (as_follower k t m)
 follower_learns (kind.Append append) t m = append_learns t m.from append

@@ -213,6 +213,7 @@ values_named m = kind_past (decimal m.from ++ codes "->" ++ decimal m.to ++ code
 
 event_past : (more l : List ℕ) (k : EventKind) → SaysEvent l k → SaysEvent (more ++ l) k
 event_past more l (events.Started term index c) h = (past more h.0, past more h.1)
+event_past more l (events.Restarted saved base last lost) h = (past more h.0, past more h.1, past more h.2, past more h.3)
 event_past more l (events.Became role term) h = (past more h.0, past more h.1)
 event_past more l (events.CannotCampaign why) h = past more h
 event_past more l (events.VoteCounted type granted from result) h = (past more h.0, past more h.1, past more h.2, past more h.3)
@@ -240,6 +241,12 @@ two_pieces p q = (here p (q ++ []), past p (here q []))
 event_said : (id : ℕ) (k : EventKind) → SaysEvent (flat_map event_piece_text (kind_form id k).pieces) k
 unfolding kind_form
 event_said id (events.Started term index c) = two_pieces (codes " started at " ++ place_text term index) (codes " with " ++ config_text c)
+event_said id (events.Restarted saved base last lost) =
+    let a = codes " restarted at term=" ++ decimal saved.term in
+    let b = codes " vote=" ++ decimal saved.vote in
+    let c = codes " log=" ++ decimal base ++ codes ".." ++ decimal last in
+    let d = codes " commit=" ++ decimal saved.commit in
+    (here a (b ++ (c ++ (d ++ []))), past a (here b (c ++ (d ++ []))), past a (past b (here c (d ++ []))), past a (past b (past c (here d []))))
 event_said id (events.Became role term) = two_pieces (codes " became " ++ role_text role) (codes " at term " ++ decimal term)
 event_said id (events.CannotCampaign why) = one_piece (codes " can't campaign: " ++ no_campaign_text why)
 event_said id (events.VoteCounted type granted from result) =

@@ -13,14 +13,14 @@ use Rattle.rb_raftlog.proofs.TermLaws.{term_base, term_past, entry_past, is_term
 use Rattle.rb_raftlog.proofs.AppendLaws.{put, put_size, put_term_below, put_entry_below, put_term, put_entry, held_before, in_place, by_append}
 use Rattle.rb_raftlog.proofs.PlaceLaws.{ok_is, own-last, own-held, own-term_held}
 use Rattle.rb_raftlog.proofs.VoteLaws.{compacted-term, compacted-entry}
-use Rattle.rb_laws.proofs.Turns.{own_size}
+use Rattle.rb_calls.proofs.Turns.{own_size}
 use Rattle.rb_laws.specs.Honesty.{IsPlain}
 use Rattle.rb_laws.proofs.Links.{Link, HasLink, IsLinked, entry_there, held_term, held_entry, past_base}
-use Rattle.rb_laws.proofs.ListLaws.{some_at}
+use Rattle.rb_calls.proofs.ListLaws.{some_at}
 
 -- the entries of an append, as a log that begins at the entry before them
 abbrev pub log_from : ℕ → ℕ → List Entry → LogValue
-log_from prev term es = record { base = prev; base_term = term; entries = es; durable = prev }
+log_from prev term es = record { base = prev; base_term = term; entries = es; durable = prev; overwritten = [] }
 
 -- ---- no entries
 

@@ -11,7 +11,7 @@ use Rattle.rb_raftlog.specs.declared.raft_log.LogFault.TheVariants.{Compacted, U
 use Rattle.rb_raftlog.specs.Laws.{AreMatching}
 use Rattle.rb_raftlog.specs.Log.{LogValue, last, term_at, term_of, entry_at, found}
 use Rattle.rb_raftlog.proofs.TermLaws.{by_index, term_base, term_past, entry_below, entry_past, held_in}
-use Rattle.rb_laws.proofs.ListLaws.{some_at}
+use Rattle.rb_calls.proofs.ListLaws.{some_at}
 
 -- an entry at an index, the term of the one before it, and the node that appended it as leader
 pub record Link : Type 0 where

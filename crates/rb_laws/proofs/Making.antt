@@ -10,7 +10,7 @@ use Rattle.rb_message.specs.declared.kind.MessageKind.TheVariants as kind
 use Rattle.rb_message.specs.declared.message.Message.{Message}
 use Rattle.rb_message.specs.declared.role.Role.TheVariants as role
 use Rattle.rb_node.specs.Node.{PlainNode}
-use Rattle.rb_laws.proofs.Turns.{own_size}
+use Rattle.rb_calls.proofs.Turns.{own_size}
 use Rattle.rb_laws.specs.Honesty.{IsPlain}
 use Rattle.rb_laws.proofs.Links.{Link, link, Extends, still_linked, held_term, push_extends, push_single}
 use Rattle.rb_laws.proofs.LinkedLogs.{log_from, own_linked}

@@ -15,20 +15,20 @@ use Rattle.rb_node.specs.Leading.{in_lead, leading}
 use Rattle.rb_node.specs.Node.{PlainNode, NodeStep}
 use Rattle.rb_node.specs.Sends.{with_view_at}
 use Rattle.rb_node.specs.Step.{stepped}
-use Rattle.rb_laws.specs.Calling.{Call, after}
-use Rattle.rb_laws.specs.Matches.{IsAccepted, RestsOn}
-use Rattle.rb_laws.specs.Sound.{HasViewsOfMembers, IsSound}
-use Rattle.rb_laws.proofs.CallWays.{with_members_only, ways, called_way}
+use Rattle.rb_calls.specs.Calling.{Call, after}
+use Rattle.rb_calls.specs.Matches.{IsAccepted, RestsOn}
+use Rattle.rb_calls.specs.Sound.{HasViewsOfMembers, IsSound}
+use Rattle.rb_calls.proofs.CallWays.{with_members_only, ways, called_way}
 use Rattle.rb_laws.proofs.ChoiceLaws.{may_campaign}
-use Rattle.rb_laws.proofs.Goes.{Ways, anyone, core, Core}
-use Rattle.rb_laws.proofs.LeaderLaws.{leading_same, leading_leads, strangers_only}
-use Rattle.rb_laws.proofs.MatchViewLaws.{of, with_views_at_most, place_set, strangers_less, unmarked_match}
+use Rattle.rb_calls.proofs.Goes.{Ways, anyone, core, Core}
+use Rattle.rb_calls.proofs.LeaderLaws.{leading_same, leading_leads, strangers_only}
+use Rattle.rb_calls.proofs.MatchViewLaws.{of, with_views_at_most, place_set, strangers_less, unmarked_match}
 use Rattle.rb_laws.proofs.MemberMoveLaws.{call_members}
-use Rattle.rb_laws.proofs.MoveLaws.{no_leader}
-use Rattle.rb_laws.proofs.Moves.{StepMove, StepTells, Follows, Asks, Stands, Leads, Takes, Restores, Acks, Allows, over, ChangeMove, Unchanged, Configures, Resigns, Revises, in_config, with_members, CallMove, CallChanges, CallSteps, Unmarks, Gives_up, Saves, Compacts}
-use Rattle.rb_laws.proofs.ProgressLaws.{acked_matched}
-use Rattle.rb_laws.proofs.StepWays.{stepped_way}
-use Rattle.rb_laws.proofs.TellWays.{Rest, rest, tells_rest, tells_match}
+use Rattle.rb_calls.proofs.MoveLaws.{no_leader}
+use Rattle.rb_calls.proofs.Moves.{StepMove, StepTells, Follows, Asks, Stands, Leads, Takes, Restores, Acks, Allows, over, ChangeMove, Unchanged, Configures, Resigns, Revises, in_config, with_members, CallMove, CallChanges, CallSteps, Unmarks, Gives_up, Saves, Compacts}
+use Rattle.rb_calls.proofs.ProgressLaws.{acked_matched}
+use Rattle.rb_calls.proofs.StepWays.{stepped_way}
+use Rattle.rb_calls.proofs.TellWays.{Rest, rest, tells_rest, tells_match}
 
 -- ---- how much a node knows a member to hold: no more than so much, or, while it leads, what it led with, what is durable, or what was said
 

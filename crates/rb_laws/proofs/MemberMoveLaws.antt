@@ -13,14 +13,14 @@ use Rattle.rb_node.specs.Changing.{without_views, missing}
 use Rattle.rb_node.specs.Leading.{leading, in_lead}
 use Rattle.rb_node.specs.Node.{PlainNode, NodeStep}
 use Rattle.rb_node.specs.Sends.{with_view_at}
-use Rattle.rb_laws.specs.Calling.{Call, after, run}
-use Rattle.rb_laws.specs.Sound.{AreOfMembers, HasViewsOfMembers}
-use Rattle.rb_laws.proofs.CallWays.{with_members_only, called_way}
+use Rattle.rb_calls.specs.Calling.{Call, after, run}
+use Rattle.rb_calls.specs.Sound.{AreOfMembers, HasViewsOfMembers}
+use Rattle.rb_calls.proofs.CallWays.{with_members_only, called_way}
 use Rattle.rb_laws.proofs.ChoiceLaws.{may_campaign}
-use Rattle.rb_laws.proofs.Goes.{Ways}
-use Rattle.rb_laws.proofs.LeaderLaws.{leading_leads, with_views_only}
-use Rattle.rb_laws.proofs.MemberLaws.{ids_set, with_views_in_order, with_views_seen, member_is, strangers_in_order, revised_seen, ids_unmarked}
-use Rattle.rb_laws.proofs.Moves.{TellMove, Idle, Whole, Viewed, StepMove, StepTells, Follows, Asks, Stands, Leads, Restores, Acks, with_members, ChangeMove, Unchanged, Configures, Resigns, Revises, in_config, CallMove, CallChanges, CallSteps, Unmarks, Gives_up, Allows, over}
+use Rattle.rb_calls.proofs.Goes.{Ways}
+use Rattle.rb_calls.proofs.LeaderLaws.{leading_leads, with_views_only}
+use Rattle.rb_calls.proofs.MemberLaws.{ids_set, with_views_in_order, with_views_seen, member_is, strangers_in_order, revised_seen, ids_unmarked}
+use Rattle.rb_calls.proofs.Moves.{TellMove, Idle, Whole, Viewed, StepMove, StepTells, Follows, Asks, Stands, Leads, Restores, Acks, with_members, ChangeMove, Unchanged, Configures, Resigns, Revises, in_config, CallMove, CallChanges, CallSteps, Unmarks, Gives_up, Allows, over}
 
 -- ---- each move
 

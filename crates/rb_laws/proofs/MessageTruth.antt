@@ -16,11 +16,11 @@ use Rattle.rb_message.specs.declared.message.Message.{Message}
 use Rattle.rb_message.specs.declared.role.Role.{Role}
 use Rattle.rb_message.specs.declared.role.Role.TheVariants as role
 use Rattle.rb_node.specs.Node.{PlainNode}
-use Rattle.rb_laws.specs.Sound.{IsSound, HasSoundViews}
-use Rattle.rb_laws.specs.Words.{IsOfLog, IsOfState, SendsBy, Sends}
+use Rattle.rb_calls.specs.Sound.{IsSound, HasSoundViews}
+use Rattle.rb_calls.specs.Words.{IsOfLog, IsOfState, SendsBy, Sends}
 use Rattle.rb_laws.proofs.Links.{held_term}
 use Rattle.rb_laws.proofs.LinkedLogs.{log_from, entry_term, part_linked}
-use Rattle.rb_laws.proofs.ListLaws.{some_at}
+use Rattle.rb_calls.proofs.ListLaws.{some_at}
 use Rattle.rb_laws.proofs.Spots.{spot, line, lower}
 use Rattle.rb_laws.proofs.Contents.{IsContentAt}
 use Rattle.rb_laws.proofs.Completeness.{History, IsTip, IsOfTerm, IsSettled}

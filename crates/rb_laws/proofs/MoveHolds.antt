@@ -30,13 +30,14 @@ use Rattle.rb_node.specs.Following.{leader_contact_recorded, with_appended, rest
 use Rattle.rb_node.specs.Leading.{in_lead, leading}
 use Rattle.rb_node.specs.Node.{PlainNode}
 use Rattle.rb_node.specs.Readying.{saved}
-use Rattle.rb_laws.specs.Sound.{IsSound}
-use Rattle.rb_laws.specs.Words.{SendsBy, AnswersBy}
+use Rattle.rb_calls.specs.Calling.{compacted_at}
+use Rattle.rb_calls.specs.Sound.{IsSound}
+use Rattle.rb_calls.specs.Words.{SendsBy, AnswersBy}
 use Rattle.rb_laws.proofs.ChoiceLaws.{may_campaign}
-use Rattle.rb_laws.proofs.Goes.{Ways, anyone}
-use Rattle.rb_laws.proofs.LeaderLaws.{with_views_only}
-use Rattle.rb_laws.proofs.MoveLaws.{call_keeps, compact_within}
-use Rattle.rb_laws.proofs.Moves.{Whole, Allows, TellMove, Idle, Sent, IsNoProposal, following, StepMove, StepTells, Came, Puts, Passes, Waits, Follows, Asks, Stands as Campaigns, Leads, Counts, Appends, Takes, Restores, CallMove, CallChanges, CallSteps, Gives_up, Saves, Compacts}
+use Rattle.rb_calls.proofs.Goes.{Ways, anyone}
+use Rattle.rb_calls.proofs.LeaderLaws.{with_views_only}
+use Rattle.rb_calls.proofs.MoveLaws.{call_keeps, compact_within}
+use Rattle.rb_calls.proofs.Moves.{Whole, Allows, TellMove, Idle, Sent, IsNoProposal, following, StepMove, StepTells, Came, Puts, Passes, Waits, Follows, Asks, Stands as Campaigns, Leads, Counts, Appends, Takes, Restores, CallMove, CallChanges, CallSteps, Gives_up, Saves, Compacts}
 use Rattle.rb_laws.specs.Honesty.{IsPlain, KeepsBy, Keeps}
 use Rattle.rb_laws.specs.Votes.{IsCast}
 use Rattle.rb_laws.proofs.Links.{Link, IsLinked, still_linked}
@@ -193,7 +194,8 @@ takes_holds {w} n from append is came h =
 
 restores_holds : {w : World} (n : PlainNode) (s : Snapshot) → n.role ≡ role.Follower → KeepsBy w.setting.config (kind.Snapshot s) → Holds w n → Holds w (restored_to n s)
 restores_holds n s is same h =
-    let x = with_log n (restored s) (All-nil IsPlain) (λ _ ls _ _. none_linked ls (restored s) refl) (λ leads. absurd (never_leads n is leads)) h in
+    let log : LogValue = restored n.log s in
+    let x = with_log n log (All-nil IsPlain) (λ _ ls _ _. none_linked ls log refl) (λ leads. absurd (never_leads n is leads)) h in
     record {
       itself = x.itself;
       config = same;
@@ -202,7 +204,7 @@ restores_holds n s is same h =
       waiting = x.waiting;
       stands = x.stands;
       leads = x.leads;
-      linking = becomes (essence (record n { log = restored s })) (essence (restored_to n s)) refl refl refl (omega arith) (λ is. inr (is, refl)) (λ is. inl (is, refl)) x.linking;
+      linking = becomes (essence (record n { log = log })) (essence (restored_to n s)) refl refl refl (omega arith) (λ is. inr (is, refl)) (λ is. inl (is, refl)) x.linking;
     }
 
 saved_holds : {w : World} (n : PlainNode) → Holds w n → Holds w (saved n)
@@ -215,7 +217,7 @@ compacted_plain v i (Ok term) plain = All-drop IsPlain (i - v.base) v.entries pl
 compacted_plain v i (Err fault) plain = plain
 
 compacts_holds : {w : World} (n : PlainNode) (i : ℕ) → compact_fault n.log i (min n.applied n.log.durable) ≡ None → IsSound n → Holds w n
-    → Holds w (record n { log = compacted n.log i (term_at n.log i) })
+    → Holds w (compacted_at n i)
 compacts_holds n i is s h =
     let low = (compact_within n.log i (min n.applied n.log.durable) is).0 in
     with_log n (compacted n.log i (term_at n.log i)) (compacted_plain n.log i (term_at n.log i) h.log)

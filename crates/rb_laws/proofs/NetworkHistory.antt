@@ -18,12 +18,12 @@ use Rattle.rb_message.specs.declared.role.Role.TheVariants as role
 use Rattle.rb_node.specs.declared.options.Options.{Options}
 use Rattle.rb_node.specs.Node.{PlainNode, NodeStep, node_step, started}
 use Rattle.rb_node.specs.Step.{stepped}
-use Rattle.rb_laws.specs.Calling.{Call, Step, Propose, Transfer, Advance, after}
-use Rattle.rb_laws.specs.Elections.{own_turn}
-use Rattle.rb_laws.specs.Sound.{HasSoundViews}
-use Rattle.rb_laws.specs.Words.{IsYes, IsOfState}
-use Rattle.rb_laws.proofs.CallWays.{OwnTells, ways}
-use Rattle.rb_laws.proofs.Saying.{words}
+use Rattle.rb_calls.specs.Calling.{Call, Step, Propose, Transfer, Advance, after}
+use Rattle.rb_calls.specs.Elections.{own_turn}
+use Rattle.rb_calls.specs.Sound.{HasSoundViews}
+use Rattle.rb_calls.specs.Words.{IsYes, IsOfState}
+use Rattle.rb_calls.proofs.CallWays.{OwnTells, ways}
+use Rattle.rb_calls.proofs.Saying.{words}
 use Rattle.rb_laws.proofs.ViewLaws.{no_views, called_views}
 use Rattle.rb_laws.specs.Honesty.{IsHonestCall, AreHonest, IsGenuineCall, AreGenuine}
 use Rattle.rb_laws.specs.Network.{Network, Happening, put_out, happened_to, happened, run, IsStarted, IsBegun}
@@ -33,7 +33,7 @@ use Rattle.rb_laws.proofs.MessageTruth.{tells_snapshot}
 use Rattle.rb_laws.proofs.Holding.{Setting, World, AreOnce, Holds, IsSaid, essence, world_of, still_cast, still_elected, still_holds, still_in, follower_leads, follower_stands}
 use Rattle.rb_laws.proofs.CallHolds.{safe_hears}
 use Rattle.rb_laws.proofs.LinkedLogs.{none_linked}
-use Rattle.rb_laws.proofs.ListLaws.{each_set, in_nothing}
+use Rattle.rb_calls.proofs.ListLaws.{each_set, in_nothing}
 use Rattle.rb_laws.proofs.NetworkLaws.{IsSane, called_network, run_sane, safe_call, once_after, pledged}
 use Rattle.rb_laws.proofs.Spots.{Spot, spot, Descends, here}
 use Rattle.rb_laws.proofs.Completeness.{History}

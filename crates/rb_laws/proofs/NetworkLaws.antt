@@ -11,15 +11,15 @@ use Rattle.rb_message.specs.declared.message.Message.{Message}
 use Rattle.rb_message.specs.declared.role.Role.TheVariants as role
 use Rattle.rb_raftlog.specs.Log.{last}
 use Rattle.rb_node.specs.Node.{PlainNode, NodeStep, node_step}
-use Rattle.rb_laws.specs.Calling.{Call, Step, Propose, Advance, after}
-use Rattle.rb_laws.specs.Sound.{IsSound}
-use Rattle.rb_laws.specs.Words.{IsYes, IsPromised, HasPromises}
-use Rattle.rb_laws.proofs.CallLaws.{calls}
+use Rattle.rb_calls.specs.Calling.{Call, Step, Propose, Advance, after}
+use Rattle.rb_calls.specs.Sound.{IsSound}
+use Rattle.rb_calls.specs.Words.{IsYes, IsPromised, HasPromises}
+use Rattle.rb_calls.proofs.CallLaws.{calls}
 use Rattle.rb_laws.proofs.PromiseLaws.{Kept, NoYes, run_promises}
 use Rattle.rb_laws.specs.Honesty.{Keeps, IsHonestCall, AreHonest, IsNoAppend, IsGenuineCall, AreGenuine}
 use Rattle.rb_laws.specs.Network.{Network, Happening, put_out, happened_to, happened, run}
 use Rattle.rb_laws.proofs.Links.{Link, Extends, still_linked}
-use Rattle.rb_laws.proofs.ListLaws.{set_here, set_elsewhere, each_set}
+use Rattle.rb_calls.proofs.ListLaws.{set_here, set_elsewhere, each_set}
 use Rattle.rb_laws.proofs.Holding.{Setting, World, IsElected, AreOnce, IsOwn, IsChainBy, IsChain, IsIn, Holds, essence, world_of, IsSaid, still_elected, still_holds, still_in}
 use Rattle.rb_laws.proofs.Electing.{one_elected}
 use Rattle.rb_laws.proofs.Making.{still_chains}

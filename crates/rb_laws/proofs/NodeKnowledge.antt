@@ -13,8 +13,8 @@ use Rattle.rb_message.specs.declared.message.Message.{Message}
 use Rattle.rb_message.specs.declared.role.Role.{Role}
 use Rattle.rb_message.specs.declared.role.Role.TheVariants as role
 use Rattle.rb_node.specs.Node.{PlainNode}
-use Rattle.rb_laws.proofs.Goes.{Core, core}
-use Rattle.rb_laws.proofs.Moves.{Whole}
+use Rattle.rb_calls.proofs.Goes.{Core, core}
+use Rattle.rb_calls.proofs.Moves.{Whole}
 use Rattle.rb_laws.proofs.Links.{Link, IsLinked, still_linked}
 use Rattle.rb_laws.proofs.LinkedLogs.{log_from}
 use Rattle.rb_laws.proofs.Holding.{Setting}

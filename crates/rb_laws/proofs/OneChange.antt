@@ -18,23 +18,24 @@ use Rattle.rb_node.specs.Campaigns.{why_no_campaign, candidate}
 use Rattle.rb_node.specs.Following.{restored_to}
 use Rattle.rb_node.specs.Leading.{leading, in_lead}
 use Rattle.rb_node.specs.Node.{PlainNode}
+use Rattle.rb_calls.specs.Calling.{compacted_at}
 use Rattle.rb_laws.specs.Configurations.{HasOneChangePast}
 use Rattle.rb_laws.specs.Honesty.{IsNoAppend}
 use Rattle.rb_laws.specs.Rules.{NoChangePast}
-use Rattle.rb_laws.specs.Sound.{IsSound}
-use Rattle.rb_laws.specs.Words.{SendsBy, AnswersBy}
-use Rattle.rb_laws.proofs.CallWays.{with_members_only}
-use Rattle.rb_laws.proofs.ChangeCounts.{one_further, one_applied, plain_one, change_one, restored_one, compacted_one, IsPart}
+use Rattle.rb_calls.specs.Sound.{IsSound}
+use Rattle.rb_calls.specs.Words.{SendsBy, AnswersBy}
+use Rattle.rb_calls.proofs.CallWays.{with_members_only}
+use Rattle.rb_laws.proofs.ChangeCounts.{one_further, one_applied, plain_one, change_one, empty_one, compacted_one, IsPart}
 use Rattle.rb_laws.proofs.ChoiceLaws.{may_campaign}
-use Rattle.rb_laws.proofs.Goes.{Ways, anyone}
+use Rattle.rb_calls.proofs.Goes.{Ways, anyone}
 use Rattle.rb_laws.proofs.Holding.{follower_stands, follower_leads, precandidate_stands, precandidate_leads, candidate_leads, leader_stands}
-use Rattle.rb_laws.proofs.LeaderLaws.{with_views_only}
+use Rattle.rb_calls.proofs.LeaderLaws.{with_views_only}
 use Rattle.rb_laws.proofs.Links.{Link, link, IsLinked, AreSingle, Extends, still_linked, held_term, push_extends, push_single}
 use Rattle.rb_laws.proofs.LinkedLogs.{log_from, none_linked, part_linked, own_linked, compacted_linked}
-use Rattle.rb_laws.proofs.MoveLaws.{call_keeps, compact_within}
-use Rattle.rb_laws.proofs.Moves.{Whole, Allows, TellMove, Idle, Sent, Viewed, Commits, following, StepMove, StepTells, Came, Marks, Passes, Waits, Follows, Asks, Stands, Leads, Appends, Takes, Learns, Restores, ChangeMove, Resigns, Revises, in_config, IsNext, CallMove, CallChanges, CallSteps, Applies, Fills, Unmarks, Gives_up, Saves, Compacts}
+use Rattle.rb_calls.proofs.MoveLaws.{call_keeps, compact_within}
+use Rattle.rb_calls.proofs.Moves.{Whole, Allows, TellMove, Idle, Sent, Viewed, Commits, following, StepMove, StepTells, Came, Marks, Passes, Waits, Follows, Asks, Stands, Leads, Appends, Takes, Learns, Restores, ChangeMove, Resigns, Revises, in_config, IsNext, CallMove, CallChanges, CallSteps, Applies, Fills, Unmarks, Gives_up, Saves, Compacts}
 use Rattle.rb_laws.proofs.PendingLaws.{own_none, further, nothing_past, compacted_none}
-use Rattle.rb_laws.proofs.Turns.{own_size}
+use Rattle.rb_calls.proofs.Turns.{own_size}
 
 -- ---- what this is about
 
@@ -347,7 +348,8 @@ telling_holds (Commits n can) s h =
 
 restores : {w : World} (n : PlainNode) (s : Snapshot) → n.role ≡ role.Follower → Holds w n → Holds w (restored_to n s)
 restores n s follows h =
-    by h (λ ls _ i. still (gist n) (restored s) s.index s.index n.sent n.waiting (none_linked ls (restored s) refl) i.sent i.waiting (restored_one s s.index)
+    let log : LogValue = restored n.log s in
+    by h (λ ls _ i. still (gist n) log s.index s.index n.sent n.waiting (none_linked ls log refl) i.sent i.waiting (empty_one log s.index refl)
     (λ stands. absurd (follower_stands (sym follows ∙ stands))) (λ leads. absurd (follower_leads (sym follows ∙ leads))) i)
 
 step_holds : {w : World} {v : Ways} → Hears w v → {a b : PlainNode} → StepMove v a b → IsSound a → Holds w a → Holds w b
@@ -374,7 +376,7 @@ applied_holds : {w : World} (n : PlainNode) (i : ℕ) (e : Entry) → IsNext n i
 applied_holds n i e x h = (let next = x.next in by h (λ ls _ y. applies (gist n) i (omega (arith, next)) y))
 
 compacts_holds : {w : World} (n : PlainNode) (i : ℕ) → compact_fault n.log i (min n.applied n.log.durable) ≡ None → IsSound n → Holds w n
-    → Holds w (record n { log = compacted n.log i (term_at n.log i) })
+    → Holds w (compacted_at n i)
 compacts_holds n i is s h =
     let low = (compact_within n.log i (min n.applied n.log.durable) is).0 in
     let log : LogValue = compacted n.log i (term_at n.log i) in

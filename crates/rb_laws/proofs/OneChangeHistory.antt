@@ -1,5 +1,5 @@
 -- At most one change past the commit of each node of a network, if a term has one leader: an append that comes, each call, and all that happens
-use Rattle.std.proofs.Common.{◌≡◌, ◌⊎◌, ℕ, ◌+◌, ◌≤◌, max, min, List, [], ◌∷◌, ◌++◌, length, Option, Some, None, Ok, refl, sym, ap, subst, ◌∙◌, arith, inl, inr}
+use Rattle.std.proofs.Common.{◌≡◌, ◌⊎◌, ℕ, ◌+◌, ◌<◌, ◌≤◌, max, min, List, [], ◌∷◌, ◌++◌, length, Option, Some, None, Ok, refl, sym, ap, subst, ◌∙◌, arith, inl, inr}
 use Rattle.std.specs.Prelude.{All, Contains, slice_get}
 use Rattle.std.proofs.lemmas.Bool.{cases_lt, cases_Bool}
 use Rattle.std.proofs.lemmas.List.Elements.{All-nil, All-push, All-weaker, All-append, All-contains}
@@ -8,7 +8,7 @@ use Rattle.rb_raftlog.proofs.AppendLaws.{put, appended_below, appended_refused, 
 use Rattle.rb_raftlog.proofs.TermLaws.{is_term_is}
 use Rattle.rb_raftlog.specs.declared.raft_log.Appended.{Appended}
 use Rattle.rb_raftlog.specs.declared.raft_log.Appended.TheVariants.{Matched, Refused, BelowCommit}
-use Rattle.rb_raftlog.specs.Log.{LogValue, last, term_at, is_term, first_new, appended, answer, restored}
+use Rattle.rb_raftlog.specs.Log.{LogValue, last, term_at, is_term, first_new, appended, answer}
 use Rattle.rb_tracker.proofs.SetLaws.{if_both}
 use Rattle.rb_message.specs.Appends.{PlainAppend}
 use Rattle.rb_message.specs.declared.kind.MessageKind.{MessageKind}
@@ -17,23 +17,23 @@ use Rattle.rb_message.specs.declared.message.Message.{Message}
 use Rattle.rb_message.specs.declared.role.Role.{Role}
 use Rattle.rb_message.specs.declared.role.Role.TheVariants as role
 use Rattle.rb_node.specs.Following.{after_log, with_appended, removal_reported, append_entries_handled}
-use Rattle.rb_node.specs.Node.{PlainNode, NodeStep, node_step, with_node, message}
+use Rattle.rb_node.specs.Node.{PlainNode, NodeStep, node_step, started, with_node, message}
 use Rattle.rb_node.specs.Step.{as_follower, as_precandidate, as_candidate, as_leader, by_role_of, at_term_by, stepped}
 use Rattle.rb_node.specs.Terms.{became_follower, stepped_later_by, stepped_earlier_by, answers_earlier}
-use Rattle.rb_laws.specs.Calling.{Call, Step, Campaign, Propose, Transfer, Tick, Advance, ForgetLeader, ReportUnreachable, SetTimeout, Compact, after}
+use Rattle.rb_calls.specs.Calling.{Call, Step, Campaign, Propose, Transfer, Tick, Advance, ForgetLeader, ReportUnreachable, SetTimeout, Compact, after}
 use Rattle.rb_laws.specs.Configurations.{HasOneChangePast, log_of, IsElectedAs, AreElectedAs}
-use Rattle.rb_laws.specs.Elections.{Elected}
+use Rattle.rb_calls.specs.Elections.{Elected}
 use Rattle.rb_laws.specs.Honesty.{IsNoAppend, IsGenuineCall, AreGenuine}
 use Rattle.rb_laws.specs.Network.{Network, Happening, put_out, happened_to, happened, run, IsBegun}
-use Rattle.rb_laws.specs.Sound.{IsSound}
-use Rattle.rb_laws.proofs.CallLaws.{calls}
-use Rattle.rb_laws.proofs.CallWays.{ways, called_way}
-use Rattle.rb_laws.proofs.ChangeCounts.{IsPart, put_one, restored_one}
+use Rattle.rb_calls.specs.Sound.{IsSound}
+use Rattle.rb_calls.proofs.CallLaws.{calls}
+use Rattle.rb_calls.proofs.CallWays.{ways, called_way}
+use Rattle.rb_laws.proofs.ChangeCounts.{IsPart, put_one, empty_one}
 use Rattle.rb_laws.proofs.Holding.{follower_stands, follower_leads}
 use Rattle.rb_laws.proofs.Links.{Link, Extends, still_linked}
 use Rattle.rb_laws.proofs.LinkedLogs.{log_from, none_linked, part_entry, Puts, put_linked}
-use Rattle.rb_laws.proofs.ListLaws.{each_set, in_nothing}
-use Rattle.rb_laws.proofs.Moves.{over}
+use Rattle.rb_calls.proofs.ListLaws.{each_set, in_nothing}
+use Rattle.rb_calls.proofs.Moves.{over}
 use Rattle.rb_laws.proofs.OneChange.{Gist, gist, IsPartBy, Fair, NoAppend, IsIn, World, Holds, by, still, follows_in, still_fair, none_fair, waits, Hears, moves_hold}
 use Rattle.rb_laws.proofs.StepCases.{by_term}
 use Rattle.rb_laws.proofs.TakingLaws.{matches}
@@ -173,10 +173,16 @@ called_holds (Compact index) t brings led s h = other_holds (Compact index) t (�
 
 -- ---- a network
 
-record Sane (leader : ℕ → ℕ) (s : Network) : Type 0 where
-  links : List Link
-  nodes : (k : ℕ) (n : PlainNode) → slice_get s.nodes k ≡ Some n → IsSound n × IsIn (k + 1) leader links (gist n)
-  said : All (Fair links) s.said
+pub record Sane (leader : ℕ → ℕ) (s : Network) : Type 0 where
+  pub links : List Link
+  pub some : (l : Link) → Contains links l → 0 < l.maker
+  pub nodes : (k : ℕ) (n : PlainNode) → slice_get s.nodes k ≡ Some n → IsSound n × IsIn (k + 1) leader links (gist n)
+  pub said : All (Fair links) s.said
+
+-- and no link was lost
+pub record SaneSince (leader : ℕ → ℕ) (before : List Link) (s : Network) : Type 0 where
+  pub sane : Sane leader s
+  pub since : Extends before sane.links
 
 brings_of : (leader : ℕ → ℕ) (s : Network) (id : ℕ) (c : Call) → (sane : Sane leader s) → IsGenuineCall s c → Brings (record { id = id; leader = leader; links = sane.links }) c
 brings_of leader s id (Step m) sane genuine =
@@ -225,8 +231,8 @@ others_in {leader} old new place k x n other since own its h = record {
       });
 }
 
-happened_sane : (leader : ℕ → ℕ) (s : Network) (h : Happening) (o : Option PlainNode) → slice_get s.nodes h.place ≡ o → IsElectedAs leader o h → IsGenuineCall s h.call → Sane leader s → Sane leader (happened_to o s h)
-happened_sane leader s h None at led genuine sane = sane
+pub happened_sane : (leader : ℕ → ℕ) (s : Network) (h : Happening) (o : Option PlainNode) → slice_get s.nodes h.place ≡ o → IsElectedAs leader o h → IsGenuineCall s h.call → (sane : Sane leader s) → SaneSince leader sane.links (happened_to o s h)
+happened_sane leader s h None at led genuine sane = record { sane = sane; since = λ l among. among }
 happened_sane leader s h (Some n) at led genuine sane =
     let p = sane.nodes h.place n at in
     let t : NodeStep = node_step n h.told in
@@ -235,19 +241,24 @@ happened_sane leader s h (Some n) at led genuine sane =
     let start : Holds w n = record { links = sane.links; since = λ l among. among; own = λ l among. inl among; holds = p.1 } in
     let e : Holds w x = called_holds {w = w} h.call t (brings_of leader s (h.place + 1) h.call sane genuine) (λ term elected. led term elected ∙ p.1.itself) p.0 start in
     record {
-      links = e.links;
-      nodes = each_set (λ (k : ℕ) (y : PlainNode). IsSound y × IsIn (k + 1) leader e.links (gist y)) s.nodes h.place n x at (((calls h.call t).goes p.0).ordered, e.holds)
-          (λ j y other there. (let q = sane.nodes j y there in (q.0, others_in sane.links e.links h.place j x y other e.since e.own e.holds q.1)));
-      said = All-append (Fair e.links) s.said (put_out h.call n) (still_fair sane.links e.links s.said e.since sane.said) (still_fair sane.links e.links (put_out h.call n) e.since (out_fair sane.links h.call n p.1));
+      sane = record {
+        links = e.links;
+        some = λ l among. elim (e.own l among) as (λ _. 0 < l.maker) [ inl before ↦ sane.some l before | inr own ↦ omega (arith, own) ];
+        nodes = each_set (λ (k : ℕ) (y : PlainNode). IsSound y × IsIn (k + 1) leader e.links (gist y)) s.nodes h.place n x at (((calls h.call t).goes p.0).ordered, e.holds)
+            (λ j y other there. (let q = sane.nodes j y there in (q.0, others_in sane.links e.links h.place j x y other e.since e.own e.holds q.1)));
+        said = All-append (Fair e.links) s.said (put_out h.call n) (still_fair sane.links e.links s.said e.since sane.said) (still_fair sane.links e.links (put_out h.call n) e.since (out_fair sane.links h.call n p.1));
+      };
+      since = e.since;
     }
 
 run_sane : (leader : ℕ → ℕ) (hs : List Happening) (s : Network) → AreElectedAs leader hs s → AreGenuine hs s → Sane leader s → Sane leader (run hs s)
 run_sane leader [] s led genuine sane = sane
-run_sane leader (h ∷ hs) s led genuine sane = run_sane leader hs (happened s h) led.1 genuine.1 (happened_sane leader s h (slice_get s.nodes h.place) refl led.0 genuine.0 sane)
+run_sane leader (h ∷ hs) s led genuine sane = run_sane leader hs (happened s h) led.1 genuine.1 (happened_sane leader s h (slice_get s.nodes h.place) refl led.0 genuine.0 sane).sane
 
-begun_sane : (leader : ℕ → ℕ) (members : ConfState) (s : Network) → IsBegun members s → Sane leader s
+pub begun_sane : (leader : ℕ → ℕ) (members : ConfState) (s : Network) → IsBegun members s → Sane leader s
 begun_sane leader members s begun = record {
   links = [];
+  some = λ l among. absurd (in_nothing [] l refl among);
   nodes = λ k n at.
       (let x = begun.started k n at in
       subst (λ (y : PlainNode). IsSound y × IsIn (k + 1) leader [] (gist y)) (sym x.is) (
@@ -256,12 +267,12 @@ begun_sane leader members s begun = record {
           itself = refl;
           single = λ a b among. absurd (in_nothing [] a refl among);
           made = λ l among. absurd (in_nothing [] l refl among);
-          logged = none_linked [] (restored x.start) refl;
+          logged = none_linked [] (started (k + 1) x.start x.options).log refl;
           sent = All-nil (Fair []);
           waiting = All-nil NoAppend;
           past = λ l among. absurd (in_nothing [] l refl among);
           stands = λ no. absurd (follower_stands no);
-          one = restored_one x.start x.start.index;
+          one = empty_one (started (k + 1) x.start x.options).log x.start.index refl;
           candidate = λ no. absurd (follower_stands no);
           leads = λ no. absurd (follower_leads no);
         },

@@ -5,7 +5,7 @@ use Rattle.std.proofs.lemmas.List.Elements.{Contains-push_cases}
 use Rattle.rb_message.specs.declared.message.Message.{Message}
 use Rattle.rb_message.specs.declared.role.Role.TheVariants as role
 use Rattle.rb_node.specs.Node.{PlainNode}
-use Rattle.rb_laws.specs.Words.{IsYes}
+use Rattle.rb_calls.specs.Words.{IsYes}
 use Rattle.rb_laws.proofs.Links.{Link}
 use Rattle.rb_laws.proofs.Holding.{IsElected}
 use Rattle.rb_laws.proofs.Spots.{spot, still_descends}

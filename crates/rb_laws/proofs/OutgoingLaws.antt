@@ -6,7 +6,7 @@ use Rattle.rb_message.specs.declared.message.Message.{Message}
 use Rattle.rb_node.specs.Node.{PlainNode, NodeStep, with_node}
 use Rattle.rb_node.specs.Readying.{others, ready, own_answers_stepped, advanced}
 use Rattle.rb_node.specs.Step.{stepped}
-use Rattle.rb_laws.specs.Elections.{own_turn}
+use Rattle.rb_calls.specs.Elections.{own_turn}
 use Rattle.rb_laws.specs.Outgoing.{to_others, to_itself}
 
 -- ---- what goes out

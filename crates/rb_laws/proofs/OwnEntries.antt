@@ -6,7 +6,7 @@ use Rattle.rb_raftlog.specs.declared.entry.Entry.{Entry}
 use Rattle.rb_raftlog.specs.Log.{last, last_term, own}
 use Rattle.rb_raftlog.proofs.PlaceLaws.{own-term_held}
 use Rattle.rb_raftlog.proofs.TermLaws.{held_in}
-use Rattle.rb_laws.proofs.Turns.{own_size}
+use Rattle.rb_calls.proofs.Turns.{own_size}
 use Rattle.rb_tracker.specs.Ballots.{vote_result}
 use Rattle.rb_tracker.specs.Commits.{match_of}
 use Rattle.rb_tracker.specs.Sets.{has}

@@ -55,16 +55,16 @@ use Rattle.rb_node.specs.Ticking.{next_count as counted_tick, counters_advanced,
 use Rattle.rb_node.specs.Transferring.{transfer_ended}
 use Rattle.rb_node.specs.Votes.{grants, decided, pre_decided, vote_counted, count_of}
 use Rattle.rb_node.specs.declared.limits.TheConstants.{ELECTION_TICKS, HEARTBEAT_TICKS}
-use Rattle.rb_laws.specs.Calling.{Call, Step, Campaign, Propose, Transfer, Tick, Advance, ForgetLeader, ReportUnreachable, SetTimeout, Compact, compacted_unless, after, run}
+use Rattle.rb_calls.specs.Calling.{Call, Step, Campaign, Propose, Transfer, Tick, Advance, ForgetLeader, ReportUnreachable, SetTimeout, Compact, compacted_unless, after, run}
 use Rattle.rb_laws.specs.Rules.{NoChangePast, LeadsKnowing}
-use Rattle.rb_laws.proofs.Goes.{Core, core}
-use Rattle.rb_laws.proofs.LeaderLaws.{with_views_only, strangers_only}
+use Rattle.rb_calls.proofs.Goes.{Core, core}
+use Rattle.rb_calls.proofs.LeaderLaws.{with_views_only, strangers_only}
 use Rattle.rb_laws.proofs.PreVoteLaws.{asked_same, became_precandidate_core}
 use Rattle.rb_laws.proofs.SendLaws.{tells_only}
 use Rattle.rb_laws.proofs.StandingLaws.{Standing, standing, StandsStill, append_broadcast_standing, accepted_standing, refused_standing, beat_standing, transferred_standing}
 use Rattle.rb_laws.proofs.StepCases.{by_term}
-use Rattle.rb_laws.proofs.MoveLaws.{compact_within}
-use Rattle.rb_laws.proofs.Turns.{own_size}
+use Rattle.rb_calls.proofs.MoveLaws.{compact_within}
+use Rattle.rb_calls.proofs.Turns.{own_size}
 
 -- ---- from one node to another
 

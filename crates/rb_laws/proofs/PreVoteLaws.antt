@@ -15,9 +15,9 @@ use Rattle.rb_node.specs.Node.{NodeStep, PlainNode, ignored}
 use Rattle.rb_node.specs.Step.{at_term_by, stepped, at_term}
 use Rattle.rb_node.specs.Terms.{term_revealed, answers_earlier, stepped_earlier_by, stepped_later_by, stepped_earlier, ignores_campaign, stepped_later}
 use Rattle.rb_node.specs.Votes.{pre_vote_request_handled, grants}
-use Rattle.rb_laws.specs.Sound.{HasSameVote}
-use Rattle.rb_laws.proofs.Goes.{core, Core}
-use Rattle.rb_laws.proofs.StepWays.{asked_one_same}
+use Rattle.rb_calls.specs.Sound.{HasSameVote}
+use Rattle.rb_calls.proofs.Goes.{core, Core}
+use Rattle.rb_calls.proofs.StepWays.{asked_one_same}
 
 -- ---- what leaves a node but its messages as it is
 

@@ -34,10 +34,10 @@ use Rattle.rb_machine.specs.Views.{held_item, log_line, log_items, log_shown_by}
 use Rattle.rb_replay.specs.Run.{directives, led, answers, state}
 use Rattle.rb_laws.specs.Clusters.{HasSameStarts}
 use Rattle.rb_laws.specs.Printing.{PrintsLog}
-use Rattle.rb_laws.specs.Sound.{IsSound}
+use Rattle.rb_calls.specs.Sound.{IsSound}
 use Rattle.rb_laws.proofs.ClusterHistory.{both_points, cluster_applied_same}
 use Rattle.rb_laws.proofs.Links.{entry_there}
-use Rattle.rb_laws.proofs.ListLaws.{some_at, in_first, in_rest, first_or_rest}
+use Rattle.rb_calls.proofs.ListLaws.{some_at, in_first, in_rest, first_or_rest}
 
 -- ---- lines of items
 

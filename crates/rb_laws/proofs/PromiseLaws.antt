@@ -6,13 +6,13 @@ use Rattle.rb_message.specs.declared.kind.MessageKind.{MessageKind}
 use Rattle.rb_message.specs.declared.message.Message.{Message}
 use Rattle.rb_node.specs.Node.{PlainNode, NodeStep}
 use Rattle.rb_node.specs.Readying.{saved, outgoing, others}
-use Rattle.rb_laws.specs.Calling.{Call, run}
-use Rattle.rb_laws.specs.Sound.{IsSound}
-use Rattle.rb_laws.specs.Words.{IsYes, IsPromised, HasPromises, Sends, SendsBy, Answers, AnswersBy}
-use Rattle.rb_laws.proofs.Goes.{Keeps, anyone, core, Goes, same, and_then}
+use Rattle.rb_calls.specs.Calling.{Call, run}
+use Rattle.rb_calls.specs.Sound.{IsSound}
+use Rattle.rb_calls.specs.Words.{IsYes, IsPromised, HasPromises, Sends, SendsBy, Answers, AnswersBy}
+use Rattle.rb_calls.proofs.Goes.{Keeps, anyone, core, Goes, same, and_then}
 use Rattle.rb_laws.proofs.SaidLaws.{Says, run_says}
-use Rattle.rb_laws.proofs.Saying.{words, Words, with_sent, with_waiting}
-use Rattle.rb_laws.proofs.Turns.{all_durable}
+use Rattle.rb_calls.proofs.Saying.{words, Words, with_sent, with_waiting}
+use Rattle.rb_calls.proofs.Turns.{all_durable}
 
 -- to whom a vote of a term goes
 abbrev Only : ℕ → ℕ → Message → Type 0

@@ -9,7 +9,7 @@ use Rattle.rb_message.specs.declared.message.Message.{Message}
 use Rattle.rb_message.specs.declared.role.Role.TheVariants as role
 use Rattle.rb_node.specs.Node.{PlainNode}
 use Rattle.rb_laws.proofs.Spots.{spot}
-use Rattle.rb_laws.proofs.ListLaws.{picked}
+use Rattle.rb_calls.proofs.ListLaws.{picked}
 use Rattle.rb_laws.proofs.Links.{Link}
 use Rattle.rb_laws.proofs.Completeness.{Election, Ack, History, out_of, IsAcked}
 use Rattle.rb_laws.proofs.Histories.{IsMore, more_out, still_voted, still_is_on, HasStood}

@@ -9,8 +9,8 @@ use Rattle.rb_node.specs.Node.{PlainNode, NodeStep, with_node}
 use Rattle.rb_node.specs.Changing.{applied_all}
 use Rattle.rb_node.specs.Readying.{hard_state, is_saved, has_ready, applying, saved}
 use Rattle.rb_node.proofs.Between.{between_sizes}
-use Rattle.rb_laws.specs.Sound.{IsSound}
-use Rattle.rb_laws.specs.Elections.{own_turn}
+use Rattle.rb_calls.specs.Sound.{IsSound}
+use Rattle.rb_calls.specs.Elections.{own_turn}
 use Rattle.rb_laws.specs.Choices.{HasNothing, payloads}
 use Rattle.rb_laws.proofs.ChangeLaws.{all_fill, all_applied, left_core}
 

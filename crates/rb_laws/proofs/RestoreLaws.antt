@@ -17,7 +17,7 @@ use Rattle.rb_node.specs.Node.{PlainNode, NodeStep, with_node, ignored, message}
 use Rattle.rb_node.specs.Readying.{ready}
 use Rattle.rb_node.specs.Step.{as_follower, as_precandidate, as_candidate, as_leader, by_role_of, at_term_by, stepped}
 use Rattle.rb_node.specs.Terms.{became_follower, stepped_later_by, stepped_earlier_by, ignores_campaign}
-use Rattle.rb_laws.specs.Learning.{IsRestored, KeepsState}
+use Rattle.rb_calls.specs.Learning.{IsRestored, KeepsState}
 use Rattle.rb_laws.proofs.StepCases.{by_term}
 
 abbrev TakesSnapshot : PlainNode → Snapshot → NodeStep → Type 0

@@ -15,7 +15,7 @@ use Rattle.rb_laws.specs.Honesty.{IsPlain, Keeps, AreHonest}
 use Rattle.rb_laws.specs.Network.{Network, Happening, run, IsStarted, IsBegun, Leads}
 use Rattle.rb_laws.specs.Votes.{IsCast, IsChosen}
 use Rattle.rb_laws.proofs.LinkedLogs.{none_linked}
-use Rattle.rb_laws.proofs.ListLaws.{in_nothing}
+use Rattle.rb_calls.proofs.ListLaws.{in_nothing}
 use Rattle.rb_laws.proofs.Holding.{Setting, World, IsElected, IsOwn, IsChain, IsIn, essence, world_of, still_elected, follower_stands, follower_leads}
 use Rattle.rb_laws.proofs.Electing.{one_elected}
 use Rattle.rb_laws.proofs.NetworkLaws.{IsGood, IsSane, run_sane, still_said}

@@ -6,16 +6,16 @@ use Rattle.rb_message.specs.declared.message.Message.{Message}
 use Rattle.rb_node.specs.Leading.{leading, in_lead}
 use Rattle.rb_node.specs.Node.{PlainNode, NodeStep}
 use Rattle.rb_node.specs.Readying.{saved}
-use Rattle.rb_laws.specs.Calling.{Call, after, run}
-use Rattle.rb_laws.specs.Sound.{IsSound}
-use Rattle.rb_laws.specs.Words.{Sends, Answers}
-use Rattle.rb_laws.proofs.CallLaws.{Carried, over_call, over_calls}
-use Rattle.rb_laws.proofs.CallWays.{with_members_only}
-use Rattle.rb_laws.proofs.Goes.{Keeps, anyone, core, Ways, anyhow, self}
-use Rattle.rb_laws.proofs.LeaderLaws.{with_views_only}
-use Rattle.rb_laws.proofs.MoveLaws.{step_keeps, change_keeps, call_keeps}
-use Rattle.rb_laws.proofs.Moves.{StepMove, StepTells, Sent, Passes, Idle, Whole, Waits, Leads, ChangeMove, Revises, in_config, with_members, CallMove, CallChanges, CallSteps, Saves}
-use Rattle.rb_laws.proofs.Saying.{words, with_sent, with_waiting}
+use Rattle.rb_calls.specs.Calling.{Call, after, run}
+use Rattle.rb_calls.specs.Sound.{IsSound}
+use Rattle.rb_calls.specs.Words.{Sends, Answers}
+use Rattle.rb_calls.proofs.CallLaws.{Carried, over_call, over_calls}
+use Rattle.rb_calls.proofs.CallWays.{with_members_only}
+use Rattle.rb_calls.proofs.Goes.{Keeps, anyone, core, Ways, anyhow, self}
+use Rattle.rb_calls.proofs.LeaderLaws.{with_views_only}
+use Rattle.rb_calls.proofs.MoveLaws.{step_keeps, change_keeps, call_keeps}
+use Rattle.rb_calls.proofs.Moves.{StepMove, StepTells, Sent, Passes, Idle, Whole, Waits, Leads, ChangeMove, Revises, in_config, with_members, CallMove, CallChanges, CallSteps, Saves}
+use Rattle.rb_calls.proofs.Saying.{words, with_sent, with_waiting}
 
 pub record Says (R : PlainNode → PlainNode → Type 0) : Type 0 where
   -- one after another, from a sound node at least

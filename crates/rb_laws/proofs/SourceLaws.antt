@@ -19,19 +19,19 @@ use Rattle.rb_message.specs.declared.message.Message.{Message}
 use Rattle.rb_node.specs.declared.options.Options.{Options}
 use Rattle.rb_node.specs.Node.{PlainNode, NodeStep, node_step, started}
 use Rattle.rb_node.specs.Leading.{in_lead}
-use Rattle.rb_laws.specs.Calling.{Call, Step, Propose, Transfer, Advance, after}
+use Rattle.rb_calls.specs.Calling.{Call, Step, Propose, Transfer, Advance, after}
 use Rattle.rb_laws.specs.Network.{Network, Happening, put_out, happened_to, happened, run, IsBegun}
 use Rattle.rb_laws.specs.Proposals.{BringsNone, IsSaidCall, AreSaid, HasSource}
-use Rattle.rb_laws.specs.Sound.{IsSound}
-use Rattle.rb_laws.specs.Words.{SendsBy, AnswersBy}
-use Rattle.rb_laws.proofs.CallWays.{ways, called_way, with_members_only}
-use Rattle.rb_laws.proofs.Goes.{Ways}
-use Rattle.rb_laws.proofs.LeaderLaws.{with_views_only}
+use Rattle.rb_calls.specs.Sound.{IsSound}
+use Rattle.rb_calls.specs.Words.{SendsBy, AnswersBy}
+use Rattle.rb_calls.proofs.CallWays.{ways, called_way, with_members_only}
+use Rattle.rb_calls.proofs.Goes.{Ways}
+use Rattle.rb_calls.proofs.LeaderLaws.{with_views_only}
 use Rattle.rb_laws.proofs.LinkedLogs.{part_all}
 use Rattle.rb_laws.proofs.Links.{entry_there}
-use Rattle.rb_laws.proofs.ListLaws.{each_set, in_first, in_rest}
-use Rattle.rb_laws.proofs.MoveLaws.{call_keeps}
-use Rattle.rb_laws.proofs.Moves.{Whole, Allows, TellMove, Idle, Sent, IsNoProposal, StepMove, StepTells, Came, Puts, Passes, Waits, Leads, Appends, Takes, Restores, ChangeMove, Revises, in_config, CallMove, CallChanges, CallSteps, Saves, Compacts, over}
+use Rattle.rb_calls.proofs.ListLaws.{each_set, in_first, in_rest}
+use Rattle.rb_calls.proofs.MoveLaws.{call_keeps}
+use Rattle.rb_calls.proofs.Moves.{Whole, Allows, TellMove, Idle, Sent, IsNoProposal, StepMove, StepTells, Came, Puts, Passes, Waits, Leads, Appends, Takes, Restores, ChangeMove, Revises, in_config, CallMove, CallChanges, CallSteps, Saves, Compacts, over}
 
 -- ---- nodes whose entries are of a kind
 

@@ -19,7 +19,7 @@ use Rattle.rb_message.specs.declared.hard_state.HardState.{HardState}
 use Rattle.rb_node.specs.Node.{PlainNode}
 use Rattle.rb_node.specs.Readying.{ready, hard_state, is_saved}
 use Rattle.rb_laws.specs.Rules.{IsHardStateOf, HasChangeIn}
-use Rattle.rb_laws.specs.Sound.{IsSound}
+use Rattle.rb_calls.specs.Sound.{IsSound}
 
 -- ---- what is ready
 

@@ -8,7 +8,7 @@ use Rattle.rb_message.specs.declared.message.Message.{Message}
 use Rattle.rb_node.specs.Node.{NodeStep, ignored}
 use Rattle.rb_node.specs.Step.{stepped, at_term}
 use Rattle.rb_node.specs.Terms.{stepped_earlier, stepped_later, ignores_campaign}
-use Rattle.rb_laws.proofs.StepWays.{of_term, above}
+use Rattle.rb_calls.proofs.StepWays.{of_term, above}
 
 pub by_term : (P : NodeStep → Type 0) (t : NodeStep) (m : Message)
     → ((has_term m.kind ≡ true → m.term ≡ t.node.term) → P (at_term t m))

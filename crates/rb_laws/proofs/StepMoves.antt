@@ -31,13 +31,13 @@ use Rattle.rb_node.specs.Leading.{can_commit, leading}
 use Rattle.rb_node.specs.Node.{PlainNode}
 use Rattle.rb_node.specs.Sends.{with_view_at}
 use Rattle.rb_node.specs.Votes.{voted_for, grants}
-use Rattle.rb_laws.specs.Sound.{IsSound, HasSoundViews}
-use Rattle.rb_laws.specs.Words.{IsYes, SendsBy, Sends, Answers, AnswersBy}
+use Rattle.rb_calls.specs.Sound.{IsSound, HasSoundViews}
+use Rattle.rb_calls.specs.Words.{IsYes, SendsBy, Sends, Answers, AnswersBy}
 use Rattle.rb_laws.proofs.ChoiceLaws.{may_campaign}
-use Rattle.rb_laws.proofs.Goes.{Ways, core}
-use Rattle.rb_laws.proofs.Moves.{Whole, following, TellMove, Idle, Sent, Viewed, Commits, CameNow, MaySay, Learned, Known, By_append, By_beat, By_snapshot, StepMove, StepTells, Passes, Waits, Follows, Asks, Stands as Campaigns, Leads, Votes_for, Counts, Appends, Takes, Learns, Restores, Acks}
-use Rattle.rb_laws.proofs.ProgressLaws.{same_match}
-use Rattle.rb_laws.proofs.Saying.{Words, words, with_sent, with_waiting}
+use Rattle.rb_calls.proofs.Goes.{Ways, core}
+use Rattle.rb_calls.proofs.Moves.{Whole, following, TellMove, Idle, Sent, Viewed, Commits, CameNow, MaySay, Learned, Known, By_append, By_beat, By_snapshot, StepMove, StepTells, Passes, Waits, Follows, Asks, Stands as Campaigns, Leads, Votes_for, Counts, Appends, Takes, Learns, Restores, Acks}
+use Rattle.rb_calls.proofs.ProgressLaws.{same_match}
+use Rattle.rb_calls.proofs.Saying.{Words, words, with_sent, with_waiting}
 use Rattle.rb_laws.specs.Safety.{IsHarmless, IsGenuine}
 use Rattle.rb_laws.specs.Votes.{IsCast}
 use Rattle.rb_laws.proofs.Electing.{some_voters, one_elected}

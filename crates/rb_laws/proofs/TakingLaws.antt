@@ -17,7 +17,7 @@ use Rattle.rb_node.specs.Following.{after_log, with_appended, removal_reported, 
 use Rattle.rb_node.specs.Node.{PlainNode, NodeStep, with_node, message}
 use Rattle.rb_node.specs.Step.{as_follower, as_precandidate, as_candidate, by_role_of, at_term_by, stepped}
 use Rattle.rb_node.specs.Terms.{became_follower, stepped_later_by, ignores_campaign}
-use Rattle.rb_laws.specs.Learning.{HasTaken, MayFollow}
+use Rattle.rb_calls.specs.Learning.{HasTaken, MayFollow}
 use Rattle.rb_laws.proofs.StepCases.{by_term}
 
 -- ---- a message of a leader comes to who follows it

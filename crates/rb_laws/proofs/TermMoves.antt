@@ -9,8 +9,8 @@ use Rattle.rb_tracker.specs.Commits.{match_of}
 use Rattle.rb_message.specs.declared.message.Message.{Message}
 use Rattle.rb_node.specs.Campaigns.{candidate}
 use Rattle.rb_node.specs.Node.{PlainNode}
-use Rattle.rb_laws.proofs.Moves.{following}
-use Rattle.rb_laws.proofs.Saying.{with_sent, with_waiting}
+use Rattle.rb_calls.proofs.Moves.{following}
+use Rattle.rb_calls.proofs.Saying.{with_sent, with_waiting}
 use Rattle.rb_laws.proofs.Holding.{follower_leads, follower_stands, candidate_leads}
 use Rattle.rb_laws.proofs.Links.{Link}
 use Rattle.rb_laws.proofs.Spots.{Spot, spot, site, Descends, through}

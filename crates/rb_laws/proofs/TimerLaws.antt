@@ -22,9 +22,9 @@ use Rattle.rb_node.specs.Ticking.{next_count, counters_advanced, heartbeat_sent_
 use Rattle.rb_node.specs.Transferring.{transfer_ended}
 use Rattle.rb_node.specs.Votes.{grants}
 use Rattle.rb_node.specs.declared.limits.TheConstants.{ELECTION_TICKS, HEARTBEAT_TICKS}
-use Rattle.rb_laws.specs.Learning.{IsLeaders}
+use Rattle.rb_calls.specs.Learning.{IsLeaders}
 use Rattle.rb_laws.proofs.StepCases.{by_term}
-use Rattle.rb_laws.proofs.StepWays.{leaders_have_term}
+use Rattle.rb_calls.proofs.StepWays.{leaders_have_term}
 
 -- ---- a leader's message
 

@@ -11,10 +11,10 @@ use Rattle.rb_raftlog.specs.declared.snapshot.Snapshot.{Snapshot}
 use Rattle.rb_raftlog.proofs.TermLaws.{term_base, term_past, is_term_is, is_term_from, held_in}
 use Rattle.rb_raftlog.proofs.AppendLaws.{put, by_append, in_place}
 use Rattle.rb_raftlog.proofs.PlaceLaws.{ok_is, own-last}
-use Rattle.rb_laws.proofs.Turns.{own_size}
+use Rattle.rb_calls.proofs.Turns.{own_size}
 use Rattle.rb_laws.proofs.Links.{Link, link, IsLinked, held_entry, held_term}
 use Rattle.rb_laws.proofs.LinkedLogs.{log_from, entry_term, Puts, put_last, put_sent_term}
-use Rattle.rb_laws.proofs.ListLaws.{some_at}
+use Rattle.rb_calls.proofs.ListLaws.{some_at}
 use Rattle.rb_laws.proofs.Spots.{Spot, spot, same_spot, site, under, Descends, IsTree, here, one_down, through, lower, one_at}
 
 -- where a log ends, and where it begins
@@ -134,5 +134,8 @@ own_tip v e =
     let held : term_at w (last w) ≡ Ok e.term = ap (term_at w) size ∙ entry_term w (last v + 1) e (own-last v e) in
     same_spot (tip w) (spot (last v + 1) e.term) size (last_is w e.term held)
 
-pub restored_tip : (s : Snapshot) → tip (restored s) ≡ spot s.index s.term
-restored_tip s = (let held = term_base (restored s) in same_spot (tip (restored s)) (spot s.index s.term) (omega arith) (last_is (restored s) s.term (ap (term_at (restored s)) (let same : last (restored s) ≡ s.index = omega arith in same) ∙ held)))
+pub restored_tip : (v : LogValue) (s : Snapshot) → tip (restored v s) ≡ spot s.index s.term
+restored_tip v s =
+    let w = restored v s in
+    let same : last w ≡ s.index = omega arith in
+    same_spot (tip w) (spot s.index s.term) (omega arith) (last_is w s.term (ap (term_at w) same ∙ term_base w))

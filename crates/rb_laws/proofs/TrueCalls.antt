@@ -6,10 +6,10 @@ use Rattle.rb_tracker.specs.declared.config.Config.{Config}
 use Rattle.rb_message.specs.declared.kind.MessageKind.{MessageKind}
 use Rattle.rb_message.specs.declared.kind.MessageKind.TheVariants as kind
 use Rattle.rb_message.specs.declared.message.Message.{Message}
-use Rattle.rb_laws.specs.Calling.{Call, Step, Propose}
+use Rattle.rb_calls.specs.Calling.{Call, Step, Propose}
 use Rattle.rb_laws.specs.Honesty.{KeepsBy, IsHonestCall, AreHonest}
 use Rattle.rb_laws.specs.Network.{Network, Happening, happened}
-use Rattle.rb_laws.specs.Restarts.{Durable, Occurrence, Called, Restarted, occurred, IsHonestOccurrence, IsTrueOccurrence, AreHonestThrough, AreTrueThrough}
+use Rattle.rb_laws.specs.Restarts.{Occurrence, Called, Restarted, occurred, IsHonestOccurrence, IsTrueOccurrence, AreHonestThrough, AreTrueThrough}
 use Rattle.rb_laws.specs.Safety.{IsHarmless, IsTrueCall, IsStateOf, IsStateCall, AreTrue}
 use Rattle.rb_laws.proofs.Holding.{Setting}
 use Rattle.rb_laws.proofs.NetworkLaws.{IsSane, run_sane}
@@ -58,14 +58,14 @@ all_honest g loose (h ∷ hs) s sane true_calls =
     let next : IsSane g (happened s h) = run_sane g (h ∷ []) s sane (honest, tt) (λ strict. absurd (loose strict)) in
     (honest, all_honest g loose hs (happened s h) next true_calls.1)
 
--- ---- where nodes start again
+-- ---- where nodes restart
 
-honest_occurrence : (g : Setting) (x : Durable) (o : Occurrence) → IsSaneWith g x → IsTrueOccurrence x o → IsHonestOccurrence g.config x o
-honest_occurrence g x (Called h) w is = honest_call g x.network (h.place + 1) h.call w.sane is
-honest_occurrence g x (Restarted place) w is = tt
+honest_occurrence : (g : Setting) (s : Network) (o : Occurrence) → IsSaneWith g s → IsTrueOccurrence s o → IsHonestOccurrence g.config s o
+honest_occurrence g s (Called h) w is = honest_call g s (h.place + 1) h.call w.sane is
+honest_occurrence g s (Restarted place) w is = tt
 
-pub all_honest_through : (g : Setting) (loose : g.strict ≡ true → ⊥) (os : List Occurrence) (x : Durable) → IsSaneWith g x → AreTrueThrough os x → AreHonestThrough g.config os x
-all_honest_through g loose [] x w true_calls = tt
-all_honest_through g loose (o ∷ os) x w true_calls =
-    let honest = honest_occurrence g x o w true_calls.0 in
-    (honest, all_honest_through g loose os (occurred x o) (occurs_sane g loose x o w honest) true_calls.1)
+pub all_honest_through : (g : Setting) (loose : g.strict ≡ true → ⊥) (os : List Occurrence) (s : Network) → IsSaneWith g s → AreTrueThrough os s → AreHonestThrough g.config os s
+all_honest_through g loose [] s w true_calls = tt
+all_honest_through g loose (o ∷ os) s w true_calls =
+    let honest = honest_occurrence g s o w true_calls.0 in
+    (honest, all_honest_through g loose os (occurred s o) (occurs_sane g loose s o w honest) true_calls.1)

@@ -5,13 +5,13 @@ use Rattle.std.specs.Prelude.{Contains, All}
 use Rattle.rb_message.specs.declared.message.Message.{Message}
 use Rattle.rb_node.specs.Node.{PlainNode, NodeStep}
 use Rattle.rb_node.specs.Readying.{saved}
-use Rattle.rb_laws.specs.Calling.{Call, run}
-use Rattle.rb_laws.specs.Sound.{IsSound}
-use Rattle.rb_laws.specs.Words.{Sends, Answers, IsLater, IsTrueBetween, AreTrueBetween}
-use Rattle.rb_laws.proofs.Goes.{Goes, anyone, core, Keeps, goes_then, and_then, same, self}
+use Rattle.rb_calls.specs.Calling.{Call, run}
+use Rattle.rb_calls.specs.Sound.{IsSound}
+use Rattle.rb_calls.specs.Words.{Sends, Answers, IsLater, IsTrueBetween, AreTrueBetween}
+use Rattle.rb_calls.proofs.Goes.{Goes, anyone, core, Keeps, goes_then, and_then, same, self}
 use Rattle.rb_laws.proofs.SaidLaws.{Says, run_says}
-use Rattle.rb_laws.proofs.Saying.{words, Words, with_sent, with_waiting}
-use Rattle.rb_laws.proofs.Turns.{all_durable}
+use Rattle.rb_calls.proofs.Saying.{words, Words, with_sent, with_waiting}
+use Rattle.rb_calls.proofs.Turns.{all_durable}
 
 record Between (a b : PlainNode) (m : Message) : Type 0 where
   moment : PlainNode

@@ -9,7 +9,7 @@ use Rattle.rb_node.specs.Node.{PlainNode}
 use Rattle.rb_laws.specs.Honesty.{AreHonest}
 use Rattle.rb_laws.specs.Network.{Network, Happening, run}
 use Rattle.rb_laws.specs.Safety.{BeginAt, StartsAlike, IsRaftNetwork, HasCommitted}
-use Rattle.rb_laws.specs.Sound.{IsSound}
+use Rattle.rb_calls.specs.Sound.{IsSound}
 use Rattle.rb_laws.proofs.NetworkLaws.{IsSane, run_sane}
 use Rattle.rb_laws.proofs.SafetyLaws.{setting_of, begun_sane}
 use Rattle.rb_laws.proofs.Spots.{spot, same_spot}

@@ -15,16 +15,16 @@ use Rattle.rb_node.specs.Changing.{without_views, without_view, missing}
 use Rattle.rb_node.specs.Leading.{new_view, with_views, with_view_of, in_lead}
 use Rattle.rb_node.specs.Node.{PlainNode, NodeStep}
 use Rattle.rb_node.specs.Sends.{with_view_at}
-use Rattle.rb_laws.specs.Calling.{Call, after, run}
-use Rattle.rb_laws.specs.Sound.{IsSound, HasSoundViews, IsSoundView, IsOrdered, AreSoundViews, AreViewsOf}
-use Rattle.rb_laws.proofs.CallLaws.{Carried, over_call, over_calls}
-use Rattle.rb_laws.proofs.CallWays.{with_members_only}
+use Rattle.rb_calls.specs.Calling.{Call, after, run}
+use Rattle.rb_calls.specs.Sound.{IsSound, HasSoundViews, IsSoundView, IsOrdered, AreSoundViews, AreViewsOf}
+use Rattle.rb_calls.proofs.CallLaws.{Carried, over_call, over_calls}
+use Rattle.rb_calls.proofs.CallWays.{with_members_only}
 use Rattle.rb_laws.proofs.ChoiceLaws.{may_campaign}
-use Rattle.rb_laws.proofs.Goes.{Keeps, anyone, core, Core, Ways, self, and_then, anyhow}
-use Rattle.rb_laws.proofs.LeaderLaws.{with_view_only, leading_leads, strangers_only}
-use Rattle.rb_laws.proofs.MoveLaws.{call_keeps}
-use Rattle.rb_laws.proofs.Moves.{TellMove, Idle, Whole, Viewed, StepMove, StepTells, Follows, Asks, Stands, Leads, Acks, with_members, ChangeMove, Resigns, Revises, in_config, CallMove, CallChanges, CallSteps, Unmarks, Gives_up}
-use Rattle.rb_laws.proofs.ProgressLaws.{new_own, new_probe, sound_put, sound_removed, sound_set, sound_at, sound_acked, sound_unmarked}
+use Rattle.rb_calls.proofs.Goes.{Keeps, anyone, core, Core, Ways, self, and_then, anyhow}
+use Rattle.rb_calls.proofs.LeaderLaws.{with_view_only, leading_leads, strangers_only}
+use Rattle.rb_calls.proofs.MoveLaws.{call_keeps}
+use Rattle.rb_calls.proofs.Moves.{TellMove, Idle, Whole, Viewed, StepMove, StepTells, Follows, Asks, Stands, Leads, Acks, with_members, ChangeMove, Resigns, Revises, in_config, CallMove, CallChanges, CallSteps, Unmarks, Gives_up}
+use Rattle.rb_calls.proofs.ProgressLaws.{new_own, new_probe, sound_put, sound_removed, sound_set, sound_at, sound_acked, sound_unmarked}
 
 pub record Views (a b : PlainNode) : Type 0 where
   pub keeps : Keeps anyone (core a) (core b)

@@ -33,17 +33,17 @@ use Rattle.rb_node.specs.Node.{PlainNode, NodeStep, with_event, with_node}
 use Rattle.rb_node.specs.Step.{by_role_of, stepped}
 use Rattle.rb_node.specs.Terms.{became_follower, hears_leader}
 use Rattle.rb_node.specs.Votes.{grants, decided, vote_counted}
-use Rattle.rb_laws.specs.Calling.{Campaign, after, run}
+use Rattle.rb_calls.specs.Calling.{Campaign, after, run}
 use Rattle.rb_laws.specs.Choices.{MayCampaign}
 use Rattle.rb_laws.specs.Winning.{request_to, yes_from, yeses, WouldVoteFor, VotesFor, StillStands, HasQuorumWith, LeadsIn}
 use Rattle.rb_laws.proofs.CampaignLaws.{nothing_keeps}
 use Rattle.rb_laws.proofs.EarlierLaws.{no_lease_hears}
-use Rattle.rb_laws.proofs.Goes.{Core}
-use Rattle.rb_laws.proofs.LeaderLaws.{leading_same}
+use Rattle.rb_calls.proofs.Goes.{Core}
+use Rattle.rb_calls.proofs.LeaderLaws.{leading_same}
 use Rattle.rb_laws.proofs.PreVoteLaws.{asked_same}
 use Rattle.rb_laws.proofs.StepCases.{by_term}
-use Rattle.rb_laws.proofs.TellWays.{Rest, keeps_rest, append_broadcast_way}
-use Rattle.rb_laws.proofs.Moves.{over_way}
+use Rattle.rb_calls.proofs.TellWays.{Rest, keeps_rest, append_broadcast_way}
+use Rattle.rb_calls.proofs.Moves.{over_way}
 
 -- ---- a vote is given
 

@@ -1,5 +1,5 @@
--- Scripts of the bench that keep the premises of the laws: whoever is added, at whatever point, starts alike, and nobody proposes a change. Messages may
--- be dropped, and delivered in any order; a snapshot may be sent by hand, and any node may campaign.
+-- Scripts of the bench that keep the premises of the laws: whoever is added, at whatever point, starts alike, and nobody proposes a change. Nodes may
+-- restart; messages may be dropped, and delivered in any order; a snapshot may be sent by hand, and any node may campaign.
 use Rattle.std.specs.Prelude.{◌≡◌, List, [], ◌∷◌, Result, Ok, Err}
 use Rattle.rb_script.specs.Directive.{PlainDirective}
 use Rattle.rb_script.specs.Script.{PlainScript}

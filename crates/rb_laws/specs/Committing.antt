@@ -10,8 +10,8 @@ use Rattle.rb_message.specs.declared.kind.MessageKind.TheVariants.{AppendRespons
 use Rattle.rb_message.specs.declared.message.Message.{Message}
 use Rattle.rb_message.specs.declared.role.Role.TheVariants.{Leader}
 use Rattle.rb_node.specs.Node.{PlainNode, message}
-use Rattle.rb_laws.specs.Calling.{Call, Step}
-use Rattle.rb_laws.specs.Sound.{IsSound, HasViewsOfMembers}
+use Rattle.rb_calls.specs.Calling.{Call, Step}
+use Rattle.rb_calls.specs.Sound.{IsSound, HasViewsOfMembers}
 
 -- a quorum of voters holds an index, and none holds the next
 pub record IsHeldUpTo (t : PlainTracker) (i : ℕ) : Type 0 where

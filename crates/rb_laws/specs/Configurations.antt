@@ -8,17 +8,17 @@ use Rattle.rb_tracker.specs.declared.config.Config.{Config}
 use Rattle.rb_message.specs.Appends.{PlainAppend}
 use Rattle.rb_message.specs.declared.kind.MessageKind.{MessageKind}
 use Rattle.rb_message.specs.declared.kind.MessageKind.TheVariants as kind
+use Rattle.rb_node.specs.Compacting.{config_with}
 use Rattle.rb_node.specs.Node.{PlainNode, node_step}
-use Rattle.rb_laws.specs.Calling.{Call, Step}
-use Rattle.rb_laws.specs.Elections.{Elected}
+use Rattle.rb_calls.specs.Calling.{Call, Step}
+use Rattle.rb_calls.specs.Elections.{Elected}
 use Rattle.rb_laws.specs.Network.{Network, Happening, happened}
-use Rattle.rb_laws.specs.Rules.{config_with}
 use Rattle.rb_laws.specs.Safety.{IsStateOf}
 
 -- what the entries of some indexes after a base make of a configuration, one after another
 abbrev pub config_after_all : (ℕ → Entry) → Config → ℕ → ℕ → Config
 config_after_all chosen c base zero = c
-config_after_all chosen c base (suc k) = config_with (chosen (base + suc k)).body (config_after_all chosen c base k)
+config_after_all chosen c base (suc k) = config_with (config_after_all chosen c base k) (chosen (base + suc k)).body
 
 -- What each node knows to be committed is the entry that is chosen for its index, as far as the log still has it. So committed entries agree.
 abbrev pub AreChosen : (ℕ → Entry) → List PlainNode → Type 0
@@ -48,7 +48,7 @@ HasOneChangePast v index =
 
 -- an append's entries, as a log that begins at the entry before them
 abbrev pub log_of : PlainAppend → LogValue
-log_of append = record { base = append.prev; base_term = append.prev_term; entries = append.entries; durable = append.prev }
+log_of append = record { base = append.prev; base_term = append.prev_term; entries = append.entries; durable = append.prev; overwritten = [] }
 
 -- A term has at most one leader: whomever a call elects in a term is the one of that term.
 abbrev pub IsElectedAs : (ℕ → ℕ) → Option PlainNode → Happening → Type 0

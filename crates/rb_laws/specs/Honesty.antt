@@ -7,7 +7,7 @@ use Rattle.rb_tracker.specs.declared.config.Config.{Config}
 use Rattle.rb_message.specs.declared.kind.MessageKind.{MessageKind}
 use Rattle.rb_message.specs.declared.kind.MessageKind.TheVariants as kind
 use Rattle.rb_message.specs.declared.message.Message.{Message}
-use Rattle.rb_laws.specs.Calling.{Call, Step, Propose}
+use Rattle.rb_calls.specs.Calling.{Call, Step, Propose}
 use Rattle.rb_laws.specs.Network.{Network, Happening, happened}
 
 -- ---- the configuration stays

@@ -6,14 +6,7 @@ pub mod Printing
 pub mod Safety
 pub mod Restarts
 pub mod Configurations
-pub mod Sound
-pub mod Calling
-pub mod Elections
-pub mod Words
 pub mod Choices
-pub mod Matches
-pub mod Events
-pub mod Learning
 pub mod Rules
 pub mod Proposals
 pub mod Outgoing

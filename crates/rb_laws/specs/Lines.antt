@@ -70,6 +70,9 @@ NamesKind l _ = Unit {0}
 
 abbrev pub SaysEvent : List ℕ → EventKind → Type 0
 SaysEvent l (events.Started term index c) = Has l (codes " started at " ++ place_text term index) × Has l (codes " with " ++ config_text c)
+SaysEvent l (events.Restarted saved base last lost) =
+    Names l (codes " restarted at term=") saved.term × Names l (codes " vote=") saved.vote × Has l (codes " log=" ++ decimal base ++ codes ".." ++ decimal last)
+    × Names l (codes " commit=") saved.commit
 SaysEvent l (events.Became role term) = Has l (codes " became " ++ role_text role) × Names l (codes " at term ") term
 SaysEvent l (events.CannotCampaign why) = Has l (codes " can't campaign: " ++ no_campaign_text why)
 SaysEvent l (events.VoteCounted type granted from result) =

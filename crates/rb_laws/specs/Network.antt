@@ -8,7 +8,7 @@ use Rattle.rb_message.specs.declared.message.Message.{Message}
 use Rattle.rb_message.specs.declared.role.Role.TheVariants.{Leader}
 use Rattle.rb_node.specs.declared.options.Options.{Options}
 use Rattle.rb_node.specs.Node.{PlainNode, node_step, started}
-use Rattle.rb_laws.specs.Calling.{Call, Advance, after}
+use Rattle.rb_calls.specs.Calling.{Call, Advance, after}
 
 pub record Network : Type 0 where
   -- the node with id 1, that with id 2, and so on

@@ -12,7 +12,7 @@ use Rattle.rb_message.specs.declared.kind.MessageKind.{MessageKind}
 use Rattle.rb_message.specs.declared.kind.MessageKind.TheVariants as kind
 use Rattle.rb_message.specs.declared.role.Role.TheVariants.{Leader}
 use Rattle.rb_node.specs.Node.{PlainNode}
-use Rattle.rb_laws.specs.Calling.{Call, Step, Propose}
+use Rattle.rb_calls.specs.Calling.{Call, Step, Propose}
 use Rattle.rb_laws.specs.Network.{Network, Happening, happened}
 
 -- a node takes proposals: it leads, is a member, hands the lead to nobody, and its log isn't full

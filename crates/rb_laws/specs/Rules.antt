@@ -1,13 +1,8 @@
 -- Rules of single calls, in the words of the laws: terms, timers, windows, and changes of the configuration
-use Rattle.std.specs.Prelude.{ℕ, ◌≡◌, ◌<◌, ◌≤◌, ◌⊎◌, true, false, List, [], ◌∷◌, ◌++◌, Ok}
-use Rattle.std.specs.Result.{result_unwrap_or}
+use Rattle.std.specs.Prelude.{ℕ, ◌≡◌, ◌<◌, ◌≤◌, ◌⊎◌, true, false, [], ◌∷◌, ◌++◌, Ok}
 use Rattle.rb_raftlog.specs.Bodies.{is_change}
-use Rattle.rb_raftlog.specs.declared.entry.Body.{Body}
-use Rattle.rb_raftlog.specs.declared.entry.Body.TheVariants.{Payload, Change}
 use Rattle.rb_raftlog.specs.declared.entry.Entry.{Entry}
 use Rattle.rb_raftlog.specs.Log.{LogValue, entry_at}
-use Rattle.rb_tracker.specs.Changes.{changed}
-use Rattle.rb_tracker.specs.declared.config.Config.{Config}
 use Rattle.rb_message.specs.declared.hard_state.HardState.{HardState}
 use Rattle.rb_message.specs.declared.kind.MessageKind.{MessageKind}
 use Rattle.rb_message.specs.declared.kind.MessageKind.TheVariants as kind
@@ -15,7 +10,7 @@ use Rattle.rb_message.specs.declared.role.Role.TheVariants.{Leader}
 use Rattle.rb_message.specs.declared.message.Message.{Message}
 use Rattle.rb_node.specs.declared.limits.TheConstants.{ELECTION_TICKS}
 use Rattle.rb_node.specs.Node.{PlainNode, message}
-use Rattle.rb_laws.specs.Learning.{IsLeaders}
+use Rattle.rb_calls.specs.Learning.{IsLeaders}
 
 -- ---- terms
 
@@ -69,16 +64,6 @@ abbrev pub SendsNoEntries : PlainNode → ℕ → PlainNode → Type 0
 SendsNoEntries old to new = (new.sent ≡ old.sent) ⊎ ((k : MessageKind) × HasNoEntries k × (new.sent ≡ old.sent ++ message old.id to old.term k ∷ []))
 
 -- ---- changes of the configuration
-
--- the configuration after an entry takes effect: a change that is refused leaves it
-abbrev pub config_with : Body → Config → Config
-config_with (Payload bytes) c = c
-config_with (Change transition words) c = result_unwrap_or (changed c transition words) c
-
--- and after one entry upon another
-abbrev pub config_after : Config → List Entry → Config
-config_after c [] = c
-config_after c (e ∷ es) = config_after (config_with e.body c) es
 
 -- a log has a change after one index and up to another
 pub record HasChangeIn (v : LogValue) (after upto : ℕ) : Type 0 where

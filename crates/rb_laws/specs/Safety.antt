@@ -9,7 +9,7 @@ use Rattle.rb_message.specs.declared.kind.MessageKind.TheVariants as kind
 use Rattle.rb_message.specs.declared.message.Message.{Message}
 use Rattle.rb_node.specs.Node.{PlainNode}
 use Rattle.rb_node.specs.Sends.{snapshot_of}
-use Rattle.rb_laws.specs.Calling.{Call, Step, Propose}
+use Rattle.rb_calls.specs.Calling.{Call, Step, Propose}
 use Rattle.rb_laws.specs.Network.{Network, Happening, happened, run, IsBegun}
 
 -- ---- premises

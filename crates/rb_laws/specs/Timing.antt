@@ -12,7 +12,7 @@ use Rattle.rb_message.specs.declared.message.Message.{Message}
 use Rattle.rb_message.specs.declared.role.Role.TheVariants.{Candidate, Precandidate}
 use Rattle.rb_node.specs.declared.limits.TheConstants.{MAX_TICKS}
 use Rattle.rb_node.specs.Node.{PlainNode, message}
-use Rattle.rb_laws.specs.Calling.{Call, Tick}
+use Rattle.rb_calls.specs.Calling.{Call, Tick}
 use Rattle.rb_laws.specs.Choices.{MayCampaign}
 
 -- each other voter is asked something in the next term

@@ -6,7 +6,7 @@ use Rattle.rb_tracker.specs.declared.config.Config.{Config}
 use Rattle.rb_tracker.specs.declared.votes.Votes.{Votes}
 use Rattle.rb_tracker.specs.declared.votes.VoteResult.TheVariants.{Won}
 use Rattle.rb_message.specs.declared.message.Message.{Message}
-use Rattle.rb_laws.specs.Words.{IsYes}
+use Rattle.rb_calls.specs.Words.{IsYes}
 
 -- a vote was cast: an answer that was put out gives it
 pub record IsCast (said : List Message) (voter term candidate : ℕ) : Type 0 where

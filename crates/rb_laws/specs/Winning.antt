@@ -7,7 +7,7 @@ use Rattle.rb_message.specs.declared.kind.MessageKind.TheVariants.{Vote, VoteRes
 use Rattle.rb_message.specs.declared.message.Message.{Message}
 use Rattle.rb_message.specs.declared.role.Role.TheVariants.{Candidate, Leader}
 use Rattle.rb_node.specs.Node.{PlainNode, message}
-use Rattle.rb_laws.specs.Calling.{Call, Step}
+use Rattle.rb_calls.specs.Calling.{Call, Step}
 use Rattle.rb_laws.specs.Rules.{HasNoLease}
 
 -- a candidate's vote request to a node, and the node's yes

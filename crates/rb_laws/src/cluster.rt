@@ -9,7 +9,10 @@ mod laws;
 mod restarts;
 mod safety;
 
-pub use changes::{changes_wait_for_earlier_ones, configurations_agree};
+pub use changes::{
+    changes_wait_for_earlier_ones, changes_wait_for_earlier_ones_with_restarts,
+    configurations_agree, configurations_agree_with_restarts,
+};
 pub use entries::entries_were_proposed;
 pub use laws::{
     clusters_elect_one_leader, clusters_keep_logs_matching, elections_are_safe, leaders_are_chosen,
@@ -17,7 +20,7 @@ pub use laws::{
 };
 pub use restarts::{
     applied_entries_agree_with_restarts, committed_entries_agree_with_restarts,
-    contents_agree_with_restarts, elections_are_safe_with_restarts,
+    contents_agree_with_restarts, elections_are_safe_with_restarts, leaders_have_saved_their_terms,
     leaders_have_what_is_committed_with_restarts, logs_match_with_restarts,
 };
 pub use safety::{

@@ -24,9 +24,9 @@ pub use laws::{
     leaders_commit_own_terms, leaders_commit_what_a_quorum_holds, leaders_count_what_they_saved,
     leaders_view_the_members, leaders_were_candidates, leads_go_to_voters, lost_quorums_end_a_lead,
     matches_rest_on_answers, members_are_counted_by_their_answers, messages_are_true,
-    nodes_stay_sound, pre_votes_bind_nobody, promises_are_kept, ready_is_exact,
-    removed_leaders_step_down, terms_never_fall, transfers_stop_proposals, views_stay_sound,
-    votes_are_given_once, votes_go_to_new_logs,
+    pre_votes_bind_nobody, promises_are_kept, ready_is_exact, removed_leaders_step_down,
+    terms_never_fall, transfers_stop_proposals, views_stay_sound, votes_are_given_once,
+    votes_go_to_new_logs,
 };
 pub use rules::{
     committed_changes_take_effect, earlier_terms_change_nothing,

@@ -29,7 +29,7 @@ pub fn elections_are_safe()
 {}
 
 /// The same of scripts: two nodes that lead in one term, at whatever points of a script, are one node. All nodes are added with the same voters and
-/// learners, whenever they are, and nobody proposes a change.
+/// learners, whenever they are, and nobody proposes a change. Nodes may restart.
 pub fn clusters_elect_one_leader()
     ensures { (s : PlainScript) (p q first second term : ℕ) → HasSameMembers s → Leads (state s p).nodes first term → Leads (state s q).nodes second term → second ≡ first }
 {}
@@ -42,7 +42,7 @@ pub fn logs_match()
 {}
 
 /// The same of scripts: logs of a script's nodes, at whatever points, match. All nodes are added with the same voters and learners, and nobody proposes
-/// a change.
+/// a change. Nodes may restart.
 pub fn clusters_keep_logs_matching()
     ensures { (s : PlainScript) (p q j k : ℕ) (first second : PlainNode) → HasSameMembers s → slice_get (state s p).nodes j ≡ Some first → slice_get (state s q).nodes k ≡ Some second → AreMatching first.log second.log }
 {}

@@ -5,8 +5,9 @@
 //!
 //! The premises of a network (`IsRaftNetwork`): all nodes start with the same members, not joint, and at one index, term and content, and the term is
 //! at most 1; each message that comes was put out by a node, or is a snapshot of the state that a node has, and comes to the node that it is for, or it
-//! is harmless; and nobody proposes a change. No node starts again; restarts.rt has the laws where nodes do. A script of the bench keeps these premises,
-//! if its nodes come by `add-nodes` with the same members, index and content, at whatever points, and no directive is `propose-conf-change`.
+//! is harmless; and nobody proposes a change. No node of these networks restarts; restarts.rt has the laws where nodes do. The laws of scripts have nodes
+//! that restart: a script keeps their premises if its nodes come by `add-nodes` with the same members, index and content, at whatever points, and no
+//! directive is `propose-conf-change`.
 ghost use Rattle.std.specs.Prelude.{◌≡◌, ◌<◌, ◌≤◌, ℕ, List, Contains, Some, slice_get};
 ghost use Rattle.rb_script.specs.Lines.{Line};
 ghost use Rattle.rb_script.specs.Script.{PlainScript};

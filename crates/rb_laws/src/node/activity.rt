@@ -9,7 +9,7 @@ ghost use Rattle.rb_node.specs.Step.{stepped};
 ghost use Rattle.rb_node.specs.Ticking.{next_count};
 ghost use Rattle.rb_node.specs.declared.limits.TheConstants.{ELECTION_TICKS};
 ghost use Rattle.rb_laws.specs.Activity.{IsAnswer};
-ghost use Rattle.rb_laws.specs.Calling.{Tick, after};
+ghost use Rattle.rb_calls.specs.Calling.{Tick, after};
 
 /// A leader holds a member for active exactly if it has answered since the leader last looked. An answer of its term marks its sender; no other
 /// message, and no tick without a look, changes a mark; a look takes all marks off but the leader's own.

@@ -7,10 +7,10 @@ ghost use Rattle.rb_tracker.specs.Sets.{has};
 ghost use Rattle.rb_message.specs.declared.role.Role.TheVariants.{Leader};
 ghost use Rattle.rb_node.specs.Leading.{became_leader};
 ghost use Rattle.rb_node.specs.Node.{NodeStep};
-ghost use Rattle.rb_laws.specs.Calling.{Call, Propose, after, run};
+ghost use Rattle.rb_calls.specs.Calling.{Call, Propose, after, run};
 ghost use Rattle.rb_laws.specs.Committing.{AwaitsAnswers, CommitsAll, HasCommittedAll, HasCommittedEntry, IsHeldWith, acks};
 ghost use Rattle.rb_laws.specs.Proposals.{TakesProposals};
-ghost use Rattle.rb_laws.specs.Sound.{IsSound, HasViewsOfMembers};
+ghost use Rattle.rb_calls.specs.Sound.{IsSound, HasViewsOfMembers};
 
 /// What a quorum holds is committed: a leader that leads on in its term and has committed all that it may has done so after each call, too. All that it
 /// may are the entries of its term that a quorum holds, with all before them. A node that is elected has none such, if it held no entry of its term before.

@@ -6,7 +6,7 @@ ghost use Rattle.rb_message.specs.declared.kind.MessageKind.TheVariants.{Append,
 ghost use Rattle.rb_message.specs.declared.message.Message.{Message};
 ghost use Rattle.rb_node.specs.Node.{NodeStep};
 ghost use Rattle.rb_node.specs.Step.{stepped};
-ghost use Rattle.rb_laws.specs.Learning.{HasTaken, MayFollow};
+ghost use Rattle.rb_calls.specs.Learning.{HasTaken, MayFollow};
 
 /// A follower takes what its leader sends: an append that follows an entry of its log, at or past its commit, is in its log afterwards, and an answer
 /// says so. It commits all that the leader tells, as far as its log goes.

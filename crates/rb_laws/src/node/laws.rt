@@ -26,24 +26,17 @@ ghost use Rattle.rb_node.specs.Changing.{applied_all, change_applied};
 ghost use Rattle.rb_node.specs.Proposing.{proposal_handled};
 ghost use Rattle.rb_node.specs.Step.{stepped};
 ghost use Rattle.rb_node.specs.Transferring.{transfer_leader_handled};
-ghost use Rattle.rb_node.specs.Calls.{IsCompactedTo, called, leader_forgotten, reported};
+ghost use Rattle.rb_node.specs.Calls.{called, leader_forgotten, reported};
+ghost use Rattle.rb_node.specs.Compacting.{IsCompactedTo};
 ghost use Rattle.rb_node.specs.Readying.{advanced, applying, outgoing, has_ready};
 ghost use Rattle.rb_node.specs.Ticking.{next_count, ticked};
-ghost use Rattle.rb_laws.specs.Calling.{Call, Step, Campaign, Propose, Transfer, Tick, Advance, ForgetLeader, ReportUnreachable, SetTimeout, compacted_to, after, run};
+ghost use Rattle.rb_calls.specs.Calling.{Call, Step, Campaign, Propose, Transfer, Tick, Advance, ForgetLeader, ReportUnreachable, SetTimeout, compacted_to, after, run};
 ghost use Rattle.rb_laws.specs.Choices.{MayCampaign, MayTakeLead, PutsChange, StepsDown, payloads, HasNothing};
-ghost use Rattle.rb_laws.specs.Elections.{VotesOnly, LeadsOnly, Granted, Elected, own_turn};
-ghost use Rattle.rb_laws.specs.Events.{OnlyAdded};
-ghost use Rattle.rb_laws.specs.Matches.{RestsOn, Told, IsOfOthers, HasOwnAnswers, CountsDurable, IsHeldBetween};
-ghost use Rattle.rb_laws.specs.Sound.{IsSound, IsGrown, HasSameVote, HasSoundViews, HasViewsOfMembers};
-ghost use Rattle.rb_laws.specs.Words.{IsYes, IsPromised, HasPromises, IsAnswered, AreTrueBetween};
-
-/// A node that starts is sound, and after each call and any list of calls it still is: base, applied, durable, commit and last stay
-/// in order.
-pub fn nodes_stay_sound()
-    ensures started { (id : ℕ) (start : Snapshot) (options : Options) → IsSound (started id start options) }
-    ensures called { (c : Call) (t : NodeStep) → IsSound t.node → IsSound (after c t).node }
-    ensures run { (cs : List Call) (t : NodeStep) → IsSound t.node → IsSound (run cs t).node }
-{}
+ghost use Rattle.rb_calls.specs.Elections.{VotesOnly, LeadsOnly, Granted, Elected, own_turn};
+ghost use Rattle.rb_calls.specs.Events.{OnlyAdded};
+ghost use Rattle.rb_calls.specs.Matches.{RestsOn, Told, IsOfOthers, HasOwnAnswers, CountsDurable, IsHeldBetween};
+ghost use Rattle.rb_calls.specs.Sound.{IsSound, IsGrown, HasSameVote, HasSoundViews, HasViewsOfMembers};
+ghost use Rattle.rb_calls.specs.Words.{IsYes, IsPromised, HasPromises, IsAnswered, AreTrueBetween};
 
 /// The calls of the laws are the calls of a node: each leaves what its contract says that it does. Compacting, whose contract is a relation,
 /// does unless memory is refused.

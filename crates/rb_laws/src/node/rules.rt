@@ -25,16 +25,17 @@ ghost use Rattle.rb_node.specs.declared.limits.TheConstants.{ELECTION_TICKS};
 ghost use Rattle.rb_node.specs.declared.options.Options.{Options};
 ghost use Rattle.rb_node.specs.declared.sends.SendReason.{SendReason};
 ghost use Rattle.rb_node.specs.Changing.{applied_all, joint_left};
+ghost use Rattle.rb_node.specs.Compacting.{config_after};
 ghost use Rattle.rb_node.specs.Node.{PlainNode, NodeStep, message, started};
 ghost use Rattle.rb_node.specs.Readying.{applying, ready};
 ghost use Rattle.rb_node.specs.Sends.{sends};
 ghost use Rattle.rb_node.specs.Step.{stepped};
 ghost use Rattle.rb_node.specs.Ticking.{next_count};
-ghost use Rattle.rb_laws.specs.Calling.{Call, Tick, after, run};
-ghost use Rattle.rb_laws.specs.Elections.{own_turn};
-ghost use Rattle.rb_laws.specs.Learning.{IsLeaders, LearnsBy, IsRestored, KeepsState};
-ghost use Rattle.rb_laws.specs.Rules.{ShowsTerm, HasNoLease, KnowsLeader, LeadsKnowing, IsHardStateOf, SendsNoEntries, config_after, HasChangeIn};
-ghost use Rattle.rb_laws.specs.Sound.{IsSound};
+ghost use Rattle.rb_calls.specs.Calling.{Call, Tick, after, run};
+ghost use Rattle.rb_calls.specs.Elections.{own_turn};
+ghost use Rattle.rb_calls.specs.Learning.{IsLeaders, LearnsBy, IsRestored, KeepsState};
+ghost use Rattle.rb_laws.specs.Rules.{ShowsTerm, HasNoLease, KnowsLeader, LeadsKnowing, IsHardStateOf, SendsNoEntries, HasChangeIn};
+ghost use Rattle.rb_calls.specs.Sound.{IsSound};
 
 /// A node that doesn't lead in a message's term learns of a commit by its leader's messages alone: by an append that follows an entry of its
 /// log, to at most the append's last entry and the leader's commit; by a heartbeat, to at most its commit and the node's last index; by a

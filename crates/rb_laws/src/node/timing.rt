@@ -5,8 +5,8 @@ ghost use Rattle.rb_message.specs.declared.role.Role.TheVariants.{Leader};
 ghost use Rattle.rb_node.specs.declared.limits.TheConstants.{HEARTBEAT_TICKS, MAX_TICKS};
 ghost use Rattle.rb_node.specs.Node.{NodeStep, with_node, with_elapsed};
 ghost use Rattle.rb_node.specs.Ticking.{next_count};
-ghost use Rattle.rb_laws.specs.Calling.{Tick, after, run};
-ghost use Rattle.rb_laws.specs.Sound.{HasViewsOfMembers};
+ghost use Rattle.rb_calls.specs.Calling.{Tick, after, run};
+ghost use Rattle.rb_calls.specs.Sound.{HasViewsOfMembers};
 ghost use Rattle.rb_laws.specs.Timing.{CanTimeOut, HasCampaigned, IsSupported, heartbeat, ticks};
 
 /// Who hears nothing for its timeout campaigns, and asks each other voter. Each tick before only counts.

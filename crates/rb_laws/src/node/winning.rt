@@ -3,7 +3,7 @@ ghost use Rattle.std.specs.Prelude.{◌≡◌, ◌<◌, ℕ, false, List};
 ghost use Rattle.rb_raftlog.specs.declared.limits.TheConstants.{MAX_TERM};
 ghost use Rattle.rb_node.specs.Node.{PlainNode, NodeStep};
 ghost use Rattle.rb_node.specs.Step.{stepped};
-ghost use Rattle.rb_laws.specs.Calling.{Campaign, after, run};
+ghost use Rattle.rb_calls.specs.Calling.{Campaign, after, run};
 ghost use Rattle.rb_laws.specs.Choices.{MayCampaign};
 ghost use Rattle.rb_laws.specs.Winning.{request_to, yeses, WouldVoteFor, VotesFor, StillStands, HasQuorumWith, LeadsIn};
 

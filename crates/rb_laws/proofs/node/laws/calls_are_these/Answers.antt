@@ -1,5 +1,5 @@
 use Rattle.std.proofs.Common.{refl}
-use Rattle.rb_laws.proofs.CallLaws.{compacted_is, compacted_already, compacted_past, compacted_without_memory}
+use Rattle.rb_calls.proofs.CallLaws.{compacted_is, compacted_already, compacted_past, compacted_without_memory}
 use Rattle.rb_laws.proofs.node.laws.calls_are_these.Goals as goal
 
 pub returns-clause-compacted : goal.returns-clause-compacted

@@ -1,4 +1,4 @@
-use Rattle.rb_laws.proofs.CallLaws.{runs}
+use Rattle.rb_calls.proofs.CallLaws.{runs}
 use Rattle.rb_laws.proofs.node.laws.commit_never_falls.Goals as goal
 
 pub returns-clause-commit : goal.returns-clause-commit

@@ -1,4 +1,4 @@
-use Rattle.rb_laws.proofs.CallLaws.{runs}
+use Rattle.rb_calls.proofs.CallLaws.{runs}
 use Rattle.rb_laws.proofs.node.laws.committed_entries_stay.Goals as goal
 
 pub returns-clause-entries : goal.returns-clause-entries

@@ -1,4 +1,4 @@
-use Rattle.rb_laws.proofs.CallLaws.{runs}
+use Rattle.rb_calls.proofs.CallLaws.{runs}
 use Rattle.rb_laws.proofs.node.laws.leaders_append_only.Goals as goal
 
 pub returns : goal.returns

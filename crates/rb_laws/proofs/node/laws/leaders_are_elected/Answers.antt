@@ -1,4 +1,4 @@
-use Rattle.rb_laws.proofs.CallLaws.{calls}
+use Rattle.rb_calls.proofs.CallLaws.{calls}
 use Rattle.rb_laws.proofs.node.laws.leaders_are_elected.Goals as goal
 
 pub returns : goal.returns

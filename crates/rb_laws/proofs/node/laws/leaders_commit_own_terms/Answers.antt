@@ -1,7 +1,7 @@
 use Rattle.std.proofs.Common.{◌≡◌, ◌⊎◌, true, inl, inr}
 use Rattle.rb_raftlog.specs.Log.{term_at, is_term}
-use Rattle.rb_laws.specs.Calling.{run}
-use Rattle.rb_laws.proofs.CallLaws.{runs}
+use Rattle.rb_calls.specs.Calling.{run}
+use Rattle.rb_calls.proofs.CallLaws.{runs}
 use Rattle.rb_laws.proofs.node.laws.leaders_commit_own_terms.Goals as goal
 
 pub returns : goal.returns

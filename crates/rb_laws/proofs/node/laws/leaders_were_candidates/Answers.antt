@@ -1,4 +1,4 @@
-use Rattle.rb_laws.proofs.CallLaws.{runs}
+use Rattle.rb_calls.proofs.CallLaws.{runs}
 use Rattle.rb_laws.proofs.node.laws.leaders_were_candidates.Goals as goal
 
 pub returns-clause-leader : goal.returns-clause-leader

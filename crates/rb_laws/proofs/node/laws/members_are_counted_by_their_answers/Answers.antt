@@ -1,7 +1,7 @@
 use Rattle.std.proofs.lemmas.List.Elements.{All-nil}
 use Rattle.rb_raftlog.specs.Log.{last}
 use Rattle.rb_node.specs.Node.{started}
-use Rattle.rb_laws.specs.Matches.{IsOwnAnswer}
+use Rattle.rb_calls.specs.Matches.{IsOwnAnswer}
 use Rattle.rb_laws.proofs.CountLaws.{run_owns, run_rises}
 use Rattle.rb_laws.proofs.node.laws.members_are_counted_by_their_answers.Goals as goal
 

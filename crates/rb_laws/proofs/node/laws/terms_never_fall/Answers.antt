@@ -1,4 +1,4 @@
-use Rattle.rb_laws.proofs.CallLaws.{runs}
+use Rattle.rb_calls.proofs.CallLaws.{runs}
 use Rattle.rb_laws.proofs.node.laws.terms_never_fall.Goals as goal
 
 pub returns-clause-term : goal.returns-clause-term

@@ -1,4 +1,4 @@
-use Rattle.rb_laws.proofs.CallLaws.{runs}
+use Rattle.rb_calls.proofs.CallLaws.{runs}
 use Rattle.rb_laws.proofs.node.laws.votes_are_given_once.Goals as goal
 
 pub returns : goal.returns

@@ -1,4 +1,4 @@
-use Rattle.rb_laws.proofs.CallLaws.{calls}
+use Rattle.rb_calls.proofs.CallLaws.{calls}
 use Rattle.rb_laws.proofs.node.laws.votes_go_to_new_logs.Goals as goal
 
 pub returns : goal.returns

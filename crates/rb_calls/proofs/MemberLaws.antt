@@ -15,7 +15,7 @@ use Rattle.rb_tracker.specs.declared.config.Config.{Config}
 use Rattle.rb_node.specs.Changing.{without_view, without_views, missing}
 use Rattle.rb_node.specs.Leading.{new_view, with_view_of, with_views}
 use Rattle.rb_node.specs.Node.{PlainNode}
-use Rattle.rb_laws.proofs.LeaderLaws.{stranger_only, strangers_only}
+use Rattle.rb_calls.proofs.LeaderLaws.{stranger_only, strangers_only}
 
 -- ---- the ids that have views
 

@@ -17,9 +17,9 @@ use Rattle.rb_node.specs.Acknowledging.{marked_active}
 use Rattle.rb_node.specs.Changing.{without_view, without_views}
 use Rattle.rb_node.specs.Leading.{new_view, with_view_of, with_views}
 use Rattle.rb_node.specs.Node.{PlainNode}
-use Rattle.rb_laws.proofs.Goes.{core, Core}
-use Rattle.rb_laws.proofs.LeaderLaws.{with_view_only}
-use Rattle.rb_laws.proofs.MemberLaws.{ids_set, strangers_in_order}
+use Rattle.rb_calls.proofs.Goes.{core, Core}
+use Rattle.rb_calls.proofs.LeaderLaws.{with_view_only}
+use Rattle.rb_calls.proofs.MemberLaws.{ids_set, strangers_in_order}
 
 abbrev pub of : PlainNode → ℕ → ℕ
 of n id = match_of n.tracker.views id

@@ -14,7 +14,7 @@ use Rattle.rb_message.specs.declared.kind.MessageKind.TheVariants as kind
 use Rattle.rb_message.specs.declared.message.Message.{Message}
 use Rattle.rb_message.specs.declared.role.Role.TheVariants.{Candidate, Leader}
 use Rattle.rb_node.specs.Node.{PlainNode, message}
-use Rattle.rb_laws.specs.Sound.{IsGrown, HasSoundViews}
+use Rattle.rb_calls.specs.Sound.{IsGrown, HasSoundViews}
 
 -- ---- votes
 

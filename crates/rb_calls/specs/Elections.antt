@@ -10,7 +10,7 @@ use Rattle.rb_node.specs.Node.{PlainNode, NodeStep, with_node}
 use Rattle.rb_node.specs.Changing.{applied_all, joint_left}
 use Rattle.rb_node.specs.Step.{stepped}
 use Rattle.rb_node.specs.Readying.{applying, saved}
-use Rattle.rb_laws.specs.Calling.{Call, Step, Advance}
+use Rattle.rb_calls.specs.Calling.{Call, Step, Advance}
 
 -- a message asks a node for its vote, for a log that is at least as new as the node's
 pub record IsGranted (n : PlainNode) (m : Message) : Type 0 where

@@ -10,8 +10,8 @@ use Rattle.rb_raftlog.proofs.AppendLaws.{by_append, new_within, new_after_last, 
 use Rattle.rb_raftlog.proofs.VoteLaws.{compacted-term, compacted-entry}
 use Rattle.rb_message.specs.declared.role.Role.{Role}
 use Rattle.rb_message.specs.declared.role.Role.TheVariants as role
-use Rattle.rb_laws.specs.Sound.{IsOrdered, IsGrown}
-use Rattle.rb_laws.proofs.Goes.{Ways, Core, Keeps, Voted, Led, grown_self, and_then}
+use Rattle.rb_calls.specs.Sound.{IsOrdered, IsGrown}
+use Rattle.rb_calls.proofs.Goes.{Ways, Core, Keeps, Voted, Led, grown_self, and_then}
 
 -- ---- another term, vote or role
 
@@ -223,8 +223,8 @@ filled c content = record {
 
 -- ---- a snapshot past commit
 
-snapshot_log : {w : Ways} (c : Core) (s : Snapshot) → c.commit < s.index → (c.role ≡ role.Leader → ⊥) → Keeps w c (record c { log = restored s; commit = s.index; applied = s.index })
-snapshot_log c s past follows = logged c (restored s) s.index s.index (λ o. record {
+snapshot_log : {w : Ways} (c : Core) (s : Snapshot) → c.commit < s.index → (c.role ≡ role.Leader → ⊥) → Keeps w c (record c { log = restored c.log s; commit = s.index; applied = s.index })
+snapshot_log c s past follows = logged c (restored c.log s) s.index s.index (λ o. record {
   rises = omega (arith, past);
   applies = omega (arith, past, o.is_committed);
   base = omega (arith, past, o.is_committed, o.past_base);
@@ -235,8 +235,8 @@ snapshot_log c s past follows = logged c (restored s) s.index s.index (λ o. rec
   ordered = record { past_base = omega arith; is_durable = omega arith; within = omega arith; is_committed = omega arith; is_held = omega arith };
 })
 
-pub with_snapshot : {w : Ways} (c : Core) (s : Snapshot) → c.commit < s.index → (c.role ≡ role.Leader → ⊥) → Keeps w c (record c { log = restored s; commit = s.index; applied = s.index; content = s.content })
-with_snapshot c s past follows = and_then (snapshot_log c s past follows) (filled (record c { log = restored s; commit = s.index; applied = s.index }) s.content)
+pub with_snapshot : {w : Ways} (c : Core) (s : Snapshot) → c.commit < s.index → (c.role ≡ role.Leader → ⊥) → Keeps w c (record c { log = restored c.log s; commit = s.index; applied = s.index; content = s.content })
+with_snapshot c s past follows = and_then (snapshot_log c s past follows) (filled (record c { log = restored c.log s; commit = s.index; applied = s.index }) s.content)
 
 -- ---- compacting
 

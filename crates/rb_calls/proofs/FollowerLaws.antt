@@ -8,7 +8,7 @@ use Rattle.rb_raftlog.specs.declared.entry.Entry.{Entry}
 use Rattle.rb_raftlog.specs.declared.raft_log.Appended.{Appended}
 use Rattle.rb_raftlog.specs.declared.raft_log.Appended.TheVariants.{Matched, Refused, BelowCommit}
 use Rattle.rb_tracker.proofs.SetLaws.{if_both}
-use Rattle.rb_laws.proofs.Turns.{append_size}
+use Rattle.rb_calls.proofs.Turns.{append_size}
 
 -- the entries that an append names are there after it
 unfoldable pub Reaches : Appended → LogValue → ℕ → Type 0

@@ -32,16 +32,16 @@ use Rattle.rb_node.specs.Node.{NodeStep, with_node, message, answered_with, Plai
 use Rattle.rb_node.specs.Step.{as_follower, leader_followed, as_precandidate, as_candidate, as_leader, by_role_of, at_term_by, stepped, at_term}
 use Rattle.rb_node.specs.Terms.{became_follower, stepped_later_by, term_revealed, answers_earlier, stepped_earlier_by, stepped_later, stepped_earlier, ignores_campaign}
 use Rattle.rb_node.specs.Votes.{vote_request_handled, voted_for, grants, can_vote_for, pre_vote_request_handled, decided, pre_decided, vote_counted, count_of}
-use Rattle.rb_laws.specs.Elections.{IsGranted, IsElected}
-use Rattle.rb_laws.specs.Learning.{IsLeaders}
-use Rattle.rb_laws.specs.Matches.{IsAccepted}
-use Rattle.rb_laws.specs.Sound.{IsSound}
-use Rattle.rb_laws.specs.Words.{Answers, Sends}
-use Rattle.rb_laws.proofs.FollowerLaws.{Reaches, answer_reaches}
-use Rattle.rb_laws.proofs.Goes.{Ways, Core, core}
-use Rattle.rb_laws.proofs.LeaderWays.{acks_same, telling_path, nothing_done, telling, led_way, proposed_way, accepted_way, refused_way, heartbeat_response_handled_way, transferred_way}
-use Rattle.rb_laws.proofs.Moves.{Path, StepMove, Came, CameNow, HoldsAppend, MaySay, Learned, Known, By_append, By_beat, By_snapshot, IsNoProposal, Onward, Goes_on, One, Follows, Shows, following, Waits, Way, StepTells, Sent, Passes, Idle, Then, Stands, Asks, Votes_for, Counts, Learns, Takes, Restores}
-use Rattle.rb_laws.proofs.Saying.{different}
+use Rattle.rb_calls.specs.Elections.{IsGranted, IsElected}
+use Rattle.rb_calls.specs.Learning.{IsLeaders}
+use Rattle.rb_calls.specs.Matches.{IsAccepted}
+use Rattle.rb_calls.specs.Sound.{IsSound}
+use Rattle.rb_calls.specs.Words.{Answers, Sends}
+use Rattle.rb_calls.proofs.FollowerLaws.{Reaches, answer_reaches}
+use Rattle.rb_calls.proofs.Goes.{Ways, Core, core}
+use Rattle.rb_calls.proofs.LeaderWays.{acks_same, telling_path, nothing_done, telling, led_way, proposed_way, accepted_way, refused_way, heartbeat_response_handled_way, transferred_way}
+use Rattle.rb_calls.proofs.Moves.{Path, StepMove, Came, CameNow, HoldsAppend, MaySay, Learned, Known, By_append, By_beat, By_snapshot, IsNoProposal, Onward, Goes_on, One, Follows, Shows, following, Waits, Way, StepTells, Sent, Passes, Idle, Then, Stands, Asks, Votes_for, Counts, Learns, Takes, Restores}
+use Rattle.rb_calls.proofs.Saying.{different}
 
 -- ---- terms
 

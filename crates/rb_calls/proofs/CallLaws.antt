@@ -1,16 +1,17 @@
 -- Every call, and one upon another
 use Rattle.std.proofs.Common.{[], List, ◌∷◌, Option, ℕ, ◌≡◌, None, ap, Some, ◌∙◌, Ok, sym, min, Err}
 use Rattle.rb_raftlog.specs.Log.{compacted, term_at, LogValue, compact_fault}
+use Rattle.rb_raftlog.specs.declared.snapshot.Snapshot.{Snapshot}
 use Rattle.rb_raftlog.specs.declared.raft_log.CompactFault.{CompactFault}
 use Rattle.rb_raftlog.specs.declared.raft_log.CompactFault.TheVariants.{AlreadyCompacted, PastApplied, OutOfMemory}
-use Rattle.rb_node.specs.Calls.{IsCompactedTo}
+use Rattle.rb_node.specs.Compacting.{IsCompactedTo, start_at}
 use Rattle.rb_node.specs.Node.{NodeStep, PlainNode}
-use Rattle.rb_laws.specs.Calling.{Call, after, run, compacted_unless, compacted_to}
-use Rattle.rb_laws.specs.Sound.{IsSound}
-use Rattle.rb_laws.proofs.CallWays.{ways, called_way}
-use Rattle.rb_laws.proofs.Goes.{Keeps, core, anyone, self, and_then, anyhow, Ways}
-use Rattle.rb_laws.proofs.MoveLaws.{calls_keep}
-use Rattle.rb_laws.proofs.Moves.{over, Allows, CallMove}
+use Rattle.rb_calls.specs.Calling.{Call, after, run, compacted_at, compacted_unless, compacted_to}
+use Rattle.rb_calls.specs.Sound.{IsSound}
+use Rattle.rb_calls.proofs.CallWays.{ways, called_way}
+use Rattle.rb_calls.proofs.Goes.{Keeps, core, anyone, self, and_then, anyhow, Ways}
+use Rattle.rb_calls.proofs.MoveLaws.{calls_keep}
+use Rattle.rb_calls.proofs.Moves.{over, Allows, CallMove}
 
 pub calls : (c : Call) (t : NodeStep) → Keeps (ways c t) (core t.node) (core (after c t).node)
 calls c t = record { goes = λ o. (over (calls_keep o) (called_way c t (λ s. s))).goes o }
@@ -36,29 +37,29 @@ over_calls p (c ∷ cs) t =
 
 -- ---- compacting is what its contract says
 
-unless_none : (o : Option CompactFault) (n : PlainNode) (i : ℕ) → o ≡ None → compacted_unless o n i ≡ record n { log = compacted n.log i (term_at n.log i) }
+unless_none : (o : Option CompactFault) (n : PlainNode) (i : ℕ) → o ≡ None → compacted_unless o n i ≡ compacted_at n i
 unless_none o n i e = ap (λ (x : Option CompactFault). compacted_unless x n i) e
 
 unless_some : (o : Option CompactFault) (fault : CompactFault) (n : PlainNode) (i : ℕ) → o ≡ Some fault → compacted_unless o n i ≡ n
 unless_some o fault n i e = ap (λ (x : Option CompactFault). compacted_unless x n i) e
 
-with_log : (old new : PlainNode) (v : LogValue) → new.log ≡ v → new ≡ record old { log = new.log } → new ≡ record old { log = v }
-with_log old new v e is = is ∙ ap (λ (x : LogValue). record old { log = x }) e
+with_log : (old new : PlainNode) (v : LogValue) (from : Snapshot) → new.log ≡ v → new ≡ record old { log = new.log; start = from } → new ≡ record old { log = v; start = from }
+with_log old new v from e is = is ∙ ap (λ (x : LogValue). record old { log = x; start = from }) e
 
 pub compacted_is : (old new : PlainNode) (index : ℕ) (done : Unit {0}) → IsCompactedTo old index (Ok done) new → new ≡ compacted_to old index
 compacted_is old new index done is =
-    with_log old new (compacted old.log index (term_at old.log index)) is.0.1 is.1
+    with_log old new (compacted old.log index (term_at old.log index)) (start_at old index) is.0.1 is.1
     ∙ sym (unless_none (compact_fault old.log index (min old.applied old.log.durable)) old index is.0.0)
 
 pub compacted_already : (old new : PlainNode) (index : ℕ) → IsCompactedTo old index (Err AlreadyCompacted) new → new ≡ compacted_to old index
 compacted_already old new index is =
-    with_log old new old.log is.0.1 is.1
+    with_log old new old.log old.start is.0.1 is.1
     ∙ sym (unless_some (compact_fault old.log index (min old.applied old.log.durable)) AlreadyCompacted old index is.0.0)
 
 pub compacted_past : (old new : PlainNode) (index : ℕ) → IsCompactedTo old index (Err PastApplied) new → new ≡ compacted_to old index
 compacted_past old new index is =
-    with_log old new old.log is.0.1 is.1
+    with_log old new old.log old.start is.0.1 is.1
     ∙ sym (unless_some (compact_fault old.log index (min old.applied old.log.durable)) PastApplied old index is.0.0)
 
 pub compacted_without_memory : (old new : PlainNode) (index : ℕ) → IsCompactedTo old index (Err OutOfMemory) new → new ≡ old
-compacted_without_memory old new index is = with_log old new old.log is.0.1 is.1
+compacted_without_memory old new index is = with_log old new old.log old.start is.0.1 is.1

@@ -14,7 +14,7 @@ use Rattle.rb_tracker.specs.declared.progress.ProgressState.{ProgressState}
 use Rattle.rb_tracker.specs.declared.progress.ProgressState.TheVariants as state
 use Rattle.rb_node.specs.Calls.{unreachable}
 use Rattle.rb_node.specs.Sends.{is_replicating}
-use Rattle.rb_laws.specs.Sound.{IsSoundView, AreSoundViews}
+use Rattle.rb_calls.specs.Sound.{IsSoundView, AreSoundViews}
 
 -- ---- one view
 

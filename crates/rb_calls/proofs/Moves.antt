@@ -5,7 +5,7 @@
 use Rattle.std.proofs.Common.{[], ◌≡◌, ℕ, ◌+◌, length, Ok, Some, true, ◌≤◌, ◌<◌, None, false, Bool, List, ◌++◌, min, ◌⊎◌, ◌∙◌, ap, append_assoc, sym, append-nil, ◌∷◌, refl}
 use Rattle.std.specs.Prelude.{All, slice_get}
 use Rattle.rb_raftlog.specs.Bodies.{is_change}
-use Rattle.rb_raftlog.specs.Log.{own, last, compact_fault, compacted, term_at, entry_at}
+use Rattle.rb_raftlog.specs.Log.{own, last, compact_fault, term_at, entry_at}
 use Rattle.rb_raftlog.specs.declared.entry.Body.{Body}
 use Rattle.rb_raftlog.specs.declared.entry.Body.TheVariants.{Payload, Change}
 use Rattle.rb_raftlog.specs.declared.entry.Entry.{Entry}
@@ -24,6 +24,7 @@ use Rattle.rb_tracker.specs.declared.votes.Votes.{Votes}
 use Rattle.rb_tracker.specs.declared.votes.VoteResult.TheVariants as vote
 use Rattle.rb_message.specs.Appends.{PlainAppend}
 use Rattle.rb_message.specs.declared.event.Event.{Event}
+use Rattle.rb_message.specs.declared.hard_state.HardState.{HardState}
 use Rattle.rb_message.specs.declared.kind.MessageKind.{MessageKind}
 use Rattle.rb_message.specs.declared.kind.MessageKind.TheVariants as kind
 use Rattle.rb_message.specs.declared.message.Message.{Message}
@@ -33,17 +34,29 @@ use Rattle.rb_node.specs.Changing.{without_views, missing}
 use Rattle.rb_node.specs.Following.{with_appended, restored_to}
 use Rattle.rb_node.specs.Leading.{can_commit, with_views, leading}
 use Rattle.rb_node.specs.Node.{PlainNode, NodeStep, with_node, with_event}
+use Rattle.rb_node.specs.declared.options.Options.{Options}
 use Rattle.rb_node.specs.Readying.{saved}
 use Rattle.rb_node.specs.Sends.{with_view_at}
 use Rattle.rb_node.specs.Terms.{reset}
 use Rattle.rb_node.specs.Votes.{grants, voted_for}
-use Rattle.rb_laws.specs.Events.{OnlyAdded}
-use Rattle.rb_laws.specs.Sound.{IsSound, IsSoundView}
-use Rattle.rb_laws.specs.Words.{Sends, Answers}
-use Rattle.rb_laws.proofs.Goes.{Core, core, Ways}
-use Rattle.rb_laws.proofs.Saying.{Words, words, with_sent, with_waiting}
+use Rattle.rb_calls.specs.Calling.{compacted_at}
+use Rattle.rb_calls.specs.Events.{OnlyAdded}
+use Rattle.rb_calls.specs.Sound.{IsSound, IsSoundView}
+use Rattle.rb_calls.specs.Words.{Sends, Answers}
+use Rattle.rb_calls.proofs.Goes.{Core, core, Ways}
+use Rattle.rb_calls.proofs.Saying.{Words, words, with_sent, with_waiting}
 
 -- ---- what the laws look at
+
+-- what a node goes back to when it restarts, but for its log and its id
+pub record Stable : Type 0 where
+  pub start : Snapshot
+  pub saved : HardState
+  pub restored : Bool
+  pub options : Options
+
+abbrev pub stable : PlainNode → Stable
+stable n = record { start = n.start; saved = n.saved; restored = n.restored; options = n.options }
 
 pub record Whole : Type 0 where
   pub core : Core
@@ -51,9 +64,10 @@ pub record Whole : Type 0 where
   pub votes : Votes
   pub words : Words
   pub pending : ℕ
+  pub stable : Stable
 
 abbrev pub whole : PlainNode → Whole
-whole n = record { core = core n; tracker = n.tracker; votes = n.votes; words = words n; pending = n.pending_change }
+whole n = record { core = core n; tracker = n.tracker; votes = n.votes; words = words n; pending = n.pending_change; stable = stable n }
 
 -- ---- what a leader tells, and its commit
 
@@ -185,7 +199,7 @@ pub data CallMove (sound : Type 0) (w : Ways) : PlainNode → PlainNode → Type
   Gives_up : (n : PlainNode) → CallMove sound w n (following n n.term 0)
   Saves : (n : PlainNode) → (sound → IsSound n) → CallMove sound w n (saved n)
   Compacts : (n : PlainNode) (i : ℕ) → compact_fault n.log i (min n.applied n.log.durable) ≡ None
-      → CallMove sound w n (record n { log = compacted n.log i (term_at n.log i) })
+      → CallMove sound w n (compacted_at n i)
 
 -- ---- ways of moves, of a node and of a turn
 

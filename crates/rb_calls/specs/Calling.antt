@@ -9,6 +9,7 @@ use Rattle.rb_node.specs.Node.{PlainNode, NodeStep, with_node, with_timeout}
 use Rattle.rb_node.specs.Campaigns.{campaigned}
 use Rattle.rb_node.specs.Step.{stepped}
 use Rattle.rb_node.specs.Calls.{called, leader_forgotten, reported}
+use Rattle.rb_node.specs.Compacting.{start_at}
 use Rattle.rb_node.specs.Readying.{advanced}
 use Rattle.rb_node.specs.Ticking.{ticked}
 
@@ -25,10 +26,14 @@ pub data Call : Type 0 where
   SetTimeout : ℕ → Call
   Compact : ℕ → Call
 
+-- the log begins at an index, and a restart does
+abbrev pub compacted_at : PlainNode → ℕ → PlainNode
+compacted_at n index = record n { log = compacted n.log index (term_at n.log index); start = start_at n index }
+
 -- compacting where it isn't refused; for want of memory it may do nothing
 abbrev pub compacted_unless : Option CompactFault → PlainNode → ℕ → PlainNode
 compacted_unless (Some fault) n index = n
-compacted_unless None n index = record n { log = compacted n.log index (term_at n.log index) }
+compacted_unless None n index = compacted_at n index
 
 abbrev pub compacted_to : PlainNode → ℕ → PlainNode
 compacted_to n index = compacted_unless (compact_fault n.log index (min n.applied n.log.durable)) n index

@@ -26,13 +26,13 @@ use Rattle.rb_node.specs.Proposing.{change_or_empty_appended, proposal_appended,
 use Rattle.rb_node.specs.Sends.{with_view_at}
 use Rattle.rb_node.specs.Transferring.{previous_transfer_ended, timeout_now_sent, transfer_started, transfer_leader_handled, cannot_take_lead, transfer_ended}
 use Rattle.rb_node.specs.declared.sends.SendReason.TheVariants as mode
-use Rattle.rb_laws.proofs.Goes.{Ways}
-use Rattle.rb_laws.proofs.LeaderLaws.{leading_leads}
-use Rattle.rb_laws.proofs.MatchViewLaws.{of, place_here, heard_place}
-use Rattle.rb_laws.proofs.Moves.{Way, TellMove, StepMove, Puts, Marks, wider, StepTells, Path, wider_path, Goes_on, One, Idle, Then, Appends, Waits, Shows, Onward, Leads, Viewed, Sent, over_way, Acks}
-use Rattle.rb_laws.proofs.ProgressLaws.{sound_marked, acked_matched, freed_matched, sound_freed, refused_matched, sound_refused, sound_resumed}
-use Rattle.rb_laws.proofs.TellWays.{append_broadcast_way, commit_or_sent_way, Rest, keeps_rest, keeps_match, sends_way}
-use Rattle.rb_laws.proofs.Turns.{own_size}
+use Rattle.rb_calls.proofs.Goes.{Ways}
+use Rattle.rb_calls.proofs.LeaderLaws.{leading_leads}
+use Rattle.rb_calls.proofs.MatchViewLaws.{of, place_here, heard_place}
+use Rattle.rb_calls.proofs.Moves.{Way, TellMove, StepMove, Puts, Marks, wider, StepTells, Path, wider_path, Goes_on, One, Idle, Then, Appends, Waits, Shows, Onward, Leads, Viewed, Sent, over_way, Acks}
+use Rattle.rb_calls.proofs.ProgressLaws.{sound_marked, acked_matched, freed_matched, sound_freed, refused_matched, sound_refused, sound_resumed}
+use Rattle.rb_calls.proofs.TellWays.{append_broadcast_way, commit_or_sent_way, Rest, keeps_rest, keeps_match, sends_way}
+use Rattle.rb_calls.proofs.Turns.{own_size}
 
 -- ---- what it tells is among a step's moves
 

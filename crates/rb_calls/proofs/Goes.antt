@@ -6,7 +6,7 @@ use Rattle.rb_message.specs.declared.message.Message.{Message}
 use Rattle.rb_message.specs.declared.role.Role.{Role}
 use Rattle.rb_message.specs.declared.role.Role.TheVariants as role
 use Rattle.rb_node.specs.Node.{PlainNode}
-use Rattle.rb_laws.specs.Sound.{IsOrdered, IsGrown}
+use Rattle.rb_calls.specs.Sound.{IsOrdered, IsGrown}
 
 -- what the relation is about
 pub record Core : Type 0 where

@@ -40,18 +40,18 @@ use Rattle.rb_node.specs.Terms.{became_follower}
 use Rattle.rb_node.specs.Ticking.{heartbeat_sent_to, heartbeat_sent_to_each, due_heartbeats_sent, activity_reset, active_quorum_checked, has_lost_quorum, quorum_lost, leader_ticked, counters_advanced, non_leader_ticked, next_count as counted_tick, is_due, ticked_by}
 use Rattle.rb_node.specs.Transferring.{transfer_ended}
 use Rattle.rb_node.specs.declared.limits.TheConstants.{HEARTBEAT_TICKS, ELECTION_TICKS}
-use Rattle.rb_laws.specs.Calling.{Call, Step, Advance, compacted_unless, after, Campaign, Propose, Transfer, Tick, ForgetLeader, ReportUnreachable, SetTimeout, Compact}
-use Rattle.rb_laws.specs.Elections.{OwnGrants, OwnElects, own_turn, Granted, Elected}
-use Rattle.rb_laws.specs.Matches.{IsAccepted}
-use Rattle.rb_laws.specs.Sound.{IsSound}
-use Rattle.rb_laws.proofs.Goes.{Core, core, Ways}
-use Rattle.rb_laws.proofs.LeaderLaws.{viewing, with_views_only, strangers_only}
-use Rattle.rb_laws.proofs.LeaderWays.{nothing_done, transfer_ended_way, telling_path, appended_change_way, all_told_way}
-use Rattle.rb_laws.proofs.Moves.{Path, TellMove, ChangesNothing, with_members, Onward, Goes_on, ChangeMove, in_config, following, Resigns, Shows, Revises, Configures, Unchanged, Idle, Whole, Commits, Allows, over, StepMove, CallMove, IsNext, wider_path, CallSteps, One, Fills, CallChanges, StepTells, Applies, Way, Sent, Then, Unmarks, Gives_up, whole, Saves, Viewed, Compacts}
-use Rattle.rb_laws.proofs.ProgressLaws.{unreachable_matched, sound_unreachable}
-use Rattle.rb_laws.proofs.Saying.{different}
-use Rattle.rb_laws.proofs.StepWays.{campaigned_way, stepped_way}
-use Rattle.rb_laws.proofs.TellWays.{checked_way}
+use Rattle.rb_calls.specs.Calling.{Call, Step, Advance, compacted_unless, after, Campaign, Propose, Transfer, Tick, ForgetLeader, ReportUnreachable, SetTimeout, Compact}
+use Rattle.rb_calls.specs.Elections.{OwnGrants, OwnElects, own_turn, Granted, Elected}
+use Rattle.rb_calls.specs.Matches.{IsAccepted}
+use Rattle.rb_calls.specs.Sound.{IsSound}
+use Rattle.rb_calls.proofs.Goes.{Core, core, Ways}
+use Rattle.rb_calls.proofs.LeaderLaws.{viewing, with_views_only, strangers_only}
+use Rattle.rb_calls.proofs.LeaderWays.{nothing_done, transfer_ended_way, telling_path, appended_change_way, all_told_way}
+use Rattle.rb_calls.proofs.Moves.{Path, TellMove, ChangesNothing, with_members, Onward, Goes_on, ChangeMove, in_config, following, Resigns, Shows, Revises, Configures, Unchanged, Idle, Whole, Commits, Allows, over, StepMove, CallMove, IsNext, wider_path, CallSteps, One, Fills, CallChanges, StepTells, Applies, Way, Sent, Then, Unmarks, Gives_up, whole, Saves, Viewed, Compacts}
+use Rattle.rb_calls.proofs.ProgressLaws.{unreachable_matched, sound_unreachable}
+use Rattle.rb_calls.proofs.Saying.{different}
+use Rattle.rb_calls.proofs.StepWays.{campaigned_way, stepped_way}
+use Rattle.rb_calls.proofs.TellWays.{checked_way}
 
 -- ---- a change that takes effect
 
@@ -336,14 +336,19 @@ Comes _ t x = ⊥
 abbrev pub ways : Call → NodeStep → Ways
 ways c t = record { given = Granted c t; elected = Elected c t; matched = Accepted c t; came = Comes c t }
 
+-- what is saved, and then what is committed takes effect
+pub applied_way : {sound : Type 0} {w : Ways} (t : NodeStep) → (sound → IsSound t.node) → Path (CallMove sound w) (with_node t (saved t.node)) (applied_all (with_node t (saved t.node)) t.node.applied (applying t.node))
+applied_way t known =
+    let n = t.node in
+    all_way (with_node t (saved n)) n.applied (applying n)
+    (λ s. (let o = known s in let within = ready_within n o in (refl, within.0, within.1, λ k e is. (between-entries n.log n.applied n.commit k e o.past_base is).0)))
+    (λ all. All-drop ChangesNothing (n.applied - n.log.base) _ (All-take ChangesNothing (n.commit - n.log.base) n.log.entries all))
+
 -- from what is saved to the turn in which the node takes its own answers in
 pub ready_way : {sound : Type 0} {w : Ways} (t : NodeStep) → (sound → IsSound t.node) → Path (CallMove sound w) (with_node t (saved t.node)) (own_turn t)
 ready_way t known =
     let n = t.node in
-    let u : NodeStep = with_node t (saved n) in
-    Onward (all_way u n.applied (applying n) (λ s. (let o = known s in let within = ready_within n o in (refl, within.0, within.1, λ k e is. (between-entries n.log n.applied n.commit k e o.past_base is).0)))
-    (λ all. All-drop ChangesNothing (n.applied - n.log.base) _ (All-take ChangesNothing (n.commit - n.log.base) n.log.entries all)))
-    (stepping (left_way (applied_all u n.applied (applying n))))
+    Onward (applied_way t known) (stepping (left_way (applied_all (with_node t (saved n)) n.applied (applying n))))
 
 own_come : (t : NodeStep) → All (λ (m : Message). m.to ≡ t.node.id → Comes Advance t m) t.node.waiting
 own_come t =

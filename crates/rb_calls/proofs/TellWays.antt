@@ -22,12 +22,12 @@ use Rattle.rb_node.specs.declared.sends.SendReason.{SendReason}
 use Rattle.rb_node.specs.declared.sends.SendReason.TheVariants as mode
 use Rattle.rb_node.specs.declared.sends.Sending.{Sending}
 use Rattle.rb_node.specs.declared.sends.Sending.TheVariants as sending
-use Rattle.rb_laws.specs.Sound.{AreViewsOf}
-use Rattle.rb_laws.proofs.Goes.{Core, core}
-use Rattle.rb_laws.proofs.MatchViewLaws.{of}
-use Rattle.rb_laws.proofs.Moves.{TellMove, Idle, Whole, Allows, Viewed, Way, One, Sent, Then, Commits}
-use Rattle.rb_laws.proofs.ProgressLaws.{same_match, sound_snapshotting, sent_match, sound_sent}
-use Rattle.rb_laws.proofs.Saying.{different}
+use Rattle.rb_calls.specs.Sound.{AreViewsOf}
+use Rattle.rb_calls.proofs.Goes.{Core, core}
+use Rattle.rb_calls.proofs.MatchViewLaws.{of}
+use Rattle.rb_calls.proofs.Moves.{TellMove, Idle, Whole, Allows, Viewed, Way, One, Sent, Then, Commits}
+use Rattle.rb_calls.proofs.ProgressLaws.{same_match, sound_snapshotting, sent_match, sound_sent}
+use Rattle.rb_calls.proofs.Saying.{different}
 
 -- ---- what such moves leave as it is
 

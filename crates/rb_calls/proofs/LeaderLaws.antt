@@ -8,7 +8,7 @@ use Rattle.rb_message.specs.declared.role.Role.TheVariants as role
 use Rattle.rb_node.specs.Changing.{without_view, without_views}
 use Rattle.rb_node.specs.Leading.{with_view_of, with_views, leading, in_lead}
 use Rattle.rb_node.specs.Node.{PlainNode}
-use Rattle.rb_laws.proofs.Goes.{core, Core}
+use Rattle.rb_calls.proofs.Goes.{core, Core}
 
 -- the node with these views
 abbrev pub viewing : PlainNode → List (ℕ × PlainProgress) → PlainNode

@@ -15,11 +15,12 @@ use Rattle.rb_node.specs.Campaigns.{candidate, precandidate}
 use Rattle.rb_node.specs.Leading.{leading, in_lead, can_commit}
 use Rattle.rb_node.specs.Node.{PlainNode}
 use Rattle.rb_node.specs.Votes.{grants, voted_for, can_vote_for}
-use Rattle.rb_laws.proofs.CallWays.{with_members_only}
-use Rattle.rb_laws.proofs.Goes.{Ways, Voted, core, Keeps, and_then, same, Core, self}
-use Rattle.rb_laws.proofs.LeaderLaws.{leading_same}
-use Rattle.rb_laws.proofs.Moves.{IsNext, following, TellMove, Idle, Whole, Commits, StepMove, StepTells, Follows, Asks, Stands, Leads, Votes_for, Appends, Takes, Learns, Restores, ChangeMove, Resigns, in_config, Revises, CallMove, CallChanges, CallSteps, Applies, Fills, Gives_up, Saves, Compacts, Allows}
-use Rattle.rb_laws.proofs.Turns.{turned, committed, without_front, with_entry, with_append, with_snapshot, applied_to, filled, all_durable}
+use Rattle.rb_calls.specs.Calling.{compacted_at}
+use Rattle.rb_calls.proofs.CallWays.{with_members_only}
+use Rattle.rb_calls.proofs.Goes.{Ways, Voted, core, Keeps, and_then, same, Core, self}
+use Rattle.rb_calls.proofs.LeaderLaws.{leading_same}
+use Rattle.rb_calls.proofs.Moves.{IsNext, following, TellMove, Idle, Whole, Commits, StepMove, StepTells, Follows, Asks, Stands, Leads, Votes_for, Appends, Takes, Learns, Restores, ChangeMove, Resigns, in_config, Revises, CallMove, CallChanges, CallSteps, Applies, Fills, Gives_up, Saves, Compacts, Allows}
+use Rattle.rb_calls.proofs.Turns.{turned, committed, without_front, with_entry, with_append, with_snapshot, applied_to, filled, all_durable}
 
 -- ---- another term, vote or role
 
@@ -91,7 +92,7 @@ compacts_by (Ok term) c i at low known durable = without_front c i term low know
 compacts_by (Err fault) c i at low known durable = self c
 
 compacts : {w : Ways} (n : PlainNode) (i : ℕ) → compact_fault n.log i (min n.applied n.log.durable) ≡ None
-    → Keeps w (core n) (core (record n { log = compacted n.log i (term_at n.log i) }))
+    → Keeps w (core n) (core (compacted_at n i))
 compacts n i is =
     let within = compact_within n.log i (min n.applied n.log.durable) is in
     let far = within.1 in

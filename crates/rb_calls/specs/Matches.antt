@@ -6,8 +6,8 @@ use Rattle.rb_message.specs.declared.kind.MessageKind.TheVariants.{AppendRespons
 use Rattle.rb_message.specs.declared.message.Message.{Message}
 use Rattle.rb_message.specs.declared.role.Role.TheVariants.{Candidate, Leader}
 use Rattle.rb_node.specs.Node.{PlainNode, NodeStep}
-use Rattle.rb_laws.specs.Calling.{Call, Step, after}
-use Rattle.rb_laws.specs.Words.{IsLater}
+use Rattle.rb_calls.specs.Calling.{Call, Step, after}
+use Rattle.rb_calls.specs.Words.{IsLater}
 
 -- a message tells a leader, in its term, that its sender holds the log up to an index or further; the leader's own log reaches it
 pub record IsAccepted (n : PlainNode) (m : Message) (matched : ℕ) : Type 0 where

@@ -1,6 +1,6 @@
 use Rattle.std.proofs.Common.{arith}
-use Rattle.rb_laws.proofs.CallLaws.{calls, runs}
-use Rattle.rb_laws.proofs.node.laws.nodes_stay_sound.Goals as goal
+use Rattle.rb_calls.proofs.CallLaws.{calls, runs}
+use Rattle.rb_calls.proofs.nodes_stay_sound.Goals as goal
 
 pub returns-clause-started : goal.returns-clause-started
 returns-clause-started c = λ id start options. record { past_base = omega arith; is_durable = omega arith; within = omega arith; is_committed = omega arith; is_held = omega arith }

@@ -1,0 +1,16 @@
+pub mod ListLaws
+pub mod Goes
+pub mod Turns
+pub mod Saying
+pub mod LeaderLaws
+pub mod MemberLaws
+pub mod FollowerLaws
+pub mod ProgressLaws
+pub mod MatchViewLaws
+pub mod Moves
+pub mod TellWays
+pub mod LeaderWays
+pub mod StepWays
+pub mod CallWays
+pub mod MoveLaws
+pub mod CallLaws
