@@ -354,7 +354,7 @@ def test_own_nodes_run_beside(room: pathlib.Path) -> None:
 def test_a_script_with_steps_of_the_network_runs_on_own_nodes(room: pathlib.Path) -> None:
     """As `raftbench-nodes explore` writes what it finds: its cuts are comments, which the nodes carry out and the reference can't."""
     path = room / "script.txt"
-    shutil.copy(TOP / "examples" / "classics" / "figure-3-7.txt", path)
+    shutil.copy(TOP / "examples" / "classics" / "entry-of-an-earlier-term.txt", path)
     with Running(path, "--with", f"{TOP}/nodes/plain").enter() as server:
         status, told = server.post("/theirs", {"branch": 1})
         assert status == 200 and told["faults"] == [] and not told["differences"] and not told["broken"], told

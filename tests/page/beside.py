@@ -13,11 +13,11 @@ from tests.page.assemble import parts
 from tests.page.plain_steps import json_text, rows_of
 from tests.page.printed import Node, Step, steps_of
 from tests.page.reader import TALL, Reader
-from tests.page.scripts import FULL, HOSTILE, LOST, MANY, NOBODY, RARE, SELF, TOUR, Failed, page_of, same
+from tests.page.scripts import FULL, HOSTILE, LOST, MANY, NOBODY, RARE, RESTARTS, SELF, TOUR, Failed, page_of, same
 from tests.page.seen import CODE, Sheet
 from tests.page.told import SIGNS, Arrow, gist, happened_in, marks_of, messages_of_lines, messages_of_rows, notes_of, turns_of
 
-OWN = {"self": SELF, "nobody": NOBODY, "rare": RARE, "lost": LOST, "hostile": HOSTILE, "many": MANY}
+OWN = {"self": SELF, "nobody": NOBODY, "rare": RARE, "lost": LOST, "hostile": HOSTILE, "many": MANY, "restarts": RESTARTS}
 SCRIPTS = {path.stem: path.read_bytes() for path in TOUR} | OWN
 MOST_TOLD = 4
 # Roles from the narrowest band to the widest; two of them are alike.

@@ -12,7 +12,7 @@ from plain.texts import log_texts, message_text, state_text, status_texts
 from tests.page.plain_steps import DIRECTIVES
 from tests.page.printed import LEVEL, Node, node_of
 from tests.page.reader import Reader
-from tests.page.scripts import LOST, RARE, SELF, TOUR, page_of, same
+from tests.page.scripts import LOST, RARE, RESTARTS, SELF, TOUR, page_of, same
 from tests.page.seen import CODE
 from tests.page.told import READY, gist
 
@@ -119,7 +119,7 @@ def seen_at(reader: Reader, places: Sequence[str]) -> list[dict[str, Any]]:
 
 
 def scripts_tried() -> dict[str, bytes]:
-    return {**{TOUR[place].stem: TOUR[place].read_bytes() for place in TRIED}, "lost": LOST, "self": SELF, "rare": RARE}
+    return {**{TOUR[place].stem: TOUR[place].read_bytes() for place in TRIED}, "lost": LOST, "self": SELF, "rare": RARE, "restarts": RESTARTS}
 
 
 def events_are_as_printed(reader: Reader) -> None:

@@ -23,7 +23,9 @@ from xml.sax.saxutils import escape
 sys.dont_write_bytecode = True
 sys.path[:1] = [str(pathlib.Path(__file__).resolve().parents[2])]
 
-from plain.script import lines_of, read_script  # noqa: E402
+from plain.directives import Refused, Request  # noqa: E402
+from plain.network import Choice  # noqa: E402
+from plain.script import Directive, lines_of, read_script  # noqa: E402
 from tests.page.plain_steps import DIRECTIVES, rows_of  # noqa: E402
 
 # Sizes, in pixels. A row is its heading, a slot for each thing that happens in it, and a little room.
@@ -34,6 +36,8 @@ WAITING, GIVEN_UP = 26, 14
 # How much room is to the right of the last node, and of what is drawn.
 LEAST, EDGE = 60, 10
 HALF_BAND = 5
+# Half of the gap in the band of a node that restarts.
+HALF_GAP = 4
 HALVES = {"leader": HALF_BAND, "candidate": 4, "precandidate": 4, "follower": 3}
 MOST_HEAD, MOST_NOTE, MOST_LABEL, MOST_MARK = 32, 36, 30, 29
 # What a character takes at most: those that take less than others, those that take more, as all past ASCII do, and the others.
@@ -112,6 +116,7 @@ MARKS: dict[str, Callable[..., Mark]] = {
     "replaced-change": lambda id, index, why: (f"! change {index} made empty: {why}", "bad"),
     "switched": lambda id, config: (f"◆ {config}", "change"),
     "refused-change": lambda id, index, fault: (f"! change {index} refused: {fault}", "bad"),
+    "restarted": lambda id, term, *_: (f"↻ restarted, t{term}", "turn"),
     "restored": lambda id, term, index: (f"▣ snapshot {term}/{index}", "installed"),
     "transfer-starts": lambda id, to: (f"hands over to {to}", "change"),
     "transfer-ends": lambda id, to: (f"hand-over to {to} ends", "quiet"),
@@ -175,6 +180,7 @@ class Drafter:
         self.bases: dict[int, int] = {}
         self.bands: dict[int, tuple[str, int]] = {}
         self.ready, self.sent = 0, 0
+        self.choice = Choice()
         self.saves: tuple[int, int] | None = None
 
     def begin_after(self, above: Drafter, line: int) -> None:
@@ -275,6 +281,12 @@ class Drafter:
         self.chart.under.append(self.end_band(id, y))
         self.bands[id] = role, y
 
+    def read_restarted(self, id: int, term: int, vote: int, base: int, last: int, commit: int) -> None:
+        y = self.mark("restarted", id, term)
+        self.chart.under.append(self.end_band(id, y - HALF_GAP))
+        self.bands[id] = "follower", y + HALF_GAP
+        self.commits[id], self.bases[id] = commit, base
+
     def read_ready(self, id: int) -> None:
         self.ready, self.sent = id, 0
 
@@ -327,13 +339,21 @@ class Drafter:
         self.tell(f"node {sender} sends {message_words(kind, term, cells)} to node {to}")
 
     def meet(self, fate: str, sender: int, to: int, kind: str, term: int, *cells: Any) -> None:
-        arrow, end = self.mail[to, kind].pop(0), self.slot()
+        arrow, end = self.take(to), self.slot()
         is_short = fate == "dropped" and to not in self.bands
         if fate == "delivered":
             # Its arrow tells to whom it is.
             self.chart.texts[arrow.text] = self.chart.texts[arrow.text].replace(aim(to), "", 1)
         self.draw_anew(arrow.place, line(sender, to, kind, arrow.start, "given up" if is_short else fate, end))
         self.tell_end(fate, sender, to, message_words(kind, term, cells))
+
+    def take(self, to: int) -> Arrow:
+        """The next of a node's messages that the directive chooses, which is on its way no longer."""
+        types, sender = self.choice.types, self.choice.sender
+        queues = [self.mail[to, kind] for kind in KINDS if types is None or kind in types]
+        meant = [(arrow.text, queue) for queue in queues for arrow in queue if sender in (None, arrow.sender)]
+        text, queue = sorted(meant, key=lambda pair: pair[0])[self.choice.skip]
+        return queue.pop(next(at for at, arrow in enumerate(queue) if arrow.text == text))
 
     def read_no_room(self, sender: int, to: int, kind: str, term: int, *cells: Any) -> None:
         if not self.sent:
@@ -361,6 +381,16 @@ class Drafter:
         return self.chart
 
 
+def choice_of(directive: Directive) -> Choice:
+    """Which messages a directive chooses: all, unless it says which."""
+    try:
+        request = Request(directive.name, directive.arguments)
+    except Refused:
+        return Choice()
+    options = request.options if request.name == "deliver-msgs" else {}
+    return Choice(options.get("type"), options.get("from"), options.get("skip", 0))
+
+
 def title_of(name: str, until: int | None, start: int | None) -> str:
     title = shown(name if isinstance(name, bytes) else os.fsencode(name))
     return title + (f", from line {start}" if start is not None else "") + (f", up to line {until}" if until is not None else "")
@@ -384,6 +414,7 @@ def chart_of(data: bytes, name: str, until: int | None = None, start: int | None
         if row[0] == "step":
             block, drawn = next(blocks), above or drafter
             drawn.end_saves()
+            drawn.choice = choice_of(block.directive())
             drawn.tell_notes(row[1] - len(block.lead), block.lead)
             drawn.begin_row(row[1], shown(block.head[0]))
         elif row[0] == "end":

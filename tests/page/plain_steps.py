@@ -22,7 +22,7 @@ from tests.page.plain_difference import MOST_WORK_OF_SCRIPT, difference_rows, wo
 from plain.records import AnyNode, Entry, Message, ShownView  # noqa: E402
 
 Row = list[Any]
-# Format 1 says what changed at the end of a directive, format 2 after each ready and each delivery too.
+# Format 1 says what changed at the end of a directive, format 2 after each ready, each delivery and each restart too.
 DIRECTIVES, EVENTS_TOO = 1, 2
 SHOWN_CONTENT = 32
 # What a node tells, as its line shows it, and the row of it; a group that is all digits is a number.
@@ -41,6 +41,7 @@ EVENTS = [
     (r"(\d+) ends transfer to (\d+)", "transfer-ends"),
     (r"(\d+) lost its quorum", "lost-quorum"),
     (r"(\d+) started at .*", "started"),
+    (r"(\d+) restarted at term=(\d+) vote=(\d+) log=(\d+)\.\.(\d+) commit=(\d+)", "restarted"),
 ]
 VOTE = re.compile(r"(\d+) has (\w+) (granted|refused) from (\d+): (\w+)")
 
@@ -136,7 +137,7 @@ class Watched(Cluster):
 
     def call(self, id: int, name: str, *parts: Any) -> None:
         super().call(id, name, *parts)
-        if name == "step":
+        if name in ("step", "restart"):
             self.put_changes_of_event(id)
 
     def put_events(self, node: AnyNode) -> None:

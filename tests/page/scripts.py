@@ -55,6 +55,14 @@ SEVERAL = b"".join([
     b"process-ready 1\n----\n\ndeliver-msgs drop=(2,3)\n----\n\ncampaign 2\n----\n\nprocess-ready 2\n----\n\ndeliver-msgs 3\n----\n\n",
     b"process-ready 3\n----\n\ndeliver-msgs 2\n----\n\nprocess-ready 2\n----\n\ndeliver-msgs 1\n----\n\nstabilize\n----\n\n",
 ])
+# Nodes that restart: with entries, a term and a vote that they lose, and with nothing to lose; and messages out of their order, of which some are chosen.
+RESTARTS = b"".join([
+    b"add-nodes 3 voters=(1,2,3) index=10\n----\n\ncampaign 1\n----\n\nstabilize\n----\n\n", 3 * b"propose 1 x\n----\n\nprocess-ready 1\n----\n\n",
+    b"deliver-msgs 2 skip=1 count=1\n----\n\ndeliver-msgs 2 3 from=1 type=MsgApp count=1\n----\n\nprocess-ready 2 3\n----\n\n",
+    b"deliver-msgs drop=(2,3) count=1\n----\n\ndeliver-msgs 1 from=3\n----\n\npropose 1 lost\n----\n\npropose 1 lost\n----\n\nrestart 1\n----\n\n",
+    b"campaign 3\n----\n\nrestart 3 2\n----\n\ncampaign 2\n----\n\nstabilize\n----\n\nrestart 1 3\n----\n\nstabilize\n----\n\n",
+    b"propose 2 y\n----\n\nstabilize\n----\n\ncompact 2 12\n----\n\nrestart 2\n----\n\nprocess-ready 2\n----\n\n",
+])
 # Its last directive prints 5,001 lines.
 OUTPUT = b"".join([
     b"add-nodes 1 voters=(1) index=10\n----\n\ncampaign 1\n----\n\nprocess-ready 1\n----\n\n", 4999 * b"propose 1 x\n----\n\n",

@@ -16,7 +16,7 @@ from tests.page.printed import Node, Step
 # What is told of a message in whatever words: who, to whom, which type, and the numbers and answers in it; and what became of it.
 GIST = re.compile(r"Msg\w+|\d+|granted|refused|transfer|delivered|dropped|given up|on its way")
 # Of a mark its sign and its numbers.
-SIGNS = "★✓↺◆▣!+"
+SIGNS = "★✓✗↺↻◆▣!+"
 SIGN = re.compile(rf"[{SIGNS}]|\d+")
 MESSAGE = re.compile(r"(?:  )?(send|queue|deliver|drop|no room for) (\d+)->(\d+) (Msg\w+)(.*)")
 READY = re.compile(r"(\d+) ready")
@@ -31,6 +31,7 @@ PAGE_MARKS: dict[str, Callable[..., Mark]] = {
     "nothing-ready": lambda id: ("nothing ready", "quiet"),
     "appended": lambda id, index, body: (f"+ {index} {body}", "quiet"),
     "replaced": lambda id, index: (f"↺ {index}+ replaced", "change"),
+    "lost": lambda id, first, last: (f"✗ {first if first == last else f'{first}–{last}'} lost", "bad"),
 }
 
 
@@ -137,14 +138,14 @@ def messages_of_lines(steps: Iterable[Step]) -> list[Message]:
 
 
 def messages_of_rows(rows: Iterable[Row]) -> list[Message]:
-    """The messages of a page's rows. Those to one node and of one type are met in their order."""
+    """The messages of a page's rows. Those that say the same are met in their order."""
     mail, line = Mail(), 0
     for name, *cells in rows:
         if name in ("step", "ready"):
             line, mail.ready = cells[0] if name == "step" else line, []
         elif name in ("send", "queue", "deliver", "drop", "no-room"):
             sender, to, kind = cells[:3]
-            mail.read(name, (to, kind), Message(sender, to, kind, line))
+            mail.read(name, tuple(cells), Message(sender, to, kind, line))
     return mail.messages
 
 
@@ -161,9 +162,10 @@ class Marker:
         self.line, self.ready = 0, 0
         self.saves: list[int] = []
         self.restored: set[int] = set()
+        self.restarted: set[int] = set()
 
     def read(self, step: Step) -> None:
-        self.line, self.restored = step.line, set()
+        self.line, self.restored, self.restarted = step.line, set(), set()
         for line in step.lines:
             self.read_line(line)
         self.end_saves()
@@ -195,6 +197,9 @@ class Marker:
         if name == "restored":
             self.commits[id] = cells[1]
             self.restored.add(id)
+        elif name == "restarted":
+            self.commits[id] = cells[4]
+            self.restarted.add(id)
 
     def commit(self, id: int, index: int) -> None:
         if index > self.commits[id]:
@@ -215,7 +220,9 @@ class Marker:
         old, stays = self.before[id], stays_of(self.before[id], node)
         if node.numbers.base > old.numbers.base and id not in self.restored:
             self.mark("compacted", id, node.numbers.base)
-        if old.numbers.base <= stays < old.last():
+        if old.numbers.base <= stays < old.last() and id in self.restarted and node.last() <= stays:
+            self.mark("lost", id, stays + 1, old.last())
+        elif old.numbers.base <= stays < old.last():
             self.mark("replaced", id, stays + 1)
         if node.last() > max(stays, node.numbers.durable):
             self.mark("appended", id, node.last(), node.entries[node.last()][1])
@@ -244,7 +251,7 @@ def notes_of(steps: Iterable[Step]) -> Counter[Any]:
 def turns_of(steps: Iterable[Step]) -> Counter[Any]:
     """Where each role begins: how often by line, node and role."""
     events = [(step.line, found[1]) for step in steps for line in step.lines if (found := EVENT.fullmatch(line))]
-    rows = [(line, event_row(text)) for line, text in events if " started at " in text or " became " in text]
+    rows = [(line, event_row(text)) for line, text in events if re.search(" (re)?started at | became ", text)]
     return Counter((line, id, rest[0] if name == "became" else "follower") for line, (name, id, *rest) in rows)
 
 

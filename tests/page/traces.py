@@ -20,7 +20,7 @@ from plain.texts import entry_text
 from tests.harness import TOP
 from tests.page.plain_steps import DIRECTIVES, Row, rows_of
 from tests.page.program import REFUSED, answer, put
-from tests.page.scripts import FULL, HOSTILE, LOST, MANY, NOBODY, RARE, SELF, SEVERAL, TOUR, same
+from tests.page.scripts import FULL, HOSTILE, LOST, MANY, NOBODY, RARE, RESTARTS, SELF, SEVERAL, TOUR, same
 
 Event = dict[str, Any]
 # The rows of a page that say something else than what happens.
@@ -79,7 +79,7 @@ def status_of(data: bytes) -> int:
 
 def scripts() -> Iterator[tuple[str, bytes]]:
     yield from ((path.name, path.read_bytes()) for path in TOUR)
-    named = {"hostile": HOSTILE, "lost": LOST, "many": MANY, "nobody": NOBODY, "rare": RARE, "self": SELF, "full": FULL, "empty": b""}
+    named = {"hostile": HOSTILE, "lost": LOST, "many": MANY, "nobody": NOBODY, "rare": RARE, "self": SELF, "full": FULL, "restarts": RESTARTS, "empty": b""}
     yield from named.items()
 
 
@@ -149,7 +149,7 @@ def nodes_are_those_of_the_rows() -> None:
 
 
 def messages_keep_their_numbers() -> None:
-    """Of the messages of one type to one node the earliest is delivered or dropped first; those without room are the last that were sent."""
+    """Of the messages that say the same the earliest is delivered or dropped first; those without room are the last that were sent."""
     for name, data in scripts():
         sent, pending = 0, collections.deque[tuple[int, Row]]()
         for event in traced(data, status_of(data)):
@@ -165,9 +165,8 @@ def messages_keep_their_numbers() -> None:
             elif verb == "no-room" and len(pending) <= MOST:
                 number = sent = sent + 1
             else:
-                like = [it for it in list(pending)[MOST if verb == "no-room" else 0:] if it[1][1:3] == cells[1:3]]
+                like = [it for it in list(pending)[MOST if verb == "no-room" else 0:] if it[1] == cells]
                 number = like[0][0]
-                same(f"message {number} of {name}", like[0][1], cells)
                 pending.remove(like[0])
             same(f"the number of {event} in {name}", event["message"], number)
 

@@ -6,7 +6,7 @@ import { firstAbove } from "./history.js";
 import { brokenAt, fitted, folded, widthOf } from "./measure.js";
 import { Route } from "./route.js";
 import { ARROW, BESIDE, FREE, HEAD_LEFT, LEAST_LEFT, LINE_STEP, NARROW_HEAD_LEFT, SLOT } from "./sizes.js";
-import { labelsOf, MARKS, NOTES } from "./words.js";
+import { hasRestarted, labelsOf, MARKS, NOTES } from "./words.js";
 
 /** @typedef {import("./types.js").Message} Message */
 /** @typedef {import("./types.js").Event} Event */
@@ -38,6 +38,8 @@ const MOST_LINES = 4;
 // How many a head may take, and how wide its letters are.
 const MOST_HEAD_LINES = 2;
 const HEAD_LETTER = 6.7;
+// Half of the gap in the band of a node that restarts.
+const HALF_GAP = 4;
 
 /**
  * How far below a row's top its slots begin.
@@ -47,6 +49,10 @@ const topOf = ({ head }) => ROW_TOP + LINE_STEP * (head.length - 1);
 
 /** @param {number} size */
 const fours = (size) => 4 * Math.floor(size / 4);
+
+// The commit of a node after an event of it.
+/** @type {Record<string, (cells: any[]) => number>} */
+const COMMITS = { restored: ([, , index]) => index, restarted: ([, , , , , commit]) => commit };
 
 /**
  * The events of a step as marks show them: of a ready, which entries it saves, whether others gave way to them, and its commit.
@@ -64,7 +70,7 @@ function gathered(step, commits, gone) {
       commits[event.id] = event.cells[2];
       found.push({ name: "committed", id: event.id, cells: [event.id, event.cells[2]], of: [event] });
     } else {
-      commits[event.id] = event.name === "restored" ? event.cells[2] : commits[event.id]; // its mark says so
+      commits[event.id] = COMMITS[event.name]?.(event.cells) ?? commits[event.id]; // its mark says so
       found.push(event);
     }
   }
@@ -305,6 +311,10 @@ export class Layout {
       this.setRole(event.id, y, event.cells[1]);
     } else if (event.name === "restored") {
       this.bases[event.id] = event.cells[2];
+    } else if (event.name === "restarted") {
+      this.setRole(event.id, y - HALF_GAP, "none");
+      this.setRole(event.id, y + HALF_GAP, "follower");
+      this.bases[event.id] = event.cells[3];
     }
   }
 
@@ -365,7 +375,7 @@ export class Layout {
   }
 
   /**
-   * Marks entries that gave way to others, and new ones that aren't durable yet: no ready has shown those.
+   * Marks entries that gave way to others or were lost by a restart, and new ones that aren't durable yet: no ready has shown those.
    * @param {PlacedRow} row
    * @param {import("./rows.js").Node} node
    * @param {Map<number, number>} gone
@@ -376,7 +386,9 @@ export class Layout {
     const { id } = node;
     const { durable } = node.numbersAt(row.step.moment);
     const from = gone.get(id);
-    if (from !== undefined) {
+    if (from !== undefined && last < from && hasRestarted(row.step, id)) {
+      this.placeMark(row, { name: "lost", id, cells: [id, from, this.lasts[id]] });
+    } else if (from !== undefined) {
       this.placeMark(row, { name: "replaced", id, cells: [id, from] });
     }
     if (last > durable && last > stays) {

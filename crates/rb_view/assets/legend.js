@@ -47,8 +47,12 @@ export function makeLegend() {
   const roles = ROLES.map(([role, half]) => {
     return item(role, (picture) => svg(picture, "rect", { class: `band ${role}`, x: 0, y: 5 - half, width: 30, height: 2 * half }));
   });
+  const restart = item("restart", (picture) => {
+    svg(picture, "rect", { class: "band leader", x: 0, y: 0, width: 11, height: 10 });
+    svg(picture, "rect", { class: "band follower", x: 19, y: 2.5, width: 11, height: 5 });
+  });
   const logs = LOG_SIGNS.map(([look, text]) => element("li", "", element("span", `sample ${look}`, "1"), text));
-  byId("legend-items").append(...arrows, lost, waiting, ...roles);
-  byId("log-signs").append(...logs, element("li", "", element("del", "", "1"), "gave way"), element("li", "", "◆ change"), element("li", "", "▲ match, △ next: what the leader knows"));
+  byId("legend-items").append(...arrows, lost, waiting, ...roles, restart);
+  byId("log-signs").append(...logs, element("li", "", element("del", "", "1"), "gave way, or was lost"), element("li", "", "◆ change"), element("li", "", "▲ match, △ next: what the leader knows"));
   /** @type {HTMLDetailsElement} */ (byId("legend")).open = window.matchMedia("(min-width: 1100px) and (min-height: 700px)").matches;
 }

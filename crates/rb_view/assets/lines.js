@@ -12,6 +12,7 @@ const VERBS = { send: "  send", queue: "queue", deliver: "deliver", drop: "drop"
 /** @type {Record<string, (cells: any[]) => string>} */
 const REPORTED = {
   started: ([id]) => `${id} started at `,
+  restarted: ([id, term, vote, base, last, commit]) => `${id} restarted at term=${term} vote=${vote} log=${base}..${last} commit=${commit}`,
   became: ([id, role, term]) => `${id} became ${role} at term ${term}`,
   "cannot-campaign": ([id]) => `${id} can't campaign: `,
   vote: ([id, type, granted, from, result]) => `${id} has ${type} ${granted ? "granted" : "refused"} from ${from}: ${result}`,

@@ -3,6 +3,7 @@
 import { byId, element, withAttributes } from "./dom.js";
 import { instantAt, momentBefore, numbersOf } from "./position.js";
 import { beginning, counted, shownBody } from "./text.js";
+import { hasRestarted } from "./words.js";
 
 /** @typedef {import("./types.js").Position} Position */
 /** @typedef {import("./types.js").Entry} Entry */
@@ -34,6 +35,7 @@ export class Logs {
     /** @type {Position} */
     this.chosen = { place: 1, event: 0 };
     this.most = COLUMNS;
+    this.step = /** @type {import("./types.js").Step} */ ({ events: [] });
     this.pane = byId("logs");
     this.detail = byId("log-detail");
     this.pane.addEventListener("pointerover", ({ target }) => this.tell(/** @type {Element} */ (target)));
@@ -66,6 +68,7 @@ export class Logs {
   draw() {
     const instant = instantAt(this.model, this.chosen);
     const before = momentBefore(this.model, this.chosen);
+    this.step = instant.step;
     const nodes = this.model.nodes.filter((node) => node.isThereAt(instant.moment));
     const views = this.viewsOfLeader(nodes, instant);
     const lasts = nodes.map((node) => Math.max(node.logAt(instant.moment).last, this.lastBefore(node, before)));
@@ -173,7 +176,7 @@ export class Logs {
   }
 
   /**
-   * The entry that was at this index before and gave way.
+   * The entry that was at this index before and gave way, or was lost by a restart.
    * @param {Node} node
    * @param {number} index
    * @param {number} moment
@@ -195,7 +198,7 @@ export class Logs {
    * @param {number} id
    */
   goneText(gone, index, id) {
-    return `${gone.term}/${index} ${shownBody(gone.body)} of node ${id} gave way`;
+    return `${gone.term}/${index} ${shownBody(gone.body)} of node ${id} ${hasRestarted(this.step, id) ? "was lost" : "gave way"}`;
   }
 
   /** @param {Entry} gone */

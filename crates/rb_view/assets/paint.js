@@ -150,6 +150,9 @@ export class Painter {
       for (let part = Math.max(0, firstAbove(tops, from) - 1); part < tops.length && tops[part] < to; part += 1) {
         const top = Math.max(from, tops[part]);
         const bottom = Math.min(to, tops[part + 1] ?? to);
+        if (roles[part] === "none" || bottom <= top) {
+          continue;
+        }
         const half = roles[part] === "leader" ? HALF_BAND : roles[part] === "follower" ? 2.5 : 4;
         svg(all, "rect", { class: `band ${roles[part]}`, x: this.layout.x(at + 1) - half, y: top, width: 2 * half, height: bottom - top });
       }

@@ -103,6 +103,7 @@ export function fateText(message) {
 /** @type {Record<string, Mark>} */
 export const MARKS = {
   started: () => ["started", "quiet"],
+  restarted: ([, term]) => [`↻ restarted, t${term}`, "turn"],
   became: ([, role, term]) => (role === "leader" ? [`★ leader, t${term}`, "won"] : [`${role}, t${term}`, "turn"]),
   "cannot-campaign": ([, why]) => [`! can't campaign: ${why}`, "bad"],
   vote: ([id, , granted, from, result]) => [`${from === id ? "own vote" : granted ? `vote of ${from}` : `no vote of ${from}`}: ${result}`, "quiet"],
@@ -122,6 +123,7 @@ export const MARKS = {
   saved: ([, first, last]) => [`saves ${first === last ? first : `${first}–${last}`}`, "quiet"],
   appended: ([, index, body]) => [`+ ${index} ${shownBody(body)}`, "quiet"],
   replaced: ([, index]) => [`↺ ${index}+ replaced`, "change"],
+  lost: ([, first, last]) => [`✗ ${first === last ? first : `${first}–${last}`} lost`, "bad"],
   compacted: ([, index]) => [`▣ compacted to ${index}`, "installed"],
 };
 
@@ -155,6 +157,15 @@ export function eventText({ name, id, cells, message }) {
 }
 
 /**
+ * Whether a node restarts in a step.
+ * @param {import("./types.js").Step} step
+ * @param {number} id
+ */
+export function hasRestarted({ events }, id) {
+  return events.some((event) => event.name === "restarted" && event.id === id);
+}
+
+/**
  * The nodes, the types of messages and the terms that an event is about: what filters look at.
  * @param {Event} event
  */
@@ -163,6 +174,6 @@ export function subjectOf({ name, id, cells, message }) {
     return { nodes: [message.from, message.to], type: message.type, term: message.term };
   }
   const type = name === "vote" || name === "ignored" ? cells[1] : "";
-  const term = { became: cells[2], hard: cells[0], save: cells[1], apply: cells[1], snapshot: cells[0], restored: cells[1] }[name] ?? 0;
+  const term = { became: cells[2], restarted: cells[1], hard: cells[0], save: cells[1], apply: cells[1], snapshot: cells[0], restored: cells[1] }[name] ?? 0;
   return { nodes: id ? [id] : [], type, term };
 }

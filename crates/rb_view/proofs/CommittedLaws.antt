@@ -1,24 +1,17 @@
--- Whatever a directive does to nodes, each is sound as before, and what it knew to be committed stays.
-use Rattle.std.proofs.Common.{◌≡◌, ◌∙◌, ℕ, ◌≤◌, false, List, [], ◌∷◌, ◌++◌, length, length-append, Some, take, refl, sym, subst, arith}
-use Rattle.std.specs.Prelude.{slice_get, slice_set}
-use Rattle.std.proofs.lemmas.Bool.{false≢true}
-use Rattle.std.proofs.lemmas.List.{length-set}
-use Rattle.std.proofs.lemmas.List.Elements.{All-contains_itself}
+-- Nodes whose indexes are in order, and that have what they knew to be committed.
+use Rattle.std.proofs.Common.{◌≡◌, ◌∙◌, ℕ, zero, suc, ◌≤◌, true, List, [], ◌∷◌, ◌++◌, length, length-append, Some, refl, subst, arith}
+use Rattle.std.specs.Prelude.{◌&&◌, nat_le, slice_get}
+use Rattle.std.specs.List.{list_all}
+use Rattle.std.proofs.lemmas.Bool.{and_parts, leb-true}
 use Rattle.std.proofs.lemmas.Option.{none-some, same_Some, slice_get_within}
-use Rattle.rb_script.specs.Directive.{PlainDirective}
+use Rattle.rb_raftlog.specs.Log.{last}
 use Rattle.rb_raftlog.specs.declared.snapshot.Snapshot.{Snapshot}
 use Rattle.rb_node.specs.declared.options.Options.{Options}
-use Rattle.rb_node.specs.Node.{PlainNode, NodeStep, started}
-use Rattle.rb_laws.specs.Calling.{Call, Advance, after}
-use Rattle.rb_laws.specs.Sound.{IsSound}
-use Rattle.rb_laws.proofs.CallLaws.{calls}
-use Rattle.rb_machine.specs.Cluster.{Cluster, empty}
-use Rattle.rb_machine.specs.Outcome.{outcome}
-use Rattle.rb_script.specs.Script.{PlainScript}
-use Rattle.rb_replay.specs.Run.{directives, led, state}
-use Rattle.rb_laws.proofs.DirectiveLaws.{Lasts, by_directive}
-use Rattle.rb_laws.proofs.ListLaws.{each_set, each_push}
-use Rattle.rb_view.specs.Committed.{AreKept, AreSound, IsKept}
+use Rattle.rb_node.specs.Node.{PlainNode, started}
+use Rattle.rb_calls.specs.Sound.{IsSound}
+use Rattle.rb_calls.proofs.ListLaws.{each_push}
+use Rattle.rb_machine.specs.Cluster.{empty}
+use Rattle.rb_view.specs.Committed.{AreSound, IsKept, is_sound}
 
 -- ---- a node
 
@@ -50,17 +43,6 @@ pub record HaveGoneOn (olds nodes : List PlainNode) : Type 0 where
   pub many : length olds ≤ length nodes
   pub each : (k : ℕ) (n : PlainNode) → slice_get nodes k ≡ Some n → IsOf olds k n
 
-one_called : (olds nodes : List PlainNode) (k : ℕ) (call : Call) (t : NodeStep) → slice_get nodes k ≡ Some t.node → HaveGoneOn olds nodes → HaveGoneOn olds (slice_set nodes k (after call t).node)
-one_called olds nodes k call t at h =
-    let new = (after call t).node in
-    let n = h.each k t.node at in
-    let g = (calls call t).goes n.sound in
-    let on : HasGoneOn t.node new = record { commit = g.commit; kept = record { base = g.base; held = n.sound.is_held; entries = g.kept } } in
-    record {
-      many = omega (arith, h.many, length-set nodes k new);
-      each = each_set (IsOf olds) nodes k t.node new at (record { sound = g.ordered; gone = λ old was. further old t.node new (n.gone old was) on }) (λ j x _ there. h.each j x there);
-    }
-
 pub one_joins : (olds nodes : List PlainNode) (id : ℕ) (from : Snapshot) (given : Options) → HaveGoneOn olds nodes → HaveGoneOn olds (nodes ++ started id from given ∷ [])
 one_joins olds nodes id from given h =
     let n = started id from given in
@@ -73,35 +55,31 @@ one_joins olds nodes id from given h =
           }) h.each;
     }
 
-lasts : (olds : List PlainNode) → Lasts false (λ nodes ms. HaveGoneOn olds nodes)
-lasts olds = record {
-  calls = λ nodes ms k call t at brought h. one_called olds nodes k call t at h;
-  advances = λ nodes ms k t at h. one_called olds nodes k Advance t at h;
-  shows = λ nodes ms k from to n at h. h;
-  joins = λ free nodes ms id from given h. one_joins olds nodes id from given h;
-}
-
--- ---- each directive
-
-goes_on : (c : Cluster) (d : PlainDirective) → AreSound c.nodes → HaveGoneOn c.nodes (outcome c d).cluster.nodes
-goes_on c d sound =
-    let each : (k : ℕ) (n : PlainNode) → slice_get c.nodes k ≡ Some n → IsOf c.nodes k n = λ k n at.
-    record { sound = sound k n at; gone = λ old was. subst (λ (x : PlainNode). HasGoneOn x n) (same_Some n old (sym at ∙ was)) (still n (sound k n at)) } in
-    (by_directive (lasts c.nodes) c d (λ is. absurd (false≢true is)) (c.pending, (record { many = omega arith; each = each }, All-contains_itself c.pending))).1.0
-
-pub stay_sound : (c : Cluster) (d : PlainDirective) → AreSound c.nodes → AreSound (outcome c d).cluster.nodes
-stay_sound c d sound k n is = ((goes_on c d sound).each k n is).sound
-
-pub are_kept : (c : Cluster) (d : PlainDirective) → AreSound c.nodes → AreKept c.nodes (outcome c d).cluster.nodes
-are_kept c d sound k old new was is = (((goes_on c d sound).each k new is).gone old was).kept
+-- ---- nodes whose indexes are in order
 
 pub begin_sound : AreSound empty.nodes
 unfolding empty
 begin_sound k n is = absurd (none-some n is)
 
-led_sound : (c : Cluster) (ds : List PlainDirective) → AreSound c.nodes → AreSound (led c ds).nodes
-led_sound c [] sound = sound
-led_sound c (d ∷ ds) sound = led_sound (outcome c d).cluster ds (stay_sound c d sound)
+node_sound : (n : PlainNode) → is_sound n ≡ true → IsSound n
+node_sound n h =
+    let base = nat_le n.log.base n.applied in
+    let durable = nat_le n.applied n.log.durable in
+    let within = nat_le n.log.durable (last n.log) in
+    let committed = nat_le n.applied n.commit in
+    let four = and_parts (base && durable && within && committed) (nat_le n.commit (last n.log)) h in
+    let three = and_parts (base && durable && within) committed four.0 in
+    let two = and_parts (base && durable) within three.0 in
+    let one = and_parts base durable two.0 in
+    record {
+      past_base = leb-true n.log.base n.applied one.0;
+      is_durable = leb-true n.applied n.log.durable one.1;
+      within = leb-true n.log.durable (last n.log) two.1;
+      is_committed = leb-true n.applied n.commit three.1;
+      is_held = leb-true n.commit (last n.log) four.1;
+    }
 
-pub state_sound : (s : PlainScript) (i : ℕ) → AreSound (state s i).nodes
-state_sound s i = led_sound empty (take i (directives s)) begin_sound
+pub all_sound : (nodes : List PlainNode) → list_all is_sound nodes ≡ true → AreSound nodes
+all_sound [] h k n is = absurd (none-some n is)
+all_sound (x ∷ xs) h zero n is = node_sound n (subst (λ (y : PlainNode). is_sound y ≡ true) (same_Some x n is) (and_parts (is_sound x) (list_all is_sound xs) h).0)
+all_sound (x ∷ xs) h (suc k) n is = all_sound xs (and_parts (is_sound x) (list_all is_sound xs) h).1 k n is

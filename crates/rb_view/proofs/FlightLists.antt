@@ -1,49 +1,65 @@
--- Which message among those in flight is the first, or the last, that is alike; and what is left without it.
-use Rattle.std.proofs.Common.{◌≡◌, ◌∙◌, ℕ, suc, ◌+◌, Bool, true, false, if◌then◌else◌, List, [], ◌∷◌, ◌++◌, Option, Some, None, refl, ap, sym, subst, add-one, arith}
+-- Which message among those in flight is met next, or is the last that is alike; and what is left without it.
+use Rattle.std.proofs.Common.{◌≡◌, ◌∙◌, ℕ, suc, ◌+◌, ◌-◌, ◌==◌, Bool, true, false, if◌then◌else◌, List, [], ◌∷◌, ◌++◌, length, length-append, Option, Some, None, refl, ap, sym, subst, append_assoc, add-one, arith}
 use Rattle.std.specs.Prelude.{option_map, slice_get}
 use Rattle.std.specs.List.{remove}
 use Rattle.std.specs.Option.{option_or, unwrap_or}
 use Rattle.rb_message.specs.declared.message.Message.{Message}
-use Rattle.rb_view.specs.InFlight.{first_alike, is_alike, last_alike}
+use Rattle.rb_view.specs.InFlight.{is_alike, last_alike, met_from}
 use Rattle.rb_view.proofs.AlikeMessages.{alike_same, alike_self}
 
--- ---- the first
+-- ---- the message that is met
 
-first_shift_by : (n : ℕ) (b : Bool) (o p : Option ℕ) → o ≡ option_map suc p → (if b then Some (n + 1) else o) ≡ option_map suc (if b then Some n else p)
-first_shift_by n true o p is = ap Some (add-one n)
-first_shift_by n false o p is = is
-
-first_shift : (m : Message) (n : ℕ) (ms : List Message) → first_alike m (n + 1) ms ≡ option_map suc (first_alike m n ms)
-first_shift m n [] = refl
-first_shift m n (x ∷ xs) = first_shift_by n (is_alike m x) _ _ (first_shift m (n + 1) xs)
-
--- the message is found at a position, and without it these are left
-pub record Found (m : Message) (ms left : List Message) : Type 0 where
+-- the message is met at a position, and without it these are left
+pub record Found (meant : Message → Bool) (skip : ℕ) (m : Message) (ms left : List Message) : Type 0 where
   pub at : ℕ
-  pub is : first_alike m 0 ms ≡ Some at
+  pub is : met_from meant skip 0 ms ≡ Some at
   pub got : slice_get ms at ≡ Some m
   pub removed : remove ms at ≡ left
 
-abbrev pub AreOthers : Message → List Message → Type 0
-AreOthers m [] = Unit {0}
-AreOthers m (x ∷ xs) = (is_alike m x ≡ false) × AreOthers m xs
+-- after these messages so many are still skipped
+abbrev pub Passed : (Message → Bool) → ℕ → List Message → ℕ → Type 0
+Passed meant skip before left = (ms : List Message) → met_from meant skip 0 (before ++ ms) ≡ met_from meant left (length before) ms
 
-pub found : (m : Message) (before after : List Message) → AreOthers m before → Found m (before ++ m ∷ after) (before ++ after)
-found m [] after others = record {
-  at = 0;
-  is = ap (λ (b : Bool). if b then Some 0 else first_alike m 1 after) (alike_self m);
-  got = refl;
-  removed = refl;
+passed_by : (meant : Message → Bool) (skip : ℕ) (before : List Message) (m : Message) (left next : ℕ) → Passed meant skip before left
+    → ((ms : List Message) → met_from meant left (length before) (m ∷ ms) ≡ met_from meant next (length before + 1) ms) → Passed meant skip (before ++ m ∷ []) next
+passed_by meant skip before m left next passed goes ms =
+    let longer : length before + 1 ≡ length (before ++ m ∷ []) = (let is = length-append before (m ∷ []) in omega (arith, is)) in
+    ap (met_from meant skip 0) (append_assoc before (m ∷ []) ms) ∙ passed (m ∷ ms) ∙ goes ms ∙ ap (λ (n : ℕ). met_from meant next n ms) longer
+
+-- one that isn't meant
+pub passed_other : (meant : Message → Bool) (skip : ℕ) (before : List Message) (m : Message) (left : ℕ) → meant m ≡ false → Passed meant skip before left
+    → Passed meant skip (before ++ m ∷ []) left
+passed_other meant skip before m left is passed =
+    passed_by meant skip before m left left passed
+    (λ ms. ap (λ (b : Bool). if b then (if left == 0 then Some (length before) else met_from meant (left - 1) (length before + 1) ms) else met_from meant left (length before + 1) ms) is)
+
+-- one that is skipped
+pub passed_skipped : (meant : Message → Bool) (skip : ℕ) (before : List Message) (m : Message) (left : ℕ) → meant m ≡ true → (left == 0) ≡ false → Passed meant skip before left
+    → Passed meant skip (before ++ m ∷ []) (left - 1)
+passed_skipped meant skip before m left is some passed =
+    passed_by meant skip before m left (left - 1) passed
+    (λ ms. ap (λ (b : Bool). if b then (if left == 0 then Some (length before) else met_from meant (left - 1) (length before + 1) ms) else met_from meant left (length before + 1) ms) is
+    ∙ ap (λ (b : Bool). if b then Some (length before) else met_from meant (left - 1) (length before + 1) ms) some)
+
+get_after : (m : Message) (before after : List Message) → slice_get (before ++ m ∷ after) (length before) ≡ Some m
+get_after m [] after = refl
+get_after m (x ∷ before) after = get_after m before after
+
+removed_after : (m : Message) (before after : List Message) → remove (before ++ m ∷ after) (length before) ≡ before ++ after
+removed_after m [] after = refl
+removed_after m (x ∷ before) after = ap (λ (l : List Message). x ∷ l) (removed_after m before after)
+
+-- the next one that is meant, if none is skipped any more
+pub found : (meant : Message → Bool) (skip : ℕ) (m : Message) (before after : List Message) (left : ℕ) → meant m ≡ true → (left == 0) ≡ true → Passed meant skip before left
+    → Found meant skip m (before ++ m ∷ after) (before ++ after)
+found meant skip m before after left is none passed = record {
+  at = length before;
+  is = passed (m ∷ after)
+      ∙ ap (λ (b : Bool). if b then (if left == 0 then Some (length before) else met_from meant (left - 1) (length before + 1) after) else met_from meant left (length before + 1) after) is
+      ∙ ap (λ (b : Bool). if b then Some (length before) else met_from meant (left - 1) (length before + 1) after) none;
+  got = get_after m before after;
+  removed = removed_after m before after;
 }
-found m (x ∷ before) after others =
-    let rest = found m before after others.1 in
-    let ms : List Message = before ++ m ∷ after in
-    record {
-      at = suc rest.at;
-      is = ap (λ (b : Bool). if b then Some 0 else first_alike m 1 ms) others.0 ∙ first_shift m 0 ms ∙ ap (option_map suc) rest.is;
-      got = rest.got;
-      removed = ap (λ (l : List Message). x ∷ l) rest.removed;
-    }
 
 -- ---- the last
 

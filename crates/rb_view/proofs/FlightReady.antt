@@ -1,6 +1,7 @@
 -- What is in flight when a ready is processed: all that it sends is shown before what finds no room.
 use Rattle.std.proofs.Common.{◌≡◌, ◌∙◌, ℕ, ◌+◌, Bool, true, false, if◌then◌else◌, List, [], ◌∷◌, ◌++◌, map, Option, Some, None, refl, ap, sym, subst, append_assoc, append-nil, arith}
 use Rattle.std.specs.List.{remove}
+use Rattle.rb_directive.specs.declared.requests.MailChoice.{MailChoice}
 use Rattle.rb_raftlog.specs.declared.entry.Entry.{Entry}
 use Rattle.rb_tracker.proofs.SetLaws.{if_both}
 use Rattle.rb_message.specs.declared.hard_state.HardState.{HardState}
@@ -128,26 +129,27 @@ advanced_leads : (c : Cluster) (id : ℕ) (n : PlainNode) (f : PlainInFlight) �
 advanced_leads c id n f is_ready flies o is =
     let t = advanced (node_step n []) in
     subst (λ (p : Option PlainNode). Leads f (advanced_by p c id)) (sym is)
-    (leads_both f (all_sent (with_node c id t.node) (outgoing n)) (λ after. telling after t.events) (sent_follows (outgoing n) (with_node c id t.node) f is_ready flies)
-    (tells_showing (all_sent (with_node c id t.node) (outgoing n)).cluster (all_sent (with_node c id t.node) (outgoing n)).cluster (map event t.events) refl (pass_events t.events)))
+    (leads_both f f.choice (all_sent (with_node c id t.node) (outgoing n)) (λ after. telling after t.events) refl (sent_follows (outgoing n) (with_node c id t.node) f is_ready flies)
+    (tells_showing f.choice (all_sent (with_node c id t.node) (outgoing n)).cluster (all_sent (with_node c id t.node) (outgoing n)).cluster (map event t.events) refl (pass_events t.events)))
 
-whole_tells : (c : Cluster) (id : ℕ) (n : PlainNode) → node_at c id ≡ Some n → Tells c (whole_ready_processed c id n)
+whole_tells : (choice : MailChoice) (c : Cluster) (id : ℕ) (n : PlainNode) → node_at c id ≡ Some n → Tells choice c (whole_ready_processed c id n)
 unfolding whole_ready_processed
-whole_tells c id n there f is =
+whole_tells choice c id n there f chosen is =
     let g = record f { is_ready = true; messages = f.messages ++ outgoing n } in
     let flies : g.messages ≡ c.pending ++ outgoing n = ap (λ (l : List Message). l ++ outgoing n) is in
     ready_then id n f (items_of (advanced_and_settled c id).observed) (advanced_and_settled c id).cluster.pending
-    (leads_both g (node_advanced c id) (λ after. node_settled after id) (advanced_leads c id n g refl flies (node_at c id) there) (tells_settled (node_advanced c id).cluster id))
+    (leads_both g choice (node_advanced c id) (λ after. node_settled after id) chosen (advanced_leads c id n g refl flies (node_at c id) there)
+    (tells_settled choice (node_advanced c id).cluster id))
 
 nothing_passes : (id : ℕ) → Passes (items.nothing_ready id)
 unfolding taking
 nothing_passes id f = (refl, tt)
 
-processed_tells : (c : Cluster) (id : ℕ) (o : Option PlainNode) → node_at c id ≡ o → Tells c (ready_processed_by o c id)
-processed_tells c id None there = tells_quiet c c refl
-processed_tells c id (Some n) there =
-    if_both (Tells c) (has_ready n) (whole_ready_processed c id n) (showing c (items.nothing_ready id ∷ []))
-    (λ _. whole_tells c id n there) (λ _. tells_showing c c (items.nothing_ready id ∷ []) refl (nothing_passes id, tt))
+processed_tells : (choice : MailChoice) (c : Cluster) (id : ℕ) (o : Option PlainNode) → node_at c id ≡ o → Tells choice c (ready_processed_by o c id)
+processed_tells choice c id None there = tells_quiet choice c c refl
+processed_tells choice c id (Some n) there =
+    if_both (Tells choice c) (has_ready n) (whole_ready_processed c id n) (showing c (items.nothing_ready id ∷ []))
+    (λ _. whole_tells choice c id n there) (λ _. tells_showing choice c c (items.nothing_ready id ∷ []) refl (nothing_passes id, tt))
 
-pub tells_ready_processed : (c : Cluster) (id : ℕ) → Tells c (ready_processed c id)
-tells_ready_processed c id = processed_tells c id (node_at c id) refl
+pub tells_ready_processed : (choice : MailChoice) (c : Cluster) (id : ℕ) → Tells choice c (ready_processed c id)
+tells_ready_processed choice c id = processed_tells choice c id (node_at c id) refl

@@ -1,8 +1,10 @@
--- What is observed of a directive goes on: a node that settles has the entries that it knew to be committed when it was written last.
-use Rattle.std.proofs.Common.{◌≡◌, ◌∙◌, ℕ, zero, suc, ◌+◌, ◌-◌, List, [], ◌∷◌, ◌++◌, length, Option, Some, None, Result, Ok, Err, min, refl, ap, sym, subst, arith, inl, inr, if◌then◌else◌}
+-- What is observed of a directive that restarts no node goes on: a node that settles has the entries that it knew to be committed when it was
+-- written last.
+use Rattle.std.proofs.Common.{◌≡◌, ◌∙◌, ℕ, zero, suc, ◌+◌, ◌-◌, Bool, true, false, not, List, [], ◌∷◌, ◌++◌, length, Option, Some, None, Result, Ok, Err, min, refl, ap, sym, subst, arith, inl, inr, if◌then◌else◌}
 use Rattle.std.specs.Prelude.{slice_get, slice_set}
-use Rattle.std.specs.List.{range_with_len}
+use Rattle.std.specs.List.{list_all, range_with_len}
 use Rattle.std.specs.Option.{option_or}
+use Rattle.std.proofs.lemmas.Bool.{and_parts}
 use Rattle.std.proofs.lemmas.List.{length-set}
 use Rattle.std.proofs.lemmas.Option.{same_Some}
 use Rattle.rb_script.specs.Directive.{PlainDirective}
@@ -11,12 +13,12 @@ use Rattle.rb_directive.specs.declared.node_command.NodeCommand.{NodeCommand}
 use Rattle.rb_directive.specs.declared.node_command.NodeCommand.TheVariants as does
 use Rattle.rb_directive.specs.declared.node_command_with_arg.NodeCommandWithArg.TheVariants as withs
 use Rattle.rb_directive.specs.declared.requests.DeliverMsgs.{DeliverMsgs}
+use Rattle.rb_directive.specs.declared.requests.MailChoice.{MailChoice}
 use Rattle.rb_directive.specs.declared.requests.Request.{Request}
 use Rattle.rb_directive.specs.declared.requests.Request.TheVariants as requests
 use Rattle.rb_directive.specs.declared.build.Asked.{Asked}
-use Rattle.rb_directive.specs.declared.type_set.TypeSet.{TypeSet}
 use Rattle.rb_directive.specs.Changes.{input_words}
-use Rattle.rb_directive.specs.Requests.{request, nodes_of}
+use Rattle.rb_directive.specs.Requests.{all_mail, request, nodes_of}
 use Rattle.rb_raftlog.specs.declared.entry.Body.TheVariants.{Payload, Change}
 use Rattle.rb_raftlog.specs.declared.raft_log.CompactFault.{CompactFault}
 use Rattle.rb_raftlog.specs.declared.snapshot.Snapshot.{Snapshot}
@@ -32,15 +34,15 @@ use Rattle.rb_node.specs.Readying.{has_ready, outgoing}
 use Rattle.rb_node.specs.Step.{stepped}
 use Rattle.rb_node.specs.Ticking.{ticked}
 use Rattle.rb_texts.specs.Items.{PlainItem}
-use Rattle.rb_laws.specs.Calling.{Call, Step, Campaign, Propose, Transfer, Tick, Advance, ForgetLeader, ReportUnreachable, SetTimeout, Compact, compacted_unless, after}
-use Rattle.rb_laws.specs.Sound.{IsSound}
-use Rattle.rb_laws.proofs.CallLaws.{calls}
-use Rattle.rb_laws.proofs.ListLaws.{each_set, set_cases}
+use Rattle.rb_calls.specs.Calling.{Call, Step, Campaign, Propose, Transfer, Tick, Advance, ForgetLeader, ReportUnreachable, SetTimeout, Compact, compacted_unless, after}
+use Rattle.rb_calls.specs.Sound.{IsSound}
+use Rattle.rb_calls.proofs.CallLaws.{calls}
+use Rattle.rb_calls.proofs.ListLaws.{each_set, set_cases}
 use Rattle.rb_machine.specs.Acts.{act, ticked_times}
 use Rattle.rb_machine.specs.AddNodes.{added_each, node_added, nodes_added, options, start}
 use Rattle.rb_machine.specs.Changes.{words_of}
 use Rattle.rb_machine.specs.Cluster.{Cluster, node_at, with_node, changed_by}
-use Rattle.rb_machine.specs.Deliveries.{left_by, received, all_received, delivered, delivered_each, dropped, dropped_each, selects_any, msgs_delivered}
+use Rattle.rb_machine.specs.Deliveries.{left_by, received, all_received, delivered, delivered_each, dropped, dropped_each, chooses_any, msgs_delivered}
 use Rattle.rb_machine.specs.Effects.{Effect, quiet, showing, followed_by, each, telling, settled_by, node_settled, moved_by, acted}
 use Rattle.rb_machine.specs.Observations.{Observation, Shown, Settled}
 use Rattle.rb_machine.specs.Outcome.{Execution, missing_node, own_fault, fault, effect, unless_refused, execution_of, execution, outcome}
@@ -50,9 +52,9 @@ use Rattle.rb_machine.specs.Rounds.{chosen, is_ready, has_work, processed_if_rea
 use Rattle.rb_machine.specs.Snapshots.{queued, snapshot_sent_by, compact_error_by, compact_error, compact_by}
 use Rattle.rb_machine.specs.Views.{log_shown_by, status_shown_by}
 use Rattle.rb_machine.proofs.CompactLaws.{may_compact}
-use Rattle.rb_view.specs.Committed.{AreKept, AreSound, IsKept}
+use Rattle.rb_view.specs.Committed.{AreKept, AreSound, IsKept, is_restart, is_sound, keeps_commits, restarts, restarts_by}
 use Rattle.rb_view.specs.Watching.{rewritten, written_last}
-use Rattle.rb_view.proofs.CommittedLaws.{HasGoneOn, IsOf, HaveGoneOn, still, further, one_joins}
+use Rattle.rb_view.proofs.CommittedLaws.{HasGoneOn, IsOf, HaveGoneOn, all_sound, still, further, one_joins}
 
 -- each node that settles has what it knew to be committed when it was written last, where these were written before
 abbrev pub GoOn : List PlainNode → List Observation → Type 0
@@ -76,15 +78,16 @@ both_go_on nodes (Settled id n ∷ xs) ys first second = (first.0, both_go_on (r
 record Goes (nodes : List PlainNode) (e : Effect) : Type 0 where
   observed : GoOn nodes e.observed
   after : HaveGoneOn (written_last nodes e.observed) e.cluster.nodes
+  all : HaveGoneOn nodes e.cluster.nodes
 
 abbrev Acts : Cluster → Effect → Type 0
 Acts c e = (nodes : List PlainNode) → HaveGoneOn nodes c.nodes → Goes nodes e
 
 quiets : (c : Cluster) → Acts c (quiet c)
-quiets c nodes h = record { observed = tt; after = h }
+quiets c nodes h = record { observed = tt; after = h; all = h }
 
 shows : (c : Cluster) (items : List PlainItem) → Acts c (showing c items)
-shows c items nodes h = record { observed = tt; after = h }
+shows c items nodes h = record { observed = tt; after = h; all = h }
 
 follows : (c : Cluster) (e : Effect) (next : Cluster → Effect) → Acts c e → Acts e.cluster (next e.cluster) → Acts c (followed_by e next)
 follows c e next first second nodes h =
@@ -93,6 +96,7 @@ follows c e next first second nodes h =
     record {
       observed = both_go_on nodes e.observed (next e.cluster).observed a.observed b.observed;
       after = subst (λ (ns : List PlainNode). HaveGoneOn ns (next e.cluster).cluster.nodes) (sym (both_written nodes e.observed (next e.cluster).observed)) b.after;
+      all = (second nodes a.all).all;
     }
 
 each_goes : {X : Type 0} (one : Cluster → X → Effect) → ((c : Cluster) (x : X) → Acts c (one c x)) → (c : Cluster) (xs : List X) → Acts c (each one c xs)
@@ -145,15 +149,17 @@ by_ticks (suc times) t sound =
 -- ---- acting
 
 settles_by : (c : Cluster) (id : ℕ) (o : Option PlainNode) → node_at c id ≡ o → Acts c (record { cluster = c; observed = settled_by o id })
-settles_by c id None at nodes h = record { observed = tt; after = h }
-settles_by c id (Some n) at nodes h = record { observed = (λ old was. ((h.each (id - 1) n at).gone old was).kept, tt); after = rewrites nodes c.nodes (id - 1) n at h }
+settles_by c id None at nodes h = record { observed = tt; after = h; all = h }
+settles_by c id (Some n) at nodes h =
+    record { observed = (λ old was. ((h.each (id - 1) n at).gone old was).kept, tt); after = rewrites nodes c.nodes (id - 1) n at h; all = h }
 
 settles : (c : Cluster) (id : ℕ) → Acts c (node_settled c id)
 settles c id = settles_by c id (node_at c id) refl
 
 moves_by : (c : Cluster) (id : ℕ) (does_it : NodeStep → NodeStep) → ((t : NodeStep) → IsSound t.node → Moves t.node (does_it t).node) → (o : Option PlainNode) → node_at c id ≡ o → Acts c (moved_by o c id does_it)
-moves_by c id does_it moves None at nodes h = record { observed = tt; after = h }
-moves_by c id does_it moves (Some n) at nodes h = record { observed = tt; after = moved nodes c.nodes (id - 1) n (does_it (node_step n [])).node at (moves (node_step n [])) h }
+moves_by c id does_it moves None at nodes h = record { observed = tt; after = h; all = h }
+moves_by c id does_it moves (Some n) at nodes h =
+    let now = moved nodes c.nodes (id - 1) n (does_it (node_step n [])).node at (moves (node_step n [])) h in record { observed = tt; after = now; all = now }
 
 acts : (c : Cluster) (id : ℕ) (does_it : NodeStep → NodeStep) → ((t : NodeStep) → IsSound t.node → Moves t.node (does_it t).node) → Acts c (acted c id does_it)
 acts c id does_it moves =
@@ -172,47 +178,49 @@ changes c id call None at nodes h = h
 changes c id call (Some n) at nodes h = moved nodes c.nodes (id - 1) n (after call (node_step n [])).node at (by_call call (node_step n [])) h
 
 compacts : (c : Cluster) (id index : ℕ) (o : Option PlainNode) → node_at c id ≡ o → compact_error_by o index ≡ None → Acts c (compact_by o id index c)
-compacts c id index None at none nodes h = record { observed = tt; after = h }
+compacts c id index None at none nodes h = record { observed = tt; after = h; all = h }
 compacts c id index (Some n) at none nodes h =
     let upto = min n.applied n.log.durable in
     let may : compact_fault n.log index upto ≡ None = may_compact n.log index upto none in
     let now = moved nodes c.nodes (id - 1) n (after (Compact index) (node_step n [])).node at (by_call (Compact index) (node_step n [])) h in
-    record { observed = tt; after = subst (λ (f : Option CompactFault). HaveGoneOn nodes (slice_set c.nodes (id - 1) (compacted_unless f n index))) may now }
+    let kept = subst (λ (f : Option CompactFault). HaveGoneOn nodes (slice_set c.nodes (id - 1) (compacted_unless f n index))) may now in
+    record { observed = tt; after = kept; all = kept }
 
 joins : (from : Snapshot) (given : Options) (c : Cluster) (id : ℕ) → Acts c (node_added c (node_started id from given []))
-joins from given c id nodes h = record { observed = tt; after = one_joins nodes c.nodes id from given h }
+joins from given c id nodes h = let now = one_joins nodes c.nodes id from given h in record { observed = tt; after = now; all = now }
 
 -- ---- deliveries
 
 receives : (id : ℕ) (c : Cluster) (m : Message) → Acts c (received id c m)
-receives id c m nodes h = let g = acts c id (after (Step m)) (by_call (Step m)) nodes h in record { observed = g.observed; after = g.after }
+receives id c m nodes h = let g = acts c id (after (Step m)) (by_call (Step m)) nodes h in record { observed = g.observed; after = g.after; all = g.all }
 
-delivers : (types : Option TypeSet) (c : Cluster) (id : ℕ) → Acts c (delivered types c id)
+delivers : (choice : MailChoice) (c : Cluster) (id : ℕ) → Acts c (delivered choice c id)
 unfolding delivered
-delivers types c id = each_goes (received id) (receives id) (left_by c id types) (mail c.pending id types)
+delivers choice c id = each_goes (received id) (receives id) (left_by c id choice) (mail c.pending id choice)
 
-drops : (types : Option TypeSet) (c : Cluster) (id : ℕ) → Acts c (dropped types c id)
+drops : (choice : MailChoice) (c : Cluster) (id : ℕ) → Acts c (dropped choice c id)
 unfolding dropped
-drops types c id nodes h = record { observed = tt; after = h }
+drops choice c id nodes h = record { observed = tt; after = h; all = h }
 
 delivers_msgs : (asked : DeliverMsgs) (c : Cluster) → Acts c (msgs_delivered asked c)
 unfolding msgs_delivered
 delivers_msgs asked c =
-    let e = delivered_each asked.types c asked.nodes in
-    if_both (Acts c) (selects_any asked c.pending) _ _
-    (λ _. follows c e (λ after. dropped_each asked.types after asked.drop) (each_goes (delivered asked.types) (delivers asked.types) c asked.nodes) (each_goes (dropped asked.types) (drops asked.types) e.cluster asked.drop))
+    let choice = asked.choice in
+    let e = delivered_each choice c asked.nodes in
+    if_both (Acts c) (chooses_any asked c.pending) _ _
+    (λ _. follows c e (λ after. dropped_each choice after asked.drop) (each_goes (delivered choice) (delivers choice) c asked.nodes) (each_goes (dropped choice) (drops choice) e.cluster asked.drop))
     (λ _. shows c _)
 
 -- ---- what is ready
 
 sends : (c : Cluster) (m : Message) → Acts c (sent c m)
-sends c m = if_both (Acts c) (has_room c.pending) _ _ (λ _ nodes h. record { observed = tt; after = h }) (λ _. shows c _)
+sends c m = if_both (Acts c) (has_room c.pending) _ _ (λ _ nodes h. record { observed = tt; after = h; all = h }) (λ _. shows c _)
 
 tells : (c : Cluster) (events : List Event) → Acts c (telling c events)
-tells c events nodes h = record { observed = tt; after = h }
+tells c events nodes h = record { observed = tt; after = h; all = h }
 
 advances_by : (c : Cluster) (id : ℕ) (o : Option PlainNode) → node_at c id ≡ o → Acts c (advanced_by o c id)
-advances_by c id None at nodes h = record { observed = tt; after = h }
+advances_by c id None at nodes h = record { observed = tt; after = h; all = h }
 advances_by c id (Some n) at nodes h =
     let t = after Advance (node_step n []) in
     let x = with_node c id t.node in
@@ -224,7 +232,7 @@ advances c id = follows c (node_advanced c id) (λ after. node_settled after id)
 
 does_all : (c : Cluster) (id : ℕ) (n : PlainNode) → Acts c (whole_ready_processed c id n)
 unfolding whole_ready_processed
-does_all c id n nodes h = let g = advances c id nodes h in record { observed = g.observed; after = g.after }
+does_all c id n nodes h = let g = advances c id nodes h in record { observed = g.observed; after = g.after; all = g.all }
 
 readies_by : (c : Cluster) (id : ℕ) (o : Option PlainNode) → Acts c (ready_processed_by o c id)
 readies_by c id None = quiets c
@@ -242,7 +250,7 @@ goes_round : (ids : List ℕ) (c : Cluster) → Acts c (round ids c)
 unfolding round
 goes_round ids c =
     let e = each_ready_processed c ids in
-    follows c e (λ after. delivered_each None after ids) (each_goes processed_if_ready readies_if c ids) (each_goes (delivered None) (delivers None) e.cluster ids)
+    follows c e (λ after. delivered_each all_mail after ids) (each_goes processed_if_ready readies_if c ids) (each_goes (delivered all_mail) (delivers all_mail) e.cluster ids)
 
 runs : (allowed rounds : ℕ) (ids : List ℕ) (c : Cluster) → Acts c (rounds_run allowed rounds ids c)
 unfolding rounds_run
@@ -256,7 +264,7 @@ runs allowed (suc rounds) ids c =
 
 queues : (c : Cluster) (m : Message) → Acts c (queued c m)
 unfolding queued
-queues c m = if_both (Acts c) (has_room c.pending) _ _ (λ _ nodes h. record { observed = tt; after = h }) (λ _. shows c _)
+queues c m = if_both (Acts c) (has_room c.pending) _ _ (λ _ nodes h. record { observed = tt; after = h; all = h }) (λ _. shows c _)
 
 sends_snapshot : (c : Cluster) (from to : ℕ) (o : Option PlainNode) → Acts c (snapshot_sent_by o from to c)
 sends_snapshot c from to None = quiets c
@@ -272,43 +280,47 @@ shows_status c (Some n) = shows c _
 
 -- ---- each request, and each directive
 
-has_effect : (r : Request) (c : Cluster) → own_fault r c ≡ None → Acts c (effect r c)
+has_effect : (r : Request) (c : Cluster) → own_fault r c ≡ None → is_restart r ≡ false → Acts c (effect r c)
 unfolding nodes_added compact_error
-has_effect (requests.AddNodes asked) c may = each_goes (λ c id. node_added c (node_started id (start asked) (options asked) [])) (joins (start asked) (options asked)) c (range_with_len (length c.nodes + 1) asked.count)
-has_effect (requests.ProposeConfChange asked) c may = let call = Propose (Change asked.transition (words_of (input_words asked.inputs))) in acts c asked.id (after call) (by_call call)
-has_effect (requests.NodeCommand what id) c may = by_act what id c
-has_effect (requests.Propose id payload) c may = acts c id (after (Propose (Payload payload))) (by_call (Propose (Payload payload)))
-has_effect (requests.ProcessReady ids) c may = each_goes ready_processed readies c ids
-has_effect (requests.DeliverMsgs asked) c may = delivers_msgs asked c
-has_effect (requests.Stabilize ids rounds) c may = runs rounds rounds (chosen ids c.nodes) c
-has_effect (requests.NodeCommandWithArg withs.SetRandomizedElectionTimeout id timeout) c may = λ nodes h. record { observed = tt; after = changes c id (SetTimeout timeout) (node_at c id) refl nodes h }
-has_effect (requests.NodeCommandWithArg withs.TransferLeadership from to) c may = acts c from (after (Transfer to)) (by_call (Transfer to))
-has_effect (requests.NodeCommandWithArg withs.ReportUnreachable id peer) c may = λ nodes h. record { observed = tt; after = changes c id (ReportUnreachable peer) (node_at c id) refl nodes h }
-has_effect (requests.NodeCommandWithArg withs.SendSnapshot from to) c may = sends_snapshot c from to (node_at c from)
-has_effect (requests.NodeCommandWithArg withs.Compact id index) c may = compacts c id index (node_at c id) refl may
-has_effect (requests.LogLevel level) c may = λ nodes h. record { observed = tt; after = h }
-has_effect (requests.RaftLog id) c may = shows_log c (node_at c id)
-has_effect (requests.Status id) c may = shows_status c (node_at c id)
-has_effect requests.RaftState c may = shows c _
+has_effect (requests.AddNodes asked) c may steady = each_goes (λ c id. node_added c (node_started id (start asked) (options asked) [])) (joins (start asked) (options asked)) c (range_with_len (length c.nodes + 1) asked.count)
+has_effect (requests.ProposeConfChange asked) c may steady = let call = Propose (Change asked.transition (words_of (input_words asked.inputs))) in acts c asked.id (after call) (by_call call)
+has_effect (requests.NodeCommand what id) c may steady = by_act what id c
+has_effect (requests.Propose id payload) c may steady = acts c id (after (Propose (Payload payload))) (by_call (Propose (Payload payload)))
+has_effect (requests.ProcessReady ids) c may steady = each_goes ready_processed readies c ids
+has_effect (requests.DeliverMsgs asked) c may steady = delivers_msgs asked c
+has_effect (requests.Stabilize ids rounds) c may steady = runs rounds rounds (chosen ids c.nodes) c
+has_effect (requests.NodeCommandWithArg withs.SetRandomizedElectionTimeout id timeout) c may steady =
+    λ nodes h. (let now = changes c id (SetTimeout timeout) (node_at c id) refl nodes h in record { observed = tt; after = now; all = now })
+has_effect (requests.NodeCommandWithArg withs.TransferLeadership from to) c may steady = acts c from (after (Transfer to)) (by_call (Transfer to))
+has_effect (requests.NodeCommandWithArg withs.ReportUnreachable id peer) c may steady =
+    λ nodes h. (let now = changes c id (ReportUnreachable peer) (node_at c id) refl nodes h in record { observed = tt; after = now; all = now })
+has_effect (requests.NodeCommandWithArg withs.SendSnapshot from to) c may steady = sends_snapshot c from to (node_at c from)
+has_effect (requests.NodeCommandWithArg withs.Compact id index) c may steady = compacts c id index (node_at c id) refl may
+has_effect (requests.Restart ids) c may steady = absurd cc
+has_effect (requests.LogLevel level) c may steady = λ nodes h. record { observed = tt; after = h; all = h }
+has_effect (requests.RaftLog id) c may steady = shows_log c (node_at c id)
+has_effect (requests.Status id) c may steady = shows_status c (node_at c id)
+has_effect requests.RaftState c may steady = shows c _
 
 -- of a whole directive
 record Lives (nodes : List PlainNode) (x : Execution) : Type 0 where
   observed : GoOn nodes x.observed
   after : HaveGoneOn (written_last nodes x.observed) x.cluster.nodes
+  all : HaveGoneOn nodes x.cluster.nodes
 
 second_none : {X : Type 0} → (a b : Option X) → option_or a b ≡ None → b ≡ None
 second_none None b none = none
 second_none (Some x) b none = absurd cc
 
 unless_lives : (o : Option DirectiveError) (a : Asked) (c : Cluster) → (o ≡ None → Acts c (effect a.request c)) → (nodes : List PlainNode) → HaveGoneOn nodes c.nodes → Lives nodes (unless_refused o a c)
-unless_lives (Some e) a c goes nodes h = record { observed = tt; after = h }
-unless_lives None a c goes nodes h = let g = goes refl nodes h in record { observed = g.observed; after = g.after }
+unless_lives (Some e) a c goes nodes h = record { observed = tt; after = h; all = h }
+unless_lives None a c goes nodes h = let g = goes refl nodes h in record { observed = g.observed; after = g.after; all = g.all }
 
-request_lives : (r : Result Asked DirectiveError) (c : Cluster) (nodes : List PlainNode) → HaveGoneOn nodes c.nodes → Lives nodes (execution_of r c)
+request_lives : (r : Result Asked DirectiveError) (c : Cluster) (nodes : List PlainNode) → restarts_by r ≡ false → HaveGoneOn nodes c.nodes → Lives nodes (execution_of r c)
 unfolding fault
-request_lives (Err e) c nodes h = record { observed = tt; after = h }
-request_lives (Ok a) c nodes h =
-    unless_lives (fault a.request c) a c (λ none. has_effect a.request c (second_none (missing_node c.nodes (nodes_of a.request)) (own_fault a.request c) none)) nodes h
+request_lives (Err e) c nodes steady h = record { observed = tt; after = h; all = h }
+request_lives (Ok a) c nodes steady h =
+    unless_lives (fault a.request c) a c (λ none. has_effect a.request c (second_none (missing_node c.nodes (nodes_of a.request)) (own_fault a.request c) none) steady) nodes h
 
 begin : (nodes : List PlainNode) → AreSound nodes → HaveGoneOn nodes nodes
 begin nodes sound = record {
@@ -316,16 +328,35 @@ begin nodes sound = record {
   each = λ k n at. record { sound = sound k n at; gone = λ old was. subst (λ (x : PlainNode). HasGoneOn x n) (same_Some n old (sym at ∙ was)) (still n (sound k n at)) };
 }
 
-lives : (c : Cluster) (d : PlainDirective) → AreSound c.nodes → Lives c.nodes (execution c d)
-unfolding execution
-lives c d sound = request_lives (request d) c c.nodes (begin c.nodes sound)
+lives : (c : Cluster) (d : PlainDirective) → restarts d ≡ false → AreSound c.nodes → Lives c.nodes (execution c d)
+unfolding execution restarts
+lives c d steady sound = request_lives (request d) c c.nodes steady (begin c.nodes sound)
+
+-- ---- where the indexes of each node are in order, and none restarts
+
+pub stay_sound : (c : Cluster) (d : PlainDirective) → restarts d ≡ false → AreSound c.nodes → AreSound (outcome c d).cluster.nodes
+unfolding outcome
+stay_sound c d steady sound k n is = ((lives c d steady sound).all.each k n is).sound
+
+pub are_kept : (c : Cluster) (d : PlainDirective) → restarts d ≡ false → AreSound c.nodes → AreKept c.nodes (outcome c d).cluster.nodes
+unfolding outcome
+are_kept c d steady sound k old new was is = (((lives c d steady sound).all.each k new is).gone old was).kept
+
+no_restart : (b : Bool) → not b ≡ true → b ≡ false
+no_restart true h = sym h
+no_restart false h = refl
+
+kept_lives : (c : Cluster) (d : PlainDirective) → keeps_commits c.nodes d ≡ true → Lives c.nodes (execution c d)
+kept_lives c d keeps =
+    let parts = and_parts (not (restarts d)) (list_all is_sound c.nodes) keeps in
+    lives c d (no_restart (restarts d) parts.0) (all_sound c.nodes parts.1)
 
 -- of a copy of a cluster, and of its nodes
-pub goes_on : (c copy : Cluster) (nodes : List PlainNode) (d : PlainDirective) → copy ≡ c → nodes ≡ c.nodes → AreSound c.nodes → GoOn nodes (execution copy d).observed
-goes_on c copy nodes d same are sound =
-    subst (λ (ns : List PlainNode). GoOn ns (execution copy d).observed) (sym are) (subst (λ (x : Cluster). GoOn c.nodes (execution x d).observed) (sym same) (lives c d sound).observed)
+pub goes_on : (c copy : Cluster) (nodes : List PlainNode) (d : PlainDirective) → copy ≡ c → nodes ≡ c.nodes → keeps_commits c.nodes d ≡ true → GoOn nodes (execution copy d).observed
+goes_on c copy nodes d same are keeps =
+    subst (λ (ns : List PlainNode). GoOn ns (execution copy d).observed) (sym are) (subst (λ (x : Cluster). GoOn c.nodes (execution x d).observed) (sym same) (kept_lives c d keeps).observed)
 
 -- and what wasn't written then
-pub kept_after : (c : Cluster) (d : PlainDirective) → AreSound c.nodes → AreKept (written_last c.nodes (execution c d).observed) (outcome c d).cluster.nodes
+pub kept_after : (c : Cluster) (d : PlainDirective) → keeps_commits c.nodes d ≡ true → AreKept (written_last c.nodes (execution c d).observed) (outcome c d).cluster.nodes
 unfolding outcome
-kept_after c d sound k old new was is = (((lives c d sound).after.each k new is).gone old was).kept
+kept_after c d keeps k old new was is = (((kept_lives c d keeps).after.each k new is).gone old was).kept

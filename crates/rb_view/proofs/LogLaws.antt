@@ -25,9 +25,9 @@ use Rattle.rb_view.specs.ItemRows.{entry_row}
 use Rattle.rb_view.specs.Kept.{texts_of}
 use Rattle.rb_view.specs.Rows.{next_text}
 use Rattle.rb_view.proofs.KeptLaws.{left_some}
-use Rattle.rb_laws.proofs.ListLaws.{some_at}
+use Rattle.rb_calls.proofs.ListLaws.{some_at}
 use Rattle.rb_view.proofs.KeepLaws.{one_part}
-use Rattle.rb_view.specs.Logs.{common, entry_rows, is_same_log, nearest, same_up_to, same_word, same_body, same_entry, stays, stays_since}
+use Rattle.rb_view.specs.Logs.{common, entry_rows, held_after, is_same_log, nearest, same_up_to, same_word, same_body, same_entry, stays, stays_since}
 
 -- ---- which entries are the same
 
@@ -176,6 +176,13 @@ since_known old new known le same =
     let all = stays_far old new to d le (λ i low past. same i (omega (arith, low, past)) past) (omega (arith, back)) (omega arith) in
     past_is old new to (omega (arith, le))
     ∙ sym (subst (λ (j : ℕ). stays old new ≡ j + common (entries_after old j) (entries_after new j)) back all)
+
+-- where nothing is known to stay
+pub since_nothing : (old new : LogValue) → stays_since old new 0 ≡ stays old new
+since_nothing old new =
+    let begins : nearest new 0 ≡ new.base = omega arith in
+    let none : new.base - new.base ≡ 0 = omega arith in
+    ap (same_up_to old new) begins ∙ ap (λ (k : ℕ). new.base + common (held_after old new.base) (drop k new.entries)) none
 
 -- one entry more is there, and one less is left
 pub entries_more : (v : LogValue) (i : ℕ) (e : Entry) (before after all : List Line) → v.base < i → slice_get v.entries (i - v.base - 1) ≡ Some e → after ≡ before ++ next_text (entry_row (codes "entry") i e) ∷ []

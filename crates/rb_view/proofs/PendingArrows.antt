@@ -15,8 +15,8 @@ use Rattle.rb_view.specs.declared.chart.css_class.DeliveryState.{DeliveryState}
 use Rattle.rb_view.specs.declared.chart.css_class.DeliveryState.TheVariants as states
 use Rattle.rb_view.specs.declared.chart.in_flight.MessageChange.{MessageChange}
 use Rattle.rb_view.specs.declared.chart.in_flight.MessageChange.TheVariants as changes
-use Rattle.rb_view.specs.InFlight.{PlainInFlight, arrow, ended, first_alike, flying, last_alike, taken, taking}
-use Rattle.rb_view.specs.Arrows.{PlainArrows, begun, changed, coming_in, drawing, drawn_as, end_arrow, no_arrows, resent, set_state, set_state_of}
+use Rattle.rb_view.specs.InFlight.{PlainInFlight, arrow, ended, flying, last_alike, next_met, taken, taking}
+use Rattle.rb_view.specs.Arrows.{PlainArrows, begun_by, changed, coming_in, drawing, drawn_as, end_arrow, no_arrows, resent, set_state, set_state_of}
 use Rattle.rb_view.specs.Promises.{AllEnd, Ends, EndsItsOwn, Shows, waiting_arrow, waiting_arrows, waiting_from, waits}
 use Rattle.rb_view.proofs.FlightLaws.{AllMeet, Meets, message_at}
 use Rattle.rb_view.proofs.FlightDirectives.{by_directive}
@@ -111,8 +111,8 @@ waiting_after : (d : PlainArrows) (item : PlainItem) → InStep d → Waiting (d
 unfolding drawing taking
 waiting_after d (send m) step = added_in_step d m step
 waiting_after d (moved verbs.Queue m) step = added_in_step d m step
-waiting_after d (moved verbs.Deliver m) step = ended_in_step d states.Delivered (first_alike m 0 d.in_flight.messages) refl step
-waiting_after d (moved verbs.Drop m) step = ended_in_step d states.Lost (first_alike m 0 d.in_flight.messages) refl step
+waiting_after d (moved verbs.Deliver m) step = ended_in_step d states.Delivered (next_met d.in_flight m.to) refl step
+waiting_after d (moved verbs.Drop m) step = ended_in_step d states.Lost (next_met d.in_flight m.to) refl step
 waiting_after d (moved verbs.NoRoomFor m) step = given_in_step d m d.in_flight.is_ready step
 waiting_after d nothing_else step = step.waiting
 waiting_after d (ready id) step = step.waiting
@@ -182,8 +182,8 @@ met_ends d m s (Some k) met step =
 
 ends_one : (d : PlainArrows) (item : PlainItem) → InStep d → Meets d.in_flight item → Ends item d (drawing d item)
 unfolding drawing taking
-ends_one d (moved verbs.Deliver m) step met = met_ends d m states.Delivered (first_alike m 0 d.in_flight.messages) met step
-ends_one d (moved verbs.Drop m) step met = met_ends d m states.Lost (first_alike m 0 d.in_flight.messages) met step
+ends_one d (moved verbs.Deliver m) step met = met_ends d m states.Delivered (next_met d.in_flight m.to) met step
+ends_one d (moved verbs.Drop m) step met = met_ends d m states.Lost (next_met d.in_flight m.to) met step
 ends_one d (moved verbs.Queue m) step met = tt
 ends_one d (moved verbs.NoRoomFor m) step met = tt
 ends_one d nothing_else step met = tt
@@ -216,18 +216,18 @@ ends_all (item ∷ items) d step met = (
 shows_from : (c : Cluster) (d : PlainArrows) → InStep d → d.in_flight.messages ≡ c.pending → Shows c d
 shows_from c d step is = record { waiting = step.waiting ∙ ap (map waiting_arrow) is; messages = is; positions = step.positions }
 
-begun_step : (c : Cluster) (d : PlainArrows) → Shows c d → InStep (begun d)
-begun_step c d shows = record { waiting = shows.waiting ∙ ap (map waiting_arrow) (sym shows.messages); positions = shows.positions }
+begun_step : (c : Cluster) (d : PlainArrows) (directive : PlainDirective) → Shows c d → InStep (begun_by directive d)
+begun_step c d directive shows = record { waiting = shows.waiting ∙ ap (map waiting_arrow) (sym shows.messages); positions = shows.positions }
 
-pub ends_its_own : (c : Cluster) (d : PlainArrows) (directive : PlainDirective) → Shows c d → AllEnd (begun d) (shown_items (execution c directive))
+pub ends_its_own : (c : Cluster) (d : PlainArrows) (directive : PlainDirective) → Shows c d → AllEnd (begun_by directive d) (shown_items (execution c directive))
 ends_its_own c d directive shows =
-    ends_all (shown_items (execution c directive)) (begun d) (begun_step c d shows) (by_directive c directive d.in_flight shows.messages).meets
+    ends_all (shown_items (execution c directive)) (begun_by directive d) (begun_step c d directive shows) (by_directive c directive d.in_flight shows.messages).meets
 
-pub shows_after : (c : Cluster) (d : PlainArrows) (directive : PlainDirective) → Shows c d → Shows (outcome c directive).cluster (fold drawing (begun d) (shown_items (execution c directive)))
+pub shows_after : (c : Cluster) (d : PlainArrows) (directive : PlainDirective) → Shows c d → Shows (outcome c directive).cluster (fold drawing (begun_by directive d) (shown_items (execution c directive)))
 shows_after c d directive shows =
     let items = shown_items (execution c directive) in
-    shows_from (outcome c directive).cluster (fold drawing (begun d) items) (steps_on items (begun d) (begun_step c d shows))
-    (ap (λ (f : PlainInFlight). f.messages) (draws_flight items (begun d)) ∙ (by_directive c directive d.in_flight shows.messages).messages)
+    shows_from (outcome c directive).cluster (fold drawing (begun_by directive d) items) (steps_on items (begun_by directive d) (begun_step c d directive shows))
+    (ap (λ (f : PlainInFlight). f.messages) (draws_flight items (begun_by directive d)) ∙ (by_directive c directive d.in_flight shows.messages).messages)
 
 -- messages come in from above
 resent_is : (ms : List Message) (d : PlainArrows) → fold resent d ms ≡ fold drawing d (map send ms)

@@ -3,6 +3,7 @@ use Rattle.std.proofs.Common.{◌≡◌, ◌∙◌, ℕ, suc, ◌+◌, ◌<◌, 
 use Rattle.std.specs.Prelude.{fold}
 use Rattle.rb_script.specs.Reading.{directive_of}
 use Rattle.rb_script.specs.Script.{PlainBlock, PlainScript}
+use Rattle.rb_directive.specs.declared.requests.MailChoice.{MailChoice}
 use Rattle.rb_message.specs.declared.message.Message.{Message}
 use Rattle.rb_texts.specs.Items.{PlainItem}
 use Rattle.rb_machine.specs.Cluster.{Cluster, empty}
@@ -11,8 +12,8 @@ use Rattle.rb_view.specs.declared.chart.draw.TheConstants.{MAX_EVENTS}
 use Rattle.rb_view.specs.declared.chart.part.ChartPart.{ChartPart}
 use Rattle.rb_view.specs.declared.chart.part.ChartPhase.{ChartPhase}
 use Rattle.rb_view.specs.declared.chart.part.ChartPhase.TheVariants as phases
-use Rattle.rb_view.specs.InFlight.{flying}
-use Rattle.rb_view.specs.Arrows.{PlainArrows, begun, coming_in}
+use Rattle.rb_view.specs.InFlight.{flying, mail_choice}
+use Rattle.rb_view.specs.Arrows.{PlainArrows, begun, choosing, coming_in}
 use Rattle.rb_view.specs.Drawn.{PlainView, beginning, drawn_arrows, entered, entering, is_after, is_before, no_view, phase_at, seeing, seen, shown, views_from}
 use Rattle.rb_view.specs.Promises.{Ascend, Shows, pending_drawn, pending_with, waiting_arrow, waiting_arrows}
 use Rattle.rb_view.proofs.FlightDirectives.{by_directive}
@@ -38,14 +39,15 @@ seen_below [] d = refl
 seen_below (item ∷ items) d = seen_below items d
 
 -- the arrows after a directive
-abbrev next_arrows : ChartPhase → PlainArrows → Execution → PlainArrows
-next_arrows phase d h = fold (seen phase) (begun d) (shown_items h)
+abbrev next_arrows : ChartPhase → MailChoice → PlainArrows → Execution → PlainArrows
+next_arrows phase choice d h = fold (seen phase) (begun (choosing choice d)) (shown_items h)
 
-next_is : (phase : ChartPhase) (v : PlainView) (h : Execution) → (shown (entering phase v) h).arrows ≡ next_arrows phase (entered v.phase phase v.arrows) h
-next_is phase v h = seen_arrows (shown_items h) (beginning (entering phase v))
+next_is : (phase : ChartPhase) (choice : MailChoice) (v : PlainView) (h : Execution)
+    → (shown (entering phase choice v) h).arrows ≡ next_arrows phase choice (entered v.phase phase v.arrows) h
+next_is phase choice v h = seen_arrows (shown_items h) (beginning (entering phase choice v))
 
-next_phase : (phase : ChartPhase) (v : PlainView) (h : Execution) → (shown (entering phase v) h).phase ≡ phase
-next_phase phase v h = seen_phase (shown_items h) (beginning (entering phase v))
+next_phase : (phase : ChartPhase) (choice : MailChoice) (v : PlainView) (h : Execution) → (shown (entering phase choice v) h).phase ≡ phase
+next_phase phase choice v h = seen_phase (shown_items h) (beginning (entering phase choice v))
 
 -- ---- lines that ascend
 
@@ -86,7 +88,7 @@ Ends p v c pending heads bs = waiting_arrows (views_from p v c heads bs).arrows.
 -- the first one is of this phase
 abbrev EndsBy : ChartPhase → ChartPart → PlainView → Cluster → List Message → List ℕ → PlainBlock → List PlainBlock → Type 0
 EndsBy phase p v c pending heads b bs =
-    Ends p (shown (entering phase v) (execution c (directive_of b))) (outcome c (directive_of b)).cluster
+    Ends p (shown (entering phase (mail_choice (directive_of b)) v) (execution c (directive_of b))) (outcome c (directive_of b)).cluster
     (pending_with phase (outcome c (directive_of b)).cluster pending) heads bs
 
 below_arrows : (old : ChartPhase) (d : PlainArrows) → entered old phases.Below d ≡ d
@@ -114,11 +116,12 @@ ends_below p [] bs v c pending after is = is
 ends_below p (line ∷ heads) [] v c pending after is = is
 ends_below p (line ∷ heads) (b ∷ bs) v c pending after is =
     let h = execution c (directive_of b) in
-    let same : (shown (entering phases.Below v) h).arrows.arrows ≡ v.arrows.arrows =
-    ap (λ (d : PlainArrows). d.arrows) (next_is phases.Below v h ∙ seen_below (shown_items h) (begun (entered v.phase phases.Below v.arrows)))
+    let choice = mail_choice (directive_of b) in
+    let same : (shown (entering phases.Below choice v) h).arrows.arrows ≡ v.arrows.arrows =
+    ap (λ (d : PlainArrows). d.arrows) (next_is phases.Below choice v h ∙ seen_below (shown_items h) (begun (choosing choice (entered v.phase phases.Below v.arrows))))
     ∙ ap (λ (d : PlainArrows). d.arrows) (below_arrows v.phase v.arrows) in
     subst (λ (phase : ChartPhase). EndsBy phase p v c pending heads b bs) (sym (phase_below p line after.0))
-    (ends_below p heads bs (shown (entering phases.Below v) h) (outcome c (directive_of b)).cluster pending after.1 (ap waiting_arrows same ∙ is))
+    (ends_below p heads bs (shown (entering phases.Below choice v) h) (outcome c (directive_of b)).cluster pending after.1 (ap waiting_arrows same ∙ is))
 
 -- within it
 within_by : (p : ChartPart) (line : ℕ) (heads : List ℕ) (b : PlainBlock) (bs : List PlainBlock) (v : PlainView) (c : Cluster) (after : Bool) → is_after p.until line ≡ after
@@ -129,10 +132,11 @@ within_by p line heads b bs v c true past before rises phase shows rest =
     ends_below p (line ∷ heads) (b ∷ bs) v c c.pending (past, all_after p.until line heads past rises) shows.waiting
 within_by p line heads b bs v c false past before rises phase shows rest =
     let h = execution c (directive_of b) in
-    let is : (shown (entering phases.Within v) h).arrows ≡ next_arrows phases.Within v.arrows h =
-    next_is phases.Within v h ∙ ap (λ (old : ChartPhase). next_arrows phases.Within (entered old phases.Within v.arrows) h) phase in
+    let choice = mail_choice (directive_of b) in
+    let is : (shown (entering phases.Within choice v) h).arrows ≡ next_arrows phases.Within choice v.arrows h =
+    next_is phases.Within choice v h ∙ ap (λ (old : ChartPhase). next_arrows phases.Within choice (entered old phases.Within v.arrows) h) phase in
     subst (λ (now : ChartPhase). EndsBy now p v c c.pending heads b bs) (sym (phase_within p line past before))
-    (rest (shown (entering phases.Within v) h) (outcome c (directive_of b)).cluster (next_phase phases.Within v h)
+    (rest (shown (entering phases.Within choice v) h) (outcome c (directive_of b)).cluster (next_phase phases.Within choice v h)
     (subst (Shows (outcome c (directive_of b)).cluster) (sym is) (shows_after c v.arrows (directive_of b) shows)))
 
 ends_within : (p : ChartPart) (low : ℕ) (heads : List ℕ) (bs : List PlainBlock) (v : PlainView) (c : Cluster) → is_before p.from low ≡ false → Rises low heads
@@ -148,25 +152,27 @@ abbrev Flies : PlainView → Cluster → List Message → Type 0
 Flies v c pending = (v.phase ≡ phases.Above) × (v.arrows.in_flight.messages ≡ c.pending) × (waiting_arrows v.arrows.arrows ≡ map waiting_arrow pending)
 
 above_next : (v : PlainView) (c : Cluster) (b : PlainBlock) (pending : List Message) → Flies v c pending
-    → Flies (shown (entering phases.Above v) (execution c (directive_of b))) (outcome c (directive_of b)).cluster pending
+    → Flies (shown (entering phases.Above (mail_choice (directive_of b)) v) (execution c (directive_of b))) (outcome c (directive_of b)).cluster pending
 above_next v c b pending flies =
     let h = execution c (directive_of b) in
+    let choice = mail_choice (directive_of b) in
     let items = shown_items h in
-    let is : (shown (entering phases.Above v) h).arrows ≡ record v.arrows { in_flight = fold flying (begun v.arrows).in_flight items } =
-    next_is phases.Above v h ∙ ap (λ (old : ChartPhase). next_arrows phases.Above (entered old phases.Above v.arrows) h) flies.0 ∙ seen_above items (begun v.arrows) in (
-      next_phase phases.Above v h,
+    let is : (shown (entering phases.Above choice v) h).arrows ≡ record v.arrows { in_flight = fold flying (begun (choosing choice v.arrows)).in_flight items } =
+    next_is phases.Above choice v h ∙ ap (λ (old : ChartPhase). next_arrows phases.Above choice (entered old phases.Above v.arrows) h) flies.0 ∙ seen_above items (begun (choosing choice v.arrows)) in (
+      next_phase phases.Above choice v h,
       ap (λ (d : PlainArrows). d.in_flight.messages) is ∙ (by_directive c (directive_of b) v.arrows.in_flight flies.1).messages,
       ap (λ (d : PlainArrows). waiting_arrows d.arrows) is ∙ flies.2,
     )
 
 -- the first directive that is drawn
 first_shows : (v : PlainView) (c : Cluster) (b : PlainBlock) (pending : List Message) → Flies v c pending
-    → Shows (outcome c (directive_of b)).cluster (shown (entering phases.Within v) (execution c (directive_of b))).arrows
+    → Shows (outcome c (directive_of b)).cluster (shown (entering phases.Within (mail_choice (directive_of b)) v) (execution c (directive_of b))).arrows
 first_shows v c b pending flies =
     let h = execution c (directive_of b) in
-    let is : (shown (entering phases.Within v) h).arrows ≡ next_arrows phases.Within (coming_in c.pending) h =
-    next_is phases.Within v h ∙ ap (λ (old : ChartPhase). next_arrows phases.Within (entered old phases.Within v.arrows) h) flies.0
-    ∙ ap (λ (ms : List Message). next_arrows phases.Within (coming_in ms) h) flies.1 in
+    let choice = mail_choice (directive_of b) in
+    let is : (shown (entering phases.Within choice v) h).arrows ≡ next_arrows phases.Within choice (coming_in c.pending) h =
+    next_is phases.Within choice v h ∙ ap (λ (old : ChartPhase). next_arrows phases.Within choice (entered old phases.Within v.arrows) h) flies.0
+    ∙ ap (λ (ms : List Message). next_arrows phases.Within choice (coming_in ms) h) flies.1 in
     subst (Shows (outcome c (directive_of b)).cluster) (sym is) (shows_after c (coming_in c.pending) (directive_of b) (shows_coming_in c))
 
 above_by : (p : ChartPart) (line : ℕ) (heads : List ℕ) (b : PlainBlock) (bs : List PlainBlock) (v : PlainView) (c : Cluster) (pending : List Message) (after before : Bool)
@@ -177,11 +183,12 @@ above_by p line heads b bs v c pending true before past is rises flies rest =
     ends_below p (line ∷ heads) (b ∷ bs) v c pending (past, all_after p.until line heads past rises) flies.2
 above_by p line heads b bs v c pending false true past is rises flies rest =
     subst (λ (now : ChartPhase). EndsBy now p v c pending heads b bs) (sym (phase_above p line past is))
-    (rest (shown (entering phases.Above v) (execution c (directive_of b))) (outcome c (directive_of b)).cluster (above_next v c b pending flies))
+    (rest (shown (entering phases.Above (mail_choice (directive_of b)) v) (execution c (directive_of b))) (outcome c (directive_of b)).cluster (above_next v c b pending flies))
 above_by p line heads b bs v c pending false false past is rises flies rest =
     let h = execution c (directive_of b) in
+    let choice = mail_choice (directive_of b) in
     subst (λ (now : ChartPhase). EndsBy now p v c pending heads b bs) (sym (phase_within p line past is))
-    (ends_within p line heads bs (shown (entering phases.Within v) h) (outcome c (directive_of b)).cluster is rises (next_phase phases.Within v h) (first_shows v c b pending flies))
+    (ends_within p line heads bs (shown (entering phases.Within choice v) h) (outcome c (directive_of b)).cluster is rises (next_phase phases.Within choice v h) (first_shows v c b pending flies))
 
 ends_above : (p : ChartPart) (heads : List ℕ) (bs : List PlainBlock) (v : PlainView) (c : Cluster) (pending : List Message) → Ascend heads → Flies v c pending → Ends p v c pending heads bs
 ends_above p [] bs v c pending ascend flies = flies.2

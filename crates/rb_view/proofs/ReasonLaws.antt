@@ -7,11 +7,13 @@ use Rattle.rb_message.specs.declared.event.WhyIgnored.TheVariants as ignored
 use Rattle.rb_message.specs.declared.event.WhyRefused.{WhyRefused}
 use Rattle.rb_message.specs.declared.event.WhyRefused.TheVariants as refused
 use Rattle.rb_texts.specs.declared.reason.Reason.{Reason}
-use Rattle.rb_texts.specs.declared.reason.Reason.TheVariants.{Ignored, Refused, GivesWay}
+use Rattle.rb_texts.specs.declared.reason.Reason.TheVariants.{Ignored, Refused, GivesWay, Lost}
 use Rattle.rb_texts.specs.Entries.{entry_text, place_text}
+use Rattle.rb_texts.specs.Lost.{lost_text}
 use Rattle.rb_texts.specs.Reasons.{earlier_text, end_text, few_entries_text, give_way_text, gives_way_text, more_text, outdated_text, reason_text, why_ignored_text, why_refused_text}
 use Rattle.rb_texts.specs.Shapes.{is_one_line}
 use Rattle.rb_texts.specs.States.{role_text}
+use Rattle.rb_texts.proofs.LostLaws.{lost_one_line}
 use Rattle.rb_texts.proofs.OneLineLaws.{decimal_one_line, entry_one_line, joined, place_one_line, role_one_line}
 
 -- a number behind a text
@@ -97,3 +99,4 @@ unfolding reason_text
 reason_one_line (Ignored why) = joined (codes "  ignored: ") (why_ignored_text why) refl (ignored_one_line why)
 reason_one_line (Refused why) = joined (codes "  refused: ") (why_refused_text why) refl (refused_one_line why)
 reason_one_line (GivesWay last es) = gives_way_one_line last es
+reason_one_line (Lost saved unsaved) = joined (codes "  lost: ") (lost_text saved unsaved) refl (lost_one_line saved unsaved)

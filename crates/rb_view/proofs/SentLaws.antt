@@ -11,7 +11,7 @@ use Rattle.rb_view.specs.declared.chart.arrow.Arrow.{Arrow}
 use Rattle.rb_view.specs.declared.chart.css_class.DeliveryState.{DeliveryState}
 use Rattle.rb_view.specs.declared.chart.css_class.DeliveryState.TheVariants as states
 use Rattle.rb_view.specs.declared.chart.in_flight.MessageChange.TheVariants as changes
-use Rattle.rb_view.specs.InFlight.{PlainInFlight, arrow, ended, first_alike, last_alike, taken, taking}
+use Rattle.rb_view.specs.InFlight.{PlainInFlight, arrow, ended, last_alike, next_met, taken, taking}
 use Rattle.rb_view.specs.Arrows.{PlainArrows, changed, drawing, drawn_as, end_arrow, set_state, set_state_of, with_state}
 use Rattle.rb_view.specs.Promises.{Address, all_sent, arrow_address, is_ready_after, message_address, sends}
 
@@ -56,8 +56,8 @@ step_sent : (d : PlainArrows) (item : PlainItem) → map arrow_address (drawing 
 unfolding drawing taking sends
 step_sent d (send m) = map-append arrow_address d.arrows (arrow m states.Waiting ∷ [])
 step_sent d (moved verbs.Queue m) = map-append arrow_address d.arrows (arrow m states.Waiting ∷ [])
-step_sent d (moved verbs.Deliver m) = ended_same d states.Delivered (first_alike m 0 d.in_flight.messages)
-step_sent d (moved verbs.Drop m) = ended_same d states.Lost (first_alike m 0 d.in_flight.messages)
+step_sent d (moved verbs.Deliver m) = ended_same d states.Delivered (next_met d.in_flight m.to)
+step_sent d (moved verbs.Drop m) = ended_same d states.Lost (next_met d.in_flight m.to)
 step_sent d (moved verbs.NoRoomFor m) = given_same d m d.in_flight.is_ready
 step_sent d nothing_else = sym (append-nil (map arrow_address d.arrows))
 step_sent d (ready id) = sym (append-nil (map arrow_address d.arrows))
@@ -80,8 +80,8 @@ step_ready : (d : PlainArrows) (item : PlainItem) → (drawing d item).in_flight
 unfolding drawing taking is_ready_after
 step_ready d (send m) = refl
 step_ready d (moved verbs.Queue m) = refl
-step_ready d (moved verbs.Deliver m) = ended_ready d states.Delivered (first_alike m 0 d.in_flight.messages)
-step_ready d (moved verbs.Drop m) = ended_ready d states.Lost (first_alike m 0 d.in_flight.messages)
+step_ready d (moved verbs.Deliver m) = ended_ready d states.Delivered (next_met d.in_flight m.to)
+step_ready d (moved verbs.Drop m) = ended_ready d states.Lost (next_met d.in_flight m.to)
 step_ready d (moved verbs.NoRoomFor m) = given_ready d m d.in_flight.is_ready
 step_ready d nothing_else = refl
 step_ready d (ready id) = refl

@@ -11,11 +11,12 @@ use Rattle.rb_texts.specs.Items.{PlainItem}
 use Rattle.rb_view.specs.declared.chart.part.ChartPart.{ChartPart}
 use Rattle.rb_view.specs.declared.chart.part.ChartPhase.{ChartPhase}
 use Rattle.rb_view.specs.declared.chart.part.ChartPhase.TheVariants as phases
+use Rattle.rb_view.specs.InFlight.{mail_choice}
 use Rattle.rb_view.specs.Drawn.{PlainView, beginning, entering, has_room, phase_at, room_entered, room_seen, seeing, shown, views_from}
 
 -- one directive more
 pub views_more : (p : ChartPart) (heads : List ℕ) (bs : List PlainBlock) (i line : ℕ) (b : PlainBlock) (c after : Cluster) (v entered next : PlainView)
-    → slice_get heads i ≡ Some line → slice_get bs i ≡ Some b → entered ≡ entering (phase_at p line) v → next ≡ shown entered (execution c (directive_of b))
+    → slice_get heads i ≡ Some line → slice_get bs i ≡ Some b → entered ≡ entering (phase_at p line) (mail_choice (directive_of b)) v → next ≡ shown entered (execution c (directive_of b))
     → after ≡ (outcome c (directive_of b)).cluster
     → views_from p next after (drop (i + 1) heads) (drop (i + 1) bs) ≡ views_from p v c (drop i heads) (drop i bs)
 views_more p heads bs i line b c after v entered next head block enters shows leads =
@@ -50,7 +51,7 @@ views_none : (p : ChartPart) (v : PlainView) (c : Cluster) (heads : List ℕ) (b
 views_none p v c [] bs e = e
 views_none p v c (line ∷ heads) [] e = e
 views_none p v c (line ∷ heads) (b ∷ bs) e =
-    let w = entering (phase_at p line) v in
+    let w = entering (phase_at p line) (mail_choice (directive_of b)) v in
     let h = execution c (directive_of b) in
     views_none p (shown w h) (outcome c (directive_of b)).cluster heads bs (seen_none (shown_items h) (beginning w) (room_entered_none v.phase (phase_at p line) v e))
 

@@ -10,7 +10,7 @@ use Rattle.rb_view.specs.declared.chart.arrow.Arrow.{Arrow}
 use Rattle.rb_view.specs.declared.chart.css_class.DeliveryState.{DeliveryState}
 use Rattle.rb_view.specs.declared.chart.css_class.DeliveryState.TheVariants as states
 use Rattle.rb_view.specs.declared.chart.in_flight.MessageChange.TheVariants as changes
-use Rattle.rb_view.specs.InFlight.{arrow, ended, first_alike, last_alike, taken, taking}
+use Rattle.rb_view.specs.InFlight.{arrow, ended, last_alike, next_met, taken, taking}
 use Rattle.rb_view.specs.Arrows.{PlainArrows, drawing, drawn_as, end_arrow, set_state, set_state_of, with_state}
 use Rattle.rb_view.specs.Promises.{waiting_arrows, waits, waiting_from}
 
@@ -133,8 +133,8 @@ step_waits : (d : PlainArrows) (item : PlainItem) → Wait d → Wait (drawing d
 unfolding drawing taking
 step_waits d (send m) wait = added_waits d m wait
 step_waits d (moved verbs.Queue m) wait = added_waits d m wait
-step_waits d (moved verbs.Deliver m) wait = ended_waits d states.Delivered (first_alike m 0 d.in_flight.messages) refl wait
-step_waits d (moved verbs.Drop m) wait = ended_waits d states.Lost (first_alike m 0 d.in_flight.messages) refl wait
+step_waits d (moved verbs.Deliver m) wait = ended_waits d states.Delivered (next_met d.in_flight m.to) refl wait
+step_waits d (moved verbs.Drop m) wait = ended_waits d states.Lost (next_met d.in_flight m.to) refl wait
 step_waits d (moved verbs.NoRoomFor m) wait = given_waits d m d.in_flight.is_ready wait
 step_waits d nothing_else wait = wait
 step_waits d (ready id) wait = wait

@@ -42,31 +42,35 @@ items_watched w texts (i ∷ items) is =
     ∙ ap (λ (ts : List Line). record w { texts = held ts }) (append_assoc texts (shown_texts i) (flat_map shown_texts items))
 
 -- after texts, where the nodes were these and bytes were shown so far
-abbrev watched_all : List Line → List PlainNode → Bool → List Observation → Watching
-watched_all texts nodes bytes observed = record { texts = held (texts ++ compared_texts nodes observed); nodes = written_last nodes observed; of_bytes = bytes && shows_bytes observed }
+abbrev watched_all : Bool → List Line → List PlainNode → Bool → List Observation → Watching
+watched_all keeps texts nodes bytes observed =
+    record { texts = held (texts ++ compared_texts keeps nodes observed); nodes = written_last nodes observed; keeps = keeps; of_bytes = bytes && shows_bytes observed }
 
-pub all_watched : (w : Watching) (texts : List Line) (observed : List Observation) → w.texts ≡ held texts → fold (observing with_item with_node) w observed ≡ watched_all texts w.nodes w.of_bytes observed
+pub all_watched : (w : Watching) (texts : List Line) (observed : List Observation) → w.texts ≡ held texts
+    → fold (observing with_item with_node) w observed ≡ watched_all w.keeps texts w.nodes w.of_bytes observed
 all_watched w texts [] is =
     ap₂ (λ (ts : Option (List Line)) (b : Bool). record w { texts = ts; of_bytes = b }) (is ∙ ap held (sym (append-nil texts))) (and_end w.of_bytes)
 all_watched w texts (Shown items ∷ observed) is =
     let here = flat_map shown_texts items in
     ap (λ (x : Watching). fold (observing with_item with_node) x observed) (items_watched w texts items is)
     ∙ all_watched (record w { texts = held (texts ++ here) }) (texts ++ here) observed refl
-    ∙ ap (λ (ts : List Line). record (watched_all texts w.nodes w.of_bytes observed) { texts = held ts }) (append_assoc texts here (compared_texts w.nodes observed))
+    ∙ ap (λ (ts : List Line). record (watched_all w.keeps texts w.nodes w.of_bytes observed) { texts = held ts }) (append_assoc texts here (compared_texts w.keeps w.nodes observed))
 all_watched w texts (Settled id n ∷ observed) is =
     let nodes = rewritten w.nodes id n in
-    let here = texts_of (compared_rows w.nodes id n) in
+    let here = texts_of (compared_rows w.keeps w.nodes id n) in
     let bytes = list_all is_byte (content_end n.content) in
     all_watched (with_node w id n) (texts ++ here) observed (more_held w texts here is)
-    ∙ ap₂ (λ (ts : List Line) (b : Bool). record { texts = held ts; nodes = written_last nodes observed; of_bytes = b })
-    (append_assoc texts here (compared_texts nodes observed)) (and_assoc w.of_bytes bytes (shows_bytes observed))
+    ∙ ap₂ (λ (ts : List Line) (b : Bool). record { texts = held ts; nodes = written_last nodes observed; keeps = w.keeps; of_bytes = b })
+    (append_assoc texts here (compared_texts w.keeps nodes observed)) (and_assoc w.of_bytes bytes (shows_bytes observed))
 
--- where nodes keep what they knew to be committed, the comparisons miss nothing
-compared_is : (nodes : List PlainNode) (observed : List Observation) → GoOn nodes observed → compared_texts nodes observed ≡ observed_texts nodes observed
-compared_is nodes [] on = refl
-compared_is nodes (Shown items ∷ observed) on = ap (λ (ts : List Line). flat_map shown_texts items ++ ts) (compared_is nodes observed on)
-compared_is nodes (Settled id n ∷ observed) on =
-    ap₂ (λ (rs : List Row) (ts : List Line). texts_of rs ++ ts) (since_is (slice_get nodes (id - 1)) n on.0) (compared_is (rewritten nodes id n) observed on.1)
+-- where nodes keep what they knew to be committed, or are compared from the first entry on, the comparisons miss nothing
+compared_is : (keeps : Bool) (nodes : List PlainNode) (observed : List Observation) → (keeps ≡ true → GoOn nodes observed)
+    → compared_texts keeps nodes observed ≡ observed_texts nodes observed
+compared_is keeps nodes [] on = refl
+compared_is keeps nodes (Shown items ∷ observed) on = ap (λ (ts : List Line). flat_map shown_texts items ++ ts) (compared_is keeps nodes observed on)
+compared_is keeps nodes (Settled id n ∷ observed) on =
+    ap₂ (λ (rs : List Row) (ts : List Line). texts_of rs ++ ts) (since_is keeps (slice_get nodes (id - 1)) n (λ is. (on is).0))
+    (compared_is keeps (rewritten nodes id n) observed (λ is. (on is).1))
 
 -- what two observers have of a run: of its lines, and of its rows
 pub record IsSeen (before last : PrintedLines) (texts : Option (List Line)) (n0 n1 : List PlainNode) (h : Execution) : Type 0 where
@@ -75,19 +79,19 @@ pub record IsSeen (before last : PrintedLines) (texts : Option (List Line)) (n0 
   pub nodes : n1 ≡ written_last n0 h.observed
   pub bytes : shows_bytes h.observed ≡ true
 
-abbrev so_far : Option (List Line) → List PlainNode → Watching
-so_far texts nodes = record { texts = texts; nodes = nodes; of_bytes = true }
+abbrev so_far : Bool → Option (List Line) → List PlainNode → Watching
+so_far keeps texts nodes = record { texts = texts; nodes = nodes; keeps = keeps; of_bytes = true }
 
-pub run_seen : (before last : PrintedLines) (t0 texts : Option (List Line)) (n0 n1 : List PlainNode) (h : Execution)
-    → (last, so_far texts n1) ≡ fold (observing (λ (m : PrintedLines × Watching) (item : PlainItem). (printing.with_item m.0 item, with_item m.1 item))
-    (λ (m : PrintedLines × Watching) (id : ℕ) (n : PlainNode). (passing m.0 id n, with_node m.1 id n))) (printing.at_level before h.level, so_far t0 n0) h.observed
-    → t0 ≡ Some [] → GoOn n0 h.observed → IsSeen before last texts n0 n1 h
-run_seen before last t0 texts n0 n1 h seen none on =
-    let each = each_observed printing.with_item passing with_item with_node (printing.at_level before h.level) last (so_far t0 n0) (so_far texts n1) h.observed seen in
-    let rows = each.1 ∙ all_watched (so_far t0 n0) [] h.observed (none ∙ none_held) in
+pub run_seen : (before last : PrintedLines) (t0 texts : Option (List Line)) (n0 n1 : List PlainNode) (k0 k1 : Bool) (h : Execution)
+    → (last, so_far k1 texts n1) ≡ fold (observing (λ (m : PrintedLines × Watching) (item : PlainItem). (printing.with_item m.0 item, with_item m.1 item))
+    (λ (m : PrintedLines × Watching) (id : ℕ) (n : PlainNode). (passing m.0 id n, with_node m.1 id n))) (printing.at_level before h.level, so_far k0 t0 n0) h.observed
+    → t0 ≡ Some [] → (k0 ≡ true → GoOn n0 h.observed) → IsSeen before last texts n0 n1 h
+run_seen before last t0 texts n0 n1 k0 k1 h seen none on =
+    let each = each_observed printing.with_item passing with_item with_node (printing.at_level before h.level) last (so_far k0 t0 n0) (so_far k1 texts n1) h.observed seen in
+    let rows = each.1 ∙ all_watched (so_far k0 t0 n0) [] h.observed (none ∙ none_held) in
     record {
       printed = each.0 ∙ items_seen printing.with_item (printing.at_level before h.level) h.observed;
-      texts_are = ap (λ (w : Watching). w.texts) rows ∙ ap held (compared_is n0 h.observed on);
+      texts_are = ap (λ (w : Watching). w.texts) rows ∙ ap held (compared_is k0 n0 h.observed on);
       nodes = ap (λ (w : Watching). w.nodes) rows;
       bytes = sym (ap (λ (w : Watching). w.of_bytes) rows);
     }

@@ -1,13 +1,15 @@
 -- The arrows of a picture: one for each message that was sent, in the order in which they were sent, and what became of it. (This project's.)
 use Rattle.std.specs.Prelude.{ℕ, ◌++◌, List, [], ◌∷◌, length, fold, slice_get, slice_set, Option, Some, None}
 use Rattle.std.specs.List.{remove}
+use Rattle.rb_script.specs.Directive.{PlainDirective}
+use Rattle.rb_directive.specs.declared.requests.MailChoice.{MailChoice}
 use Rattle.rb_message.specs.declared.message.Message.{Message}
 use Rattle.rb_texts.specs.Items.{PlainItem, send}
 use Rattle.rb_view.specs.declared.chart.arrow.Arrow.{Arrow}
 use Rattle.rb_view.specs.declared.chart.css_class.DeliveryState.{DeliveryState}
 use Rattle.rb_view.specs.declared.chart.in_flight.MessageChange.{MessageChange}
 use Rattle.rb_view.specs.declared.chart.in_flight.MessageChange.TheVariants as changes
-use Rattle.rb_view.specs.InFlight.{PlainInFlight, Taken, none_in_flight, started, taking}
+use Rattle.rb_view.specs.InFlight.{PlainInFlight, Taken, mail_choice, none_in_flight, started, taking, with_choice}
 
 -- the arrows so far, the messages in flight, and for each of these the position of its arrow
 pub record PlainArrows : Type 0 where
@@ -50,9 +52,15 @@ drawn_as d t = changed t.change (record d { in_flight = t.left })
 unfoldable pub drawing : PlainArrows → PlainItem → PlainArrows
 drawing d item = drawn_as d (taking d.in_flight item)
 
--- a directive begins
+-- a directive begins, and chooses these messages
+abbrev pub choosing : MailChoice → PlainArrows → PlainArrows
+choosing choice d = record d { in_flight = with_choice choice d.in_flight }
+
 abbrev pub begun : PlainArrows → PlainArrows
 begun d = record d { in_flight = started d.in_flight }
+
+abbrev pub begun_by : PlainDirective → PlainArrows → PlainArrows
+begun_by directive d = begun (choosing (mail_choice directive) d)
 
 -- messages that come in from above: as if they were sent
 abbrev pub resent : PlainArrows → Message → PlainArrows

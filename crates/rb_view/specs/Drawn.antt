@@ -2,6 +2,7 @@
 use Rattle.std.specs.Prelude.{ℕ, ◌+◌, ◌-◌, Bool, false, nat_lt, if◌then◌else◌, List, [], ◌∷◌, length, fold, map, Option, Some, None}
 use Rattle.rb_script.specs.Reading.{directive_of}
 use Rattle.rb_script.specs.Script.{PlainBlock, PlainScript}
+use Rattle.rb_directive.specs.declared.requests.MailChoice.{MailChoice}
 use Rattle.rb_texts.specs.Items.{PlainItem}
 use Rattle.rb_machine.specs.Cluster.{Cluster, empty}
 use Rattle.rb_machine.specs.Outcome.{Execution, execution, shown_items, outcome}
@@ -12,8 +13,8 @@ use Rattle.rb_view.specs.declared.chart.part.ChartPart.{ChartPart}
 use Rattle.rb_view.specs.declared.chart.part.ChartPhase.{ChartPhase}
 use Rattle.rb_view.specs.declared.chart.part.ChartPhase.TheVariants as phases
 use Rattle.rb_view.specs.declared.chart.path.DrawnArrow.{DrawnArrow}
-use Rattle.rb_view.specs.InFlight.{flying}
-use Rattle.rb_view.specs.Arrows.{PlainArrows, no_arrows, begun, drawing, coming_in}
+use Rattle.rb_view.specs.InFlight.{flying, mail_choice}
+use Rattle.rb_view.specs.Arrows.{PlainArrows, no_arrows, begun, choosing, drawing, coming_in}
 
 -- ---- the part that is drawn
 
@@ -52,8 +53,9 @@ abbrev pub room_entered : ChartPhase → ChartPhase → PlainView → ℕ
 room_entered phases.Above phases.Within v = v.room - length v.arrows.in_flight.messages
 room_entered old new v = v.room
 
-abbrev pub entering : ChartPhase → PlainView → PlainView
-entering new v = record { phase = new; arrows = entered v.phase new v.arrows; room = room_entered v.phase new v }
+-- a directive of this phase, which chooses these messages
+abbrev pub entering : ChartPhase → MailChoice → PlainView → PlainView
+entering new choice v = record { phase = new; arrows = choosing choice (entered v.phase new v.arrows); room = room_entered v.phase new v }
 
 abbrev pub seen : ChartPhase → PlainArrows → PlainItem → PlainArrows
 seen phases.Above d item = record d { in_flight = flying d.in_flight item }
@@ -80,7 +82,7 @@ abbrev pub views_from : ChartPart → PlainView → Cluster → List ℕ → Lis
 views_from p v c [] bs = v
 views_from p v c (line ∷ heads) [] = v
 views_from p v c (line ∷ heads) (b ∷ bs) =
-    views_from p (shown (entering (phase_at p line) v) (execution c (directive_of b))) (outcome c (directive_of b)).cluster heads bs
+    views_from p (shown (entering (phase_at p line) (mail_choice (directive_of b)) v) (execution c (directive_of b))) (outcome c (directive_of b)).cluster heads bs
 
 abbrev pub no_view : ℕ → PlainView
 no_view room = record { phase = phases.Above; arrows = no_arrows; room = room }

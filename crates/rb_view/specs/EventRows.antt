@@ -6,15 +6,16 @@ use Rattle.rb_texts.specs.declared.form.EventPiece.{EventPiece}
 use Rattle.rb_texts.specs.declared.form.EventShown.{EventShown}
 use Rattle.rb_texts.specs.declared.form.EventShown.TheVariants as shown
 use Rattle.rb_texts.specs.Configs.{config_text}
-use Rattle.rb_texts.specs.EventForms.{PlainPiece, PlainForm, words, numbered, placed, named, answered, configured, plain_piece, event_form, is_hidden}
+use Rattle.rb_texts.specs.EventForms.{PlainPiece, PlainForm, words, numbered, placed, ranged, named, answered, configured, plain_piece, event_form, is_hidden}
 use Rattle.rb_view.specs.MessageRows.{flag}
 use Rattle.rb_view.specs.Rows.{PlainCell, number, text, Row, row, cell_text}
 
--- the value of a piece; a term and an index are two cells
+-- the value of a piece; a term and an index are two cells, and so are two indexes
 abbrev pub piece_cells : PlainPiece → List PlainCell
 piece_cells (words before) = []
 piece_cells (numbered before n) = number n ∷ []
 piece_cells (placed before term index) = number term ∷ number index ∷ []
+piece_cells (ranged before first last) = number first ∷ number last ∷ []
 piece_cells (named before name) = text name ∷ []
 piece_cells (answered before granted) = number (flag granted) ∷ []
 piece_cells (configured before c) = text (config_text c) ∷ []

@@ -1,6 +1,6 @@
 -- How nodes stand, as rows, and what of that is not as it was. (docs/FORMATS.md; the state of a node is that of Ongaro's thesis, figure 3.1,
 -- with what etcd's raft adds.)
-use Rattle.std.specs.Prelude.{ℕ, codes, if◌then◌else◌, List, [], ◌∷◌, ◌++◌, length, map, Option, Some, None}
+use Rattle.std.specs.Prelude.{ℕ, Bool, codes, if◌then◌else◌, List, [], ◌∷◌, ◌++◌, length, map, Option, Some, None}
 use Rattle.std.specs.List.{flat_map}
 use Rattle.rb_raftlog.specs.Content.{content_end}
 use Rattle.rb_node.specs.Node.{PlainNode}
@@ -8,6 +8,7 @@ use Rattle.rb_tracker.specs.Progresses.{PlainProgress}
 use Rattle.rb_tracker.specs.Trackers.{has_view}
 use Rattle.rb_texts.specs.Configs.{config_text}
 use Rattle.rb_texts.specs.States.{role_text, progress_state_text}
+use Rattle.rb_view.specs.Committed.{known}
 use Rattle.rb_view.specs.MessageRows.{flag}
 use Rattle.rb_view.specs.Rows.{Row, row, number, text}
 use Rattle.rb_view.specs.NewRows.{new_rows}
@@ -72,11 +73,12 @@ state_rows olds [] = []
 state_rows [] (n ∷ ns) = node_rows None n ++ state_rows [] ns
 state_rows (old ∷ olds) (n ∷ ns) = node_rows (Some old) n ++ state_rows olds ns
 
--- ---- the same, where what a node knew to be committed is known to stay
+-- ---- the same, where entries up to an index are known to stay
 
-abbrev pub changed_since : PlainNode → PlainNode → List Row
-changed_since old new = changed_to old new (stays_since old.log new.log old.commit)
+abbrev pub changed_since : ℕ → PlainNode → PlainNode → List Row
+changed_since index old new = changed_to old new (stays_since old.log new.log index)
 
-abbrev pub node_since : Option PlainNode → PlainNode → List Row
-node_since None n = added_rows n
-node_since (Some old) n = changed_since old n
+-- what a node knew to be committed is known to stay, or nothing is
+abbrev pub node_since : Bool → Option PlainNode → PlainNode → List Row
+node_since keeps None n = added_rows n
+node_since keeps (Some old) n = changed_since (known keeps old) old n

@@ -19,9 +19,9 @@ use Rattle.rb_view.specs.States.{node_rows, node_since}
 abbrev pub rows_since : List PlainNode → ℕ → PlainNode → List Row
 rows_since nodes id n = node_rows (slice_get nodes (id - 1)) n
 
--- the same, by a comparison that begins after what the node was known to have committed
-abbrev pub compared_rows : List PlainNode → ℕ → PlainNode → List Row
-compared_rows nodes id n = node_since (slice_get nodes (id - 1)) n
+-- the same, by a comparison that begins after what the node was known to have committed, if that stays
+abbrev pub compared_rows : Bool → List PlainNode → ℕ → PlainNode → List Row
+compared_rows keeps nodes id n = node_since keeps (slice_get nodes (id - 1)) n
 
 -- a node is written: the next rows say what is not as it is now
 abbrev pub rewritten : List PlainNode → ℕ → PlainNode → List PlainNode
@@ -57,6 +57,8 @@ pub record Watching : Type 0 where
   pub texts : Option (List Line)
   -- the nodes as they were written last
   pub nodes : List PlainNode
+  -- what they knew to be committed stays
+  pub keeps : Bool
   -- what is shown of each content is bytes
   pub of_bytes : Bool
 
@@ -64,8 +66,8 @@ abbrev pub with_item : Watching → PlainItem → Watching
 with_item w item = record w { texts = held_with w.texts (shown_texts item) }
 
 abbrev pub with_node : Watching → ℕ → PlainNode → Watching
-with_node w id n = record {
-  texts = held_with w.texts (texts_of (compared_rows w.nodes id n));
+with_node w id n = record w {
+  texts = held_with w.texts (texts_of (compared_rows w.keeps w.nodes id n));
   nodes = rewritten w.nodes id n;
   of_bytes = w.of_bytes && list_all is_byte (content_end n.content);
 }
@@ -89,11 +91,11 @@ observed_texts nodes [] = []
 observed_texts nodes (Shown items ∷ observed) = flat_map shown_texts items ++ observed_texts nodes observed
 observed_texts nodes (Settled id n ∷ observed) = texts_of (rows_since nodes id n) ++ observed_texts (rewritten nodes id n) observed
 
--- the same, by comparisons that begin after what nodes were known to have committed
-abbrev pub compared_texts : List PlainNode → List Observation → List Line
-compared_texts nodes [] = []
-compared_texts nodes (Shown items ∷ observed) = flat_map shown_texts items ++ compared_texts nodes observed
-compared_texts nodes (Settled id n ∷ observed) = texts_of (compared_rows nodes id n) ++ compared_texts (rewritten nodes id n) observed
+-- the same, by comparisons that begin after what nodes were known to have committed, if that stays
+abbrev pub compared_texts : Bool → List PlainNode → List Observation → List Line
+compared_texts keeps nodes [] = []
+compared_texts keeps nodes (Shown items ∷ observed) = flat_map shown_texts items ++ compared_texts keeps nodes observed
+compared_texts keeps nodes (Settled id n ∷ observed) = texts_of (compared_rows keeps nodes id n) ++ compared_texts keeps (rewritten nodes id n) observed
 
 -- what is shown of each content is bytes
 abbrev pub shows_bytes : List Observation → Bool

@@ -11,6 +11,7 @@ mod builder;
 mod canvas;
 mod canvas_arrows;
 mod chart;
+mod choice;
 mod columns;
 mod css_class;
 mod draw;

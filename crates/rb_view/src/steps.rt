@@ -5,6 +5,7 @@
 //! with what happens, and not with nodes times directives. [`put_page`] writes them, and a page around them. Nothing is written before all
 //! memory is there.
 
+mod committed;
 mod fresh;
 mod laws;
 mod log;

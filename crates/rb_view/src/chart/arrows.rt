@@ -6,6 +6,7 @@ ghost use Rattle.rb_view.specs.Arrows.{set_state};
 use crate::chart::arrow::Arrow;
 use crate::chart::css_class::DeliveryState;
 use crate::chart::in_flight::{InFlight, MessageChange};
+use rb_directive::MailChoice;
 use rb_message::Message;
 use rb_texts::Item;
 use std::alloc::{AllocError, Global};
@@ -51,7 +52,7 @@ fn position_at(positions: &[usize], at: usize) -> Option<usize>
 
 impl Arrows {
     ghost use Rattle.std.specs.Prelude.{◌≡◌, IfOk, OnOk, Some, None, slice_get};
-    ghost use Rattle.rb_view.specs.Arrows.{begun, changed, drawing, end_arrow, no_arrows, resent};
+    ghost use Rattle.rb_view.specs.Arrows.{begun, changed, choosing, drawing, end_arrow, no_arrows, resent};
     ghost use Rattle.rb_view.specs.InFlight.{flying};
     ghost use Rattle.rb_texts.specs.Items.{plain_item};
 
@@ -78,6 +79,13 @@ impl Arrows {
         ensures { result.now ≡ self.now.positions }
     {
         self.positions.as_slice()
+    }
+
+    /// The next directive chooses these messages.
+    pub(crate) fn choose(&mut self, choice: MailChoice)
+        ensures { self.new ≡ choosing choice self.old }
+    {
+        self.in_flight.choose(choice);
     }
 
     /// A directive begins.

@@ -11,6 +11,7 @@ use crate::chart::chart::Chart;
 use crate::chart::part::ChartPhase;
 use crate::chart::path::DrawnArrow;
 use rb_cluster::SharedNode;
+use rb_directive::MailChoice;
 use rb_machine::Observer;
 use rb_message::Message;
 use rb_node::Node;
@@ -112,18 +113,20 @@ impl<'a> ChartBuilder<'a> {
         resend(&mut self.arrows, &mut self.canvas, &messages)
     }
 
-    /// Continues with the directive at a line. The nodes are those before it.
+    /// Continues with the directive at a line, which chooses these messages. The nodes are those before it.
     pub(crate) fn enter<L: RaftLog>(
         &mut self,
         phase: ChartPhase,
+        choice: MailChoice,
         line: u64,
         nodes: &[SharedNode<L>],
     ) -> Result<(), AllocError>
-        ensures { OnOk result (view_of self.new ≡ entering phase (view_of self.old)) }
+        ensures { OnOk result (view_of self.new ≡ entering phase choice (view_of self.old)) }
     {
         if let (ChartPhase::Above, ChartPhase::Within) = (self.phase, phase) {
             self.come_in(line, nodes)?;
         }
+        self.arrows.choose(choice);
         self.phase = phase;
         match phase {
             ChartPhase::Above => self.canvas.pass(line),

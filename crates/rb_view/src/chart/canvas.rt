@@ -323,6 +323,12 @@ impl<'a> Canvas<'a> {
                 }
                 Ok(())
             }
+            EventKind::Restarted { saved, base, .. } => {
+                if let Some(band) = self.columns.restarts(event.id, y, saved.commit, *base) {
+                    self.chart.under.push(band)?;
+                }
+                Ok(())
+            }
             EventKind::Restored { index, .. } => {
                 self.columns.restores(event.id, *index);
                 Ok(())

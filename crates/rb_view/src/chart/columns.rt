@@ -1,7 +1,7 @@
 //! The nodes of a picture.
 
 use crate::chart::shape::Shape;
-use crate::chart::sizes::{HALF_BAND, middle};
+use crate::chart::sizes::{HALF_BAND, HALF_GAP, middle};
 use rb_message::Role;
 use std::alloc::{AllocError, Global};
 
@@ -106,6 +106,17 @@ impl Columns {
         let band = band_of(id, *column, y);
         column.role = role;
         column.top = y;
+        Some(band)
+    }
+
+    /// Ends the band of a node that restarts; the next one, of a follower, begins after a gap. The node's commit and its log's base are known.
+    pub(crate) fn restarts(&mut self, id: u64, y: u64, commit: u64, base: u64) -> Option<Shape> {
+        let band = self.turn(id, Role::Follower, y.saturating_sub(HALF_GAP))?;
+        if let Some(column) = self.columns.get_mut(position(id)) {
+            column.top = y.saturating_add(HALF_GAP);
+            column.commit = Some(commit);
+            column.base = Some(base);
+        }
         Some(band)
     }
 

@@ -12,6 +12,7 @@ ghost use Rattle.rb_view.specs.Titles.{is_printable, title_text};
 
 use crate::chart::builder::ChartBuilder;
 use crate::chart::chart::Chart;
+use crate::chart::choice::mail_choice;
 use crate::chart::part::ChartPart;
 use crate::chart::title::title_of;
 use rb_cluster::{Cluster, Meter};
@@ -98,8 +99,9 @@ fn draw_directives<L: RaftLog>(
         }
         let block = block_at(script, i);
         let line = number_at(heads, i) as u64;
+        let choice = mail_choice(&block.directive());
         both.second
-            .enter(part.phase_at(line), line, cluster.nodes())?;
+            .enter(part.phase_at(line), choice, line, cluster.nodes())?;
         let output = run(alloc, &mut cluster, block, both, meter)?;
         both.second.see(cluster.nodes())?;
         printed.push(output)?;

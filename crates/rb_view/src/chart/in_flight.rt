@@ -1,15 +1,16 @@
 //! Keeps the messages in flight.
 //!
-//! A node gets its messages in the order in which they were sent. So of the messages of one type to one node, the earliest is
-//! delivered or dropped first (docs/FORMATS.md, "The rows of a page"). `messages_end_their_own_arrows` proves that it is the
-//! message itself.
+//! A node gets its messages in the order in which they were sent, or those of them that the directive chooses.
+//! `messages_end_their_own_arrows` proves that the message that is met is the one that is delivered or dropped.
 
-ghost use Rattle.std.specs.Prelude.{◌≡◌, ◌<◌, ℕ, IfSome, None, Some, if◌then◌else◌, length, slice_get};
+ghost use Rattle.std.specs.Prelude.{◌≡◌, ◌<◌, ℕ, IfSome, None, Some, if◌then◌else◌, length};
 ghost use Rattle.std.specs.Option.{option_or};
-ghost use Rattle.rb_view.specs.InFlight.{arrow, first_alike, is_alike, last_alike};
+ghost use Rattle.rb_view.specs.InFlight.{arrow, is_alike, last_alike};
 
 use crate::chart::arrow::Arrow;
+use crate::chart::choice::{message_at, met};
 use crate::chart::css_class::DeliveryState;
+use rb_directive::MailChoice;
 use rb_message::Message;
 use rb_texts::{Item, Verb};
 use std::alloc::{AllocError, Global};
@@ -31,6 +32,8 @@ pub enum MessageChange {
 #[derive(Drop)]
 pub struct InFlight {
     messages: Vec<Message>,
+    // which of them this directive chooses
+    choice: MailChoice,
     // whether a ready of this directive was shown: a message that doesn't fit then was shown as sent
     is_ready: bool,
 }
@@ -40,7 +43,7 @@ impl Model for InFlight {
 
     ghost Value = { PlainInFlight };
 
-    ghost view = { λ f. record { messages = f.messages.items; is_ready = f.is_ready } };
+    ghost view = { λ f. record { messages = f.messages.items; choice = f.choice; is_ready = f.is_ready } };
 }
 
 fn arrow(message: &Message, state: DeliveryState) -> Arrow
@@ -59,27 +62,6 @@ fn is_alike(message: &Message, other: &Message) -> bool
     ensures { result ≡ is_alike message.now other.now }
 {
     other.to == message.to && other.kind.message_type().text() == message.kind.message_type().text()
-}
-
-fn message_at(messages: &[Message], at: usize) -> &Message
-    requires { at < length messages.now }
-    ensures { slice_get messages.now at ≡ Some result.now }
-{
-    &messages[at]
-}
-
-// The index of the first such message.
-fn first_alike(messages: &[Message], message: &Message) -> Option<usize>
-    ensures position { result ≡ first_alike message.now 0 messages.now }
-    ensures within { IfSome result (λ at. at < length messages.now) }
-{
-    for at in 0..messages.len() {
-        let other = message_at(messages, at);
-        if is_alike(message, other) {
-            return Some(at);
-        }
-    }
-    None
 }
 
 // An index, if the message there is alike; otherwise the one that was found before.
@@ -106,7 +88,7 @@ fn last_alike(messages: &[Message], message: &Message) -> Option<usize>
 
 impl InFlight {
     ghost use Rattle.std.specs.Prelude.{◌≡◌, IfOk, OnOk};
-    ghost use Rattle.rb_view.specs.InFlight.{Taken, added, ended, given_up, none_in_flight, started, taken, taking};
+    ghost use Rattle.rb_view.specs.InFlight.{Taken, added, ended, given_up, next_met, none_in_flight, started, taken, taking, with_choice};
     ghost use Rattle.rb_texts.specs.Items.{plain_item};
 
     /// No messages.
@@ -115,6 +97,7 @@ impl InFlight {
     {
         InFlight {
             messages: Vec::new(alloc),
+            choice: MailChoice::all(),
             is_ready: false,
         }
     }
@@ -125,9 +108,17 @@ impl InFlight {
     {
         let InFlight {
             messages,
+            choice: _,
             is_ready: _,
         } = self;
         messages
+    }
+
+    /// The next directive chooses these messages.
+    pub(crate) fn choose(&mut self, choice: MailChoice)
+        ensures { self.new ≡ with_choice choice self.old }
+    {
+        self.choice = choice;
     }
 
     /// A directive begins.
@@ -157,6 +148,14 @@ impl InFlight {
         MessageChange::Ended(at, state)
     }
 
+    // The index of the message to a node that is met next.
+    fn next_met(&self, id: u64) -> Option<usize>
+        ensures position { result ≡ next_met self.now id }
+        ensures within { IfSome result (λ at. at < length self.now.messages) }
+    {
+        met(&self.messages, id, &self.choice)
+    }
+
     fn give_up(&mut self, message: &Message) -> MessageChange
         ensures { taken self.new result ≡ given_up self.old message.now }
     {
@@ -179,11 +178,11 @@ impl InFlight {
             }
             Item::Send(message) | Item::Moved(Verb::Queue, message) => self.add(message),
             Item::Moved(Verb::Deliver, message) => {
-                let at = first_alike(&self.messages, message);
+                let at = self.next_met(message.to);
                 Ok(self.end(DeliveryState::Delivered, at))
             }
             Item::Moved(Verb::Drop, message) => {
-                let at = first_alike(&self.messages, message);
+                let at = self.next_met(message.to);
                 Ok(self.end(DeliveryState::Lost, at))
             }
             Item::Moved(Verb::NoRoomFor, message) => Ok(self.give_up(message)),

@@ -7,7 +7,7 @@ ghost use Rattle.rb_script.specs.Script.{PlainScript};
 ghost use Rattle.rb_texts.specs.Items.{PlainItem};
 ghost use Rattle.rb_machine.specs.Cluster.{Cluster, empty};
 ghost use Rattle.rb_machine.specs.Outcome.{execution, outcome, shown_items};
-ghost use Rattle.rb_view.specs.Arrows.{PlainArrows, begun, coming_in, drawing, no_arrows};
+ghost use Rattle.rb_view.specs.Arrows.{PlainArrows, begun_by, coming_in, drawing, no_arrows};
 ghost use Rattle.rb_view.specs.Drawn.{drawn_arrows};
 ghost use Rattle.rb_view.specs.XmlEscapes.{ReadsAs, escaped, is_no_bracket};
 ghost use Rattle.rb_view.specs.Promises.{AllEnd, Ascend, Shows, all_sent, arrow_address, message_address, pending_drawn, waiting_arrow, waiting_arrows, waiting_from};
@@ -30,7 +30,7 @@ pub fn what_is_on_its_way_waits()
 pub fn what_waits_is_pending()
     ensures empty { Shows empty no_arrows }
     ensures coming { (c : Cluster) → Shows c (coming_in c.pending) }
-    ensures after { (c : Cluster) (d : PlainArrows) (directive : PlainDirective) → Shows c d → Shows (outcome c directive).cluster (fold drawing (begun d) (shown_items (execution c directive))) }
+    ensures after { (c : Cluster) (d : PlainArrows) (directive : PlainDirective) → Shows c d → Shows (outcome c directive).cluster (fold drawing (begun_by directive d) (shown_items (execution c directive))) }
 {}
 
 /// A picture, or one of a part of a script, shows what is pending where it ends: the arrows that are drawn as on their way are those of the
@@ -41,7 +41,7 @@ pub fn pictures_show_what_is_pending()
 
 /// Where arrows show what is pending in a cluster, each message that a directive delivers or drops ends its own arrow.
 pub fn messages_end_their_own_arrows()
-    ensures { (c : Cluster) (d : PlainArrows) (directive : PlainDirective) → Shows c d → AllEnd (begun d) (shown_items (execution c directive)) }
+    ensures { (c : Cluster) (d : PlainArrows) (directive : PlainDirective) → Shows c d → AllEnd (begun_by directive d) (shown_items (execution c directive)) }
 {}
 
 /// Whatever words are, their text in an element has neither `<` nor `>`: they begin no element and end none.

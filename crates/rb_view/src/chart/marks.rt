@@ -30,6 +30,7 @@ fn symbol(mark: EventMark) -> &'static [u8] {
         EventMark::Leads => "★ ",
         EventMark::Config => "◆ ",
         EventMark::Snapshot => "▣ ",
+        EventMark::Restart => "↻ ",
         EventMark::Trouble => "!",
         EventMark::Role | EventMark::Change | EventMark::Quiet => "",
     };
@@ -54,6 +55,7 @@ pub(crate) fn event_class(mark: EventMark) -> CssClass {
         EventMark::Role => CssClass::Turn,
         EventMark::Config | EventMark::Change => CssClass::Change,
         EventMark::Snapshot => CssClass::Installed,
+        EventMark::Restart => CssClass::Turn,
         EventMark::Trouble => CssClass::Bad,
         EventMark::Quiet => CssClass::Quiet,
     }

@@ -25,6 +25,8 @@ pub(crate) const LEAD: u64 = 170;
 pub(crate) const OUT: u64 = 40;
 /// Half of the widest band.
 pub(crate) const HALF_BAND: u64 = 5;
+/// Half of the gap in the band of a node that restarts.
+pub(crate) const HALF_GAP: u64 = 4;
 /// The distance of words from the middle of a band.
 pub(crate) const ASIDE: u64 = HALF_BAND + 5;
 /// The most columns that are shown: of a head, of a note, of a message's label, and of a mark.

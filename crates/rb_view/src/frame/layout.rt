@@ -30,10 +30,15 @@ const MOST_LINES = 4;\n\
 // How many a head may take, and how wide its letters are.\n\
 const MOST_HEAD_LINES = 2;\n\
 const HEAD_LETTER = 6.7;\n\
+// Half of the gap in the band of a node that restarts.\n\
+const HALF_GAP = 4;\n\
 \n\
 const topOf = ({ head }) => ROW_TOP + LINE_STEP * (head.length - 1);\n\
 \n\
 const fours = (size) => 4 * Math.floor(size / 4);\n\
+\n\
+// The commit of a node after an event of it.\n\
+const COMMITS = { restored: ([, , index]) => index, restarted: ([, , , , , commit]) => commit };\n\
 \n\
 function gathered(step, commits, gone) {\n\
 \x20 const found = [];\n\
@@ -44,7 +49,7 @@ function gathered(step, commits, gone) {\n\
 \x20     commits[event.id] = event.cells[2];\n\
 \x20     found.push({ name: \"committed\", id: event.id, cells: [event.id, event.cells[2]], of: [event] });\n\
 \x20   } else {\n\
-\x20     commits[event.id] = event.name === \"restored\" ? event.cells[2] : commits[event.id]; // its mark says so\n\
+\x20     commits[event.id] = COMMITS[event.name]?.(event.cells) ?? commits[event.id]; // its mark says so\n\
 \x20     found.push(event);\n\
 \x20   }\n\
 \x20 }\n\
@@ -223,6 +228,10 @@ class Layout {\n\
 \x20     this.setRole(event.id, y, event.cells[1]);\n\
 \x20   } else if (event.name === \"restored\") {\n\
 \x20     this.bases[event.id] = event.cells[2];\n\
+\x20   } else if (event.name === \"restarted\") {\n\
+\x20     this.setRole(event.id, y - HALF_GAP, \"none\");\n\
+\x20     this.setRole(event.id, y + HALF_GAP, \"follower\");\n\
+\x20     this.bases[event.id] = event.cells[3];\n\
 \x20   }\n\
 \x20 }\n\
 \n\
@@ -271,7 +280,9 @@ class Layout {\n\
 \x20   const { id } = node;\n\
 \x20   const { durable } = node.numbersAt(row.step.moment);\n\
 \x20   const from = gone.get(id);\n\
-\x20   if (from !== undefined) {\n\
+\x20   if (from !== undefined && last < from && hasRestarted(row.step, id)) {\n\
+\x20     this.placeMark(row, { name: \"lost\", id, cells: [id, from, this.lasts[id]] });\n\
+\x20   } else if (from !== undefined) {\n\
 \x20     this.placeMark(row, { name: \"replaced\", id, cells: [id, from] });\n\
 \x20   }\n\
 \x20   if (last > durable && last > stays) {\n\

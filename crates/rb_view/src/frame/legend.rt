@@ -45,9 +45,13 @@ function makeLegend() {\n\
 \x20 const roles = ROLES.map(([role, half]) => {\n\
 \x20   return item(role, (picture) => svg(picture, \"rect\", { class: `band ${role}`, x: 0, y: 5 - half, width: 30, height: 2 * half }));\n\
 \x20 });\n\
+\x20 const restart = item(\"restart\", (picture) => {\n\
+\x20   svg(picture, \"rect\", { class: \"band leader\", x: 0, y: 0, width: 11, height: 10 });\n\
+\x20   svg(picture, \"rect\", { class: \"band follower\", x: 19, y: 2.5, width: 11, height: 5 });\n\
+\x20 });\n\
 \x20 const logs = LOG_SIGNS.map(([look, text]) => element(\"li\", \"\", element(\"span\", `sample ${look}`, \"1\"), text));\n\
-\x20 byId(\"legend-items\").append(...arrows, lost, waiting, ...roles);\n\
-\x20 byId(\"log-signs\").append(...logs, element(\"li\", \"\", element(\"del\", \"\", \"1\"), \"gave way\"), element(\"li\", \"\", \"\xe2\x97\x86 change\"), element(\"li\", \"\", \"\xe2\x96\xb2 match, \xe2\x96\xb3 next: what the leader knows\"));\n\
+\x20 byId(\"legend-items\").append(...arrows, lost, waiting, ...roles, restart);\n\
+\x20 byId(\"log-signs\").append(...logs, element(\"li\", \"\", element(\"del\", \"\", \"1\"), \"gave way, or was lost\"), element(\"li\", \"\", \"\xe2\x97\x86 change\"), element(\"li\", \"\", \"\xe2\x96\xb2 match, \xe2\x96\xb3 next: what the leader knows\"));\n\
 \x20 (byId(\"legend\")).open = window.matchMedia(\"(min-width: 1100px) and (min-height: 700px)\").matches;\n\
 }\n\
 ";

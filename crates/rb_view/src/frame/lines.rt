@@ -13,6 +13,7 @@ const VERBS = { send: \"  send\", queue: \"queue\", deliver: \"deliver\", drop: 
 // What follows the level in the line of an event; docs/SCRIPTS.md has the lines.\n\
 const REPORTED = {\n\
 \x20 started: ([id]) => `${id} started at `,\n\
+\x20 restarted: ([id, term, vote, base, last, commit]) => `${id} restarted at term=${term} vote=${vote} log=${base}..${last} commit=${commit}`,\n\
 \x20 became: ([id, role, term]) => `${id} became ${role} at term ${term}`,\n\
 \x20 \"cannot-campaign\": ([id]) => `${id} can't campaign: `,\n\
 \x20 vote: ([id, type, granted, from, result]) => `${id} has ${type} ${granted ? \"granted\" : \"refused\"} from ${from}: ${result}`,\n\

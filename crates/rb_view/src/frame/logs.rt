@@ -25,6 +25,7 @@ class Logs {\n\
 \x20   this.model = model;\n\
 \x20   this.chosen = { place: 1, event: 0 };\n\
 \x20   this.most = COLUMNS;\n\
+\x20   this.step = ({ events: [] });\n\
 \x20   this.pane = byId(\"logs\");\n\
 \x20   this.detail = byId(\"log-detail\");\n\
 \x20   this.pane.addEventListener(\"pointerover\", ({ target }) => this.tell((target)));\n\
@@ -48,6 +49,7 @@ class Logs {\n\
 \x20 draw() {\n\
 \x20   const instant = instantAt(this.model, this.chosen);\n\
 \x20   const before = momentBefore(this.model, this.chosen);\n\
+\x20   this.step = instant.step;\n\
 \x20   const nodes = this.model.nodes.filter((node) => node.isThereAt(instant.moment));\n\
 \x20   const views = this.viewsOfLeader(nodes, instant);\n\
 \x20   const lasts = nodes.map((node) => Math.max(node.logAt(instant.moment).last, this.lastBefore(node, before)));\n\
@@ -139,7 +141,7 @@ class Logs {\n\
 \x20 }\n\
 \n\
 \x20 goneText(gone, index, id) {\n\
-\x20   return `${gone.term}/${index} ${shownBody(gone.body)} of node ${id} gave way`;\n\
+\x20   return `${gone.term}/${index} ${shownBody(gone.body)} of node ${id} ${hasRestarted(this.step, id) ? \"was lost\" : \"gave way\"}`;\n\
 \x20 }\n\
 \n\
 \x20 struck(gone) {\n\

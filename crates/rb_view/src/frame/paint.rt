@@ -93,6 +93,9 @@ class Painter {\n\
 \x20     for (let part = Math.max(0, firstAbove(tops, from) - 1); part < tops.length && tops[part] < to; part += 1) {\n\
 \x20       const top = Math.max(from, tops[part]);\n\
 \x20       const bottom = Math.min(to, tops[part + 1] ?? to);\n\
+\x20       if (roles[part] === \"none\" || bottom <= top) {\n\
+\x20         continue;\n\
+\x20       }\n\
 \x20       const half = roles[part] === \"leader\" ? HALF_BAND : roles[part] === \"follower\" ? 2.5 : 4;\n\
 \x20       svg(all, \"rect\", { class: `band ${roles[part]}`, x: this.layout.x(at + 1) - half, y: top, width: 2 * half, height: bottom - top });\n\
 \x20     }\n\

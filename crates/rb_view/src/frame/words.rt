@@ -87,6 +87,7 @@ function fateText(message) {\n\
 // What a node reports: a sentence, and the look of its mark.\n\
 const MARKS = {\n\
 \x20 started: () => [\"started\", \"quiet\"],\n\
+\x20 restarted: ([, term]) => [`\xe2\x86\xbb restarted, t${term}`, \"turn\"],\n\
 \x20 became: ([, role, term]) => (role === \"leader\" ? [`\xe2\x98\x85 leader, t${term}`, \"won\"] : [`${role}, t${term}`, \"turn\"]),\n\
 \x20 \"cannot-campaign\": ([, why]) => [`! can't campaign: ${why}`, \"bad\"],\n\
 \x20 vote: ([id, , granted, from, result]) => [`${from === id ? \"own vote\" : granted ? `vote of ${from}` : `no vote of ${from}`}: ${result}`, \"quiet\"],\n\
@@ -106,6 +107,7 @@ const MARKS = {\n\
 \x20 saved: ([, first, last]) => [`saves ${first === last ? first : `${first}\xe2\x80\x93${last}`}`, \"quiet\"],\n\
 \x20 appended: ([, index, body]) => [`+ ${index} ${shownBody(body)}`, \"quiet\"],\n\
 \x20 replaced: ([, index]) => [`\xe2\x86\xba ${index}+ replaced`, \"change\"],\n\
+\x20 lost: ([, first, last]) => [`\xe2\x9c\x97 ${first === last ? first : `${first}\xe2\x80\x93${last}`} lost`, \"bad\"],\n\
 \x20 compacted: ([, index]) => [`\xe2\x96\xa3 compacted to ${index}`, \"installed\"],\n\
 };\n\
 \n\
@@ -133,12 +135,16 @@ function eventText({ name, id, cells, message }) {\n\
 \x20 return `${id} ${name} ${entry}${hard}${snapshot}`.trim();\n\
 }\n\
 \n\
+function hasRestarted({ events }, id) {\n\
+\x20 return events.some((event) => event.name === \"restarted\" && event.id === id);\n\
+}\n\
+\n\
 function subjectOf({ name, id, cells, message }) {\n\
 \x20 if (message) {\n\
 \x20   return { nodes: [message.from, message.to], type: message.type, term: message.term };\n\
 \x20 }\n\
 \x20 const type = name === \"vote\" || name === \"ignored\" ? cells[1] : \"\";\n\
-\x20 const term = { became: cells[2], hard: cells[0], save: cells[1], apply: cells[1], snapshot: cells[0], restored: cells[1] }[name] ?? 0;\n\
+\x20 const term = { became: cells[2], restarted: cells[1], hard: cells[0], save: cells[1], apply: cells[1], snapshot: cells[0], restored: cells[1] }[name] ?? 0;\n\
 \x20 return { nodes: id ? [id] : [], type, term };\n\
 }\n\
 ";

@@ -38,8 +38,8 @@ fn put_value<S: Sink>(sink: &mut S, piece: EventPiece<'_>) -> Result<(), WriteFa
     match piece {
         EventPiece::Words(_) => Ok(()),
         EventPiece::Number(_, n) => put_cells(sink, &[Cell::Number(n)]),
-        EventPiece::Place(_, term, index) => {
-            put_cells(sink, &[Cell::Number(term), Cell::Number(index)])
+        EventPiece::Place(_, first, second) | EventPiece::Range(_, first, second) => {
+            put_cells(sink, &[Cell::Number(first), Cell::Number(second)])
         }
         EventPiece::Name(_, name) => put_cells(sink, &[Cell::Text(name)]),
         EventPiece::Answer(_, granted) => put_cells(sink, &[Cell::Number(flag(granted))]),

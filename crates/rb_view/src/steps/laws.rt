@@ -19,7 +19,7 @@ ghost use Rattle.rb_view.specs.Kept.{texts_of};
 ghost use Rattle.rb_view.specs.Rows.{Row, next_text, rows_text};
 ghost use Rattle.rb_view.specs.Sizes.{is_view, row_size};
 ghost use Rattle.rb_view.specs.Changes.{node_change, state_change, views_changed, views_gone};
-ghost use Rattle.rb_view.specs.Committed.{AreKept, AreSound};
+ghost use Rattle.rb_view.specs.Committed.{AreKept, AreSound, restarts};
 ghost use Rattle.rb_view.specs.Pages.{first_row, steps_text};
 ghost use Rattle.rb_view.specs.Logs.{entries_read, is_same_log, stays};
 ghost use Rattle.rb_view.specs.StepSizes.{around_size, item_size, step_size};
@@ -38,12 +38,12 @@ pub fn steps_are_inert()
     ensures { (name bytes heads : List ℕ) (s : PlainScript) → list_all is_inert (steps_text name bytes heads s) ≡ true }
 {}
 
-/// Whatever a directive does, the indexes of each node stay in order, and the entries that the node knew to be committed stay as they are, but
-/// for those that are compacted. So comparisons of logs begin after them.
+/// Whatever a directive does, if it restarts no node, the indexes of each node stay in order, and the entries that the node knew to be committed
+/// stay as they are, but for those that are compacted. So comparisons of logs begin after them.
 pub fn committed_entries_stay()
     ensures begun { AreSound empty.nodes }
-    ensures sound { (c : Cluster) (d : PlainDirective) → AreSound c.nodes → AreSound (outcome c d).cluster.nodes }
-    ensures kept { (c : Cluster) (d : PlainDirective) → AreSound c.nodes → AreKept c.nodes (outcome c d).cluster.nodes }
+    ensures sound { (c : Cluster) (d : PlainDirective) → restarts d ≡ false → AreSound c.nodes → AreSound (outcome c d).cluster.nodes }
+    ensures kept { (c : Cluster) (d : PlainDirective) → restarts d ≡ false → AreSound c.nodes → AreKept c.nodes (outcome c d).cluster.nodes }
 {}
 
 /// Without a change there is no row.

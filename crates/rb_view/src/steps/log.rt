@@ -1,6 +1,6 @@
 //! Rows for changed log entries.
 //!
-//! The entries that a node knew to be committed when it was written last stay, whatever happens ([`committed_entries_stay`]). So a comparison
+//! The entries that a node knew to be committed when it was written last stay, unless it restarts ([`committed_entries_stay`]). So a comparison
 //! begins after them, and costs the entries that aren't committed, however long the log is.
 //!
 //! [`committed_entries_stay`]: crate::steps::committed_entries_stay

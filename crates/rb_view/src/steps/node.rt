@@ -4,7 +4,7 @@ ghost use Rattle.std.specs.Prelude.{◌≡◌, ◌↔◌, ◌<◌, ◌∷◌, []
 ghost use Rattle.std.specs.List.{list_all};
 ghost use Rattle.rb_raftlog.specs.Content.{content_end};
 ghost use Rattle.rb_tracker.specs.Trackers.{has_view};
-ghost use Rattle.rb_view.specs.Committed.{AreKept};
+ghost use Rattle.rb_view.specs.Committed.{AreKept, known};
 ghost use Rattle.rb_view.specs.Json.{is_byte};
 ghost use Rattle.rb_view.specs.Kept.{texts_of};
 ghost use Rattle.rb_view.specs.NewRows.{new_row, new_rows, new_rows_among};
@@ -287,18 +287,19 @@ fn keep_restated<L: RaftLog>(
     keep_new_tracker(alloc, texts, old, new)
 }
 
-// Adds what of a node is not as it was. The entries that it knew to be committed aren't compared.
+// Adds what of a node is not as it was. Entries up to an index aren't compared.
 fn keep_changed<L: RaftLog>(
     alloc: Global,
     texts: &mut Lines,
     old: &State<L>,
     new: &State<L>,
+    known: u64,
 ) -> Result<(), AllocError>
-    ensures { OnOk result (texts.new ≡ texts.old ++ texts_of (changed_since old.now new.now)) }
+    ensures { OnOk result (texts.new ≡ texts.old ++ texts_of (changed_since known old.now new.now)) }
 {
     keep_restated(alloc, texts, old, new)?;
     keep_gone(texts, new.id, &old.tracker, &new.tracker)?;
-    keep_log(texts, new.id, &old.log, &new.log, old.commit)
+    keep_log(texts, new.id, &old.log, &new.log, known)
 }
 
 // Whether a comparison with all entries of the log costs less than the rows of the node.
@@ -319,13 +320,14 @@ fn keep_if_changed<L: RaftLog>(
     texts: &mut Lines,
     old: &State<L>,
     new: &State<L>,
+    known: u64,
 ) -> Result<(), AllocError>
-    ensures { OnOk result (texts.new ≡ texts.old ++ texts_of (changed_since old.now new.now)) }
+    ensures { OnOk result (texts.new ≡ texts.old ++ texts_of (changed_since known old.now new.now)) }
 {
     if is_seen_same(old, new) {
         return Ok(());
     }
-    keep_changed(alloc, texts, old, new)
+    keep_changed(alloc, texts, old, new, known)
 }
 
 // The node at an index, if there is one.
@@ -336,6 +338,13 @@ fn old_at<L: RaftLog>(olds: &[WrittenNode<L>], index: usize) -> Option<&State<L>
         Some(written) => Some(written.state()),
         None => None,
     }
+}
+
+// The index up to which a node's entries are known to stay, if what is committed does.
+fn known<L: RaftLog>(state: &State<L>, keeps: bool) -> u64
+    ensures { result ≡ known keeps state.now }
+{
+    if keeps { state.commit } else { 0 }
 }
 
 /// The same bytes, each of which is one by its type.
@@ -365,36 +374,38 @@ fn node_at<L: RaftLog>(nodes: &[SharedNode<L>], index: usize) -> &Node<L>
 }
 
 /// Adds what of the node at an index is not as it was, or all of it where it wasn't there. The entries that it knew to be committed aren't
-/// compared.
+/// compared, if they stay.
 pub(crate) fn keep_node_at<L: RaftLog>(
     alloc: Global,
     texts: &mut Lines,
     olds: &[WrittenNode<L>],
     index: usize,
     new: &Node<L>,
+    keeps: bool,
 ) -> Result<(), AllocError>
-    ensures { OnOk result (texts.new ≡ texts.old ++ texts_of (node_since (slice_get olds.now index) new.now)) }
+    ensures { OnOk result (texts.new ≡ texts.old ++ texts_of (node_since keeps (slice_get olds.now index) new.now)) }
 {
     match old_at(olds, index) {
-        Some(old) => keep_if_changed(alloc, texts, old, new.status()),
+        Some(old) => keep_if_changed(alloc, texts, old, new.status(), known(old, keeps)),
         None => keep_added(texts, new.status()),
     }
 }
 
-/// Adds what of the nodes is not as it was, where these were before, and each has what it knew to be committed. What is shown of their
-/// contents is bytes.
+/// Adds what of the nodes is not as it was, where these were before, and each has what it knew to be committed, if that is said. What is shown of
+/// their contents is bytes.
 pub(crate) fn keep_states<L: RaftLog>(
     alloc: Global,
     texts: &mut Lines,
     olds: &[WrittenNode<L>],
     news: &[SharedNode<L>],
+    keeps: bool,
 ) -> Result<(), AllocError>
-    requires { AreKept olds.now news.now }
+    requires { keeps ≡ true → AreKept olds.now news.now }
     ensures texts { OnOk result (texts.new ≡ texts.old ++ texts_of (state_rows olds.now news.now)) }
     ensures bytes { OnOk result (ShowBytes news.now) }
 {
     for i in 0..news.len() {
-        keep_node_at(alloc, texts, olds, i, node_at(news, i))?;
+        keep_node_at(alloc, texts, olds, i, node_at(news, i), keeps)?;
     }
     Ok(())
 }

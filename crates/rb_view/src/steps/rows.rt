@@ -29,6 +29,8 @@ pub(crate) struct EventRows<L: RaftLog> {
     pub(crate) texts: Option<Lines>,
     /// The nodes as they were written last.
     pub(crate) nodes: Vec<WrittenNode<L>>,
+    /// Whether what they knew to be committed stays.
+    pub(crate) keeps: bool,
 }
 
 // Puts a node at an index, if there is one.
@@ -70,26 +72,33 @@ impl<L: RaftLog> EventRows<L> {
     ghost use Rattle.rb_view.specs.States.{node_since};
 
     /// None. The nodes were written as they are in the cluster.
-    pub(crate) fn new(alloc: Global, cluster: &Cluster<L>) -> Result<EventRows<L>, AllocError>
+    pub(crate) fn new(
+        alloc: Global,
+        cluster: &Cluster<L>,
+        keeps: bool,
+    ) -> Result<EventRows<L>, AllocError>
         ensures texts { IfOk result (λ rows. rows.texts ≡ Some []) }
         ensures nodes { IfOk result (λ rows. rows.nodes.items ≡ cluster.now.nodes) }
+        ensures keeps { IfOk result (λ rows. rows.keeps ≡ keeps) }
     {
         Ok(EventRows {
             alloc,
             texts: Some(Lines::new(alloc)),
             nodes: written_nodes(alloc, cluster.nodes())?,
+            keeps,
         })
     }
 
     // Adds what of the node at an index is not as it was.
     fn keep_changes(&mut self, index: usize, node: &Node<L>) -> Result<(), AllocError>
-        ensures texts { OnOk result (self.new.texts ≡ held_with self.old.texts (texts_of (node_since (slice_get self.old.nodes.items index) node.now))) }
+        ensures texts { OnOk result (self.new.texts ≡ held_with self.old.texts (texts_of (node_since self.old.keeps (slice_get self.old.nodes.items index) node.now))) }
         ensures nodes { OnOk result (self.new.nodes ≡ self.old.nodes) }
+        ensures keeps { OnOk result (self.new.keeps ≡ self.old.keeps) }
     {
         let Some(texts) = &mut self.texts else {
             return Ok(());
         };
-        keep_node_at(self.alloc, texts, &self.nodes, index, node)?;
+        keep_node_at(self.alloc, texts, &self.nodes, index, node, self.keeps)?;
         if !has_room(texts) {
             self.texts = None;
         }
@@ -105,6 +114,7 @@ impl<L: RaftLog> EventRows<L> {
             alloc: _,
             texts,
             nodes,
+            keeps: _,
         } = self;
         (texts, nodes)
     }
@@ -116,7 +126,7 @@ impl<L: RaftLog> Observer<L> for EventRows<L> {
 
     ghost Meaning = { Watching };
 
-    ghost meaning = { λ rows. record { texts = rows.texts; nodes = rows.nodes.items; of_bytes = true } };
+    ghost meaning = { λ rows. record { texts = rows.texts; nodes = rows.nodes.items; keeps = rows.keeps; of_bytes = true } };
 
     ghost starting = { λ w level. w };
 

@@ -3,7 +3,6 @@
 ghost use Rattle.std.specs.Prelude.{◌≡◌, ◌+◌, ◌<◌, ◌≤◌, ◌^◌, IfOk, IfSome, OnOk};
 ghost use Rattle.rb_script.specs.Reading.{directive_of};
 ghost use Rattle.rb_machine.specs.Outcome.{outcome};
-ghost use Rattle.rb_view.specs.Committed.{AreSound};
 ghost use Rattle.rb_view.specs.PageRoom.{held};
 ghost use Rattle.rb_view.specs.Steps.{done_texts};
 ghost use Rattle.rb_view.specs.Values.{DoneShowsBytes};
@@ -23,14 +22,13 @@ pub struct DirectiveRun<M> {
 
 /// A machine that shows what a directive does, and what is after each event that didn't stand so before.
 pub trait StepMachine: Machine {
-    /// Runs a directive on a copy, where the indexes of each node are in order. What is shown of contents is bytes.
+    /// Runs a directive on a copy. What is shown of contents is bytes.
     fn run_on_copy(
         &self,
         alloc: Global,
         block: &Block,
         meter: &mut Meter,
     ) -> Result<DirectiveRun<Self>, AllocError>
-        requires { AreSound (Self.meaning self.now).nodes }
         ensures machine { IfOk result (λ ran. Self.meaning ran.machine ≡ (outcome (Self.meaning self.now) (directive_of block.now)).cluster) }
         ensures output { IfOk result (λ ran. ran.output ≡ (outcome (Self.meaning self.now) (directive_of block.now)).output) }
         ensures rows { IfOk result (λ ran. ran.rows ≡ held (done_texts (Self.meaning self.now) (directive_of block.now))) }

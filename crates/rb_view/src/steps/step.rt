@@ -5,7 +5,7 @@ ghost use Rattle.rb_script.specs.Reading.{directive_of};
 ghost use Rattle.rb_view.specs.Kept.{texts_of};
 ghost use Rattle.rb_view.specs.PageRoom.{has_room, held, held_with};
 ghost use Rattle.rb_machine.specs.Outcome.{execution, outcome};
-ghost use Rattle.rb_view.specs.Committed.{AreKept, AreSound};
+ghost use Rattle.rb_view.specs.Committed.{AreKept, keeps_commits};
 ghost use Rattle.rb_view.specs.States.{state_rows};
 ghost use Rattle.rb_script_report.specs.Checked.{meant_by};
 ghost use Rattle.rb_view.specs.Meant.{IsOfBytes, hint_rows};
@@ -14,6 +14,7 @@ ghost use Rattle.rb_view.specs.Values.{BlockShowsBytes, ShowBytes};
 ghost use Rattle.rb_view.specs.Watching.{observed_texts, shows_bytes, written_last};
 
 use crate::rows::keep_texts;
+use crate::steps::committed::keeps_commits;
 use crate::steps::meant::keep_hint;
 use crate::steps::node::keep_states;
 use crate::steps::room::{has_room, held};
@@ -36,14 +37,15 @@ pub(crate) struct StepPlace<'a> {
     pub(crate) line: usize,
 }
 
-// A directive that ran: the cluster after it, what it printed, the rows of its events, if a page has room for them, and the nodes as they were written
-// last.
+// A directive that ran: the cluster after it, what it printed, the rows of its events, if a page has room for them, the nodes as they were written
+// last, and whether what they knew to be committed stays.
 #[derive(Drop)]
 struct WatchedRun<L: RaftLog> {
     cluster: Cluster<L>,
     output: Lines,
     texts: Option<Lines>,
     nodes: Vec<WrittenNode<L>>,
+    keeps: bool,
 }
 
 // Runs a directive on a copy, with two observers: of its lines, and of its rows.
@@ -54,18 +56,19 @@ fn run<L: RaftLog>(
     block: &Block,
     meter: &mut Meter,
 ) -> Result<WatchedRun<L>, AllocError>
-    requires { AreSound cluster.now.nodes }
     ensures cluster { IfOk result (λ ran. ran.cluster ≡ (outcome cluster.now (directive_of block.now)).cluster) }
     ensures output { IfOk result (λ ran. ran.output ≡ (outcome cluster.now (directive_of block.now)).output) }
     ensures texts { IfOk result (λ ran. ran.texts ≡ held (observed_texts cluster.now.nodes (execution cluster.now (directive_of block.now)).observed)) }
     ensures nodes { IfOk result (λ ran. ran.nodes.items ≡ written_last cluster.now.nodes (execution cluster.now (directive_of block.now)).observed) }
+    ensures keeps { IfOk result (λ ran. ran.keeps ≡ keeps_commits cluster.now.nodes (directive_of block.now)) }
     ensures bytes { IfOk result (λ ran. shows_bytes (execution cluster.now (directive_of block.now)).observed ≡ true) }
     ensures counted { meter.old < 2 ^ 63 → OnOk result (meter.new ≡ meter.old + 1) }
     ensures most { meter.old < 2 ^ 63 → meter.new ≤ meter.old + 1 }
 {
     let mut after = Machine::try_copy(cluster)?;
     let printed = PrintedLines::new(alloc);
-    let rows = EventRows::new(alloc, cluster)?;
+    let keeps = keeps_commits(cluster, block);
+    let rows = EventRows::new(alloc, cluster, keeps)?;
     let mut both = Both {
         first: printed,
         second: rows,
@@ -79,6 +82,7 @@ fn run<L: RaftLog>(
         output,
         texts,
         nodes,
+        keeps,
     })
 }
 
@@ -88,12 +92,13 @@ fn keep_changes<L: RaftLog>(
     texts: &mut Lines,
     written: &[WrittenNode<L>],
     after: &Cluster<L>,
+    keeps: bool,
 ) -> Result<(), AllocError>
-    requires { AreKept written.now after.now.nodes }
+    requires { keeps ≡ true → AreKept written.now after.now.nodes }
     ensures texts { OnOk result (texts.new ≡ texts.old ++ texts_of (state_rows written.now after.now.nodes)) }
     ensures bytes { OnOk result (ShowBytes after.now.nodes) }
 {
-    keep_states(alloc, texts, written, after.nodes())?;
+    keep_states(alloc, texts, written, after.nodes(), keeps)?;
     Ok(())
 }
 
@@ -103,8 +108,9 @@ fn with_changes<L: RaftLog>(
     texts: Option<Lines>,
     written: &[WrittenNode<L>],
     after: &Cluster<L>,
+    keeps: bool,
 ) -> Result<Option<Lines>, AllocError>
-    requires { AreKept written.now after.now.nodes }
+    requires { keeps ≡ true → AreKept written.now after.now.nodes }
     ensures texts { IfOk result (λ rows. rows ≡ held_with texts (texts_of (state_rows written.now after.now.nodes))) }
     ensures bytes { IfOk result (λ rows. IfSome rows (λ _. ShowBytes after.now.nodes)) }
 {
@@ -112,7 +118,7 @@ fn with_changes<L: RaftLog>(
         return Ok(None);
     };
     let mut rows = texts;
-    keep_changes(alloc, &mut rows, written, after)?;
+    keep_changes(alloc, &mut rows, written, after, keeps)?;
     Ok(held(rows))
 }
 
@@ -129,8 +135,9 @@ impl<L: RaftLog> StepMachine for Cluster<L> {
             output,
             texts,
             nodes,
+            keeps,
         } = ran;
-        let rows = with_changes(alloc, texts, &nodes, &cluster)?;
+        let rows = with_changes(alloc, texts, &nodes, &cluster, keeps)?;
         Ok(DirectiveRun {
             machine: cluster,
             output,
@@ -182,7 +189,6 @@ pub(crate) fn keep_step<M: StepMachine>(
     place: StepPlace<'_>,
     meter: &mut Meter,
 ) -> Result<Option<StepRun<M>>, AllocError>
-    requires { AreSound (M.meaning machine.now).nodes }
     ensures room { IfOk result (λ run. MatchOption run (has_room (texts.old ++ step_texts (step table.old.left place.entry.line (M.meaning machine.now) place.entry.block.now)) ≡ false) (λ _. has_room texts.new ≡ true)) }
     ensures texts { IfOk result (λ run. IfSome run (λ _. texts.new ≡ texts.old ++ step_texts (step table.old.left place.entry.line (M.meaning machine.now) place.entry.block.now))) }
     ensures left { IfOk result (λ run. IfSome run (λ _. table.new.left ≡ left_next table.old.left place.entry.block.now.expected (outcome (M.meaning machine.now) (directive_of place.entry.block.now)).output)) }

@@ -63,9 +63,10 @@ fn update_outbox(outbox: &mut Outbox, other: &Outbox) -> Result<(), AllocError>
 
 // Makes a state equal to another in all that takes memory.
 fn update_lists<L: RaftLog>(state: &mut State<L>, other: &State<L>) -> Result<(), AllocError>
-    ensures { OnOk result (state.new ≡ record state.old { log = other.now.log; content = other.now.content; tracker = other.now.tracker; votes = other.now.votes; sent = other.now.sent; waiting = other.now.waiting }) }
+    ensures { OnOk result (state.new ≡ record state.old { log = other.now.log; start = other.now.start; content = other.now.content; tracker = other.now.tracker; votes = other.now.votes; sent = other.now.sent; waiting = other.now.waiting }) }
 {
     state.log = other.log.try_copy()?;
+    state.start = other.start.clone()?;
     state.content = other.content.try_copy()?;
     update_tracker(&mut state.tracker, &other.tracker)?;
     update_votes(&mut state.votes, &other.votes)?;

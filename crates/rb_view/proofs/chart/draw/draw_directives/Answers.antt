@@ -1,9 +1,11 @@
-use Rattle.std.proofs.Common.{◌≡◌, ◌∙◌, ◌+◌, List, drop, ap, sym, arith}
+use Rattle.std.proofs.Common.{◌≡◌, ◌∙◌, ◌+◌, List, drop, ap, ap₂, sym, arith}
 use Rattle.std.proofs.lemmas.List.{drop_all, take_all}
 use Rattle.rb_machine.specs.Cluster.{Cluster}
 use Rattle.rb_replay.specs.Run.{outputs}
 use Rattle.rb_replay.proofs.RunLaws.{length-outputs, run_next}
 use Rattle.rb_view.specs.declared.chart.part.ChartPhase.{ChartPhase}
+use Rattle.rb_directive.specs.declared.requests.MailChoice.{MailChoice}
+use Rattle.rb_view.specs.InFlight.{mail_choice}
 use Rattle.rb_view.specs.Drawn.{entering, has_room, view_of, views_from}
 use Rattle.rb_view.proofs.ViewLaws.{stays_full, views_end, views_more}
 use Rattle.rb_view.proofs.chart.draw.draw_directives.Goals as goal
@@ -28,7 +30,7 @@ loop-i-preserved g c =
     c.loop-i.invariant.here c.in_ok-output.ensures.cluster c.in_ok-output.ensures.output c.loop-i.invariant.printed c.in_ok-push.ensures in
     record {
       drawn = views_more c.args.part heads bs i c.number_at-line.result b before c.run.new.cluster (view_of c.loop-i.both.second) (view_of c.enter.new.self) (view_of c.see.new.self)
-          c.number_at-line.ensures c.block_at-block.ensures (c.in_ok-enter.ensures ∙ ap (λ (phase : ChartPhase). entering phase (view_of c.loop-i.both.second)) c.phase_at.ensures) (c.in_ok-see.ensures ∙ c.in_ok-output.ensures.shown) c.in_ok-output.ensures.cluster
+          c.number_at-line.ensures c.block_at-block.ensures (c.in_ok-enter.ensures ∙ ap₂ (λ (phase : ChartPhase) (choice : MailChoice). entering phase choice (view_of c.loop-i.both.second)) c.phase_at.ensures (c.mail_choice-choice.ensures ∙ ap mail_choice c.directive.ensures.whole)) (c.in_ok-see.ensures ∙ c.in_ok-output.ensures.shown) c.in_ok-output.ensures.cluster
           ∙ c.loop-i.invariant.drawn;
       here = on.0;
       printed = on.1;

@@ -1,4 +1,5 @@
-use Rattle.rb_view.proofs.CommittedLaws.{are_kept, begin_sound, stay_sound}
+use Rattle.rb_view.proofs.CommittedLaws.{begin_sound}
+use Rattle.rb_view.proofs.GoneOnLaws.{are_kept, stay_sound}
 use Rattle.rb_view.proofs.steps.laws.committed_entries_stay.Goals as goal
 
 pub returns-clause-begun : goal.returns-clause-begun

@@ -24,7 +24,7 @@ loop-i-preserved g c =
     record {
       texts = one_part c.loop-i.texts c.keep_node_at.new.texts (texts_of here) (texts_of (state_rows (drop i olds) (drop i news))) (texts_of rest) _
           (ap texts_of (state_more olds news i n (slice_get olds i) c.node_at.ensures.node refl) ∙ map-append next_text here rest)
-          (c.in_ok-keep_node_at.ensures ∙ ap (λ (rs : List Row). c.loop-i.texts ++ texts_of rs) (since_is (slice_get olds i) n (λ old was. c.requires i old n was c.node_at.ensures.node)))
+          (c.in_ok-keep_node_at.ensures ∙ ap (λ (rs : List Row). c.loop-i.texts ++ texts_of rs) (since_is c.args.keeps (slice_get olds i) n (λ keeps old was. c.requires keeps i old n was c.node_at.ensures.node)))
           c.loop-i.invariant.texts;
       bytes = λ rest. c.loop-i.invariant.bytes (subst ShowBytes (sym (left_some news i n c.node_at.ensures.node)) (c.node_at.ensures.bytes, rest));
     }

@@ -13,4 +13,4 @@ pub returns-clause-texts : goal.returns-clause-texts
 returns-clause-texts g c = c.in_ok-keep_states.ensures.texts ∙ ap (λ (news : List PlainNode). c.args.texts.now ++ texts_of (state_rows c.args.written.now news)) c.nodes.ensures
 
 pub keep_states-requires : goal.keep_states-requires
-keep_states-requires g c = subst (AreKept c.args.written.now) (sym c.nodes.ensures) c.requires
+keep_states-requires g c keeps = subst (AreKept c.args.written.now) (sym c.nodes.ensures) (c.requires keeps)

@@ -10,8 +10,6 @@ use Rattle.rb_view.specs.PageRoom.{has_room}
 use Rattle.rb_view.specs.Steps.{Step, left_next, step, step_texts, steps_from}
 use Rattle.rb_script.specs.Script.{PlainBlock}
 use Rattle.rb_view.specs.Values.{BlockShowsBytes, GoOnShowingBytes}
-use Rattle.rb_view.specs.Committed.{AreSound}
-use Rattle.rb_view.proofs.CommittedLaws.{state_sound}
 use Rattle.rb_view.proofs.KeepLaws.{one_part}
 use Rattle.rb_view.proofs.PageRoomLaws.{in_none, in_some}
 use Rattle.rb_view.proofs.StepLaws.{goes_on_showing, steps_more, steps_end}
@@ -80,6 +78,3 @@ returns-clause-bytes g c =
 pub returns-clause-outputs : goal.returns-clause-outputs
 returns-clause-outputs g c =
     c.loop-i.invariant.printed ∙ take_all c.loop-i.i (outputs c.args.script.now) (omega (arith, c.loop-i-test.false, c.len-i-end.ensures, length-outputs c.args.script.now))
-
-pub keep_step-requires : goal.keep_step-requires
-keep_step-requires g c = subst (λ (x : Cluster). AreSound x.nodes) (sym c.loop-i.invariant.here) (state_sound c.args.script.now c.loop-i.i)

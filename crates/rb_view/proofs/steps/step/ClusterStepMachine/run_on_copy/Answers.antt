@@ -33,8 +33,8 @@ returns-clause-bytes g c =
     (λ rows shown. (c.in_ok-ran.ensures.bytes, subst (λ (x : Cluster). ShowBytes x.nodes) c.in_ok-ran.ensures.cluster shown))
 
 pub with_changes-requires : goal.with_changes-requires
-with_changes-requires g c =
+with_changes-requires g c keeps =
     let d = directive_of c.args.block.now in
     let written : c.deref.result.now ≡ c.in_ok-ran.ran.nodes.items = search rules in
     subst (λ (ns : List PlainNode). AreKept ns c.in_ok-ran.ran.cluster.nodes) (sym (written ∙ c.in_ok-ran.ensures.nodes))
-    (subst (λ (x : Cluster). AreKept (written_last c.args.self.now.nodes (execution c.args.self.now d).observed) x.nodes) (sym c.in_ok-ran.ensures.cluster) (kept_after c.args.self.now d c.requires))
+    (subst (λ (x : Cluster). AreKept (written_last c.args.self.now.nodes (execution c.args.self.now d).observed) x.nodes) (sym c.in_ok-ran.ensures.cluster) (kept_after c.args.self.now d (sym c.in_ok-ran.ensures.keeps ∙ keeps)))
