@@ -135,7 +135,7 @@ class Client {
    * @param {Record<string, unknown>} [options]
    */
   begin(options = {}) {
-    const answer = this.request("initialize", { processId: process.pid, rootUri: null, initializationOptions: options, capabilities: { textDocument: { publishDiagnostics: { relatedInformation: true } } } });
+    const answer = this.request("initialize", { processId: process.pid, rootUri: null, initializationOptions: options, capabilities: { textDocument: { completion: { completionItem: { snippetSupport: true } }, publishDiagnostics: { relatedInformation: true } } } });
     this.notify("initialized", {});
     return answer;
   }

@@ -3,13 +3,18 @@
 
 const vscode = require("vscode");
 
+// The protocol's number for a text with places for the cursor.
+const SNIPPET = 2;
+
 /** @typedef {{ line: number, character: number }} ProtocolPosition */
 /** @typedef {{ start: ProtocolPosition, end: ProtocolPosition }} ProtocolRange */
-/** @typedef {{ location: { uri: string, range: ProtocolRange }, message: string }} ProtocolRelated */
+/** @typedef {{ uri: string, range: ProtocolRange }} ProtocolLocation */
+/** @typedef {{ range: ProtocolRange, kind: number }} ProtocolHighlight */
+/** @typedef {{ location: ProtocolLocation, message: string }} ProtocolRelated */
 /** @typedef {{ range: ProtocolRange, message: string, severity: number, code: string, source: string, relatedInformation?: ProtocolRelated[] }} ProtocolDiagnostic */
 /** @typedef {{ range: ProtocolRange, newText: string }} ProtocolEdit */
 /** @typedef {{ title: string, kind: string, edit: { changes: Record<string, ProtocolEdit[]> } }} ProtocolAction */
-/** @typedef {{ label: string, kind: number, documentation?: string, textEdit: ProtocolEdit }} ProtocolItem */
+/** @typedef {{ label: string, kind: number, documentation?: string, textEdit: ProtocolEdit, insertTextFormat?: number }} ProtocolItem */
 /** @typedef {{ name: string, kind: number, range: ProtocolRange, selectionRange: ProtocolRange }} ProtocolSymbol */
 
 /** @param {ProtocolRange} range */
@@ -17,9 +22,19 @@ function rangeOf(range) {
   return new vscode.Range(range.start.line, range.start.character, range.end.line, range.end.character);
 }
 
+/** @param {ProtocolLocation} location */
+function locationOf({ uri, range }) {
+  return new vscode.Location(vscode.Uri.parse(uri), rangeOf(range));
+}
+
+/** @param {ProtocolHighlight} highlight */
+function highlightOf({ range, kind }) {
+  return new vscode.DocumentHighlight(rangeOf(range), kind - 1);
+}
+
 /** @param {ProtocolRelated} related */
 function relatedOf({ location, message }) {
-  return new vscode.DiagnosticRelatedInformation(new vscode.Location(vscode.Uri.parse(location.uri), rangeOf(location.range)), message);
+  return new vscode.DiagnosticRelatedInformation(locationOf(location), message);
 }
 
 /** @param {ProtocolDiagnostic} from */
@@ -49,11 +64,11 @@ function actionOf(document, { title, kind, edit }) {
 }
 
 /** @param {ProtocolItem} from */
-function itemOf({ label, kind, documentation, textEdit }) {
+function itemOf({ label, kind, documentation, textEdit, insertTextFormat }) {
   const item = new vscode.CompletionItem(label, kind - 1);
   item.documentation = documentation;
   item.range = rangeOf(textEdit.range);
-  item.insertText = textEdit.newText;
+  item.insertText = insertTextFormat === SNIPPET ? new vscode.SnippetString(textEdit.newText) : textEdit.newText;
   return item;
 }
 
@@ -62,4 +77,4 @@ function symbolOf({ name, kind, range, selectionRange }) {
   return new vscode.DocumentSymbol(name, "", kind - 1, rangeOf(range), rangeOf(selectionRange));
 }
 
-module.exports = { rangeOf, diagnosticOf, editOf, actionOf, itemOf, symbolOf };
+module.exports = { rangeOf, diagnosticOf, editOf, actionOf, itemOf, symbolOf, locationOf, highlightOf };

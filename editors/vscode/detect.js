@@ -6,7 +6,7 @@ const NAMES = [
   "add-nodes", "campaign", "propose", "propose-conf-change", "process-ready",
   "deliver-msgs", "stabilize", "tick-election", "tick-heartbeat", "set-randomized-election-timeout",
   "transfer-leadership", "forget-leader", "report-unreachable", "send-snapshot", "compact",
-  "log-level", "raft-log", "status", "raft-state",
+  "restart", "log-level", "raft-log", "status", "raft-state",
 ];
 // How many lines are read.
 const MOST = 500;

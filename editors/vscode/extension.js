@@ -4,7 +4,7 @@
 const vscode = require("vscode");
 const { checkFolder, Pages } = require("./commands.js");
 const { Plays } = require("./live.js");
-const { actionOf, editOf, itemOf, rangeOf, symbolOf } = require("./convert.js");
+const { actionOf, editOf, highlightOf, itemOf, locationOf, rangeOf, symbolOf } = require("./convert.js");
 const { MOST, isScript } = require("./detect.js");
 const { Server } = require("./server.js");
 
@@ -64,6 +64,23 @@ function providersOf(from) {
     async provideDocumentFormattingEdits(document, { tabSize, insertSpaces }) {
       return ((await ask("formatting", document, { options: { tabSize, insertSpaces } })) ?? []).map(editOf);
     },
+    /** @type {vscode.DocumentRangeFormattingEditProvider["provideDocumentRangeFormattingEdits"]} */
+    async provideDocumentRangeFormattingEdits(document, { start, end }, { tabSize, insertSpaces }) {
+      return ((await ask("rangeFormatting", document, { range: { start, end }, options: { tabSize, insertSpaces } })) ?? []).map(editOf);
+    },
+    /** @type {vscode.DefinitionProvider["provideDefinition"]} */
+    async provideDefinition(document, position) {
+      const found = await ask("definition", document, { position });
+      return found ? locationOf(found) : undefined;
+    },
+    /** @type {vscode.ReferenceProvider["provideReferences"]} */
+    async provideReferences(document, position, { includeDeclaration }) {
+      return ((await ask("references", document, { position, context: { includeDeclaration } })) ?? []).map(locationOf);
+    },
+    /** @type {vscode.DocumentHighlightProvider["provideDocumentHighlights"]} */
+    async provideDocumentHighlights(document, position) {
+      return ((await ask("documentHighlight", document, { position })) ?? []).map(highlightOf);
+    },
   };
 }
 
@@ -93,6 +110,10 @@ function register(providers) {
     languages.registerDocumentSymbolProvider("raftbench", providers),
     languages.registerFoldingRangeProvider("raftbench", providers),
     languages.registerDocumentFormattingEditProvider("raftbench", providers),
+    languages.registerDocumentRangeFormattingEditProvider("raftbench", providers),
+    languages.registerDefinitionProvider("raftbench", providers),
+    languages.registerReferenceProvider("raftbench", providers),
+    languages.registerDocumentHighlightProvider("raftbench", providers),
   ];
 }
 

@@ -16,6 +16,12 @@ function answer(id, told) {
 const rangeOf = ([line, character, endLine, endCharacter]) => new monaco.Range(line + 1, character + 1, endLine + 1, endCharacter + 1);
 const numbersOf = (range) => [range.startLineNumber - 1, range.startColumn - 1, range.endLineNumber - 1, range.endColumn - 1];
 const editOf = ({ range, newText }) => ({ range: rangeOf(range), text: newText });
+// What a word puts in: a text, or a snippet.
+function insertOf(text) {
+  if (typeof text === "string") return { insertText: text };
+  return { insertText: text.value, insertTextRules: monaco.languages.CompletionItemInsertTextRule.InsertAsSnippet };
+}
+
 const placeOf = ({ lineNumber, column }) => [lineNumber - 1, column - 1];
 
 // A block of code as Monaco shows it whatever library its Markdown is read by: that of Debian's package makes none of ```.
@@ -50,7 +56,7 @@ const providers = {
   CompletionItem: {
     async provideCompletionItems(_, position) {
       const told = await ask("words", ...placeOf(position));
-      return { suggestions: told.map((it) => ({ ...it, kind: monaco.languages.CompletionItemKind[it.kind], range: rangeOf(it.range) })) };
+      return { suggestions: told.map((it) => ({ ...it, ...insertOf(it.insertText), kind: monaco.languages.CompletionItemKind[it.kind], range: rangeOf(it.range) })) };
     },
   },
   DocumentSymbol: {

@@ -164,7 +164,7 @@ async function hoverShowsWhatCame(browser) {
 async function lightBulbAccepts(browser) {
   await standin.until(() => browser.value`!!document.querySelector(".codicon-light-bulb, .codicon-lightbulb-autofix")`, () => "a light bulb");
   await browser.press(".", 190, CONTROL);
-  await browser.sees(".action-widget", "Expect what came");
+  await browser.sees(".action-widget", "Accept the actual output");
   await browser.picture("actions");
   await browser.press("Enter", 13);
   await isMarked(browser, 0);
@@ -211,7 +211,7 @@ async function wordsAreOffered(browser) {
   await browser.sees(".suggest-widget .monaco-list-row", "MsgAppResp");
   await browser.picture("words");
   await browser.press("Enter", 13);
-  await standin.until(() => text.held === script + "\ndeliver-msgs 2 type=MsgApp", () => "the words");
+  await standin.until(() => text.held === script + "\ndeliver-msgs 2 type=MsgApp\n----\n", () => "the words");
 }
 
 async function look(browser) {

@@ -10,7 +10,7 @@ from typing import Any
 
 from plain import script
 from plain.cluster import Cluster
-from tests.editors.oracle import line_starts, position
+from tests.editors.oracle import line_starts, position, shown
 from tests.editors.served import served
 from tests.harness import TOP, matched
 
@@ -78,7 +78,7 @@ def symbols(text: str, encoding: str) -> Any:
         start = start_of(text, head, encoding)
         name = lines[head].rstrip("\r").lstrip(" \t")[:LONGEST_NAME]
         range_ = {"start": start, "end": start_of(text, end, encoding)}
-        found.append({"name": name, "kind": EVENT, "range": range_, "selectionRange": {"start": start, "end": start_of(text, behind, encoding)}})
+        found.append({"name": shown(name), "kind": EVENT, "range": range_, "selectionRange": {"start": start, "end": start_of(text, behind, encoding)}})
     return found
 
 
@@ -89,15 +89,41 @@ def is_cut(text: str, at: int) -> bool:
     return text[at - 1:at + 1] == "\r\n"
 
 
-def formatting(text: str, encoding: str) -> Any:
-    """One edit of what differs from the canonical text without the empty line that closes its last block, around which the texts are the same."""
+def read(text: str) -> script.Script | None:
+    """The script of a text, or None where it is no script."""
     try:
-        meant = script.read_script(text.encode())
+        return script.read_script(text.encode())
     except script.Fault:
+        return None
+
+
+def formatted(meant: script.Script) -> str:
+    """The canonical text without the empty line that closes its last block."""
+    text = meant.text().decode()
+    return text.removesuffix("\n") if meant.blocks and not meant.tail else text
+
+
+def formatting(text: str, encoding: str) -> Any:
+    """One edit of what differs from that, around which the texts are the same."""
+    meant = read(text)
+    return [] if meant is None else edits_between(text, formatted(meant), encoding)
+
+
+def range_formatting(text: str, first: int, last: int, encoding: str) -> Any:
+    """The same of the directives that have a line from `first` to `last`, counted from 0, if the script stays as it is."""
+    touched = [it for it in blocks(text) if it[0] <= last and first < it[3]]
+    if (meant := read(text)) is None or not touched:
         return []
-    new = meant.text().decode()
-    if meant.blocks and not meant.tail:
-        new = new.removesuffix("\n")
+    starts = [*line_starts(text), len(text)]
+    start, end = starts[touched[0][0]], starts[min(touched[-1][3], len(starts) - 1)]
+    if (part := read(text[start:end])) is None:
+        return []
+    new = text[:start] + formatted(part) + text[end:]
+    return edits_between(text, new, encoding) if read(new) == meant else []
+
+
+def edits_between(text: str, new: str, encoding: str) -> Any:
+    """One edit of what differs between two texts, if something does."""
     if new == text:
         return []
     front = next((n for n, (a, b) in enumerate(zip(text, new)) if a != b), min(len(text), len(new)))

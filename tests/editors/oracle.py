@@ -16,6 +16,17 @@ HEADING = re.compile(r"script:(?:(\d+):)? ?(.*)\Z", re.S)
 ACTING = re.compile("[\\x00-\\x08\\x0b-\\x1f\\x7f-\\x9f\\u061c\\u200e\\u200f\\u2028-\\u202e\\u2066-\\u2069\\ufeff]")
 
 
+# What would act in a message of a diagnostic or in a name, and what isn't seen there: tabs and ends of lines too. Tags are seen by nobody.
+ACTING_THERE = re.compile("[\\x00-\\x1f\\x7f-\\x9f\\u061c\\u200b-\\u200f\\u2028-\\u202e\\u2060-\\u2069\\ufeff\\U000e0000-\\U000e007f]")
+
+
+def shown(message: str) -> str:
+    """A message or a name in which nothing acts: if something would, all of it but printable ASCII and ends of lines is written by numbers."""
+    if not ACTING_THERE.search(message.replace("\n", "")):
+        return message
+    return "".join(chr(b) if b == 10 or 32 <= b <= 126 and b != 92 else f"\\x{b:02x}" for b in message.encode())
+
+
 def line_starts(text: str) -> list[int]:
     """Where each line of a script begins, which ends at LF alone, and where the text ends."""
     starts = [0] + [at + 1 for at, letter in enumerate(text) if letter == "\n"]
@@ -41,7 +52,7 @@ def whole_line(text: str, line: int, encoding: str) -> dict[str, dict[str, int]]
 
 
 def diagnostic(text: str, line: int, encoding: str, severity: int, code: str, message: str) -> dict[str, Any]:
-    return {"range": whole_line(text, line, encoding), "severity": severity, "code": code, "source": "raftbench", "message": message}
+    return {"range": whole_line(text, line, encoding), "severity": severity, "code": code, "source": "raftbench", "message": shown(message)}
 
 
 def separator(lines: list[str], head: int) -> int:

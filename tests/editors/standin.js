@@ -96,6 +96,19 @@ class WorkspaceEdit {
   }
 }
 
+class DocumentHighlight {
+  constructor(range, kind) {
+    assert(range instanceof Range && Number.isInteger(kind));
+    Object.assign(this, { range, kind });
+  }
+}
+
+class SnippetString {
+  constructor(value) {
+    this.value = value;
+  }
+}
+
 class CompletionItem {
   constructor(label, kind) {
     assert(label && Number.isInteger(kind));
@@ -131,7 +144,7 @@ class Task {
   }
 }
 
-const PROVIDERS = ["Hover", "CodeActions", "CompletionItem", "DocumentSymbol", "FoldingRange", "DocumentFormattingEdit"];
+const PROVIDERS = ["Hover", "CodeActions", "CompletionItem", "DocumentSymbol", "FoldingRange", "DocumentFormattingEdit", "DocumentRangeFormattingEdit", "Definition", "Reference", "DocumentHighlight"];
 
 // What the editor has to say to its user, and does for an extension: `warnings` and `errors` are shown, `lines` are written down, and `done` are
 // commands, tasks and addresses that are opened. `chooses` is the button that the user presses, or undefined.
@@ -200,7 +213,7 @@ function editor(settings) {
     onDidChangeConfiguration: on("configuration"),
   };
   const Uri = { parse: (text) => text, file: (path) => ({ scheme: "file", path, fsPath: path, toString: () => `file://${path}` }) };
-  const types = { CodeAction, CodeActionKind, CompletionItem, Diagnostic, DiagnosticRelatedInformation, DocumentSymbol, FoldingRange, Hover, Location, MarkdownString, Position, ProcessExecution, Range, Task, TextEdit, WorkspaceEdit };
+  const types = { CodeAction, CodeActionKind, CompletionItem, Diagnostic, DiagnosticRelatedInformation, DocumentHighlight, DocumentSymbol, FoldingRange, Hover, Location, MarkdownString, Position, ProcessExecution, Range, SnippetString, Task, TextEdit, WorkspaceEdit };
   return { api: { ...types, Uri, languages, workspace, ...api }, shown, providers, documents, tell, user: it, warnings: it.warnings, lines: it.lines };
 }
 

@@ -30,6 +30,7 @@ HERE = pathlib.Path(__file__).resolve().parent
 
 from tests.editors import bounds
 from tests.editors import memory
+from tests.editors import messages
 from tests.editors import metamodel
 from tests.editors import neovim
 from tests.editors import offers
@@ -391,7 +392,7 @@ def other_actions(text: str, start: Any, end: Any, encoding: str, told: Any) -> 
     if told and told[0]["title"].startswith("Replace with "):
         yield from corrected(text, encoding, told[0], first, last)
         told = told[1:]
-    wanted = [("Expect what came", "quickfix", plainly.accepting(text, first, last)), ("Expect what came everywhere", "source", plainly.accepting(text))]
+    wanted = [("Accept the actual output", "quickfix", plainly.accepting(text, first, last)), ("Accept all actual outputs", "source", plainly.accepting(text))]
     due = [(title, kind, made) for title, kind, made in wanted if made and made[1]]
     if [(it["title"], it["kind"]) for it in told] != [(title, kind) for title, kind, _ in due]:
         yield f"{told}, and due is {[(title, made[1]) for title, _, made in due]}"
@@ -502,7 +503,7 @@ def accepted_by_check(_edits: int) -> Iterator[str]:
 def below_a_new_error(_edits: int) -> Iterator[str]:
     """Below a new error lines are accepted where they are asked for, beside the error's correction too; where all are, none is."""
     text = "log-lvel info\n----\nok\n\nlog-level info\n----\nno\n"
-    asked = [(0, 0, ["Replace with log-level"]), (0, 5, ["Replace with log-level", "Expect what came"]), (4, 5, ["Expect what came"])]
+    asked = [(0, 0, ["Replace with log-level"]), (0, 5, ["Replace with log-level", "Accept the actual output"]), (4, 5, ["Accept the actual output"])]
     with Client(PROGRAM) as client:
         client.begin()
         client.send(opened(URI, text))
@@ -558,7 +559,8 @@ def offered_texts(dice: random.Random, edits: int) -> Iterator[str]:
     yield from ["", "\n", "\r", "# \U0001d11e\rlog-level debug\n----\nno\n", "raft-state \U0001d11e\n----\n----\n\n\U0001d11e\n----\n----", "campaign 1\n", "campaign 1", "(\n----\n",
                 "status 1\n----\na\n----\n----\n", "  log-level \\\n  info \\\n----\n ---- \nok\nok\n\n\n# end", "log-level d\r\r\n----\r\rok\r\n", "propose 1 " + "\U0001d11e" * 100 + "\n----\n",
                 "deliver-msgs type=(MsgApp, \\\n  Msg", "add-nodes prevote=", "campaign 1 type=Msg", "propose-conf-change 1 transition=(im", "campaign log-level=x",
-                "add-nodes 3 voters=(1,", "log-level ", "log-level debug ", "deliver-msgs type=(MsgApp,Msg", "deliver-msgs type=(MsgApp MsgVote,", "stabilize drop=(1,",
+                "add-nodes 3 voters=(1,", "log-level ", "log-level debug ", "deliver-msgs type=(MsgApp,Msg", "deliver-msgs type=(MsgApp MsgVote,", "stabilize drop=(1,", "add-nodes 2\n----\nok\n\nrestart 1 ",
+                "add-nodes 2\n----\nok\n\ndeliver-msgs 1 from=", "deliver-msgs skip=1 ", "deliver-msgs count=",
                 "add-nodes 3 voters=(1,2) index=10\n----\nok\n\npropose-conf-change 1\nv1 l", "add-nodes 2\n----\nok\n\npropose-conf-change \\\n1\n\nv1\nr1 l2 ", "propose 1\nv", "propose-conf-change 1\nv",
                 "add-nodes 2\n----\nok\n\nadd-nodes voters=() 1\n----\n\ntransfer-leadership to=", "add-nodes index=(4) 11\n----\nok\n\n# a\nadd-nodes 22\n----\n----\n\n----\n----\nadd-nodes 2\n----\n\ndeliver-msgs 1 log-level=info 2 drop=(3,1", "add-nodes \\\n 2\n\nin\n----\nok\n\nsend-snapshot \\\n1 "]
     for path in dice.sample(scripts(), min(len(scripts()), 25)):
@@ -600,6 +602,51 @@ def formatted(edits: int) -> Iterator[str]:
     """One edit makes the canonical text."""
     options = {"options": {"tabSize": 4, "insertSpaces": True}}
     yield from asked_of("documentFormattingProvider", "textDocument/formatting", lambda _, text, encoding: [(options, offers.formatting(text, encoding))], edits)
+
+
+def ranges_due(dice: random.Random, text: str, encoding: str) -> Iterator[tuple[dict[str, Any], Any]]:
+    """The edits between some places that aren't between CR and LF."""
+    options = {"tabSize": 4, "insertSpaces": True}
+    places = [at for at in range(len(text) + 1) if not offers.is_cut(text, at)]
+    for _ in range(5):
+        start, end = sorted(dice.choices(places, k=2))
+        first, last = text.count("\n", 0, start), text.count("\n", 0, end)
+        range_ = {"start": position(text, start, encoding), "end": position(text, end, encoding)}
+        yield {"range": range_, "options": options}, offers.range_formatting(text, first, last, encoding)
+
+
+def ranges_formatted(edits: int) -> Iterator[str]:
+    """The directives of a range get their canonical text, and the script stays as it is."""
+    yield from asked_of("documentRangeFormattingProvider", "textDocument/rangeFormatting", ranges_due, edits)
+
+
+def message_places(dice: random.Random, text: str, encoding: str) -> list[dict[str, int]]:
+    """Some lines of messages, and some other places."""
+    places = messages.places(text, encoding)
+    return dice.sample(places, min(len(places), 20)) + [position(text, at, encoding) for at in dice.choices(range(len(text) + 1), k=3) if not offers.is_cut(text, at)]
+
+
+def definitions_due(dice: random.Random, text: str, encoding: str) -> Iterator[tuple[dict[str, Any], Any]]:
+    for place in message_places(dice, text, encoding):
+        yield {"position": place}, messages.definition(text, URI, place, encoding)
+
+
+def references_due(dice: random.Random, text: str, encoding: str) -> Iterator[tuple[dict[str, Any], Any]]:
+    for place in message_places(dice, text, encoding):
+        includes = dice.random() < 0.5
+        yield {"position": place, "context": {"includeDeclaration": includes}}, messages.references(text, URI, place, encoding, includes)
+
+
+def highlights_due(dice: random.Random, text: str, encoding: str) -> Iterator[tuple[dict[str, Any], Any]]:
+    for place in message_places(dice, text, encoding):
+        yield {"position": place}, messages.highlights(text, place, encoding)
+
+
+def messages_found(edits: int) -> Iterator[str]:
+    """A message is found where it is sent, and where it arrives or is lost."""
+    yield from asked_of("definitionProvider", "textDocument/definition", definitions_due, edits)
+    yield from asked_of("referencesProvider", "textDocument/references", references_due, edits)
+    yield from asked_of("documentHighlightProvider", "textDocument/documentHighlight", highlights_due, edits)
 
 
 def completions_due(dice: random.Random, text: str, encoding: str) -> Iterator[tuple[dict[str, Any], Any]]:
@@ -656,6 +703,8 @@ def conversation() -> Any:
                 place = position(text, at, "utf-16-le")
                 acted = {"range": {"start": place, "end": place}, "context": {"diagnostics": []}}
                 asked: list[tuple[str, dict[str, Any]]] = [("hover", {"position": place}), ("completion", {"position": place}), ("codeAction", acted)]
+                asked += [("rangeFormatting", {"range": acted["range"], **options}), ("references", {"position": place, "context": {"includeDeclaration": True}})]
+                asked += [(method, {"position": place}) for method in ("definition", "documentHighlight")]
                 for method, more in asked:
                     client.ask(next(number), f"textDocument/{method}", textDocument={"uri": URI}, **more)
     return client.talk
@@ -684,7 +733,7 @@ def by_the_meta_model(_edits: int) -> Iterator[str]:
         yield from (f"{name}: {it}" for it in metamodel.faults(model, talk) if not OWN_CAPABILITY.match(it))
 
 
-FUNCTIONS: list[Callable[[int], Iterator[str]]] = [in_neovim, in_vscode, in_monaco, by_the_meta_model, one_byte_at_a_time, cut_off, no_message, reader_that_goes, many_documents, too_many_documents, bounds.bounded_runs, bounds.bounded_comparisons, bounds.cancelled_requests, bounds.versions_that_go_back, other_texts, ends_of_lines, sizes, want_of_memory, refused_allocations, random_edits, editing_lists, what_came, folds, outlines, formatted, completed, questions, hover_shows_reasons, wrong_words, missing_index, questions_between_changes, accepted_by_check, below_a_new_error, slips_are_mended, later_mismatches]
+FUNCTIONS: list[Callable[[int], Iterator[str]]] = [in_neovim, in_vscode, in_monaco, by_the_meta_model, one_byte_at_a_time, cut_off, no_message, reader_that_goes, many_documents, too_many_documents, bounds.bounded_runs, bounds.bounded_comparisons, bounds.cancelled_requests, bounds.versions_that_go_back, other_texts, ends_of_lines, sizes, want_of_memory, refused_allocations, random_edits, editing_lists, what_came, folds, outlines, formatted, ranges_formatted, messages_found, completed, questions, hover_shows_reasons, wrong_words, missing_index, questions_between_changes, accepted_by_check, below_a_new_error, slips_are_mended, later_mismatches]
 
 
 def results(word: str) -> Iterator[Result]:

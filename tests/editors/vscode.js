@@ -35,7 +35,7 @@ async function showsWhatCame(document) {
 
 async function accepts(document) {
   const actions = await providers.provideCodeActions(document, new api.Range(0, 0, 0, 0));
-  assert.deepStrictEqual(actions.map(({ title, kind }) => [title, kind.value]), [["Expect what came", "quickfix"], ["Expect what came everywhere", "source"]]);
+  assert.deepStrictEqual(actions.map(({ title, kind }) => [title, kind.value]), [["Accept the actual output", "quickfix"], ["Accept all actual outputs", "source"]]);
   for (const { edit } of actions) {
     assert.deepStrictEqual(edit.edits.map(([uri, { range, newText }]) => [uri, range.numbers, newText]), [[document.uri, [2, 0, 3, 0], "ok\n"]]);
   }
@@ -57,6 +57,10 @@ async function offersWhatTheTextHas(document) {
   const words = await providers.provideCompletionItems(document, new api.Position(0, 5));
   assert.deepStrictEqual(words.map((it) => [it.label, it.kind, it.insertText, it.range.numbers]), [["log-level", 2, "log-level", [0, 0, 0, 5]]]);
   assert(words[0].documentation.length > 0);
+  const begun = opened("begun.txt", "log-l", "raftbench");
+  const [word] = await providers.provideCompletionItems(begun, new api.Position(0, 5));
+  assert.deepStrictEqual([word.label, word.insertText.value], ["log-level", "log-level$1\n----\n$0"]);
+  closed(begun);
 }
 
 // A line `----` has no blanks around it, and no empty line is put at the end.
@@ -64,7 +68,23 @@ async function formats() {
   const wide = opened("wide.txt", "log-level debug\n ---- \nok\n", "raftbench");
   const edits = await providers.provideDocumentFormattingEdits(wide, { tabSize: 4, insertSpaces: true });
   assert.deepStrictEqual(edits.map(({ range, newText }) => [range.numbers, newText]), [[[1, 0, 1, 6], "----"]]);
+  const some = await providers.provideDocumentRangeFormattingEdits(wide, new api.Range(0, 0, 0, 1), { tabSize: 4, insertSpaces: true });
+  assert.deepStrictEqual(some, edits);
   closed(wide);
+}
+
+// A message is found on its line, from where it arrives to where it is sent.
+async function findsMessages() {
+  const mail = opened("mail.txt", "process-ready 1\n----\n1 ready\n  send 1->2 MsgVote term=1\n\ndeliver-msgs 2\n----\ndeliver 1->2 MsgVote term=1\n", "raftbench");
+  const place = new api.Position(7, 2);
+  const sent = await providers.provideDefinition(mail, place);
+  assert.deepStrictEqual([sent.uri, sent.range.numbers], [mail.uri, [3, 0, 4, 0]]);
+  const all = await providers.provideReferences(mail, place, { includeDeclaration: true });
+  assert.deepStrictEqual(all.map(({ range }) => range.numbers), [[3, 0, 4, 0], [7, 0, 8, 0]]);
+  const marked = await providers.provideDocumentHighlights(mail, place);
+  assert.deepStrictEqual(marked.map(({ range, kind }) => [range.numbers, kind]), [[[3, 0, 4, 0], 2], [[7, 0, 8, 0], 1]]);
+  assert.strictEqual(await providers.provideDefinition(mail, new api.Position(0, 0)), undefined);
+  closed(mail);
 }
 
 // The extension names the characters where words are asked for before a server runs: they are those that the server names.
@@ -226,6 +246,7 @@ async function main() {
   await writesDownTheConversation(document);
   await offersWhatTheTextHas(document);
   await formats();
+  await findsMessages();
   await asksWhereTheServerSays();
   await namesAMissingProgram(document);
   lines.splice(0);

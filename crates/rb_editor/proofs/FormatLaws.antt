@@ -24,7 +24,7 @@ unfolding formatting
 sent encoding text s reads = ap (of_script encoding text) (script_found text s reads)
 
 -- a text with the canonical text of a script is that script
-same_canonical : (text : List ℕ) (s : PlainScript) (read : Result PlainScript ScriptFault) → Reads (canonical_text s) s → read_of text ≡ read → has_canonical (canonical_text s) (found read) ≡ true → Reads text s
+pub same_canonical : (text : List ℕ) (s : PlainScript) (read : Result PlainScript ScriptFault) → Reads (canonical_text s) s → read_of text ≡ read → has_canonical (canonical_text s) (found read) ≡ true → Reads text s
 same_canonical text s (Err fault) back is has = absurd cc
 same_canonical text s (Ok t) back is has =
     let reads : Reads text t = read_sound text t is in

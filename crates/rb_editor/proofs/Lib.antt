@@ -5,6 +5,8 @@ pub mod QuietLaws
 pub mod MismatchLaws
 pub mod CameLaws
 pub mod HoverLaws
+pub mod MessageLaws
+pub mod RangeFormattingLaws
 pub mod ActionLaws
 pub mod RangeLaws
 pub mod EditedLaws

@@ -17,7 +17,7 @@ use Rattle.rb_lsp.proofs.PlaceLaws.{test_cases}
 use Rattle.rb_editor.specs.Diagnostics.{PlainDiagnostic}
 use Rattle.rb_editor.specs.Heads.{heads_of}
 use Rattle.rb_editor.specs.Texts.{list_text, listed}
-use Rattle.rb_editor.specs.Findings.{before, diagnostics_of, finding, findings, first_head, is_quiet, slip}
+use Rattle.rb_editor.specs.Findings.{before, finding, findings, first_head, is_quiet, slip}
 use Rattle.rb_editor.specs.Published.{diagnose, diagnostic_text}
 use Rattle.rb_editor.specs.ActionLaws.{IsQuietText}
 use Rattle.rb_editor.proofs.FindingLaws.{of_read}

@@ -7,7 +7,7 @@ use Rattle.rb_script.specs.Reading.{read_of}
 use Rattle.rb_script.proofs.ScriptLaws.{read_complete}
 use Rattle.rb_lsp.specs.declared.server.stop.Stop.{Stop}
 use Rattle.rb_lsp.specs.declared.server.query.Query.{Query}
-use Rattle.rb_lsp.specs.declared.server.query.Query.TheVariants.{CodeAction, Completion, DocumentSymbol, FoldingRange, Formatting, Hover}
+use Rattle.rb_lsp.specs.declared.server.query.Query.TheVariants.{CodeAction, Completion, Definition, DocumentHighlight, DocumentSymbol, FoldingRange, Formatting, Hover, RangeFormatting, References}
 use Rattle.rb_editor.specs.Diagnostics.{PlainDiagnostic}
 use Rattle.rb_editor.specs.Findings.{diagnosed}
 use Rattle.rb_editor.specs.Served.{above_fault, fault_in, fault_of, marks, served, shown, text_for}
@@ -49,6 +49,10 @@ needed_text Formatting text is = absurd cc
 needed_text (Completion position) text is = absurd cc
 needed_text FoldingRange text is = absurd cc
 needed_text DocumentSymbol text is = absurd cc
+needed_text (RangeFormatting range) text is = absurd cc
+needed_text (Definition position) text is = absurd cc
+needed_text (References position includes) text is = absurd cc
+needed_text (DocumentHighlight position) text is = absurd cc
 
 pub stop_above : (asked : Query) (text front : List ℕ) (stop : Stop) → needs_run asked ≡ true → front ≡ text_for asked text → may_stop front stop ≡ true → may_stop (served text) stop ≡ true
 stop_above asked text front stop is above may = subst (λ (x : List ℕ). may_stop x stop ≡ true) (above ∙ needed_text asked text is) may

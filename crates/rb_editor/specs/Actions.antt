@@ -124,8 +124,8 @@ edits_asked encoding text s picked span = edits_in (is_wanted picked span (lines
 
 -- the title and the kind of an action, which is for some lines or for all
 unfoldable pub action_head : Option LineSpan → List ℕ
-action_head (Some span) = codes "{\"title\":\"Expect what came\",\"kind\":\"quickfix\",\"edit\":{\"changes\":{\""
-action_head None = codes "{\"title\":\"Expect what came everywhere\",\"kind\":\"source\",\"edit\":{\"changes\":{\""
+action_head (Some span) = codes "{\"title\":\"Accept the actual output\",\"kind\":\"quickfix\",\"edit\":{\"changes\":{\""
+action_head None = codes "{\"title\":\"Accept all actual outputs\",\"kind\":\"source\",\"edit\":{\"changes\":{\""
 
 -- an action with these edits
 unfoldable pub action_text : List ℕ → Option LineSpan → List ℕ → List ℕ

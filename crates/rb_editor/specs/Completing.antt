@@ -5,8 +5,8 @@ use Rattle.rb_script.specs.declared.fault.ScriptFault.{ScriptFault}
 use Rattle.rb_script.specs.Script.{PlainScript}
 use Rattle.rb_script.specs.Reading.{read_of}
 use Rattle.rb_view.specs.Looks.{nodes_after}
-use Rattle.rb_lsp.specs.declared.document.position.Encoding.{Encoding}
 use Rattle.rb_lsp.specs.declared.document.position.Position.{Position}
+use Rattle.rb_lsp.specs.declared.server.client.Client.{Client}
 use Rattle.rb_editor.specs.Completion.{completion}
 use Rattle.rb_editor.specs.Places.{PlainPlace, completion_place, place_takes_ids}
 
@@ -22,8 +22,8 @@ nodes_above text = nodes_of (read_of text)
 abbrev pub nodes_at : List ℕ → PlainPlace → ℕ
 nodes_at text p = if place_takes_ids p then nodes_above (take p.block text) else 0
 
-abbrev pub complete_at : Encoding → List ℕ → PlainPlace → List ℕ
-complete_at encoding text p = completion encoding text p (nodes_at text p)
+abbrev pub complete_at : Client → List ℕ → PlainPlace → List ℕ
+complete_at client text p = completion client text p (nodes_at text p)
 
-unfoldable pub complete : Encoding → Position → List ℕ → List ℕ
-complete encoding position text = complete_at encoding text (completion_place encoding text position)
+unfoldable pub complete : Client → Position → List ℕ → List ℕ
+complete client position text = complete_at client text (completion_place client.encoding text position)

@@ -2,6 +2,7 @@ pub mod Diagnostics
 pub mod Came
 pub mod Findings
 pub mod Comparisons
+pub mod ShownMessages
 pub mod Published
 pub mod Work
 pub mod Stops
@@ -10,6 +11,9 @@ pub mod Served
 pub mod Layouts
 pub mod Extents
 pub mod Hovers
+pub mod Messages
+pub mod MessagePlaces
+pub mod RangeFormatting
 pub mod Corrections
 pub mod Actions
 pub mod Completing

@@ -1,5 +1,5 @@
 -- What holds of what an editor is offered. (This project's.)
-use Rattle.std.specs.Prelude.{◌≡◌, ℕ, min, zero, suc, ◌+◌, ◌-◌, ◌≤◌, true, List, [], ◌∷◌, ◌++◌, codes, decimal, filter, length, map, take}
+use Rattle.std.specs.Prelude.{◌≡◌, ◌⊎◌, ℕ, min, zero, suc, ◌+◌, ◌-◌, ◌≤◌, true, List, [], ◌∷◌, ◌++◌, codes, decimal, filter, length, map, take}
 use Rattle.rb_script.specs.Lines.{Line, lines}
 use Rattle.rb_script.specs.Script.{PlainBlock, PlainScript, text as canonical_text}
 use Rattle.rb_script.specs.Reads.{Reads}
@@ -11,6 +11,7 @@ use Rattle.rb_report.specs.Manual.{pages}
 use Rattle.rb_report.specs.Choices.{choices_of}
 use Rattle.rb_report.specs.Nearest.{keys_of}
 use Rattle.rb_lsp.specs.declared.document.position.Encoding.{Encoding}
+use Rattle.rb_lsp.specs.declared.document.position.Range.{Range}
 use Rattle.rb_lsp.specs.Places.{begins}
 use Rattle.rb_lsp.specs.Tables.{start_of}
 use Rattle.rb_lsp.specs.Changes.{changed}
@@ -19,6 +20,7 @@ use Rattle.rb_editor.specs.declared.offers.part.Part.TheVariants.{Lead}
 use Rattle.rb_editor.specs.Above.{behind_lines}
 use Rattle.rb_editor.specs.BlockLines.{AreApart, StandsIn, blocks_of}
 use Rattle.rb_editor.specs.Formatting.{edits, formatted, formatting}
+use Rattle.rb_editor.specs.RangeFormatting.{range_formatting}
 use Rattle.rb_editor.specs.declared.offers.ids.TheConstants.{MAX_IDS}
 use Rattle.rb_editor.specs.Ids.{change_offers, change_wanted, id_offers, nodes_of_head, takes_ids}
 use Rattle.rb_editor.specs.Offers.{PlainOffer, begins_with, fits, named, options, takes, values}
@@ -40,6 +42,13 @@ pub record Formats (encoding : Encoding) (text : List ℕ) (s : PlainScript) : T
 
 abbrev pub FormattingMakes : Type 0
 FormattingMakes = (encoding : Encoding) (text : List ℕ) (s : PlainScript) → Reads text s → Formats encoding text s
+
+-- what is sent to format the directives in a range is nothing, or what makes a text that is the same script
+abbrev pub KeepsScript : Encoding → List ℕ → PlainScript → List ℕ → Type 0
+KeepsScript encoding text s sent = (sent ≡ codes "[]") ⊎ ((new : List ℕ) × (sent ≡ edits encoding text new) × Reads new s)
+
+abbrev pub RangeFormattingKeeps : Type 0
+RangeFormattingKeeps = (encoding : Encoding) (range : Range) (text : List ℕ) (s : PlainScript) → Reads text s → KeepsScript encoding text s (range_formatting encoding range text)
 
 abbrev pub words : List PlainOffer → List (List ℕ)
 words os = map (λ (o : PlainOffer). o.word) os

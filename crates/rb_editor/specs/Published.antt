@@ -13,6 +13,7 @@ use Rattle.rb_editor.specs.declared.actions.diagnostic.DiagnosticKind.{Diagnosti
 use Rattle.rb_editor.specs.declared.actions.diagnostic.DiagnosticKind.TheVariants.{Mismatch, LaterMismatch, ErrorOutput, NoScript, Slip, Stopped}
 use Rattle.rb_editor.specs.Diagnostics.{PlainActualOutput, PlainDiagnostic}
 use Rattle.rb_editor.specs.Served.{shown}
+use Rattle.rb_editor.specs.ShownMessages.{shown_message}
 
 -- the severity, and the code
 unfoldable pub kind_text : Bool → DiagnosticKind → List ℕ
@@ -43,7 +44,7 @@ related_if true encoding uri text None = []
 related_if true encoding uri text (Some c) = related_text encoding uri text c
 
 unfoldable pub message_text : Bool → PlainDiagnostic → List ℕ
-message_text softens_later d = kind_text softens_later d.kind ++ (flat_map escaped d.message ++ codes "\"")
+message_text softens_later d = kind_text softens_later d.kind ++ (flat_map escaped (shown_message d.message) ++ codes "\"")
 
 unfoldable pub diagnostic_text : Client → List ℕ → List ℕ → PlainDiagnostic → List ℕ
 diagnostic_text client uri text d =

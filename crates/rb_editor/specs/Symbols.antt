@@ -4,6 +4,7 @@ use Rattle.std.specs.List.{flat_map}
 use Rattle.rb_script.specs.Lines.{Line, lines}
 use Rattle.rb_script.specs.Marks.{trim_blanks}
 use Rattle.rb_text.specs.Json.{escaped}
+use Rattle.rb_report.specs.Names.{shown_name}
 use Rattle.rb_lsp.specs.declared.document.position.Encoding.{Encoding}
 use Rattle.rb_lsp.specs.declared.document.position.Position.{Position}
 use Rattle.rb_lsp.specs.Places.{is_within}
@@ -23,9 +24,9 @@ first_characters (suc n) (b ∷ bytes) = b ∷ (if is_within b then first_charac
 abbrev pub name_of : List Line → ℕ → List ℕ
 name_of ls from = first_characters MAX_NAME (trim_blanks (slice_index_or ls from []))
 
--- the name and the kind of the symbol of a block whose head begins on a line
+-- the name, in which nothing acts, and the kind of the symbol of a block whose head begins on a line
 unfoldable pub name_text : List Line → ℕ → List ℕ
-name_text ls from = codes "{\"name\":\"" ++ (flat_map escaped (name_of ls from) ++ codes "\",\"kind\":24,\"range\":")
+name_text ls from = codes "{\"name\":\"" ++ (flat_map escaped (shown_name (name_of ls from)) ++ codes "\",\"kind\":24,\"range\":")
 
 -- the symbol of a block between these positions, of which its head is selected
 unfoldable pub symbol_at : List Line → ℕ → Position → Position → Position → List ℕ

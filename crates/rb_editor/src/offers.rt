@@ -19,16 +19,19 @@ mod words;
 mod writing;
 
 pub(crate) use above::begun_lines;
-pub(crate) use block_lines::all_lines;
+pub(crate) use block_lines::{all_lines, blocks_of, script_of};
 pub use block_lines::{BlockLines, begins_rule};
 pub use completion::add_completion;
 pub use folds::add_folds;
 pub use formatting::add_formatting;
+pub(crate) use formatting::{add_edits, formatted, has_canonical};
 pub use laws::{
     blocks_stand_apart, changes_are_those_of_the_nodes, formatting_makes_the_canonical_text,
     heads_are_known, ids_are_those_of_the_nodes, keys_are_those_of_the_table, lines_stay_in_order,
-    names_are_those_of_the_table, values_are_those_of_the_option,
+    names_are_those_of_the_table, range_formatting_keeps_the_script,
+    values_are_those_of_the_option,
 };
 pub use place::CompletionPlace;
 pub use symbols::{MAX_NAME, add_symbols};
+pub(crate) use writing::add_range;
 pub use writing::add_range_member;

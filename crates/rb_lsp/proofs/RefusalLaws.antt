@@ -1,7 +1,6 @@
 -- Where what is asked of a text isn't done whole, that is said, and nothing else changes.
 use Rattle.std.proofs.Common.{◌≡◌, ◌⊎◌, inl, inr, ℕ, List, Bool, Option, Some, None, refl}
 use Rattle.serde_json.specs.Data.{Data}
-use Rattle.rb_lsp.specs.declared.document.position.Encoding.{Encoding}
 use Rattle.rb_lsp.specs.Messages.{frame}
 use Rattle.rb_lsp.specs.Said.{Said, request, notification}
 use Rattle.rb_lsp.specs.declared.server.query.Query.{Query}
@@ -53,27 +52,27 @@ notification_told meaning reach server name method params = notice_told meaning 
 abbrev IsTold : Meaning → Reach → Data → List ℕ → Option Data → List ℕ → List ℕ → Type 0
 IsTold meaning reach id method params refused known = (frame refused ≡ frame known) ⊎ TellsRefusal meaning reach (request id method params) (frame refused)
 
-answer_told : (meaning : Meaning) (reach : Reach) (id : Data) (method : List ℕ) (params : Option Data) (encoding : Encoding) (asked : Query) (uri : List ℕ) (text : Option (List ℕ))
-    → IsTold meaning reach id method params (of_text meaning reach encoding asked uri id text) (of_text meaning Whole encoding asked uri id text)
-answer_told meaning reach id method params encoding asked uri None = inl refl
-answer_told meaning NoMemory id method params encoding asked uri (Some text) = inr (of_request id method params)
-answer_told meaning (Stopped stop) id method params encoding asked uri (Some text) = inr (stops_request stop id method params)
-answer_told meaning Whole id method params encoding asked uri (Some text) = inl refl
-answer_told meaning Cancelled id method params encoding asked uri (Some text) = inr (cancels id method params)
+answer_told : (meaning : Meaning) (reach : Reach) (id : Data) (method : List ℕ) (params : Option Data) (client : Client) (asked : Query) (uri : List ℕ) (text : Option (List ℕ))
+    → IsTold meaning reach id method params (of_text meaning reach client asked uri id text) (of_text meaning Whole client asked uri id text)
+answer_told meaning reach id method params client asked uri None = inl refl
+answer_told meaning NoMemory id method params client asked uri (Some text) = inr (of_request id method params)
+answer_told meaning (Stopped stop) id method params client asked uri (Some text) = inr (stops_request stop id method params)
+answer_told meaning Whole id method params client asked uri (Some text) = inl refl
+answer_told meaning Cancelled id method params client asked uri (Some text) = inr (cancels id method params)
 
-asked_told : (meaning : Meaning) (reach : Reach) (id : Data) (method : List ℕ) (params : Option Data) (encoding : Encoding) (ds : List PlainDocument) (uri : Option (List ℕ)) (asked : Option Query)
-    → IsTold meaning reach id method params (with_asked meaning reach encoding ds id uri asked) (with_asked meaning Whole encoding ds id uri asked)
-asked_told meaning reach id method params encoding ds (Some uri) (Some asked) = answer_told meaning reach id method params encoding asked uri (text_of uri ds)
-asked_told meaning reach id method params encoding ds uri asked = inl refl
+asked_told : (meaning : Meaning) (reach : Reach) (id : Data) (method : List ℕ) (params : Option Data) (client : Client) (ds : List PlainDocument) (uri : Option (List ℕ)) (asked : Option Query)
+    → IsTold meaning reach id method params (with_asked meaning reach client ds id uri asked) (with_asked meaning Whole client ds id uri asked)
+asked_told meaning reach id method params client ds (Some uri) (Some asked) = answer_told meaning reach id method params client asked uri (text_of uri ds)
+asked_told meaning reach id method params client ds uri asked = inl refl
 
-question_told : (meaning : Meaning) (reach : Reach) (id : Data) (method : List ℕ) (encoding : Encoding) (ds : List PlainDocument) (question : Question) (params : Option Data)
-    → IsTold meaning reach id method params (question_body meaning reach encoding ds question params id) (question_body meaning Whole encoding ds question params id)
-question_told meaning reach id method encoding ds question None = inl refl
-question_told meaning reach id method encoding ds question (Some d) = asked_told meaning reach id method (Some d) encoding ds (uri_of d) (asked_of question d)
+question_told : (meaning : Meaning) (reach : Reach) (id : Data) (method : List ℕ) (client : Client) (ds : List PlainDocument) (question : Question) (params : Option Data)
+    → IsTold meaning reach id method params (question_body meaning reach client ds question params id) (question_body meaning Whole client ds question params id)
+question_told meaning reach id method client ds question None = inl refl
+question_told meaning reach id method client ds question (Some d) = asked_told meaning reach id method (Some d) client ds (uri_of d) (asked_of question d)
 
 answer_body_told : (meaning : Meaning) (reach : Reach) (id : Data) (name : List ℕ) (ds : List PlainDocument) (phase : Phase) (method : Method) (params : Option Data)
     → IsTold meaning reach id name params (body_in meaning reach ds phase method params id) (body_in meaning Whole ds phase method params id)
-answer_body_told meaning reach id name ds (Running client) (Asks question) params = question_told meaning reach id name client.encoding ds question params
+answer_body_told meaning reach id name ds (Running client) (Asks question) params = question_told meaning reach id name client ds question params
 answer_body_told meaning reach id name ds phase method params = inl refl
 
 pub refusal_told : (meaning : Meaning) (reach : Reach) (server : PlainServer) (what : Said)

@@ -2,7 +2,6 @@
 use Rattle.std.proofs.Common.{◌≡◌, List, ℕ, Option, Some, None, refl, ap, ◌∙◌}
 use Rattle.std.specs.Prelude.{codes, option_and_then}
 use Rattle.serde_json.specs.Data.{Data, null}
-use Rattle.rb_lsp.specs.declared.document.position.Encoding.{Encoding}
 use Rattle.rb_lsp.specs.declared.rpc.answer.ErrorCode.TheVariants.{InvalidRequest, MethodNotFound, InvalidParams, InternalError, ServerNotInitialized, RequestCancelled, RequestFailed}
 use Rattle.rb_lsp.specs.declared.server.query.Query.{Query}
 use Rattle.rb_lsp.specs.declared.server.client.Client.{Client}
@@ -44,7 +43,7 @@ cancelled_answers meaning server method params id = refused id RequestCancelled 
 
 text_answers : (meaning : Meaning) (reach : Reach) (server : PlainServer) (client : Client) (question : Question) (asked : Query) (given : Data) (uri : List ℕ) (id : Data) (text : Option (List ℕ))
     → server.phase ≡ Running client → uri_of given ≡ Some uri → asked_of question given ≡ Some asked → text_of uri server.documents ≡ text
-    → Answers meaning server (Asks question) (Some given) id (of_text meaning reach client.encoding asked uri id text)
+    → Answers meaning server (Asks question) (Some given) id (of_text meaning reach client asked uri id text)
 unfolding not_open
 text_answers meaning reach server client question asked given uri id None running named asks is = refused id InvalidParams (codes "the document isn't open")
 text_answers meaning NoMemory server client question asked given uri id (Some text) running named asks is = no_memory_answers meaning server (Asks question) (Some given) id
@@ -54,13 +53,13 @@ text_answers meaning Cancelled server client question asked given uri id (Some t
 
 asked_answers : (meaning : Meaning) (reach : Reach) (server : PlainServer) (client : Client) (question : Question) (given : Data) (id : Data) (uri : Option (List ℕ)) (asked : Option Query)
     → server.phase ≡ Running client → uri_of given ≡ uri → asked_of question given ≡ asked
-    → Answers meaning server (Asks question) (Some given) id (with_asked meaning reach client.encoding server.documents id uri asked)
+    → Answers meaning server (Asks question) (Some given) id (with_asked meaning reach client server.documents id uri asked)
 asked_answers meaning reach server client question given id (Some uri) (Some asked) running named asks =
     text_answers meaning reach server client question asked given uri id (text_of uri server.documents) running named asks refl
 asked_answers meaning reach server client question given id uri asked running named asks = unfit_answers meaning server (Asks question) (Some given) id
 
 question_answers : (meaning : Meaning) (reach : Reach) (server : PlainServer) (client : Client) (question : Question) (params : Option Data) (id : Data) → server.phase ≡ Running client
-    → Answers meaning server (Asks question) params id (question_body meaning reach client.encoding server.documents question params id)
+    → Answers meaning server (Asks question) params id (question_body meaning reach client server.documents question params id)
 question_answers meaning reach server client question None id running = unfit_answers meaning server (Asks question) None id
 question_answers meaning reach server client question (Some d) id running = asked_answers meaning reach server client question d id (uri_of d) (asked_of question d) running refl refl
 
@@ -79,19 +78,19 @@ answer_has_id meaning reach server method params id = body_has_id meaning reach 
 
 -- ---- the text that is named
 
-same_asked : (meaning : Meaning) (reach : Reach) (encoding : Encoding) (ds es : List PlainDocument) (id : Data) (uri : Option (List ℕ)) (asked : Option Query)
-    → option_and_then (λ (u : List ℕ). text_of u ds) uri ≡ option_and_then (λ (u : List ℕ). text_of u es) uri → with_asked meaning reach encoding ds id uri asked ≡ with_asked meaning reach encoding es id uri asked
-same_asked meaning reach encoding ds es id (Some uri) (Some asked) same = ap (of_text meaning reach encoding asked uri id) same
-same_asked meaning reach encoding ds es id uri asked same = refl
+same_asked : (meaning : Meaning) (reach : Reach) (client : Client) (ds es : List PlainDocument) (id : Data) (uri : Option (List ℕ)) (asked : Option Query)
+    → option_and_then (λ (u : List ℕ). text_of u ds) uri ≡ option_and_then (λ (u : List ℕ). text_of u es) uri → with_asked meaning reach client ds id uri asked ≡ with_asked meaning reach client es id uri asked
+same_asked meaning reach client ds es id (Some uri) (Some asked) same = ap (of_text meaning reach client asked uri id) same
+same_asked meaning reach client ds es id uri asked same = refl
 
-same_question : (meaning : Meaning) (reach : Reach) (encoding : Encoding) (ds es : List PlainDocument) (question : Question) (params : Option Data) (id : Data)
-    → named_text params ds ≡ named_text params es → question_body meaning reach encoding ds question params id ≡ question_body meaning reach encoding es question params id
-same_question meaning reach encoding ds es question None id same = refl
-same_question meaning reach encoding ds es question (Some d) id same = same_asked meaning reach encoding ds es id (uri_of d) (asked_of question d) same
+same_question : (meaning : Meaning) (reach : Reach) (client : Client) (ds es : List PlainDocument) (question : Question) (params : Option Data) (id : Data)
+    → named_text params ds ≡ named_text params es → question_body meaning reach client ds question params id ≡ question_body meaning reach client es question params id
+same_question meaning reach client ds es question None id same = refl
+same_question meaning reach client ds es question (Some d) id same = same_asked meaning reach client ds es id (uri_of d) (asked_of question d) same
 
 same_body : (meaning : Meaning) (reach : Reach) (ds es : List PlainDocument) (phase : Phase) (method : Method) (params : Option Data) (id : Data)
     → named_text params ds ≡ named_text params es → body_in meaning reach ds phase method params id ≡ body_in meaning reach es phase method params id
-same_body meaning reach ds es (Running client) (Asks question) params id same = same_question meaning reach client.encoding ds es question params id same
+same_body meaning reach ds es (Running client) (Asks question) params id same = same_question meaning reach client ds es question params id same
 same_body meaning reach ds es phase method params id same = refl
 
 pub same_answer : (meaning : Meaning) (reach : Reach) (server other : PlainServer) (method : Method) (params : Option Data) (id : Data) → server.phase ≡ other.phase

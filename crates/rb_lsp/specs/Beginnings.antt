@@ -43,6 +43,18 @@ says_related taken = option_and_then as_bool (get (codes "relatedInformation") t
 abbrev pub takes_related : Data → Bool
 takes_related d = unwrap_or (option_and_then says_related (of_diagnostics d)) false
 
+-- a client's capabilities for completion items ("CompletionClientCapabilities")
+abbrev pub of_items : Data → Option Data
+of_items d = option_and_then (get (codes "completionItem")) (option_and_then (get (codes "completion")) (option_and_then (get (codes "textDocument")) (get (codes "capabilities") d)))
+
+-- whether snippets are among them
+abbrev pub says_snippets : Data → Option Bool
+says_snippets taken = option_and_then as_bool (get (codes "snippetSupport") taken)
+
+-- it takes snippets as completions
+abbrev pub takes_snippets : Data → Bool
+takes_snippets d = unwrap_or (option_and_then says_snippets (of_items d)) false
+
 -- what the client's settings say of the mismatches after the first: they are information (this project's)
 abbrev pub says_softens : Data → Option Bool
 says_softens settings = option_and_then as_bool (get (codes "softenLaterMismatches") settings)
@@ -54,7 +66,7 @@ softens_later d = unwrap_or (option_and_then says_softens (get (codes "initializ
 -- the client of these parameters: none if they aren't an object
 abbrev pub client_of : Option Data → Option Client
 client_of None = None
-client_of (Some d) = if is_some (as_object d) then Some (record { encoding = chosen_encoding d; takes_related = takes_related d; softens_later = softens_later d }) else None
+client_of (Some d) = if is_some (as_object d) then Some (record { encoding = chosen_encoding d; takes_related = takes_related d; takes_snippets = takes_snippets d; softens_later = softens_later d }) else None
 
 abbrev pub encoding_name : Encoding → List ℕ
 encoding_name Utf8 = codes "utf-8"
@@ -74,11 +86,15 @@ capabilities encoding =
     object
     (member (codes "codeActionProvider") (boolean true)
     (member (codes "completionProvider") completes
+    (member (codes "definitionProvider") (boolean true)
     (member (codes "documentFormattingProvider") (boolean true)
+    (member (codes "documentHighlightProvider") (boolean true)
+    (member (codes "documentRangeFormattingProvider") (boolean true)
     (member (codes "documentSymbolProvider") (boolean true)
     (member (codes "foldingRangeProvider") (boolean true)
     (member (codes "hoverProvider") (boolean true)
-    (member (codes "positionEncoding") (string (encoding_name encoding)) (member (codes "textDocumentSync") synchronizes no_members))))))))
+    (member (codes "positionEncoding") (string (encoding_name encoding))
+    (member (codes "referencesProvider") (boolean true) (member (codes "textDocumentSync") synchronizes no_members))))))))))))
 
 -- what the server can do
 unfoldable pub initialized : Encoding → Data

@@ -32,7 +32,7 @@ pub data Answers (meaning : Meaning) (server : PlainServer) (method : Method) (p
   refused : (id : Data) (code : ErrorCode) (message : List ℕ) → Answers meaning server method params id (body_text (failure id code message))
   answered : (id given : Data) (client : Client) (question : Question) (asked : Query) (uri text : List ℕ) → server.phase ≡ Running client → method ≡ Asks question → params ≡ Some given
       → uri_of given ≡ Some uri → asked_of question given ≡ Some asked → text_of uri server.documents ≡ Some text
-      → Answers meaning server method params id (answer_text id (meaning.answer client.encoding asked uri text))
+      → Answers meaning server method params id (answer_text id (meaning.answer client asked uri text))
 
 -- each request has one answer
 abbrev pub RequestsHaveOneAnswer : Type 0

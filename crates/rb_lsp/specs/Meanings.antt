@@ -1,6 +1,5 @@
 -- What documents mean, which a service defines. (This project's.)
 use Rattle.std.specs.Prelude.{ℕ, Bool, true, false, if◌then◌else◌, List, Option, Some, None}
-use Rattle.rb_lsp.specs.declared.document.position.Encoding.{Encoding}
 use Rattle.rb_lsp.specs.declared.server.query.Query.{Query}
 use Rattle.rb_lsp.specs.declared.server.client.Client.{Client}
 use Rattle.rb_lsp.specs.declared.server.stop.Stop.{Stop}
@@ -11,9 +10,9 @@ use Rattle.rb_lsp.specs.declared.server.reach.Reach.TheVariants.{Whole, Stopped,
 abbrev pub Diagnose : Type 0
 Diagnose = Option Stop → Client → List ℕ → List ℕ → List ℕ
 
--- the result of a request, in JSON, by the encoding of columns, the request, the document's URI and its text
+-- the result of a request, in JSON, by the client, the request, the document's URI and its text
 abbrev pub Answer : Type 0
-Answer = Encoding → Query → List ℕ → List ℕ → List ℕ
+Answer = Client → Query → List ℕ → List ℕ → List ℕ
 
 -- whether a request needs the run of its document's text
 abbrev pub NeedsRun : Type 0

@@ -1,29 +1,41 @@
 -- What is asked of a document, and what is answered. (LSP 3.17, "Language Features"; JSON-RPC 2.0, section 5. The sentences are this
 -- project's.)
-use Rattle.std.specs.Prelude.{ℕ, List, ◌++◌, Option, Some, None, codes, option_map, option_and_then}
+use Rattle.std.specs.Prelude.{ℕ, Bool, true, List, ◌++◌, Option, Some, None, codes, option_map, option_and_then, unwrap_or}
 use Rattle.serde_json.specs.Data.{Data}
+use Rattle.serde_json.specs.Find.{get, as_bool}
 use Rattle.serde_json.specs.Written.{compact_text}
-use Rattle.rb_lsp.specs.declared.document.position.Encoding.{Encoding}
+use Rattle.rb_lsp.specs.declared.server.client.Client.{Client}
 use Rattle.rb_lsp.specs.Answers.{failure}
 use Rattle.rb_lsp.specs.Params.{position_at, range_at, text_below}
 use Rattle.rb_lsp.specs.declared.rpc.answer.ErrorCode.TheVariants.{InvalidParams, InternalError, RequestCancelled, RequestFailed}
 use Rattle.rb_lsp.specs.declared.server.query.Query.{Query}
 use Rattle.rb_lsp.specs.declared.server.query.Query.TheVariants as asks
 use Rattle.rb_lsp.specs.declared.server.method.Question.{Question}
-use Rattle.rb_lsp.specs.declared.server.method.Question.TheVariants.{CodeAction, Formatting, Hover, Completion, FoldingRange, DocumentSymbol}
+use Rattle.rb_lsp.specs.declared.server.method.Question.TheVariants.{CodeAction, Formatting, RangeFormatting, Hover, Completion, FoldingRange, DocumentSymbol, Definition, References, DocumentHighlight}
 use Rattle.rb_lsp.specs.Documents.{PlainDocument, text_of}
 use Rattle.rb_lsp.specs.declared.server.reach.Reach.{Reach}
 use Rattle.rb_lsp.specs.declared.server.reach.Reach.TheVariants.{Stopped, Cancelled, NoMemory}
 use Rattle.rb_lsp.specs.Meanings.{Meaning, run_by}
 
+-- whether a definition is one of its references: it is, unless the client says otherwise ("ReferenceContext")
+abbrev pub says_includes : Data → Option Bool
+says_includes context = option_and_then as_bool (get (codes "includeDeclaration") context)
+
+abbrev pub includes_definition : Data → Bool
+includes_definition d = unwrap_or (option_and_then says_includes (get (codes "context") d)) true
+
 -- the request, if the method's parameters give it
 abbrev pub asked_of : Question → Data → Option Query
 asked_of CodeAction d = option_map (λ range. asks.CodeAction range) (range_at (codes "range") d)
 asked_of Formatting d = Some asks.Formatting
+asked_of RangeFormatting d = option_map (λ range. asks.RangeFormatting range) (range_at (codes "range") d)
 asked_of Hover d = option_map (λ position. asks.Hover position) (position_at (codes "position") d)
 asked_of Completion d = option_map (λ position. asks.Completion position) (position_at (codes "position") d)
 asked_of FoldingRange d = Some asks.FoldingRange
 asked_of DocumentSymbol d = Some asks.DocumentSymbol
+asked_of Definition d = option_map (λ position. asks.Definition position) (position_at (codes "position") d)
+asked_of References d = option_map (λ position. asks.References position (includes_definition d)) (position_at (codes "position") d)
+asked_of DocumentHighlight d = option_map (λ position. asks.DocumentHighlight position) (position_at (codes "position") d)
 
 -- the document that is named
 abbrev pub uri_of : Data → Option (List ℕ)
@@ -60,27 +72,27 @@ unfoldable pub cancelled_for : Data → Data
 cancelled_for id = failure id RequestCancelled (codes "the request was cancelled")
 
 -- the answer about a text, as far as it was run, unless the request was cancelled
-abbrev pub text_by : Meaning → Reach → Encoding → Query → List ℕ → Data → List ℕ → List ℕ
-text_by meaning NoMemory encoding asked uri id text = body_text (no_memory_for id)
-text_by meaning Cancelled encoding asked uri id text = body_text (cancelled_for id)
-text_by meaning (Stopped stop) encoding asked uri id text = body_text (stopped_for id)
-text_by meaning reach encoding asked uri id text = answer_text id (meaning.answer encoding asked uri text)
+abbrev pub text_by : Meaning → Reach → Client → Query → List ℕ → Data → List ℕ → List ℕ
+text_by meaning NoMemory client asked uri id text = body_text (no_memory_for id)
+text_by meaning Cancelled client asked uri id text = body_text (cancelled_for id)
+text_by meaning (Stopped stop) client asked uri id text = body_text (stopped_for id)
+text_by meaning reach client asked uri id text = answer_text id (meaning.answer client asked uri text)
 
 -- the answer about a document, by its text if it is open
-abbrev pub of_text : Meaning → Reach → Encoding → Query → List ℕ → Data → Option (List ℕ) → List ℕ
-of_text meaning reach encoding asked uri id None = body_text (not_open id)
-of_text meaning reach encoding asked uri id (Some text) = text_by meaning reach encoding asked uri id text
+abbrev pub of_text : Meaning → Reach → Client → Query → List ℕ → Data → Option (List ℕ) → List ℕ
+of_text meaning reach client asked uri id None = body_text (not_open id)
+of_text meaning reach client asked uri id (Some text) = text_by meaning reach client asked uri id text
 
 -- the answer about the document that is named, by the request
-abbrev pub with_asked : Meaning → Reach → Encoding → List PlainDocument → Data → Option (List ℕ) → Option Query → List ℕ
-with_asked meaning reach encoding ds id None asked = body_text (unfit id)
-with_asked meaning reach encoding ds id (Some uri) None = body_text (unfit id)
-with_asked meaning reach encoding ds id (Some uri) (Some asked) = of_text meaning reach encoding asked uri id (text_of uri ds)
+abbrev pub with_asked : Meaning → Reach → Client → List PlainDocument → Data → Option (List ℕ) → Option Query → List ℕ
+with_asked meaning reach client ds id None asked = body_text (unfit id)
+with_asked meaning reach client ds id (Some uri) None = body_text (unfit id)
+with_asked meaning reach client ds id (Some uri) (Some asked) = of_text meaning reach client asked uri id (text_of uri ds)
 
 -- the answer, by the method's parameters
-abbrev pub question_body : Meaning → Reach → Encoding → List PlainDocument → Question → Option Data → Data → List ℕ
-question_body meaning reach encoding ds question None id = body_text (unfit id)
-question_body meaning reach encoding ds question (Some d) id = with_asked meaning reach encoding ds id (uri_of d) (asked_of question d)
+abbrev pub question_body : Meaning → Reach → Client → List PlainDocument → Question → Option Data → Data → List ℕ
+question_body meaning reach client ds question None id = body_text (unfit id)
+question_body meaning reach client ds question (Some d) id = with_asked meaning reach client ds id (uri_of d) (asked_of question d)
 
 -- the text that is run for it
 abbrev pub asked_run : Meaning → List PlainDocument → Option (List ℕ) → Option Query → Option (List ℕ)

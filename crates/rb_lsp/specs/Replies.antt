@@ -60,7 +60,7 @@ no_json = failure null ParseError (codes "this is no JSON")
 
 -- to a request: of a document, between `initialize` and `shutdown`, or of none
 abbrev pub body_in : Meaning → Reach → List PlainDocument → Phase → Method → Option Data → Data → List ℕ
-body_in meaning reach ds (Running client) (Asks question) params id = question_body meaning reach client.encoding ds question params id
+body_in meaning reach ds (Running client) (Asks question) params id = question_body meaning reach client ds question params id
 body_in meaning reach ds phase method params id = body_text (answer_to phase method params id)
 
 abbrev pub answer_body : Meaning → Reach → PlainServer → Method → Option Data → Data → List ℕ

@@ -10,10 +10,16 @@ end
 -- Neovim 0.8 starts a server once and attaches each buffer to it; before, both are done here.
 local client
 
--- Keys of the buffer alone: K shows what came of the directive below the cursor, with the cluster behind it, gra chooses among actions, and grf
--- lays the script out. The first two are Neovim's own from 0.11 on.
+-- Keys of the buffer alone: K shows the output of the directive below the cursor, with the cluster after it, gra chooses among actions, gd goes to
+-- where a message is sent, grr lists all of its lines, and grf formats the script. K, gra and grr are Neovim's own from 0.11 on.
 local function set_keys(buffer)
-  local calls = { K = vim.lsp.buf.hover, gra = vim.lsp.buf.code_action, grf = vim.lsp.buf.format or vim.lsp.buf.formatting }
+  local calls = {
+    K = vim.lsp.buf.hover,
+    gra = vim.lsp.buf.code_action,
+    gd = vim.lsp.buf.definition,
+    grr = vim.lsp.buf.references,
+    grf = vim.lsp.buf.format or vim.lsp.buf.formatting,
+  }
   for keys, call in pairs(calls) do
     vim.keymap.set('n', keys, function() call() end, { buffer = buffer })
   end

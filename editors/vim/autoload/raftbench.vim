@@ -3,9 +3,9 @@
 let s:directives = {
       \ 'add-nodes': ['voters', 'learners', 'index', 'content', 'inflight', 'prevote', 'checkquorum', 'step-down-on-removal'],
       \ 'campaign': [], 'propose': [], 'propose-conf-change': ['v1', 'transition'], 'process-ready': [],
-      \ 'deliver-msgs': ['type', 'drop'], 'stabilize': ['rounds'], 'tick-election': [], 'tick-heartbeat': [],
+      \ 'deliver-msgs': ['type', 'drop', 'from', 'skip', 'count'], 'stabilize': ['rounds'], 'tick-election': [], 'tick-heartbeat': [],
       \ 'set-randomized-election-timeout': ['timeout'], 'transfer-leadership': ['from', 'to'], 'forget-leader': [],
-      \ 'report-unreachable': [], 'send-snapshot': [], 'compact': [], 'log-level': [], 'raft-log': [], 'status': [],
+      \ 'report-unreachable': [], 'send-snapshot': [], 'compact': [], 'restart': [], 'log-level': [], 'raft-log': [], 'status': [],
       \ 'raft-state': [],
       \ }
 let s:truths = ['true', 'false']

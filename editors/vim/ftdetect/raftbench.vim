@@ -3,7 +3,7 @@
 
 let s:names = ['add-nodes', 'campaign', 'propose', 'propose-conf-change', 'process-ready', 'deliver-msgs', 'stabilize',
       \ 'tick-election', 'tick-heartbeat', 'set-randomized-election-timeout', 'transfer-leadership', 'forget-leader',
-      \ 'report-unreachable', 'send-snapshot', 'compact', 'log-level', 'raft-log', 'status', 'raft-state']
+      \ 'report-unreachable', 'send-snapshot', 'compact', 'restart', 'log-level', 'raft-log', 'status', 'raft-state']
 " How many lines are read.
 let s:most = 500
 

@@ -28,7 +28,7 @@ syn match raftbenchName "^\s*\%(tick-election\|tick-heartbeat\|set-randomized-el
       \ nextgroup=raftbenchArguments,raftbenchInput,raftbenchSeparator skipnl skipempty
 syn match raftbenchName "^\s*\%(transfer-leadership\|forget-leader\|report-unreachable\|send-snapshot\)\ze\%(\s\|\\\|$\)"
       \ nextgroup=raftbenchArguments,raftbenchInput,raftbenchSeparator skipnl skipempty
-syn match raftbenchName "^\s*\%(compact\|log-level\|raft-log\|status\|raft-state\)\ze\%(\s\|\\\|$\)"
+syn match raftbenchName "^\s*\%(compact\|restart\|log-level\|raft-log\|status\|raft-state\)\ze\%(\s\|\\\|$\)"
       \ nextgroup=raftbenchArguments,raftbenchInput,raftbenchSeparator skipnl skipempty
 syn region raftbenchArguments start="[[:blank:]\\]" skip="\\\s*$" end="$" contained keepend
       \ contains=raftbenchOption,raftbenchNumber,raftbenchContinued

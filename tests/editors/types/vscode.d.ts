@@ -59,14 +59,20 @@ declare module "vscode" {
   export class WorkspaceEdit {
     replace(uri: Uri, range: Range, text: string): void;
   }
+  export class SnippetString {
+    constructor(value: string);
+  }
   export class CompletionItem {
     constructor(label: string, kind?: number);
     documentation?: string;
     range?: Range;
-    insertText?: string;
+    insertText?: string | SnippetString;
   }
   export class DocumentSymbol {
     constructor(name: string, detail: string, kind: number, range: Range, selectionRange: Range);
+  }
+  export class DocumentHighlight {
+    constructor(range: Range, kind?: number);
   }
   export class FoldingRange {
     constructor(start: number, end: number);
@@ -103,6 +109,18 @@ declare module "vscode" {
   export interface DocumentFormattingEditProvider {
     provideDocumentFormattingEdits(document: TextDocument, options: { tabSize: number; insertSpaces: boolean }): Result<TextEdit[]>;
   }
+  export interface DocumentRangeFormattingEditProvider {
+    provideDocumentRangeFormattingEdits(document: TextDocument, range: Range, options: { tabSize: number; insertSpaces: boolean }): Result<TextEdit[]>;
+  }
+  export interface DefinitionProvider {
+    provideDefinition(document: TextDocument, position: Position): Result<Location>;
+  }
+  export interface ReferenceProvider {
+    provideReferences(document: TextDocument, position: Position, context: { readonly includeDeclaration: boolean }): Result<Location[]>;
+  }
+  export interface DocumentHighlightProvider {
+    provideDocumentHighlights(document: TextDocument, position: Position): Result<DocumentHighlight[]>;
+  }
   export interface DiagnosticCollection extends Disposable {
     set(uri: Uri, diagnostics: Diagnostic[]): void;
     clear(): void;
@@ -130,6 +148,10 @@ declare module "vscode" {
     function registerDocumentSymbolProvider(language: string, provider: DocumentSymbolProvider): Disposable;
     function registerFoldingRangeProvider(language: string, provider: FoldingRangeProvider): Disposable;
     function registerDocumentFormattingEditProvider(language: string, provider: DocumentFormattingEditProvider): Disposable;
+    function registerDocumentRangeFormattingEditProvider(language: string, provider: DocumentRangeFormattingEditProvider): Disposable;
+    function registerDefinitionProvider(language: string, provider: DefinitionProvider): Disposable;
+    function registerReferenceProvider(language: string, provider: ReferenceProvider): Disposable;
+    function registerDocumentHighlightProvider(language: string, provider: DocumentHighlightProvider): Disposable;
   }
   export namespace window {
     const activeTextEditor: { readonly document: TextDocument } | undefined;

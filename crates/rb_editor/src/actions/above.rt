@@ -3,6 +3,7 @@
 ghost use Rattle.std.specs.Prelude.{◌≡◌, ◌≤◌, length};
 ghost use Rattle.rb_lsp.specs.Tables.{feed_start};
 ghost use Rattle.rb_editor.specs.Findings.{above};
+ghost use Rattle.rb_editor.specs.RangeFormatting.{lines_before};
 
 // Where a line of a text begins, which counts from 0: at its end, if it has fewer lines.
 fn line_start(text: &[u8], line: usize) -> usize
@@ -19,6 +20,14 @@ fn line_start(text: &[u8], line: usize) -> usize
         }
     }
     text.len()
+}
+
+/// The text above a line, which counts from 0.
+pub(crate) fn lines_before(text: &[u8], line: usize) -> &[u8]
+    ensures value { result.now ≡ lines_before line text.now }
+    ensures within { length result.now ≤ length text.now }
+{
+    &text[..line_start(text, line)]
 }
 
 /// The text above a line, which counts from 1.

@@ -185,10 +185,10 @@ fn action_head(span: Option<LineSpan>) -> &'static [u8]
 {
     match span {
         Some(_) => {
-            b"{\"title\":\"Expect what came\",\"kind\":\"quickfix\",\"edit\":{\"changes\":{\""
+            b"{\"title\":\"Accept the actual output\",\"kind\":\"quickfix\",\"edit\":{\"changes\":{\""
         }
         None => {
-            b"{\"title\":\"Expect what came everywhere\",\"kind\":\"source\",\"edit\":{\"changes\":{\""
+            b"{\"title\":\"Accept all actual outputs\",\"kind\":\"source\",\"edit\":{\"changes\":{\""
         }
     }
 }

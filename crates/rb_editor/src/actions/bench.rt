@@ -13,10 +13,12 @@ ghost use Rattle.rb_editor.specs.LastStops.{refused_by};
 
 use crate::actions::action::add_actions;
 use crate::actions::bounded::BoundedCluster;
-use crate::actions::completing::add_completions;
+use crate::actions::completing::{AskedPlace, add_completions};
 use crate::actions::document::AskedDocument;
 use crate::actions::hover::add_hover;
+use crate::actions::message_places::{add_definition, add_highlights, add_references};
 use crate::actions::publishing::add_list;
+use crate::actions::range_formatting::add_range_formatting;
 use crate::actions::served::{shown, text_for};
 use crate::actions::stopping::KeptRun;
 use crate::actions::work_meter::WorkMeter;
@@ -83,7 +85,7 @@ impl Service for Bench {
         out: &mut Vec<u8>,
     ) -> Result<Option<Stop>, AllocError>
         requires { length asked.text.now ≤ MAX_TEXT }
-        ensures added { IfOk result (λ stop. stop ≡ None → out.new.items ≡ out.old.items ++ answer asked.entry.encoding asked.entry.query asked.entry.uri.now asked.entry.text.now) }
+        ensures added { IfOk result (λ stop. stop ≡ None → out.new.items ≡ out.old.items ++ answer asked.entry.client asked.entry.query asked.entry.uri.now asked.entry.text.now) }
         // It isn't done exactly if it needs a run that stopped, which is at a directive of the text.
         ensures stopped { IfOk result (λ stop. stop ≡ refused_by asked.entry.query kept.now.stopped (text_for asked.entry.query asked.entry.text.now)) }
         ensures stops { IfOk result (λ stop. can_reach meaning (run_by meaning asked.entry.query (Some asked.entry.text.now)) (reach_of stop) ≡ true) }
@@ -95,7 +97,7 @@ impl Service for Bench {
             return Ok(Some(stop));
         }
         let front = DocumentQuery {
-            encoding: asked.encoding,
+            client: asked.client,
             query: asked.query,
             uri: asked.uri,
             text,
@@ -121,12 +123,13 @@ impl Bench {
         out: &mut Vec<u8>,
     ) -> Result<(), AllocError>
         requires { length asked.text.now ≤ MAX_TEXT }
-        ensures { OnOk result (out.new.items ≡ out.old.items ++ answer_by asked.entry.encoding asked.entry.query asked.entry.uri.now asked.entry.text.now) }
+        ensures { OnOk result (out.new.items ≡ out.old.items ++ answer_by asked.entry.client asked.entry.query asked.entry.uri.now asked.entry.text.now) }
     {
         let mut meter = WorkMeter::new(2 * MAX_WORK);
         let alloc = self.alloc;
         let run = &kept.run;
-        let encoding = asked.encoding;
+        let client = asked.client;
+        let encoding = client.encoding;
         let text = asked.text;
         let document = AskedDocument {
             encoding,
@@ -138,12 +141,25 @@ impl Bench {
                 add_actions(alloc, out, document, range, run, &mut meter)
             }
             Query::Formatting => add_formatting(alloc, out, encoding, text),
+            Query::RangeFormatting(range) => {
+                add_range_formatting(alloc, out, encoding, text, range)
+            }
             Query::Hover(position) => add_hover(alloc, out, document, position, run, &mut meter),
             Query::Completion(position) => {
-                add_completions(alloc, out, document, position, run, &mut meter)
+                let place = AskedPlace {
+                    client,
+                    text,
+                    position,
+                };
+                add_completions(alloc, out, place, run, &mut meter)
             }
             Query::FoldingRange => add_folds(alloc, out, text),
             Query::DocumentSymbol => add_symbols(alloc, out, encoding, text),
+            Query::Definition(position) => add_definition(alloc, out, document, position),
+            Query::References(position, includes) => {
+                add_references(alloc, out, document, position, includes)
+            }
+            Query::DocumentHighlight(position) => add_highlights(alloc, out, document, position),
         }
     }
 }

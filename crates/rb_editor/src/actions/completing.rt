@@ -4,10 +4,10 @@ ghost use Rattle.std.specs.Prelude.{◌≡◌, ◌≤◌, ◌^◌, ◌++◌, IfO
 ghost use Rattle.rb_lsp.specs.declared.document.limits.TheConstants.{MAX_TEXT};
 ghost use Rattle.rb_editor.specs.Completing.{complete, nodes_above, nodes_at};
 
-use crate::actions::document::AskedDocument;
 use crate::actions::run::DocumentRun;
 use crate::offers::{CompletionPlace, add_completion};
 use rb_lsp::document::Position;
+use rb_lsp::server::Client;
 use rb_machine::{Count, Machine};
 use rb_replay::Session;
 use rb_script::{Script, ScriptFault};
@@ -56,24 +56,34 @@ fn nodes_at<M: Nodes>(
     nodes_above(alloc, &text[..place.block()], kept, meter)
 }
 
+/// A position of a text, at which a client asks for completions.
+#[derive(Clone, Copy)]
+pub(crate) struct AskedPlace<'t> {
+    pub(crate) client: Client,
+    pub(crate) text: &'t [u8],
+    pub(crate) position: Position,
+}
+
 /// Adds the words that a document can continue with at a position. The ids of nodes are those of the cluster after the directives above, which
 /// the kept session runs from its last checkpoint that they share.
 #[tactic(auto, unfolding(crate::specs::Completing::complete))]
 pub(crate) fn add_completions<M: Nodes>(
     alloc: Global,
     out: &mut Vec<u8>,
-    document: AskedDocument<'_, '_>,
-    position: Position,
+    asked: AskedPlace<'_>,
     kept: &Option<DocumentRun<M>>,
     meter: &mut M::Meter,
 ) -> Result<(), AllocError>
-    requires bounded { length document.text.now ≤ MAX_TEXT }
+    requires bounded { length asked.text.now ≤ MAX_TEXT }
     requires meter { M.Meter.count_of meter.old ≤ 2 ^ 61 }
-    ensures { OnOk result (out.new.items ≡ out.old.items ++ complete document.entry.encoding position document.entry.text.now) }
+    ensures { OnOk result (out.new.items ≡ out.old.items ++ complete asked.entry.client asked.entry.position asked.entry.text.now) }
 {
-    let encoding = document.encoding;
-    let text = document.text;
-    let place = CompletionPlace::find(alloc, encoding, text, position)?;
+    let AskedPlace {
+        client,
+        text,
+        position,
+    } = asked;
+    let place = CompletionPlace::find(alloc, client.encoding, text, position)?;
     let nodes = nodes_at(alloc, text, &place, kept, meter)?;
-    add_completion(alloc, out, encoding, text, &place, nodes)
+    add_completion(alloc, out, client, text, &place, nodes)
 }

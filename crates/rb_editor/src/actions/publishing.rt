@@ -8,6 +8,7 @@ ghost use Rattle.rb_editor.specs.Published.{diagnostic_text, kind_text, message_
 
 use crate::actions::actual_output::ActualOutput;
 use crate::actions::diagnostic::{Diagnostic, DiagnosticKind};
+use crate::actions::shown_message::shown_message;
 use crate::offers::add_range_member;
 use rb_lsp::document::{Encoding, LineTable};
 use rb_lsp::server::Client;
@@ -45,7 +46,7 @@ fn kind_text(softens_later: bool, kind: DiagnosticKind) -> &'static [u8]
     }
 }
 
-// Adds the severity of a diagnostic, its code, and its message.
+// Adds the severity of a diagnostic, its code, and its message, in which only ends of lines act.
 #[tactic(auto, unfolding(crate::specs::Published::message_text))]
 fn add_message(
     out: &mut Vec<u8>,
@@ -54,11 +55,12 @@ fn add_message(
 ) -> Result<(), AllocError>
     ensures { OnOk result (out.new.items ≡ out.old.items ++ message_text softens_later diagnostic.now) }
 {
+    let shown = shown_message(*out.allocator(), diagnostic.message.as_slice())?;
+    out.extend_from_slice(kind_text(softens_later, diagnostic.kind))?;
     add_pieces(
         out,
         &[
-            Piece::Bytes(kind_text(softens_later, diagnostic.kind)),
-            Piece::Escaped(Json::Utf8, diagnostic.message.as_slice()),
+            Piece::Escaped(Json::Utf8, shown.as_slice()),
             Piece::Bytes(b"\""),
         ],
     )

@@ -66,7 +66,8 @@ fn served(alloc: Global, text: &[u8]) -> Result<&[u8], AllocError>
     above_fault(alloc, text, fault)
 }
 
-/// Gives the text by which a request is answered. A text that isn't a script isn't formatted, and can be completed anywhere.
+/// Gives the text by which a request is answered. A text that isn't a script isn't formatted, and can be completed anywhere; messages are found in
+/// all of it.
 ///
 /// # Errors
 ///
@@ -76,8 +77,10 @@ pub(crate) fn text_for(alloc: Global, asked: Query, text: &[u8]) -> Result<&[u8]
     ensures within { IfOk result (λ front. length front.now ≤ length text.now) }
 {
     match asked {
-        Query::Formatting | Query::Completion(_) => Ok(text),
-        _ => served(alloc, text),
+        Query::CodeAction(_) | Query::Hover(_) | Query::FoldingRange | Query::DocumentSymbol => {
+            served(alloc, text)
+        }
+        _ => Ok(text),
     }
 }
 

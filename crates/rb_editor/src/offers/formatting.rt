@@ -39,8 +39,8 @@ fn add_edit(out: &mut Vec<u8>, encoding: Encoding, old: &[u8], new: &[u8]) -> Re
     add_text_edit(out, edit.range, edit.new)
 }
 
-// Adds the edits that make one text of another: none if they are the same.
-fn add_edits(
+/// Adds the edits that make one text of another: none if they are the same.
+pub(crate) fn add_edits(
     out: &mut Vec<u8>,
     encoding: Encoding,
     old: &[u8],
@@ -70,8 +70,12 @@ fn cut(text: &[u8]) -> &[u8]
     &text[..text.len().saturating_sub(1)]
 }
 
-// Whether a text is a script with this canonical text.
-fn has_canonical(alloc: Global, canonical: &[u8], text: &[u8]) -> Result<bool, AllocError>
+/// Whether a text is a script with this canonical text.
+pub(crate) fn has_canonical(
+    alloc: Global,
+    canonical: &[u8],
+    text: &[u8],
+) -> Result<bool, AllocError>
     ensures { IfOk result (λ has. has ≡ has_canonical canonical.now (script_of text.now)) }
 {
     match script_of(alloc, text)? {
@@ -93,9 +97,9 @@ fn can_be_cut(alloc: Global, canonical: &[u8]) -> Result<bool, AllocError>
     has_canonical(alloc, canonical, cut(canonical))
 }
 
-// Gives a canonical text without the empty line at its end, if it is the same script so.
+/// Gives a canonical text without the empty line at its end, if it is the same script so.
 #[tactic(auto, unfolding(crate::specs::Formatting::formatted))]
-fn formatted(alloc: Global, canonical: &[u8]) -> Result<&[u8], AllocError>
+pub(crate) fn formatted(alloc: Global, canonical: &[u8]) -> Result<&[u8], AllocError>
     ensures { IfOk result (λ text. text.now ≡ formatted canonical.now) }
 {
     if can_be_cut(alloc, canonical)? {

@@ -1,6 +1,6 @@
 //! Theorems about what an editor is offered. The functions do nothing: their contracts are the theorems.
 
-ghost use Rattle.rb_editor.specs.OfferLaws.{BlocksStandApart, ChangesAreOfTheNodes, FormattingMakes, HeadsAreKnown, IdsAreOfTheNodes, KeysAreOfTheTable, LinesStayInOrder, NamesAreOfTheTable, ValuesAreOfTheOption};
+ghost use Rattle.rb_editor.specs.OfferLaws.{BlocksStandApart, ChangesAreOfTheNodes, FormattingMakes, HeadsAreKnown, IdsAreOfTheNodes, KeysAreOfTheTable, LinesStayInOrder, NamesAreOfTheTable, RangeFormattingKeeps, ValuesAreOfTheOption};
 
 /// The blocks of a text are in its lines, one after the other, and each has a head, a separator below it, and perhaps an expectation: so
 /// no fold goes beyond the text, and where two have a line in common one is within the other.
@@ -17,6 +17,12 @@ pub fn lines_stay_in_order()
 /// same script.
 pub fn formatting_makes_the_canonical_text()
     ensures { FormattingMakes }
+{}
+
+/// What goes out to format the directives in a range makes a text that is the same script.
+#[tactic(auto, using(crate::proofs::RangeFormattingLaws::range_kept))]
+pub fn range_formatting_keeps_the_script()
+    ensures { RangeFormattingKeeps }
 {}
 
 /// The names of directives that are offered are those of the table that begin so, in its order.

@@ -10,6 +10,7 @@ ghost use Rattle.rb_editor.specs.Texts.{listed};
 use crate::offers::block_lines::{BlockLines, blocks_of};
 use crate::offers::writing::{add_range, start_of};
 use rb_lsp::document::{Encoding, LineTable, Position, is_within};
+use rb_report::check::shown_name;
 use rb_script::{Lines, lines_of, trim_blanks};
 use rb_text::{Json, Piece, add_pieces};
 use std::alloc::{AllocError, Global};
@@ -33,8 +34,8 @@ fn first_characters(most: usize, bytes: &[u8]) -> &[u8]
     bytes
 }
 
-// Gives a line by its number, counted from 0.
-fn line_at(text: &Lines, n: usize) -> &[u8]
+/// Gives a line by its number, counted from 0.
+pub(crate) fn line_at(text: &Lines, n: usize) -> &[u8]
     ensures { result.now ≡ slice_index_or text.now n [] }
 {
     if n < text.len() { text.line(n) } else { b"" }
@@ -47,16 +48,17 @@ fn name_of(text: &Lines, from: usize) -> &[u8]
     first_characters(MAX_NAME, trim_blanks(line_at(text, from)))
 }
 
-// Adds the name and the kind of the symbol of a block whose head begins on a line.
+// Adds the name, in which nothing acts, and the kind of the symbol of a block whose head begins on a line.
 #[tactic(auto, unfolding(crate::specs::Symbols::name_text))]
 fn add_name(out: &mut Vec<u8>, text_lines: &Lines, from: usize) -> Result<(), AllocError>
     ensures { OnOk result (out.new.items ≡ out.old.items ++ name_text text_lines.now from) }
 {
+    let name = shown_name(*out.allocator(), name_of(text_lines, from))?;
     add_pieces(
         out,
         &[
             Piece::Bytes(b"{\"name\":\""),
-            Piece::Escaped(Json::Utf8, name_of(text_lines, from)),
+            Piece::Escaped(Json::Utf8, name.as_slice()),
             Piece::Bytes(b"\",\"kind\":24,\"range\":"),
         ],
     )

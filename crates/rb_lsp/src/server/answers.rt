@@ -109,12 +109,7 @@ pub(crate) fn answer_told<V: Service>(
 {
     match (phase, method) {
         (Phase::Running(client), Method::Asks(question)) => question_told(
-            alloc,
-            service,
-            documents,
-            client.encoding,
-            question,
-            request,
+            alloc, service, documents, client, question, request,
         ),
         _ => Ok(OutgoingText::whole(own_answer(alloc, phase, method, request.params, request.id)?)),
     }

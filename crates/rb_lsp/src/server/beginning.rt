@@ -2,7 +2,7 @@
 
 ghost use Rattle.std.specs.Prelude.{◌≡◌, false, IfOk, option_map};
 ghost use Rattle.serde_json.specs.View.{view};
-ghost use Rattle.rb_lsp.specs.Beginnings.{capabilities, chosen_encoding, client_of, completes, encoding_name, initialized, names_bytes, of_diagnostics, offered, offers_bytes, says_related, says_softens, softens_later, synchronizes, takes_related};
+ghost use Rattle.rb_lsp.specs.Beginnings.{capabilities, chosen_encoding, client_of, completes, encoding_name, initialized, names_bytes, of_diagnostics, of_items, offered, offers_bytes, says_related, says_snippets, says_softens, softens_later, synchronizes, takes_related, takes_snippets};
 
 use crate::document::Encoding;
 use crate::server::client::Client;
@@ -20,6 +20,7 @@ pub(crate) fn client_of(params: Option<&Value>) -> Option<Client>
     Some(Client {
         encoding: chosen_encoding(params),
         takes_related: takes_related(params),
+        takes_snippets: takes_snippets(params),
         softens_later: softens_later(params),
     })
 }
@@ -77,6 +78,29 @@ fn says_related(taken: &Value) -> Option<bool>
     ensures { result ≡ says_related (view taken.now) }
 {
     taken.get("relatedInformation").and_then(Value::as_bool)
+}
+
+// A client's capabilities for completion items.
+fn of_items(params: &Value) -> Option<&Value>
+    ensures { option_map (λ v. view v.now) result ≡ of_items (view params.now) }
+{
+    let capabilities = params.get("capabilities")?;
+    let documents = capabilities.get("textDocument")?;
+    documents.get("completion")?.get("completionItem")
+}
+
+// Whether a client takes snippets as completions.
+fn takes_snippets(params: &Value) -> bool
+    ensures { result ≡ takes_snippets (view params.now) }
+{
+    of_items(params).and_then(says_snippets).unwrap_or(false)
+}
+
+// Whether snippets are among these capabilities.
+fn says_snippets(taken: &Value) -> Option<bool>
+    ensures { result ≡ says_snippets (view taken.now) }
+{
+    taken.get("snippetSupport").and_then(Value::as_bool)
 }
 
 // Whether the mismatches after the first are information: yes, unless the client's settings say no.
@@ -141,7 +165,7 @@ fn capabilities(alloc: Global, encoding: Encoding) -> Result<Value, AllocError>
     let name = encoding_name(encoding);
     let completes = completes(alloc)?;
     let synchronizes = synchronizes(alloc)?;
-    json!(in alloc; {"codeActionProvider": true, "completionProvider": completes, "documentFormattingProvider": true, "documentSymbolProvider": true, "foldingRangeProvider": true, "hoverProvider": true, "positionEncoding": name, "textDocumentSync": synchronizes})
+    json!(in alloc; {"codeActionProvider": true, "completionProvider": completes, "definitionProvider": true, "documentFormattingProvider": true, "documentHighlightProvider": true, "documentRangeFormattingProvider": true, "documentSymbolProvider": true, "foldingRangeProvider": true, "hoverProvider": true, "positionEncoding": name, "referencesProvider": true, "textDocumentSync": synchronizes})
 }
 
 /// The answer to `initialize`: the server's capabilities.

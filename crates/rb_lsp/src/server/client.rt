@@ -9,6 +9,8 @@ pub struct Client {
     pub encoding: Encoding,
     /// Whether it takes related information with a diagnostic.
     pub takes_related: bool,
+    /// Whether it takes snippets as completions: texts that say where the cursor is.
+    pub takes_snippets: bool,
     /// Whether the mismatches after the first of a document are information instead of errors.
     pub softens_later: bool,
 }

@@ -1,17 +1,21 @@
 //! The methods that a server knows.
 
 ghost use Rattle.std.specs.Prelude.{◌≡◌};
-ghost use Rattle.rb_lsp.specs.Methods.{document_method, is_of_documents, method_of, question_method, whole_method};
+ghost use Rattle.rb_lsp.specs.Methods.{document_method, is_of_documents, message_method, method_of, question_method, whole_method};
 
 /// A kind of request about a document.
 #[derive(Clone, Copy, Debug, PartialEq, Eq)]
 pub(crate) enum Question {
     CodeAction,
     Formatting,
+    RangeFormatting,
     Hover,
     Completion,
     FoldingRange,
     DocumentSymbol,
+    Definition,
+    References,
+    DocumentHighlight,
 }
 
 /// A method.
@@ -48,6 +52,24 @@ fn whole_method(name: &str) -> Method
     }
 }
 
+// The method of this name that asks where else something is, or about a range.
+#[tactic(auto, unfolding(crate::specs::Methods::message_method))]
+fn message_method(name: &str) -> Method
+    ensures { result ≡ message_method name.now }
+{
+    if name == "textDocument/definition" {
+        Method::Asks(Question::Definition)
+    } else if name == "textDocument/references" {
+        Method::Asks(Question::References)
+    } else if name == "textDocument/documentHighlight" {
+        Method::Asks(Question::DocumentHighlight)
+    } else if name == "textDocument/rangeFormatting" {
+        Method::Asks(Question::RangeFormatting)
+    } else {
+        whole_method(name)
+    }
+}
+
 // The method of this name that asks about a document.
 #[tactic(auto, unfolding(crate::specs::Methods::question_method))]
 fn question_method(name: &str) -> Method
@@ -60,7 +82,7 @@ fn question_method(name: &str) -> Method
     } else if name == "textDocument/completion" {
         Method::Asks(Question::Completion)
     } else {
-        whole_method(name)
+        message_method(name)
     }
 }
 

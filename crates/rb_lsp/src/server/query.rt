@@ -2,7 +2,7 @@
 
 ghost use Rattle.std.specs.Prelude.{◌≡◌};
 ghost use Rattle.serde_json.specs.View.{view};
-ghost use Rattle.rb_lsp.specs.Questions.{asked_of};
+ghost use Rattle.rb_lsp.specs.Questions.{asked_of, includes_definition, says_includes};
 
 use crate::document::{Position, Range};
 use crate::rpc::{position_at, range_at};
@@ -16,6 +16,8 @@ pub enum Query {
     CodeAction(Range),
     /// The formatting of the text.
     Formatting,
+    /// The formatting of the directives in a range.
+    RangeFormatting(Range),
     /// The hover at a position.
     Hover(Position),
     /// The completions at a position.
@@ -24,6 +26,29 @@ pub enum Query {
     FoldingRange,
     /// The symbols of the document.
     DocumentSymbol,
+    /// The definition of what is at a position.
+    Definition(Position),
+    /// The references to what is at a position, and whether its definition is one.
+    References(Position, bool),
+    /// The places of the document to highlight, by a position.
+    DocumentHighlight(Position),
+}
+
+// Whether a definition is one of its references: yes, unless the client says no.
+fn includes_definition(params: &Value) -> bool
+    ensures { result ≡ includes_definition (view params.now) }
+{
+    params
+        .get("context")
+        .and_then(says_includes)
+        .unwrap_or(true)
+}
+
+// What the client says of that.
+fn says_includes(context: &Value) -> Option<bool>
+    ensures { result ≡ says_includes (view context.now) }
+{
+    context.get("includeDeclaration").and_then(Value::as_bool)
 }
 
 /// The request, if the method's parameters give it.
@@ -33,9 +58,18 @@ pub(crate) fn asked_of(question: Question, params: &Value) -> Option<Query>
     match question {
         Question::CodeAction => Some(Query::CodeAction(range_at(params, "range")?)),
         Question::Formatting => Some(Query::Formatting),
+        Question::RangeFormatting => Some(Query::RangeFormatting(range_at(params, "range")?)),
         Question::Hover => Some(Query::Hover(position_at(params, "position")?)),
         Question::Completion => Some(Query::Completion(position_at(params, "position")?)),
         Question::FoldingRange => Some(Query::FoldingRange),
         Question::DocumentSymbol => Some(Query::DocumentSymbol),
+        Question::Definition => Some(Query::Definition(position_at(params, "position")?)),
+        Question::References => Some(Query::References(
+            position_at(params, "position")?,
+            includes_definition(params),
+        )),
+        Question::DocumentHighlight => Some(Query::DocumentHighlight(position_at(
+            params, "position",
+        )?)),
     }
 }

@@ -12,8 +12,8 @@ ghost use Rattle.rb_lsp.specs.Documents.{text_of};
 ghost use Rattle.rb_lsp.specs.Reading.{waiting};
 ghost use Rattle.rb_lsp.specs.Questions.{answer_text, asked_of, body_text, cancelled_for, no_memory_for, not_open, of_text, question_body, question_run, stopped_for, text_by, unfit, with_asked};
 
-use crate::document::Encoding;
 use crate::rpc::{ErrorCode, failure, text_below, text_of};
+use crate::server::client::Client;
 use crate::server::documents::Documents;
 use crate::server::method::Question;
 use crate::server::outgoing::{OutgoingText, framed, framed_answer};
@@ -118,14 +118,14 @@ fn answered<V: Service>(
     requires bounded { length text.now ≤ MAX_TEXT }
     ensures reach { IfOk result (λ told. told.reach ≢ Reach.Cancelled) }
     ensures stops { IfOk result (λ told. can_reach V.meaning (run_by V.meaning request.now.query (Some text.now)) told.reach ≡ true) }
-    ensures said { IfOk result (λ told. told.out.items ≡ frame (text_by V.meaning told.reach request.now.encoding request.now.query request.now.uri.now (view request.now.id.now) text.now)) }
+    ensures said { IfOk result (λ told. told.out.items ≡ frame (text_by V.meaning told.reach request.now.client request.now.query request.now.uri.now (view request.now.id.now) text.now)) }
 {
     let mut body = Vec::new(alloc);
     body.extend_from_slice(b"{\"id\":")?;
     add_id(alloc, &mut body, request.id)?;
     body.extend_from_slice(b",\"jsonrpc\":\"2.0\",\"result\":")?;
     let asked = DocumentQuery {
-        encoding: request.encoding,
+        client: request.client,
         query: request.query,
         uri: request.uri,
         text,
@@ -151,7 +151,7 @@ fn unless_cancelled<V: Service>(
 ) -> Result<OutgoingText, AllocError>
     requires plain { has_float (view request.now.id.now) ≡ false }
     requires bounded { length text.now ≤ MAX_TEXT }
-    ensures said { IfOk result (λ told. told.out.items ≡ frame (text_by V.meaning told.reach request.now.encoding request.now.query request.now.uri.now (view request.now.id.now) text.now)) }
+    ensures said { IfOk result (λ told. told.out.items ≡ frame (text_by V.meaning told.reach request.now.client request.now.query request.now.uri.now (view request.now.id.now) text.now)) }
     // It is left undone as stopped only if it needs the run of the text, and that may stop there.
     ensures stops { IfOk result (λ told. can_reach V.meaning (run_by V.meaning request.now.query (Some text.now)) told.reach ≡ true) }
     // It isn't done exactly if it is cancelled.
@@ -174,10 +174,10 @@ fn of_text<V: Service>(
 ) -> Result<OutgoingText, AllocError>
     requires plain { has_float (view request.now.id.now) ≡ false }
     requires bounded { length text.now ≤ MAX_TEXT }
-    ensures said { IfOk result (λ told. told.out.items ≡ frame (of_text V.meaning told.reach request.now.encoding request.now.query request.now.uri.now (view request.now.id.now) (Some text.now))) }
+    ensures said { IfOk result (λ told. told.out.items ≡ frame (of_text V.meaning told.reach request.now.client request.now.query request.now.uri.now (view request.now.id.now) (Some text.now))) }
     ensures stops { IfOk result (λ told. can_reach V.meaning (run_by V.meaning request.now.query (Some text.now)) told.reach ≡ true) }
     ensures only { IfOk result (λ told. told.reach ≡ Reach.Cancelled → IsCancelled (view request.now.id.now) (waiting request.now.reader.now)) }
-    ensures cancelled { IfOk result (λ told. IsCancelled (view request.now.id.now) (waiting request.now.reader.now) → told.out.items ≡ frame (of_text V.meaning (undone told.reach) request.now.encoding request.now.query request.now.uri.now (view request.now.id.now) (Some text.now))) }
+    ensures cancelled { IfOk result (λ told. IsCancelled (view request.now.id.now) (waiting request.now.reader.now) → told.out.items ≡ frame (of_text V.meaning (undone told.reach) request.now.client request.now.query request.now.uri.now (view request.now.id.now) (Some text.now))) }
 {
     match unless_cancelled(alloc, service, request, text, kept) {
         Ok(told) => Ok(told),
@@ -196,10 +196,10 @@ fn of_document<V: Service>(
     request: &DocumentRequest<'_>,
 ) -> Result<OutgoingText, AllocError>
     requires { has_float (view request.now.id.now) ≡ false }
-    ensures said { IfOk result (λ told. told.out.items ≡ frame (of_text V.meaning told.reach request.now.encoding request.now.query request.now.uri.now (view request.now.id.now) (text_of request.now.uri.now documents.now))) }
+    ensures said { IfOk result (λ told. told.out.items ≡ frame (of_text V.meaning told.reach request.now.client request.now.query request.now.uri.now (view request.now.id.now) (text_of request.now.uri.now documents.now))) }
     ensures stops { IfOk result (λ told. can_reach V.meaning (run_by V.meaning request.now.query (text_of request.now.uri.now documents.now)) told.reach ≡ true) }
     ensures only { IfOk result (λ told. told.reach ≡ Reach.Cancelled → IsCancelled (view request.now.id.now) (waiting request.now.reader.now)) }
-    ensures cancelled { IfOk result (λ told. IsCancelled (view request.now.id.now) (waiting request.now.reader.now) → told.out.items ≡ frame (of_text V.meaning (undone told.reach) request.now.encoding request.now.query request.now.uri.now (view request.now.id.now) (text_of request.now.uri.now documents.now))) }
+    ensures cancelled { IfOk result (λ told. IsCancelled (view request.now.id.now) (waiting request.now.reader.now) → told.out.items ≡ frame (of_text V.meaning (undone told.reach) request.now.client request.now.query request.now.uri.now (view request.now.id.now) (text_of request.now.uri.now documents.now))) }
 {
     match documents.get(request.uri) {
         Some((text, kept)) => of_text(alloc, service, request, text, kept),
@@ -212,15 +212,15 @@ pub(crate) fn question_told<V: Service>(
     alloc: Global,
     service: &mut V,
     documents: &Documents<V::Kept>,
-    encoding: Encoding,
+    client: Client,
     question: Question,
     request: &ClientRequest<'_>,
 ) -> Result<OutgoingText, AllocError>
     requires { has_float (view request.now.id.now) ≡ false }
-    ensures said { IfOk result (λ told. told.out.items ≡ frame (question_body V.meaning told.reach encoding documents.now question (option_map (λ v. view v.now) request.now.params) (view request.now.id.now))) }
+    ensures said { IfOk result (λ told. told.out.items ≡ frame (question_body V.meaning told.reach client documents.now question (option_map (λ v. view v.now) request.now.params) (view request.now.id.now))) }
     ensures stops { IfOk result (λ told. can_reach V.meaning (question_run V.meaning documents.now question (option_map (λ v. view v.now) request.now.params)) told.reach ≡ true) }
     ensures only { IfOk result (λ told. told.reach ≡ Reach.Cancelled → IsCancelled (view request.now.id.now) (waiting request.now.reader.now)) }
-    ensures cancelled { IfOk result (λ told. IsCancelled (view request.now.id.now) (waiting request.now.reader.now) → told.out.items ≡ frame (question_body V.meaning (undone told.reach) encoding documents.now question (option_map (λ v. view v.now) request.now.params) (view request.now.id.now))) }
+    ensures cancelled { IfOk result (λ told. IsCancelled (view request.now.id.now) (waiting request.now.reader.now) → told.out.items ≡ frame (question_body V.meaning (undone told.reach) client documents.now question (option_map (λ v. view v.now) request.now.params) (view request.now.id.now))) }
 {
     let Some(params) = request.params else {
         return unfit(alloc, request.id);
@@ -232,7 +232,7 @@ pub(crate) fn question_told<V: Service>(
         return unfit(alloc, request.id);
     };
     let asked = DocumentRequest {
-        encoding,
+        client,
         query,
         uri: uri.as_bytes(),
         id: request.id,

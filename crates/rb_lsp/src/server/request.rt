@@ -1,7 +1,7 @@
 //! A request, as its message has it.
 
-use crate::document::Encoding;
 use crate::rpc::MessageReader;
+use crate::server::client::Client;
 use crate::server::query::Query;
 use serde_json::Value;
 
@@ -17,7 +17,7 @@ pub(crate) struct ClientRequest<'a> {
 /// A request about the document with this URI.
 #[derive(Drop)]
 pub(crate) struct DocumentRequest<'a> {
-    pub(crate) encoding: Encoding,
+    pub(crate) client: Client,
     pub(crate) query: Query,
     pub(crate) uri: &'a [u8],
     pub(crate) id: &'a Value,

@@ -5,16 +5,15 @@ ghost use Rattle.rb_lsp.specs.declared.document.limits.TheConstants.{MAX_TEXT};
 ghost use Rattle.rb_lsp.specs.Meanings.{Meaning, can_reach, run_by};
 ghost use Rattle.rb_lsp.specs.Notices.{reach_of};
 
-use crate::document::Encoding;
 use crate::server::client::Client;
 use crate::server::query::Query;
 use crate::server::stop::Stop;
 use std::alloc::AllocError;
 
-/// A query about a document: the unit of its columns, the query, its URI, and its text.
+/// A query about a document: the client, the query, the document's URI, and its text.
 #[derive(Clone, Copy)]
 pub struct DocumentQuery<'u, 't> {
-    pub encoding: Encoding,
+    pub client: Client,
     pub query: Query,
     pub uri: &'u [u8],
     pub text: &'t [u8],
@@ -58,6 +57,6 @@ pub trait Service {
         out: &mut Vec<u8>,
     ) -> Result<Option<Stop>, AllocError>
         requires { length asked.text.now ≤ MAX_TEXT }
-        ensures added { IfOk result (λ stop. stop ≡ None → out.new.items ≡ out.old.items ++ (meaning).answer asked.entry.encoding asked.entry.query asked.entry.uri.now asked.entry.text.now) }
+        ensures added { IfOk result (λ stop. stop ≡ None → out.new.items ≡ out.old.items ++ (meaning).answer asked.entry.client asked.entry.query asked.entry.uri.now asked.entry.text.now) }
         ensures stops { IfOk result (λ stop. can_reach (meaning) (run_by (meaning) asked.entry.query (Some asked.entry.text.now)) (reach_of stop) ≡ true) };
 }

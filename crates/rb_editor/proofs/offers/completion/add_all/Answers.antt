@@ -7,7 +7,7 @@ use Rattle.rb_editor.proofs.offers.completion.add_all.Goals as goal
 
 pub loop-offer-preserved : goal.loop-offer-preserved
 loop-offer-preserved c =
-    let text = item_text c.args.start c.args.end in
+    let text = item_text c.args.place in
     let list = c.args.list.now in
     let i = c.loop-offer.offer-index in
     let offer = c.offer-item.result in
@@ -17,6 +17,6 @@ loop-offer-preserved c =
 
 pub returns : goal.returns
 returns c =
-    let text = item_text c.args.start c.args.end in
+    let text = item_text c.args.place in
     let none = no_more text c.loop-offer.lead.now c.args.list.now c.loop-offer.offer-index (omega (arith, c.loop-offer-test.false)) in
     c.in_ok-extend_from_slice-2.ensures.items ∙ ap (λ (l : List ℕ). c.loop-offer.out.items ++ l) (sym none) ∙ c.loop-offer.invariant

@@ -6,4 +6,4 @@ use Rattle.rb_editor.proofs.offers.completion.add_all.Given as goal
 
 abbrev pub invariant-loop-offer : goal.invariant-loop-offer
 invariant-loop-offer l =
-    l.out.items ++ listed (item_text l.start l.end) l.lead (drop l.offer-index l.list) ≡ l.initial.out.items ++ listed (item_text l.start l.end) [] l.list
+    l.out.items ++ listed (item_text l.place) l.lead (drop l.offer-index l.list) ≡ l.initial.out.items ++ listed (item_text l.place) [] l.list
