@@ -307,6 +307,7 @@ def junit_cases(output: bytes) -> list[tuple[str, str, str, str]]:
     for suite in root:
         (case,) = suite
         assert (suite.tag, case.tag, suite.get("name")) == ("testsuite", "testcase", case.get("name")) and case.get("classname") == "raftbench"
+        assert case.get("file") == case.get("name", "").removeprefix("./"), case.attrib
         kinds = [part.tag for part in case]
         assert [suite.get(name) for name in ("tests", "failures", "errors")] == ["1", str(kinds.count("failure")), str(kinds.count("error"))], suite.attrib
         part = case[0] if kinds else ElementTree.Element("")

@@ -1,5 +1,5 @@
 -- What is done with the outputs of a script, and what is left of them.
-use Rattle.std.proofs.Common.{◌≡◌, ◌∙◌, ℕ, Bool, true, false, List, [], ◌∷◌, length, Option, Some, None, refl, ap, sym, subst}
+use Rattle.std.proofs.Common.{◌≡◌, ◌∙◌, ℕ, Bool, true, false, List, [], ◌∷◌, length, Option, Some, None, refl, ap}
 use Rattle.std.specs.Prelude.{◌≢◌, ◌||◌, ◌&&◌, not, if◌then◌else◌, MatchOption}
 use Rattle.rb_report.specs.declared.check.failure.Failure.{Failure}
 use Rattle.rb_check.specs.declared.check_request.CheckRequest.{CheckRequest}

@@ -5,7 +5,7 @@ use Rattle.std.specs.List.{list_any}
 use Rattle.rb_script.specs.Lines.{Line}
 use Rattle.rb_script.specs.Script.{PlainBlock, PlainScript}
 use Rattle.rb_replay.specs.Run.{outputs}
-use Rattle.rb_replay.specs.Report.{same_lines, differing, mismatches}
+use Rattle.rb_replay.specs.Report.{same_lines, differing}
 use Rattle.rb_report.specs.declared.check.colors.Colors.{Colors}
 use Rattle.rb_report.specs.declared.check.table.TheConstants.{MAX_SCRIPT_CELLS}
 use Rattle.rb_script_report.specs.declared.view.Detail.{Detail}

@@ -1,14 +1,12 @@
 -- Reviews: what comes, one thing after another, and questions, one after another.
-use Rattle.std.proofs.Common.{◌≡◌, ◌∙◌, ℕ, ◌+◌, ◌<◌, ◌≤◌, Bool, false, List, [], ◌∷◌, ◌++◌, length, Option, Some, None, refl, ap, sym, arith}
-use Rattle.std.specs.Prelude.{◌==◌, ◌||◌, ◌&&◌, not, if◌then◌else◌}
+use Rattle.std.proofs.Common.{◌≡◌, ◌∙◌, ◌+◌, ◌≤◌, List, [], ◌∷◌, ◌++◌, length, Option, Some, None, refl, ap, sym, arith}
 use Rattle.rb_check.specs.declared.answer.Answer.{Answer}
 use Rattle.rb_check.specs.declared.answer.Answer.TheVariants as answers
 use Rattle.rb_check.specs.declared.answer.HeardAnswer.{HeardAnswer}
 use Rattle.rb_check.specs.declared.answer.HeardAnswer.TheVariants as heard
 use Rattle.rb_check.specs.declared.question.ReviewQuestion.{ReviewQuestion}
-use Rattle.rb_check.specs.declared.review.Review.{Review}
 use Rattle.rb_check.specs.declared.review.Review.TheVariants as reviews
-use Rattle.rb_check.specs.Reviews.{Reviewing, reviewing, as_list, answered, after_answer, answered_one, first_heard, rest_heard, reviewed_all, said_by, next_review}
+use Rattle.rb_check.specs.Reviews.{Reviewing, as_list, answered, after_answer, first_heard, rest_heard, reviewed_all}
 
 -- ---- what comes
 

@@ -1,12 +1,12 @@
 -- Targets of a check, one after another.
-use Rattle.std.proofs.Common.{◌≡◌, ◌∙◌, ℕ, ◌+◌, ◌<◌, Bool, true, false, List, [], ◌∷◌, ◌++◌, length, take, get_or, Some, refl, ap, sym, subst, append_assoc, append-nil}
+use Rattle.std.proofs.Common.{◌≡◌, ◌∙◌, ℕ, ◌+◌, ◌<◌, Bool, false, List, [], ◌∷◌, ◌++◌, length, take, get_or, Some, refl, ap, sym, subst, append_assoc, append-nil}
 use Rattle.std.specs.Prelude.{slice_get}
 use Rattle.std.proofs.lemmas.Option.{slice_get_read}
 use Rattle.rb_files.specs.declared.path_error.PathError.{PathError}
 use Rattle.rb_report.specs.declared.check.failure.Failure.{Failure}
 use Rattle.rb_script.proofs.ListLaws.{take_there}
 use Rattle.rb_check.specs.declared.target.Target.{Target}
-use Rattle.rb_check.specs.Targets.{AddsLine, AreLines, AreNotFound, IsOfScript, another, memory, missing, one}
+use Rattle.rb_check.specs.Targets.{AddsLine, AreLines, AreNotFound, IsOfScript, another, memory, missing}
 
 pub target_at : (targets : List Target) (i : ℕ) (target : Target) → i < length targets → target ≡ get_or targets i target → slice_get targets i ≡ Some target
 target_at targets i target within is = slice_get_read targets (length targets) i target refl within is

@@ -1,7 +1,8 @@
 -- A script's report as workflow commands, one a line, which GitHub shows next to the script's lines. (GitHub, Workflow commands for
 -- GitHub Actions.)
-use Rattle.std.specs.Prelude.{ℕ, zero, suc, ◌==◌, ◌-◌, nat_le, if◌then◌else◌, List, [], ◌++◌, Option, Some, None, codes, decimal, length, slice_index, take}
+use Rattle.std.specs.Prelude.{ℕ, zero, suc, ◌==◌, ◌-◌, nat_le, if◌then◌else◌, List, [], ◌++◌, Option, Some, None, codes, decimal, drop, length, slice_index, take}
 use Rattle.std.specs.List.{flat_map}
+use Rattle.std.specs.Str.{bytes_eq}
 use Rattle.rb_script.specs.Lines.{Line}
 use Rattle.rb_report.specs.declared.check.colors.Colors.TheVariants.{Off}
 use Rattle.rb_report.specs.Pieces.{noun}
@@ -14,16 +15,22 @@ abbrev pub line_property : Option ℕ → List ℕ
 line_property None = []
 line_property (Some line) = codes ",line=" ++ decimal line
 
+-- a path without this at its front, if it has it there
+abbrev pub without_front : List ℕ → List ℕ → List ℕ
+without_front front path = if bytes_eq (take (length front) path) front then drop (length front) path else path
+
 abbrev pub piece_text : CommandPiece → List ℕ
 piece_text (pieces.Bytes bytes) = bytes.now
 piece_text (pieces.Property bytes) = flat_map in_property bytes.now
+piece_text (pieces.File path) = flat_map in_property (without_front (codes "./") path.now)
 piece_text (pieces.Message bytes) = flat_map in_message bytes.now
 piece_text (pieces.Line line) = line_property line
 
--- a command with the file, the line and the title that it is shown with, and what follows
+-- A command with the file, the line and the title that it is shown with, and what follows. GitHub knows a file by its path in the repository, which has no
+-- `./` at its front.
 abbrev pub command_with : List ℕ → List ℕ → Option ℕ → List ℕ → List ℕ → List ℕ
 command_with command path line title rest =
-    codes "::" ++ (command ++ (codes " file=" ++ (flat_map in_property path ++ (line_property line ++ (codes ",title=" ++ (flat_map in_property title ++ (codes "::" ++ rest)))))))
+    codes "::" ++ (command ++ (codes " file=" ++ (flat_map in_property (without_front (codes "./") path) ++ (line_property line ++ (codes ",title=" ++ (flat_map in_property title ++ (codes "::" ++ rest)))))))
 
 abbrev pub command_text : List ℕ → List ℕ → Option ℕ → List ℕ → List ℕ → List ℕ
 command_text command path line title message = command_with command path line title (flat_map in_message message ++ codes "\n")

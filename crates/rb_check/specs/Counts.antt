@@ -13,7 +13,6 @@ use Rattle.rb_script_report.specs.Errors.{error_count}
 use Rattle.rb_script_report.specs.Doubts.{all_warnings}
 use Rattle.rb_script_report.specs.declared.warning.Warning.{Warning}
 use Rattle.rb_check.specs.declared.ran.Ran.{Ran}
-use Rattle.rb_check.specs.declared.ran.ScriptEnd.{ScriptEnd}
 
 -- n of its mismatches are left, and the others are accepted
 abbrev pub counted_as : Ran → ℕ → Outcome

@@ -14,14 +14,16 @@ use Rattle.rb_report.specs.Notices.{warning_text}
 use Rattle.rb_report.specs.Refusals.{at_line}
 use Rattle.rb_script_report.specs.declared.view.Detail.TheVariants.{Differing}
 use Rattle.rb_script_report.specs.declared.warning.Warning.{Warning}
+use Rattle.rb_script_report.specs.Checked.{first_head}
 use Rattle.rb_script_report.specs.Errors.{error_count}
 use Rattle.rb_script_report.specs.Whys.{told_text}
 use Rattle.rb_check.specs.declared.junit.CaseVerdict.{CaseVerdict}
 use Rattle.rb_check.specs.declared.junit.CaseVerdict.TheVariants.{Passes, Fails, Errs}
 use Rattle.rb_check.specs.declared.kind.NoticeKind.{NoticeKind}
 use Rattle.rb_check.specs.declared.kind.NoticeKind.TheVariants as kinds
+use Rattle.rb_check.specs.Commands.{without_front}
 use Rattle.rb_check.specs.Counts.{ran_as, warnings_in}
-use Rattle.rb_check.specs.Xml.{in_text, in_value}
+use Rattle.rb_check.specs.Xml.{in_text, in_value, line_end}
 
 -- ---- a suite
 
@@ -37,12 +39,14 @@ body_of Passes message details = if length details == 0 then [] else codes "<sys
 body_of Fails message details = codes "<failure type=\"mismatch\" message=\"" ++ (flat_map in_value message ++ (codes "\">" ++ (flat_map in_text details ++ codes "</failure>")))
 body_of Errs message details = codes "<error type=\"refused\" message=\"" ++ (flat_map in_value message ++ (codes "\">" ++ (flat_map in_text details ++ codes "</error>")))
 
-abbrev pub suite_front : List ℕ → CaseVerdict → List ℕ
-suite_front path verdict =
-    codes "<testsuite name=\"" ++ (flat_map in_value path ++ (counts_of verdict ++ (codes "<testcase classname=\"raftbench\" name=\"" ++ (flat_map in_value path ++ codes "\">"))))
+-- its case has the file's path in the repository, and a line of the file, if there is one
+abbrev pub suite_front : List ℕ → Option ℕ → CaseVerdict → List ℕ
+suite_front path line verdict =
+    codes "<testsuite name=\"" ++ (flat_map in_value path ++ (counts_of verdict ++ (codes "<testcase classname=\"raftbench\" name=\""
+    ++ (flat_map in_value path ++ (codes "\" file=\"" ++ (flat_map in_value (without_front (codes "./") path) ++ line_end line))))))
 
-abbrev pub suite_text : List ℕ → CaseVerdict → List ℕ → List ℕ → List ℕ
-suite_text path verdict message details = suite_front path verdict ++ (body_of verdict message details ++ codes "</testcase></testsuite>\n")
+abbrev pub suite_text : List ℕ → Option ℕ → CaseVerdict → List ℕ → List ℕ → List ℕ
+suite_text path line verdict message details = suite_front path line verdict ++ (body_of verdict message details ++ codes "</testcase></testsuite>\n")
 
 -- ---- a script that ran, with these lines, whose heads begin on these lines
 
@@ -67,8 +71,9 @@ warnings_text path ws = flat_map (λ w. warning_text path w.line w.doubt) ws
 abbrev pub details_of : List Line → List ℕ → List (List Line) → List ℕ → PlainScript → List ℕ
 details_of ls path whys heads s = warnings_text path (warnings_in ls heads s) ++ told_text Differing Off ls path whys heads s
 
+-- its case is on the line of the first mismatch
 abbrev pub script_suite : Bool → List Line → List ℕ → List (List Line) → List ℕ → PlainScript → List ℕ
-script_suite strict ls path whys heads s = suite_text path (verdict_of strict ls heads s) (message_of ls heads s) (details_of ls path whys heads s)
+script_suite strict ls path whys heads s = suite_text path (first_head heads (mismatches s)) (verdict_of strict ls heads s) (message_of ls heads s) (details_of ls path whys heads s)
 
 -- ---- notices about a script
 
@@ -78,8 +83,8 @@ placed path line message = shown_name path ++ (at_line line ++ (codes ": " ++ (m
 
 -- a warning is in the suite of the script's run
 abbrev pub notice_suite : List ℕ → Option ℕ → NoticeKind → List ℕ → List ℕ
-notice_suite path line kinds.Refused message = suite_text path Errs message (placed path line message)
-notice_suite path line kinds.Failed message = suite_text path Errs message (placed path line message)
+notice_suite path line kinds.Refused message = suite_text path line Errs message (placed path line message)
+notice_suite path line kinds.Failed message = suite_text path line Errs message (placed path line message)
 notice_suite path line kinds.Warning message = []
-notice_suite path line kinds.Left message = suite_text path Passes message (placed path line message)
-notice_suite path line kinds.Accepted message = suite_text path Passes message (placed path line message)
+notice_suite path line kinds.Left message = suite_text path line Passes message (placed path line message)
+notice_suite path line kinds.Accepted message = suite_text path line Passes message (placed path line message)

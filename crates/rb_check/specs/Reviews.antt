@@ -1,12 +1,11 @@
 -- A review: what is asked about, what answers mean, and what is accepted by the lines that are read. (This project's.)
-use Rattle.std.specs.Prelude.{ℕ, zero, suc, ◌==◌, ◌||◌, ◌&&◌, ◌-◌, Bool, false, not, if◌then◌else◌, List, [], ◌∷◌, ◌++◌, Option, Some, None, codes, decimal, drop, length, min, nat_lt, slice_index_or, take}
+use Rattle.std.specs.Prelude.{ℕ, zero, suc, ◌==◌, ◌||◌, ◌&&◌, ◌-◌, Bool, not, if◌then◌else◌, List, [], ◌∷◌, ◌++◌, Option, Some, None, codes, decimal, drop, length, min, nat_lt, slice_index_or, take}
 use Rattle.std.specs.List.{flat_map, fold}
 use Rattle.std.specs.Str.{trim}
 use Rattle.rb_script.specs.Lines.{Line}
 use Rattle.rb_script.specs.Marks.{is_comment}
-use Rattle.rb_script.specs.Script.{PlainBlock, PlainScript}
+use Rattle.rb_script.specs.Script.{PlainBlock}
 use Rattle.rb_replay.specs.Report.{same_lines}
-use Rattle.rb_replay.specs.Run.{outputs}
 use Rattle.rb_script_report.specs.declared.accept_options.AcceptFilter.{AcceptFilter}
 use Rattle.rb_script_report.specs.Accepting.{is_picked}
 use Rattle.rb_script_report.specs.Checked.{of_each}

@@ -35,7 +35,7 @@ pub(crate) fn add_command<'a>(
             CommandPiece::Bytes(b"::"),
             CommandPiece::Bytes(command),
             CommandPiece::Bytes(b" file="),
-            CommandPiece::Property(path),
+            CommandPiece::File(path),
             CommandPiece::Line(line),
             CommandPiece::Bytes(b",title="),
             CommandPiece::Property(title),

@@ -1,8 +1,10 @@
 //! The report of scripts as JUnit's XML. Each script is a suite with one case, so nothing has to be counted before it is written.
 
-ghost use Rattle.std.specs.Prelude.{◌≡◌, ◌++◌, [], IfOk, OnOk};
+ghost use Rattle.std.specs.Prelude.{◌≡◌, ◌++◌, [], IfOk, OnOk, length};
 ghost use Rattle.rb_report.specs.Notices.{warning_text};
 ghost use Rattle.rb_report.specs.Counts.{nothing, of_outcome, status_of, together};
+ghost use Rattle.rb_replay.specs.Report.{mismatches};
+ghost use Rattle.rb_script_report.specs.Checked.{first_head};
 ghost use Rattle.rb_script_report.specs.Layouts.{IsLayout};
 ghost use Rattle.rb_check.specs.Findings.{AreFindings};
 ghost use Rattle.rb_check.specs.Counts.{counted_as, warnings_in};
@@ -15,7 +17,7 @@ use crate::xml::XmlPiece;
 use rb_machine::Machine;
 use rb_report::check::{Colors, Status, Totals, put_warning};
 use rb_script::Through;
-use rb_script_report::{Detail, View, Warning, put_checked};
+use rb_script_report::{Detail, View, Warning, first_index, number_at, put_checked};
 use rb_text::add_pieces;
 use std::alloc::{AllocError, Global};
 use std::mem;
@@ -40,8 +42,13 @@ fn counts_of(verdict: CaseVerdict) -> &'static [u8]
     }
 }
 
-fn add_front(text: &mut Vec<u8>, path: &[u8], verdict: CaseVerdict) -> Result<(), AllocError>
-    ensures { OnOk result (text.new.items ≡ text.old.items ++ suite_front path.now verdict) }
+fn add_front(
+    text: &mut Vec<u8>,
+    path: &[u8],
+    line: Option<usize>,
+    verdict: CaseVerdict,
+) -> Result<(), AllocError>
+    ensures { OnOk result (text.new.items ≡ text.old.items ++ suite_front path.now line verdict) }
 {
     add_pieces(
         text,
@@ -51,7 +58,9 @@ fn add_front(text: &mut Vec<u8>, path: &[u8], verdict: CaseVerdict) -> Result<()
             XmlPiece::Bytes(counts_of(verdict)),
             XmlPiece::Bytes(b"<testcase classname=\"raftbench\" name=\""),
             XmlPiece::Value(path),
-            XmlPiece::Bytes(b"\">"),
+            XmlPiece::Bytes(b"\" file=\""),
+            XmlPiece::File(path),
+            XmlPiece::LineEnd(line),
         ],
     )
 }
@@ -110,13 +119,14 @@ fn add_output(text: &mut Vec<u8>, details: &[u8]) -> Result<(), AllocError>
 fn add_suite(
     text: &mut Vec<u8>,
     path: &[u8],
+    line: Option<usize>,
     verdict: CaseVerdict,
     message: &[u8],
     details: &[u8],
 ) -> Result<(), AllocError>
-    ensures { IfOk result (λ _. text.new.items ≡ text.old.items ++ suite_text path.now verdict message.now details.now) }
+    ensures { IfOk result (λ _. text.new.items ≡ text.old.items ++ suite_text path.now line verdict message.now details.now) }
 {
-    add_front(text, path, verdict)?;
+    add_front(text, path, line, verdict)?;
     add_body(text, verdict, message, details)?;
     add_pieces(text, &[XmlPiece::Bytes(b"</testcase></testsuite>\n")])?;
     Ok(())
@@ -217,6 +227,17 @@ fn details_of<M: Machine>(
     }
 }
 
+// The line of the first mismatch.
+fn first_head<M: Machine>(subject: &CheckedScript<'_, M>) -> Option<usize>
+    requires { length subject.now.layout.now.heads.items ≡ length subject.now.session.now.script.blocks }
+    ensures { result ≡ first_head subject.now.layout.now.heads.items (mismatches subject.now.session.now.script) }
+{
+    match first_index(subject.session) {
+        Some(index) => Some(number_at(subject.layout.heads.as_slice(), index)),
+        None => None,
+    }
+}
+
 /// The suite of a script that ran: its case fails where the script alone would end the check with another status than 0.
 pub(crate) fn script_suite<M: Machine>(
     alloc: Global,
@@ -232,7 +253,8 @@ pub(crate) fn script_suite<M: Machine>(
     let mut text = Vec::new(alloc);
     let path = subject.path.as_bytes();
     let verdict = verdict_of(ran, is_strict);
-    add_suite(&mut text, path, verdict, &message, &details)?;
+    let line = first_head(subject);
+    add_suite(&mut text, path, line, verdict, &message, &details)?;
     Ok(text)
 }
 
@@ -271,6 +293,27 @@ fn placed<'a>(
     Ok(text)
 }
 
+// Adds the suite of a notice, with this verdict.
+fn add_placed(
+    alloc: Global,
+    text: &mut Vec<u8>,
+    verdict: CaseVerdict,
+    notice: ScriptNotice<'_>,
+) -> Result<(), AllocError>
+    ensures { IfOk result (λ _. text.new.items ≡ text.old.items ++ suite_text notice.entry.path.now notice.entry.line verdict notice.entry.message.now (placed notice.entry.path.now notice.entry.line notice.entry.message.now)) }
+{
+    let details = placed(alloc, notice.path, notice.line, notice.message)?;
+    add_suite(
+        text,
+        notice.path,
+        notice.line,
+        verdict,
+        notice.message,
+        &details,
+    )?;
+    Ok(())
+}
+
 /// Adds the suite of a notice about a script. A warning is in the suite of the script's run.
 pub(crate) fn add_notice_suite(
     alloc: Global,
@@ -279,12 +322,13 @@ pub(crate) fn add_notice_suite(
 ) -> Result<(), AllocError>
     ensures { IfOk result (λ _. text.new.items ≡ text.old.items ++ notice_suite notice.entry.path.now notice.entry.line notice.entry.kind notice.entry.message.now) }
 {
-    let verdict = match notice.kind {
-        NoticeKind::Refused | NoticeKind::Failed => CaseVerdict::Errs,
-        NoticeKind::Left | NoticeKind::Accepted => CaseVerdict::Passes,
-        NoticeKind::Warning => return Ok(()),
-    };
-    let details = placed(alloc, notice.path, notice.line, notice.message)?;
-    add_suite(text, notice.path, verdict, notice.message, &details)?;
-    Ok(())
+    match notice.kind {
+        NoticeKind::Refused | NoticeKind::Failed => {
+            add_placed(alloc, text, CaseVerdict::Errs, notice)
+        }
+        NoticeKind::Left | NoticeKind::Accepted => {
+            add_placed(alloc, text, CaseVerdict::Passes, notice)
+        }
+        NoticeKind::Warning => Ok(()),
+    }
 }

@@ -1,8 +1,8 @@
 //! The pieces that a workflow command is put together of.
 
-ghost use Rattle.std.specs.Prelude.{IsOk};
+ghost use Rattle.std.specs.Prelude.{◌≡◌, IsOk};
 ghost use Rattle.rb_script.specs.Writes.{Writes};
-ghost use Rattle.rb_check.specs.Commands.{line_property, piece_text};
+ghost use Rattle.rb_check.specs.Commands.{line_property, piece_text, without_front};
 
 use crate::escape::CommandPart;
 use rb_script::{Sink, WriteFault};
@@ -15,6 +15,8 @@ pub(crate) enum CommandPiece<'a> {
     Bytes(&'a [u8]),
     /// The bytes as they are in the value of a property.
     Property(&'a [u8]),
+    /// The same of a path as it is in a repository: without `./` at its front.
+    File(&'a [u8]),
     /// The bytes as they are in the message.
     Message(&'a [u8]),
     /// The property of a line, if there is one.
@@ -28,9 +30,22 @@ impl WrittenPiece for CommandPiece<'_> {
         match *self {
             CommandPiece::Bytes(bytes) => sink.put(bytes),
             CommandPiece::Property(bytes) => put_escaped(sink, &CommandPart::Property, bytes),
+            CommandPiece::File(path) => {
+                put_escaped(sink, &CommandPart::Property, without_front(b"./", path))
+            }
             CommandPiece::Message(bytes) => put_escaped(sink, &CommandPart::Message, bytes),
             CommandPiece::Line(line) => put_line(sink, line),
         }
+    }
+}
+
+/// A path without this at its front, if it has it there.
+pub(crate) fn without_front<'a>(front: &[u8], path: &'a [u8]) -> &'a [u8]
+    ensures { result.now ≡ without_front front.now path.now }
+{
+    match path.strip_prefix(front) {
+        Some(rest) => rest,
+        None => path,
     }
 }
 

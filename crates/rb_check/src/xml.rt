@@ -2,13 +2,14 @@
 
 ghost use Rattle.std.specs.Prelude.{IsOk};
 ghost use Rattle.rb_script.specs.Writes.{Writes};
-ghost use Rattle.rb_check.specs.Xml.{byte_text, in_text, in_value, piece_text};
+ghost use Rattle.rb_check.specs.Xml.{byte_text, in_text, in_value, line_end, piece_text};
 
+use crate::piece::without_front;
 use crate::replaced::{Replaced, put_replaced};
 use crate::visible::visible_text;
 use rb_report::check::{by_number, put_name};
 use rb_script::{Sink, WriteFault};
-use rb_text::{Escape, WrittenPiece, put_escaped, put_number};
+use rb_text::{Escape, Piece, WrittenPiece, put_escaped, put_number, put_pieces};
 
 /// Where bytes are in XML.
 #[derive(Clone, Copy)]
@@ -71,6 +72,10 @@ pub(crate) enum XmlPiece<'a> {
     Text(&'a [u8]),
     /// The bytes as they are in the value of an attribute.
     Value(&'a [u8]),
+    /// The same of a path as it is in a repository: without `./` at its front.
+    File(&'a [u8]),
+    /// The end of an attribute and of the front of an element, with the attribute of a line between them, if there is one.
+    LineEnd(Option<usize>),
 }
 
 impl WrittenPiece for XmlPiece<'_> {
@@ -83,6 +88,27 @@ impl WrittenPiece for XmlPiece<'_> {
             XmlPiece::Number(number) => put_number(sink, number),
             XmlPiece::Text(bytes) => put_escaped(sink, &XmlPart::Text, bytes),
             XmlPiece::Value(bytes) => put_escaped(sink, &XmlPart::Value, bytes),
+            XmlPiece::File(path) => {
+                put_escaped(sink, &XmlPart::Value, without_front(b"./", path))
+            }
+            XmlPiece::LineEnd(line) => put_line_end(sink, line),
         }
+    }
+}
+
+fn put_line_end<S: Sink>(sink: &mut S, line: Option<usize>) -> Result<(), WriteFault>
+    ensures wrote { Writes result (S.held sink.old) (S.held sink.new) (line_end line) }
+    ensures all { S.takes_all sink.old → IsOk result × S.takes_all sink.new }
+{
+    match line {
+        Some(line) => put_pieces(
+            sink,
+            &[
+                Piece::Bytes(b"\" line=\""),
+                Piece::Number(line as u64),
+                Piece::Bytes(b"\">"),
+            ],
+        ),
+        None => sink.put(b"\">"),
     }
 }

@@ -2,7 +2,7 @@
 
 /// The options but for `log-level`, in the order of the document's table: a directive, and the option's key.
 #[rattlefmt::skip]
-pub const KEYS: [(&[u8], &[u8]); 16] = [
+pub const KEYS: [(&[u8], &[u8]); 19] = [
     (b"add-nodes", b"voters"),
     (b"add-nodes", b"learners"),
     (b"add-nodes", b"index"),
@@ -15,6 +15,9 @@ pub const KEYS: [(&[u8], &[u8]); 16] = [
     (b"propose-conf-change", b"transition"),
     (b"deliver-msgs", b"type"),
     (b"deliver-msgs", b"drop"),
+    (b"deliver-msgs", b"from"),
+    (b"deliver-msgs", b"skip"),
+    (b"deliver-msgs", b"count"),
     (b"stabilize", b"rounds"),
     (b"set-randomized-election-timeout", b"timeout"),
     (b"transfer-leadership", b"from"),

@@ -2,7 +2,7 @@
 
 /// A page for each directive, in the order of the document's table: its name, its line of the overview, and the page.
 #[rattlefmt::skip]
-pub const PAGES: [(&[u8], &[u8], &[u8]); 19] = [
+pub const PAGES: [(&[u8], &[u8], &[u8]); 20] = [
     (b"add-nodes", b"\
 add-nodes n [voters=..] [learners=..] [index=..] [content=..] [inflight=..]\n\
 \x20       [prevote=..] [checkquorum=..] [step-down-on-removal=..]\n\
@@ -229,18 +229,33 @@ For example:\n\
 raftbench-directives(7) explains the lines of outputs, and the errors.\n\
 "),
     (b"deliver-msgs", b"\
-deliver-msgs [id ..] [type=..] [drop=..]\n\
+deliver-msgs [id ..] [type=..] [drop=..] [from=..] [skip=..] [count=..]\n\
 \x20   delivers pending messages to nodes, and drops some\n\
 ", b"\
-deliver-msgs [id ..] [type=..] [drop=..]\n\
+deliver-msgs [id ..] [type=..] [drop=..] [from=..] [skip=..] [count=..]\n\
 \n\
 Delivers pending messages to nodes, and drops some.\n\
 \n\
 Delivers to each of the nodes, in the given order, its pending messages, in\n\
-their order. With type, only messages of these types. Then it drops the messages\n\
-(of these types) for the nodes in drop. If there is nothing to deliver or drop,\n\
-it prints no messages; so give it ids, or drop. A message stays pending until it\n\
-is delivered or dropped, even if its receiver doesn't exist.\n\
+their order. Then it drops the messages for the nodes in drop. If there is\n\
+nothing to deliver or drop, it prints no messages; so give it ids, or drop. A\n\
+message stays pending until it is delivered or dropped, even if its receiver\n\
+doesn't exist.\n\
+\n\
+The other options choose among the messages of each node, both to deliver and to\n\
+drop:\n\
+\n\
+\x20 type\n\
+\x20     takes only messages of these types\n\
+\n\
+\x20 from\n\
+\x20     takes only messages of this sender\n\
+\n\
+\x20 skip\n\
+\x20     skips this many messages first\n\
+\n\
+\x20 count\n\
+\x20     takes at most this many messages\n\
 \n\
 id\n\
 \x20   a number from 1 to 32\n\
@@ -249,6 +264,12 @@ type\n\
 \x20   MsgUnreachable, of which there is never one\n\
 drop\n\
 \x20   any number of ids\n\
+from\n\
+\x20   a number from 1 to 32\n\
+skip\n\
+\x20   a number from 0 to 4,096; 0 by default\n\
+count\n\
+\x20   a number from 1 to 4,096; all by default\n\
 log-level\n\
 \x20   debug, info, warn, error, fatal or none, in any letter case; all other names\n\
 \x20   are exact\n\
@@ -523,6 +544,36 @@ For example:\n\
 \x20   ----\n\
 \x20   base=1/11 durable=12 commit=12 applied=12\n\
 \x20   1/12 \"a\"\n\
+\n\
+raftbench-directives(7) explains the lines of outputs, and the errors.\n\
+"),
+    (b"restart", b"\
+restart id ..\n\
+\x20   each node crashes, and starts from what it saved\n\
+", b"\
+restart id ..\n\
+\n\
+Each node crashes, and starts from what it saved.\n\
+\n\
+Each of the nodes, in the given order, crashes and starts again from what it\n\
+saved last: its term, vote, commit and log. What came since then is lost: a\n\
+term, a vote, entries that are unsaved, a restored snapshot, messages that it\n\
+hadn't sent. Nothing that it had sent depends on that, unless send-snapshot sent\n\
+an unsaved term. The node is a follower without a leader. It has applied only\n\
+what is at the base of its log, so its next process-ready applies committed\n\
+entries again. Its options and all pending messages stay.\n\
+\n\
+id\n\
+\x20   a number from 1 to 32\n\
+log-level\n\
+\x20   debug, info, warn, error, fatal or none, in any letter case; all other names\n\
+\x20   are exact\n\
+\n\
+For example:\n\
+\n\
+\x20   restart 1\n\
+\x20   ----\n\
+\x20   INFO 1 restarted at term=1 vote=1 log=10..11 commit=11\n\
 \n\
 raftbench-directives(7) explains the lines of outputs, and the errors.\n\
 "),

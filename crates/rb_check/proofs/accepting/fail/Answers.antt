@@ -1,6 +1,5 @@
-use Rattle.std.proofs.Common.{◌≡◌, ◌∙◌, ℕ, Bool, List, ◌++◌, refl, ap, sym}
+use Rattle.std.proofs.Common.{Bool, ◌++◌, ap, sym}
 use Rattle.rb_check.specs.AcceptTexts.{refusal_note}
-use Rattle.rb_check.specs.declared.report_state.ReportState.{ReportState}
 use Rattle.rb_check.specs.Shown.{LosesNothing, cleared, failure_lines, long_line_text}
 use Rattle.rb_check.proofs.AcceptLaws.{refusal_alone, refusal_whole}
 use Rattle.rb_check.proofs.ShownLaws.{told_along, told_then}

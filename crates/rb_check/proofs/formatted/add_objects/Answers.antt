@@ -1,4 +1,4 @@
-use Rattle.std.proofs.Common.{◌≡◌, ◌∙◌, ℕ, ◌+◌, ◌++◌, List, drop, arith, ap}
+use Rattle.std.proofs.Common.{◌∙◌, ℕ, ◌+◌, ◌++◌, List, drop, arith, ap}
 use Rattle.rb_replay.specs.Run.{outputs}
 use Rattle.rb_report.specs.Whys.{reasons_in}
 use Rattle.rb_script_report.proofs.EachLaws.{more, done}

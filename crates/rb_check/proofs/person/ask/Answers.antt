@@ -1,9 +1,9 @@
-use Rattle.std.proofs.Common.{◌≡◌, ◌∙◌, ◌-◌, ◌^◌, ℕ, List, [], ◌∷◌, ◌++◌, Option, length, length-append, refl, ap, sym, arith}
+use Rattle.std.proofs.Common.{◌≡◌, ◌∙◌, ◌-◌, ◌^◌, ℕ, List, [], ◌∷◌, ◌++◌, length, length-append, refl, ap, sym, arith}
 use Rattle.std.specs.List.{flat_map}
 use Rattle.rb_check.specs.declared.answer.HeardAnswer.{HeardAnswer}
 use Rattle.rb_check.specs.declared.report_state.ReportForm.{ReportForm}
 use Rattle.rb_check.specs.Asking as asking
-use Rattle.rb_check.specs.Asking.{echo_of, help_text, missed_text}
+use Rattle.rb_check.specs.Asking.{echo_of, missed_text}
 use Rattle.rb_check.specs.Reviews.{answered, after_answer}
 use Rattle.rb_check.proofs.AskingLaws.{asked_again}
 use Rattle.rb_check.proofs.ReviewLaws.{else_answered, else_after, else_length}

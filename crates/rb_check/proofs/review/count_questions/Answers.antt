@@ -1,4 +1,4 @@
-use Rattle.std.proofs.Common.{◌≡◌, ◌∙◌, ℕ, ◌+◌, List, drop, length, ap, arith}
+use Rattle.std.proofs.Common.{◌∙◌, ℕ, ◌+◌, List, drop, length, ap, arith}
 use Rattle.rb_script.specs.Lines.{Line}
 use Rattle.rb_script.specs.Script.{PlainBlock}
 use Rattle.rb_replay.specs.Report.{differing}

@@ -1,4 +1,4 @@
-use Rattle.std.proofs.Common.{◌≡◌, ◌∙◌, ◌+◌, ◌-◌, ◌<◌, ◌^◌, ◌++◌, ℕ, List, [], drop, length, refl, ap, sym, subst, arith}
+use Rattle.std.proofs.Common.{◌≡◌, ◌∙◌, ◌+◌, ◌-◌, ◌<◌, ◌^◌, ◌++◌, ℕ, List, [], drop, refl, subst, arith}
 use Rattle.rb_script.specs.Lines.{Line}
 use Rattle.rb_script.specs.Script.{PlainBlock}
 use Rattle.rb_replay.specs.Report.{differing, mismatches}
@@ -6,7 +6,7 @@ use Rattle.rb_replay.specs.Run.{outputs}
 use Rattle.rb_script_report.proofs.EachLaws.{each_done}
 use Rattle.rb_check.specs.declared.report_state.ReportForm.{ReportForm}
 use Rattle.rb_check.specs.Asking.{AreAsked, asked_places, places_of}
-use Rattle.rb_check.specs.Reviews.{as_list, question_of, questions_of, reviewed_all, reviewing}
+use Rattle.rb_check.specs.Reviews.{as_list, question_of}
 use Rattle.rb_check.specs.ScriptTexts.{checked}
 use Rattle.rb_check.proofs.AskingLaws.{Gone, asked_few, gone_all, gone_on, none_gone, places_done}
 use Rattle.rb_check.proofs.ReviewLaws.{goes_on, gone}

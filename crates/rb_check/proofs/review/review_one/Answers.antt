@@ -1,4 +1,4 @@
-use Rattle.std.proofs.Common.{◌≡◌, ◌∙◌, ◌+◌, ◌-◌, ◌^◌, ℕ, List, [], ◌∷◌, Option, length, ap, sym, subst, arith}
+use Rattle.std.proofs.Common.{◌≡◌, ◌∙◌, ◌+◌, ◌-◌, ◌^◌, ℕ, List, [], Option, length, ap, sym, subst, arith}
 use Rattle.std.specs.Prelude.{IfSome, min}
 use Rattle.rb_check.specs.declared.question.ReviewQuestion.{ReviewQuestion}
 use Rattle.rb_check.specs.declared.review.Review.{Review}

@@ -1,8 +1,7 @@
-use Rattle.std.proofs.Common.{◌≡◌, ◌∙◌, ℕ, List, subst}
+use Rattle.std.proofs.Common.{◌∙◌, subst}
 use Rattle.rb_check.specs.declared.review.Review.{Review}
 use Rattle.rb_check.specs.declared.review.Review.TheVariants as reviews
 use Rattle.rb_check.specs.Asking.{AreReviewed}
-use Rattle.rb_check.specs.Reviews.{review_behind}
 use Rattle.rb_check.specs.ScriptTexts.{checked}
 use Rattle.rb_check.proofs.AskingLaws.{from_before}
 use Rattle.rb_check.proofs.ShownLaws.{on_err}

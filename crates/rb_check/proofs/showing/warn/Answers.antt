@@ -1,6 +1,5 @@
-use Rattle.std.proofs.Common.{◌∙◌, Bool, List, [], ap, sym}
+use Rattle.std.proofs.Common.{◌∙◌, Bool, [], ap, sym}
 use Rattle.std.specs.Prelude.{if◌then◌else◌}
-use Rattle.rb_script_report.specs.declared.warning.Warning.{Warning}
 use Rattle.rb_check.specs.Counts.{warnings_in}
 use Rattle.rb_check.specs.Shown.{warnings_text}
 use Rattle.rb_check.proofs.ShownLaws.{along, goes_nothing}
