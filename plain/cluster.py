@@ -8,7 +8,7 @@ from typing import Any, Sequence
 
 from .config import Config
 from .directives import LEVELS, MOST_NODES, Refused, Request, change_asked
-from .network import Network
+from .network import MOST_PENDING, Choice, Network
 from .node import Node
 from .records import AnyNode, Message, Options, Ready
 from .script import Argument, Directive
@@ -144,6 +144,10 @@ class Cluster:
     def do_report_unreachable(self, words: Words, *_: object) -> None:
         self.call(words[0], "report_unreachable", words[1])
 
+    def do_restart(self, words: Words, *_: object) -> None:
+        for id in words:
+            self.call(id, "restart")
+
     def do_compact(self, words: Words, *_: object) -> None:
         node, index = self.nodes[words[0]], words[1]
         if index <= node.base:
@@ -163,8 +167,8 @@ class Cluster:
         elif verb:
             self.put_message(verb, message)
 
-    def deliver(self, id: int, types: Sequence[str] | None = None) -> int:
-        taken = self.network.take(id, types)
+    def deliver(self, id: int, choice: Choice = Choice()) -> int:
+        taken = self.network.take(id, choice)
         for message in taken:
             self.put_message("deliver", message)
             self.call(id, "step", message)
@@ -202,11 +206,12 @@ class Cluster:
                 self.put(f"{id} has nothing ready")
 
     def do_deliver_msgs(self, words: Words, options: Given, _: Input) -> None:
-        types, met = options.get("type"), 0
+        choice = Choice(options.get("type"), options.get("from"), options.get("skip", 0), options.get("count", MOST_PENDING))
+        met = 0
         for id in words:
-            met += self.deliver(id, types)
+            met += self.deliver(id, choice)
         for id in options.get("drop", []):
-            for message in self.network.take(id, types):
+            for message in self.network.take(id, choice):
                 self.drop(message)
                 met += 1
         if not met:

@@ -124,7 +124,19 @@ class Dice(random.Random):
             text += f" type={self.list_of(self.sample(TYPES, self.choice([0, 1, 1, 2, 4])))}"
         if self.some(0.25):
             text += f" drop={self.list_of([self.id() for _ in range(self.choice([0, 1, 1, 2]))])}"
+        return text + self.options_of_choice()
+
+    def options_of_choice(self) -> str:
+        """Which of the messages are meant: now and then some of a sender, or some in the middle."""
+        text = f" from={self.id()}" if self.some(0.15) else ""
+        if self.some(0.15):
+            text += f" skip={self.choice([0, 1, 1, 2, 5, 4096])}"
+        if self.some(0.2):
+            text += f" count={self.choice([1, 1, 1, 2, 3, 4096])}"
         return text
+
+    def restart(self) -> str:
+        return "restart " + " ".join(map(str, self.ids(2)))
 
     def stabilize(self) -> str:
         text = "stabilize"
@@ -204,7 +216,7 @@ class Dice(random.Random):
     # What makes sense only together: lists of heads
 
     def together(self) -> list[Piece]:
-        names = ["cut_off", "installed", "handed_over", "raced", "lost", "refused", "stepped_down"]
+        names = ["cut_off", "installed", "handed_over", "raced", "lost", "refused", "stepped_down", "crashed", "given_back", "late_answers"]
         pieces: list[Piece] = getattr(self, self.choice(names))(self.favourite, self.id())
         return pieces
 
@@ -256,6 +268,27 @@ class Dice(random.Random):
         others = self.others(leader)
         steps = [f"tick-heartbeat {leader}", f"process-ready {leader}", f"deliver-msgs {others}", f"process-ready {others}"]
         return [*steps, f"tick-election {leader}", f"tick-election {leader}", f"campaign {leader}", f"deliver-msgs {leader}"]
+
+    def crashed(self, leader: int, behind: int) -> list[str]:
+        """Nodes crash with what a leader sent them, or before they send what they have."""
+        steps = [self.choice([f"propose {leader} y", f"campaign {leader}", f"send-snapshot {leader} {behind}"]), f"process-ready {leader}"]
+        steps += [f"deliver-msgs {behind}{self.options_of_choice()}"] + [f"process-ready {behind}"] * self.choice([0, 0, 1])
+        steps.append("restart " + self.choice([f"{behind}", f"{behind}", f"{leader}", f"{behind} {leader}"]))
+        return steps + self.choice([["stabilize"], [f"campaign {leader}", "stabilize"], [f"process-ready {behind}"], []])
+
+    def given_back(self, leader: int, other: int) -> list[str]:
+        """Entries of a leader give way to those of another, and are back after a crash."""
+        rest = self.others(leader)
+        steps = [f"propose {leader} {self.payload()}"] * self.choice([1, 2, 3]) + [f"process-ready {leader}", f"deliver-msgs drop=({rest.replace(' ', ',')})"]
+        steps += [f"campaign {other}", f"stabilize {rest}", f"deliver-msgs {leader}", f"raft-log {leader}", f"restart {leader}", f"raft-log {leader}"]
+        return steps + self.choice([["stabilize"], [f"campaign {leader}", "stabilize"], []])
+
+    def late_answers(self, one: int, _: int) -> list[str]:
+        """Answers to questions come once the election is decided."""
+        others = self.others(one)
+        asked = [f"process-ready {one}", f"deliver-msgs {others}", f"process-ready {others}"]
+        won = [f"deliver-msgs {one} type=MsgPreVoteResp count=1", *asked, f"deliver-msgs {one} type=MsgVoteResp"]
+        return [f"campaign {one}", *asked, *won, f"deliver-msgs {one}"]
 
     def any_directive(self) -> Thrown:
         names, weights = zip(*WEIGHTS.items())
@@ -408,13 +441,20 @@ class Dice(random.Random):
         id = self.id()
         return [f"compact {id} {self.index + self.randint(-1, 300)} log-level=none"] * self.some(0.5) + ["raft-state", f"raft-log {id}"]
 
+    def came_back(self) -> list[str]:
+        """A node crashes, with entries that it has saved and others. If it led, it is elected again."""
+        id, other = self.id(), self.id()
+        steps = [f"propose {self.favourite} w log-level=none"] * self.randint(0, 70) + self.choice([[], [f"process-ready {self.favourite} log-level=none"]])
+        steps += [f"deliver-msgs {other} log-level=none", f"restart {id}", f"raft-log {id}"]
+        return [*steps, f"campaign {self.favourite} log-level=none", "stabilize log-level=none"]
+
     def long_script(self, count: int) -> bytes:
         """A script in which three nodes have logs of more than a page."""
         self.nodes, self.favourite = 3, 1
         steps = [f"add-nodes 3 voters=(1,2,3) index={self.index}" + self.options_of_nodes(), "campaign 1", "stabilize log-level=none"]
         for _ in range(count):
             steps += [*self.grown(), *self.cut_short()]
-            ends: list[list[Piece]] = [[], self.together(), ["stabilize log-level=none"]]
+            ends: list[list[Piece]] = [[], self.together(), ["stabilize log-level=none"], list(self.came_back())]
             steps += [thrown_of(piece)[0] for piece in self.choice(ends)]
         return "".join(f"{head}\n----\n\n" for head in [*steps, "raft-log 1", "raft-log 2", "raft-log 3"]).encode()
 
@@ -426,5 +466,5 @@ class Dice(random.Random):
 WEIGHTS = {
     "add_nodes": 1.5, "campaign": 5, "propose": 10, "propose_conf_change": 6, "process_ready": 12, "deliver_msgs": 13, "stabilize": 9,
     "quiet_stabilize": 3, "tick_election": 5, "tick_heartbeat": 6, "set_timeout": 2, "transfer_leadership": 3, "forget_leader": 2,
-    "report_unreachable": 2, "send_snapshot": 3, "compact": 3, "log_level": 1, "raft_log": 2, "status": 3, "raft_state": 2,
+    "report_unreachable": 2, "send_snapshot": 3, "compact": 3, "restart": 3, "log_level": 1, "raft_log": 2, "status": 3, "raft_state": 2,
 }

@@ -91,7 +91,11 @@ TABLE: dict[str, tuple[list[tuple[str, Taken]], dict[str, Taken]]] = {
     "propose": ([("id", an_id), ("payload", text(1, 1024))], {}),
     "propose-conf-change": ([("id", an_id)], {"v1": truth, "transition": word("auto", "explicit", "implicit")}),
     "process-ready": ([("id", an_id), ("*id", an_id)], {}),
-    "deliver-msgs": ([("*id", an_id)], {"type": listed(word(*TYPES)), "drop": ids}),
+    "deliver-msgs": (
+        [("*id", an_id)],
+        {"type": listed(word(*TYPES)), "drop": ids, "from": any_id, "skip": number(0, 4096), "count": number(1, 4096)},
+    ),
+    "restart": ([("id", an_id), ("*id", an_id)], {}),
     "stabilize": ([("*id", an_id)], {"rounds": number(1, 1000)}),
     "tick-election": ([("id", an_id)], {}),
     "tick-heartbeat": ([("id", an_id)], {}),
@@ -107,7 +111,7 @@ TABLE: dict[str, tuple[list[tuple[str, Taken]], dict[str, Taken]]] = {
     "raft-state": ([], {}),
 }
 # Options that have to be given, and the order in which what is missing is looked for.
-WANTED = ["from", "to", "timeout"]
+WANTED = {"transfer-leadership": ["from", "to"], "set-randomized-election-timeout": ["timeout"]}
 ORDER = ["n", "id", "payload", "index", "level", "from", "to", "timeout"]
 
 
@@ -158,7 +162,7 @@ class Request:
 
     def look_for_missing(self) -> None:
         missing = [name for name, _ in self.kinds[len(self.words):] if not name.startswith("*")]
-        missing += [name for name in WANTED if name in self.known and name not in self.options]
+        missing += [name for name in WANTED.get(self.name, []) if name not in self.options]
         if missing:
             raise Refused(f"missing argument {shortened(min(missing, key=ORDER.index).encode())}")
 

@@ -1,9 +1,25 @@
 """The messages in flight: one list, in the order in which they were sent."""
-from typing import Callable, Iterable, Sequence
+from typing import Callable, Iterable, NamedTuple, Sequence
 
 from .records import Message
 
 MOST_PENDING = 4096
+
+
+class Choice(NamedTuple):
+    """Which of a node's pending messages are taken: those of these types, or of any; of a sender, or of any; without the first `skip` of
+    these; and at most `most` of the rest.
+    """
+
+    types: Sequence[str] | None = None
+    sender: int | None = None
+    skip: int = 0
+    most: int = MOST_PENDING
+
+    def takes(self, id: int, message: Message) -> bool:
+        """Whether a message counts, before any is skipped."""
+        has_type, has_sender = self.types is None or message.kind in self.types, self.sender in (None, message.sender)
+        return message.to == id and has_type and has_sender
 
 
 class Network:
@@ -23,10 +39,15 @@ class Network:
     def has_for(self, ids: Iterable[int]) -> bool:
         return any(m.to in ids for m in self.pending)
 
-    def take(self, id: int, types: Sequence[str] | None = None) -> list[Message]:
-        """Takes the pending messages for a node, of these types or of any, in their order."""
-        taken = [m for m in self.pending if m.to == id and (types is None or m.kind in types)]
-        self.pending = [m for m in self.pending if not (m.to == id and (types is None or m.kind in types))]
+    def is_held(self, message: Message) -> bool:
+        """Whether a message can't arrive now."""
+        return False
+
+    def take(self, id: int, choice: Choice = Choice()) -> list[Message]:
+        """Takes the chosen ones of the pending messages for a node, in their order."""
+        at = [at for at, m in enumerate(self.pending) if choice.takes(id, m) and not self.is_held(m)][choice.skip:][:choice.most]
+        taken, gone = [self.pending[k] for k in at], set(at)
+        self.pending = [m for k, m in enumerate(self.pending) if k not in gone]
         return taken
 
     def change(self, id: int, arranged: Callable[[list[Message]], list[Message]]) -> None:

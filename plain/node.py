@@ -113,7 +113,7 @@ class Node:
             self.commit, self.applied, self.term, self.vote, self.lead, self.role, self.timeout,
             tuple((id, self.views[id].frozen()) for id in sorted(self.views)), frozenset(self.votes.items()),
             self.elapsed, self.beat_elapsed, self.transferee, self.pending_change, self.saved, self.restored, self.uncommitted,
-            tuple(self.sent), tuple(self.waiting),
+            tuple(self.sent), tuple(self.waiting), self.disk._replace(entries=tuple(self.disk.entries[:self.disk.length])),
         )
 
     # The log
@@ -703,7 +703,7 @@ class Node:
         if done and saved != "nothing":
             disk = done.disk if saved == "all" else done.disk._replace(hard=disk.hard)
         self.start_from(disk)
-        self.tell("INFO", f"restarted at term {self.term}, log {self.base_term}/{self.base} to {self.last_term()}/{self.last()}")
+        self.tell("INFO", f"restarted at term={self.term} vote={self.vote} log={self.base}..{self.last()} commit={self.commit}")
 
     def leave_by_itself(self) -> None:
         leaves = self.role == "leader" and self.config.is_joint() and self.config.auto

@@ -110,7 +110,11 @@ def is_for_both_logs(case: Case) -> bool:
 
 def problems_over_plain_logs(script: bytes, report: bytes) -> Iterator[str]:
     """What rb_plain prints of a script, where that isn't the report."""
-    done = subprocess.run([OVER_PLAIN_LOGS], input=script, capture_output=True, timeout=MOST_SECONDS)
+    try:
+        done = subprocess.run([OVER_PLAIN_LOGS], input=script, capture_output=True, timeout=MOST_SECONDS)
+    except subprocess.TimeoutExpired:
+        yield f"over plain logs: no end within {MOST_SECONDS} seconds"
+        return
     if (done.returncode, done.stdout) != (0, report):
         yield f"over plain logs: status {done.returncode}\n    wanted: {shown(report)}\n    actual: {shown(done.stdout)}"
 
@@ -128,7 +132,11 @@ def problems_of(case: Case) -> Iterator[str]:
 
 def problems_of_rule(path: pathlib.Path) -> Iterator[str]:
     """Whether the program agrees with a rule's script, over either log."""
-    done = subprocess.run([PROGRAM, "run", path], capture_output=True, timeout=MOST_SECONDS)
+    try:
+        done = subprocess.run([PROGRAM, "run", path], capture_output=True, timeout=MOST_SECONDS)
+    except subprocess.TimeoutExpired:
+        yield f"no end within {MOST_SECONDS} seconds"
+        return
     if done.returncode != 0 or not done.stdout.endswith(b", 0 mismatches\n"):
         yield shown(done.stdout + done.stderr)
     if OVER_PLAIN_LOGS.exists():

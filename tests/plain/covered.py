@@ -53,6 +53,7 @@ EVENTS += [rf"DEBUG \d+ ignored {kind} from \d+" for kind in TYPES if kind not i
 EVENTS += [r"DEBUG \d+ ignored MsgPreVoteResp from \d+", r"ERROR \d+ conflict at \d+, commit \d+", r"WARN \d+ lost its quorum"]
 EVENTS += [rf"INFO \d+ replaced change at \d+ by an empty entry: {why}" for why in ("unapplied", "joint", "not joint")]
 EVENTS += [rf"ERROR \d+ refused change at \d+: {why}" for why in ("AlreadyJoint", "NotJoint", "SimpleWhileJoint", "NoVoters")]
+EVENTS += [r"INFO \d+ restarted at term=\d+ vote=\d+ log=\d+\.\.\d+ commit=\d+"]
 EVENTS += [r"INFO \d+ switched to " + CONFIG, r"INFO \d+ starts transfer to \d+", r"INFO \d+ ends transfer to \d+"]
 
 ERRORS = [rf"error: {what} {QUOTED}" for what in ("unknown directive", "unsupported option", "bad argument", "bad change")]

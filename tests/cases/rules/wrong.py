@@ -1,5 +1,5 @@
-"""Wrong rules: plain nodes with one rule changed, by name, beside the well-known bugs of raftbench_nodes/bugs/rules.py. Each script of this
-folder names those that it must notice.
+"""Wrong rules: plain nodes with one rule changed, by name, next to the well-known bugs of raftbench_nodes/bugs/rules.py, and of crashes.py those of
+restarts. Each script of this folder names those that it must notice.
 """
 
 from __future__ import annotations
@@ -14,8 +14,8 @@ from plain.config import Change, changed
 from plain.node import Node, View
 from plain.records import Message, Ready, Snapshot
 
-# What only a crash, or a step of the runner, shows isn't seen by scripts alone.
-WRONG = {name: kind for name, kind in BUGS.items() if kind.__module__ == rules.__name__}
+# What only a crash within a save, or another step of the runner, shows isn't seen by scripts alone.
+WRONG = {name: kind for name, kind in BUGS.items() if kind.__module__ == rules.__name__ or name.startswith("restart-")}
 
 
 def wrong(kind: type[Node]) -> type[Node]:
@@ -150,6 +150,32 @@ class CandidateAppends(Node):
     def drop(self, m: Message) -> None:
         assert m.body is not None
         self.append(m.body)
+
+
+# Restarts
+
+
+@wrong
+class RestartSavesFirst(Node):
+    def restart(self, saved: str = "nothing") -> None:
+        self.ready()
+        super().restart("all")
+
+
+@wrong
+class RestartLosesWhatWasReplaced(Node):
+    def restart(self, saved: str = "nothing") -> None:
+        durable = self.durable
+        super().restart(saved)
+        self.entries = self.entries[:max(0, durable - self.base)]
+        self.durable = self.last()
+
+
+@wrong
+class RestartRestoresFirst(Node):
+    def restart(self, saved: str = "nothing") -> None:
+        self.disk = self.disk if not self.restored else self.disk._replace(base=self.base, base_term=self.base_term, entries=(), length=0)
+        super().restart(saved)
 
 
 # Followers
