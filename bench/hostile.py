@@ -118,7 +118,17 @@ def proposed() -> bytes:
     return script_of([*elected(1), *["propose 1 x"] * 19990])
 
 
-SPENDING = [rounds, pending, pending_in_rounds, resent, joint, printed, unsent, leaders, proposed]
+def restarted() -> bytes:
+    """10,000 entries that a node applies again after each of 4,990 restarts."""
+    return script_of([*elected(1), *["propose 1 x"] * 10_000, "stabilize", *["restart 1", "process-ready 1"] * 4990])
+
+
+def skipped() -> bytes:
+    """4,096 messages that wait for one node, all but the last of which are skipped 7,900 times."""
+    return script_of([*elected(2), *["send-snapshot 1 2"] * 4096, *["deliver-msgs 2 skip=4095", "send-snapshot 1 2"] * 7900])
+
+
+SPENDING = [rounds, pending, pending_in_rounds, resent, joint, printed, unsent, leaders, proposed, restarted, skipped]
 
 
 def main() -> None:

@@ -55,22 +55,10 @@ class HoldingNetwork(Network):
     def has_for(self, ids: Any) -> bool:
         return any(m.to in ids and (not self.held or not self.is_held(m)) for m in self.pending)
 
-    def take(self, id: int, types: Sequence[str] | None = None) -> list[Message]:
-        if not self.held:
-            return super().take(id, types)
-        taken = [m for m in self.pending if m.to == id and (types is None or m.kind in types) and not self.is_held(m)]
-        gone = set(map(id_of, taken))
-        self.pending = [m for m in self.pending if id_of(m) not in gone]
-        return taken
-
     def change(self, id: int, arranged: Any) -> None:
         mine = [m for m in self.pending if m.to == id and not self.is_held(m)]
         rest = [m for m in self.pending if m.to != id or self.is_held(m)]
         self.pending = (rest + arranged(mine))[:MOST_PENDING]
-
-
-def id_of(message: Message) -> int:
-    return id(message)
 
 
 class KnownRequest(Request):
@@ -259,6 +247,11 @@ class Stage(Cluster):
         self.restarted.add(id)
         self.lost |= {(other, id) for other in self.nodes}
         self.call(id, "restart", saved)
+
+    def do_restart(self, words: Any, *_: object) -> None:
+        """The directive is the runner's step for each of the nodes."""
+        for id in words:
+            self.crash(id, "restart")
 
 
 ARRANGED = {

@@ -121,7 +121,8 @@ class Themed(Weighted):
     def __init__(self, seed: object, theme: Theme) -> None:
         super().__init__(seed)
         self.theme = theme
-        self.weights = {**WEIGHTS, **dict(theme.weights)}
+        # Nodes crash by the runner's steps, as often as the theme says.
+        self.weights = {**WEIGHTS, "restart": 0.0, **dict(theme.weights)}
 
     def options_of_nodes(self, has_content: bool = False) -> str:
         if not self.theme.options:

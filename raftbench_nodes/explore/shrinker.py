@@ -15,6 +15,7 @@ Steps = list[Step]
 OPTION = re.compile(r"([a-z-]+=)\(?([^()]*)\)?")
 NUMBERED = re.compile(r"((?:[a-z-]+=)?)(\d+)")
 ADDS = re.compile(r"add-nodes (\d+)(.*)")
+LIST = re.compile(r"(?<==\()[^()]*(?=\))")
 
 
 class Budget(NamedTuple):
@@ -74,7 +75,7 @@ class Shrinker:
         return steps
 
     def with_simpler(self, steps: Steps) -> Steps:
-        """Replaces ticks by a campaign, joins `add-nodes`, and gives nodes lower numbers."""
+        """Writes lists with commas alone, replaces ticks by a campaign, joins `add-nodes`, and gives nodes lower numbers."""
         found = True
         while found and self.left > 0:
             found = False
@@ -105,9 +106,18 @@ class Shrinker:
 
 
 def simpler_scripts(steps: Steps) -> Iterator[Steps]:
+    yield from with_commas(steps)
     yield from with_campaigns(steps)
     yield from with_joined_nodes(steps)
     yield from renumbered(steps)
+
+
+def with_commas(steps: Steps) -> Iterator[Steps]:
+    """Lists have commas alone between their members, so that a script that two kinds show is the same text."""
+    heads = [step.head if step.head.startswith("propose ") else LIST.sub(lambda found: ",".join(re.findall("[^, ]+", found[0])), step.head) for step in steps]
+    simpler = [step._replace(head=head) for step, head in zip(steps, heads)]
+    if simpler != steps:
+        yield simpler
 
 
 def with_campaigns(steps: Steps) -> Iterator[Steps]:
@@ -162,7 +172,7 @@ def with_ids(step: Step, ids: dict[int, int]) -> Step:
 
     words = step.head.split(" ")
     cut = 2 if words[0] in ("propose", "compact", "set-randomized-election-timeout", "stabilize") and len(words) > 2 and words[0] != "stabilize" else len(words)
-    named = [word if word.startswith(("rounds=", "log-level=", "type=", "index=", "timeout=")) else re.sub(r"(?<!\w)\d{1,2}(?!\w)", other, word) for word in words[:cut]]
+    named = [word if word.startswith(("rounds=", "log-level=", "type=", "index=", "timeout=", "skip=", "count=")) else re.sub(r"(?<!\w)\d{1,2}(?!\w)", other, word) for word in words[:cut]]
     before = tuple(each._replace(node=ids.get(each.node, each.node), number=ids.get(each.number, each.number) if each.name not in ("cut", *LIMITED) else each.number) for each in step.before)
     return Step(" ".join([*named, *words[cut:]]), tuple(re.sub(r"\d{1,2}", other, line) for line in step.given), before)
 

@@ -5,6 +5,7 @@ import re
 from typing import Any, Iterator, Sequence
 
 from plain.config import Config
+from plain.network import Choice
 from plain.records import AnyNode, Entry, Message, Numbered, Ready
 from plain.texts import body_text, config_text
 
@@ -30,6 +31,7 @@ EVENTS = [
     (re.compile(r"(\d+) ends transfer to (\d+)"), "transfer-ends"),
     (re.compile(r"(\d+) lost its quorum"), "lost-quorum"),
     (re.compile(r"(\d+) started at .*"), "started"),
+    (re.compile(r"(\d+) restarted at term=(\d+) vote=(\d+) log=(\d+)\.\.(\d+) commit=(\d+)"), "restarted"),
 ]
 VOTE = re.compile(r"(\d+) has (\w+) (granted|refused) from (\d+): (\w+)")
 VERBS = {"queue": "queue", "deliver": "deliver", "drop": "drop", "no room for": "no-room"}
@@ -105,14 +107,19 @@ class ShownNode:
 
 
 class Mail:
-    """The pending messages as the viewer has them: of one type to one node, it takes the earliest first."""
+    """The pending messages as the viewer has them: of one type to one node, it takes the earliest first that the directive chooses."""
 
     def __init__(self) -> None:
         self.pending: list[Message] = []
+        self.choice = Choice()
+
+    def chosen(self, id: int) -> list[Message]:
+        """The messages to a node that the directive chooses."""
+        return [m for m in self.pending if self.choice.takes(id, m)][self.choice.skip :]
 
     def rows_before(self, met: Message, network: Sequence[Message]) -> Iterator[Row]:
         """Rows by which the viewer's earliest message is the one that is delivered or dropped, however the runner's steps reordered them."""
-        alike = [m for m in self.pending if (m.to, m.kind) == (met.to, met.kind)]
+        alike = [m for m in self.chosen(met.to) if m.kind == met.kind]
         there = next((at for at, m in enumerate(alike) if m is met), None)
         for m in alike if there is None else alike[:there]:
             self.pending = [other for other in self.pending if other is not m]
@@ -197,9 +204,11 @@ class Recorder(Stage):
             super().do_process_ready([id], *rest)
             self.rows += [["nothing-ready", id]] if is_idle else []
 
-    def do_deliver_msgs(self, *asked: Any) -> None:
+    def do_deliver_msgs(self, words: Any, options: Any, given: Any) -> None:
         before = len(self.rows)
-        super().do_deliver_msgs(*asked)
+        self.mail.choice = Choice(options.get("type"), options.get("from"), options.get("skip", 0))
+        super().do_deliver_msgs(words, options, given)
+        self.mail.choice = Choice()
         self.rows += [] if len(self.rows) > before else [["no-messages"]]
 
     def do_stabilize(self, words: Any, options: Any, given: Any) -> None:
@@ -215,7 +224,10 @@ class Recorder(Stage):
 
     def crash(self, id: int, when: str) -> None:
         super().crash(id, when)
-        self.rows += [["started", id], ["reason", f"crashed{'' if when == 'restart' else ' ' + when}, and restarted"]]
+        if when == "restart":
+            self.record_changes(id)
+        else:
+            self.rows += [["started", id], ["reason", f"crashed {when}, and restarted"]]
 
 
 def text_cell(data: bytes) -> str:

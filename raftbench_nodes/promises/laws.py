@@ -1,4 +1,4 @@
-"""Which promise watches which law of crates/rb_laws, or why none does. docs/NODE.md shows the same table."""
+"""Which promise watches which law of rb_calls and rb_laws, or why none does. docs/NODE.md shows the same table."""
 from __future__ import annotations
 
 from typing import NamedTuple
@@ -46,19 +46,20 @@ WATCHED = (
     watched("timers_start_again candidates_disturb_nobody lost_quorums_end_a_lead", none="clocks aren't shown"),
     watched(
         "views_stay_sound leaders_view_the_members matches_rest_on_answers members_are_counted_by_their_answers leaders_count_what_they_saved "
-        "full_windows_take_no_entries", none="only `status` shows views, which comparing looks at",
+        "full_windows_take_no_entries", none="only comparing looks at views",
     ),
     watched(
         "pre_votes_bind_nobody pre_votes_look_at_logs later_terms_are_taken_up leaders_are_known_by_their_messages campaigns_are_of_voters "
-        "proposals_are_passed_on removed_leaders_step_down leads_go_to_voters transfers_stop_proposals", none="libraries have other rules, which comparing shows",
+        "proposals_are_passed_on removed_leaders_step_down leads_go_to_voters transfers_stop_proposals leaders_have_saved_their_terms",
+        none="libraries have other rules, which comparing shows",
     ),
     watched(
         "configurations_agree changes_wait_for_earlier_ones changes_go_one_at_a_time leaders_know_of_changes committed_changes_take_effect "
-        "joint_configurations_are_left", none="in some libraries changes count once they are appended",
+        "joint_configurations_are_left", none="in some libraries changes count once appended",
     ),
     watched("entries_were_proposed", none="libraries add entries of their own"),
-    watched("nodes_stay_sound calls_are_these events_are_only_added tests_mean_their_names", none="they are about these definitions"),
-    watched("states_are_shown_by_name messages_are_shown_by_name events_are_told errors_say_what_is_wrong", none="they are about what raftbench prints"),
+    watched("nodes_stay_sound calls_are_these events_are_only_added tests_mean_their_names", none="about these definitions"),
+    watched("states_are_shown_by_name messages_are_shown_by_name events_are_told errors_say_what_is_wrong", none="about what raftbench prints"),
 )
 # Promises about what no law says.
 WITHOUT_A_LAW = {

@@ -27,10 +27,20 @@ def needs_joint(arguments: Sequence[Argument], words: Sequence[bytes]) -> bool:
     return is_stated or len(words) != 1
 
 
-def is_left_out(directive: Directive, without: AbstractSet[str]) -> bool:
+def changes_order(arguments: Sequence[Argument]) -> bool:
+    """Whether a `deliver-msgs` delivers messages before earlier ones of their sender and type."""
+    return any(a.key == b"skip" for a in arguments) and any(not a.has_equals for a in arguments)
+
+
+def is_left_out(directive: Directive, hello: Hello) -> bool:
     name, arguments, given = directive
+    without = hello.without
     if NEEDS.get(name) in without or name == b"compact" and without & {"applied", "log"}:
         return True
+    if name == b"restart":
+        return "restart" not in hello.calls
+    if name == b"deliver-msgs":
+        return hello.is_ordered and changes_order(arguments)
     if name != b"propose-conf-change":
         return False
     words = b" ".join(given).split()
@@ -53,10 +63,10 @@ def always_on(always: AbstractSet[str]) -> dict[bytes, bytes]:
 def reduced(block: Block, hello: Hello) -> Block | None:
     """The block with what is left of its directive, or None where nothing is."""
     without = hello.without
-    if not without and not hello.always:
+    if not without and not hello.always and not hello.is_ordered and "restart" in hello.calls:
         return block
     directive = block.directive()
-    if is_left_out(directive, without):
+    if is_left_out(directive, hello):
         return None
     if directive.name != b"add-nodes":
         return block

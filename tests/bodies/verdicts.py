@@ -28,6 +28,8 @@ class Verdict:
 NAMES = re.compile(r"has no field|is not in scope|has no `|was not admitted")
 # What says that a text of src/ or specs/ can't be read: an error of no declaration, or of what it names.
 UNREAD = re.compile(r"is not in scope|has no field|is no name|operand is missing|expected the end|cannot continue")
+# A file of lemmas, of the crate or of one below that is read as source; no proof of one function.
+LEMMA = re.compile(r"(?:\.\./\w+/)?proofs/(?!(?:.*/)?(?:Answers|Invariants|Proof)\.antt$)")
 PLACE = re.compile(r"(?:note: )?(?:\./)?(?P<file>\S+?):\d+:\d+: (?P<text>.*)")
 
 
@@ -54,7 +56,7 @@ def unread(said: str, changed: set[str]) -> str:
 
 
 def goals_of(said: str, crate: str, function: str) -> list[str]:
-    """The lines that show a goal of the function's own that isn't proved, those of lemmas that no function owns among them."""
+    """The lines that show a goal of the function's own that isn't proved, those of lemmas that no function owns among them, of crates below too."""
     own: list[str] = []
     notes: list[str] = []
     *modules, name = function.split("::")
@@ -73,8 +75,7 @@ def goals_of(said: str, crate: str, function: str) -> list[str]:
             notes.append(line)
         elif "error" in found["text"] and not NAMES.search(found["text"]):
             file = found["file"]
-            is_lemma = file.startswith("proofs/") and not re.search(r"/(Answers|Invariants|Proof)\.antt$", file)
-            if file.startswith(folders) or is_lemma:
+            if file.startswith(folders) or LEMMA.match(file):
                 own.append(line)
     return own
 

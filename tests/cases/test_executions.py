@@ -1,4 +1,5 @@
-"""Whoever shows a script runs each directive once. valgrind counts the calls of what reads the request of a directive, which each execution does first."""
+"""Whoever shows a script runs each directive once. valgrind counts the calls of what finds whether a cluster can do what a directive asks for, which
+each execution does first."""
 import json
 import pathlib
 import re
@@ -10,7 +11,7 @@ from plain.script import read_with_lines
 from tests.harness import PROGRAM, TOP, NotHere
 
 # What each execution of a directive calls once, as the program's symbols have it.
-CALLED = "rb_directive::build::request"
+CALLED = "rb_cluster::cluster::Cluster::fault"
 SCRIPT = TOP / "examples" / "tour" / "01-election.txt"
 MOST_SECONDS = 300
 # The views of a cluster of three nodes that `look` and a hover show.
@@ -30,7 +31,7 @@ def calls_in(profile: str) -> int:
             if name:
                 names[number] = name
             callee = names[number] if is_callee else callee
-        elif line.startswith("calls=") and callee.split("'")[0] == CALLED:
+        elif line.startswith("calls=") and re.split("'|::<", callee)[0] == CALLED:
             count += int(line.removeprefix("calls=").split()[0])
     return count
 

@@ -17,6 +17,7 @@ import shutil
 import signal
 import struct
 import subprocess
+import time
 from collections.abc import Callable, Iterator
 
 from tests.check.checking import ACCEPTED, BAD, GOOD, MOST_SECONDS, UNWRITTEN, Answer, differs, files, listed, mismatch, run, totals, tree
@@ -128,13 +129,19 @@ def test_size_limit_that_kills(room: pathlib.Path) -> Iterator[str]:
 def test_killed(room: pathlib.Path) -> Iterator[str]:
     """Killed at any moment, it leaves the old text or the new one."""
     names = [f"{number}.txt" for number in range(40)]
+    command: list[str | pathlib.Path] = [PROGRAM, "check", "--accept", "."]
+    for name in names:
+        (room / name).write_bytes(BAD)
+    begun = time.monotonic()
+    subprocess.run(command, cwd=room, stdin=subprocess.DEVNULL, stdout=subprocess.DEVNULL)
+    whole = time.monotonic() - begun
     dice, met = random.Random(1), set()
     for _ in range(40):
         for name in names:
             (room / name).write_bytes(BAD)
-        child = subprocess.Popen([PROGRAM, "check", "--accept", "."], cwd=room, stdin=subprocess.DEVNULL, stdout=subprocess.DEVNULL)
+        child = subprocess.Popen(command, cwd=room, stdin=subprocess.DEVNULL, stdout=subprocess.DEVNULL)
         with contextlib.suppress(subprocess.TimeoutExpired):
-            child.wait(timeout=dice.random() / 10)
+            child.wait(timeout=2 * whole * dice.random())
         child.kill()
         child.wait()
         left = tree(room)

@@ -30,7 +30,7 @@ def script_of(*heads: str) -> str:
 
 # A leader of 32 nodes that ticks before it sends anything: it has half a million messages to send.
 UNSENT = script_of("log-level none", f"add-nodes 32 voters=({','.join(map(str, range(1, 33)))}) index=10", "campaign 1", "stabilize", *["tick-heartbeat 1"] * 16_000)
-ADDRESSES = 40_000 << 10
+ADDRESSES = 56_000 << 10
 
 
 # ---- a run that wants for memory

@@ -20,7 +20,9 @@ LONGEST_NAME = 80
 CODE = re.compile(r"`([^`]*)`")
 TOKEN = r"[^ \t=()]"
 WHOLE_NAME = re.compile(rf"[ \t]*({TOKEN}+)(?=[ \t])")
-WHOLE_ARGUMENT = re.compile(rf"[ \t]+{TOKEN}+(?:=(?:\([^()]*\)|(?!\()[^ \t]*))?(?=[ \t])")
+VALUE_OF_KEY = r"=(?:\([^()]*\)|(?!\()[^ \t]*)"
+# A value without a key is an error, and what is behind it continues as it does behind others.
+WHOLE_ARGUMENT = re.compile(rf"[ \t]+(?:{TOKEN}+(?:{VALUE_OF_KEY})?|{VALUE_OF_KEY})(?=[ \t])")
 NAME = re.compile(rf"[ \t]*({TOKEN}*)\Z")
 ARGUMENT = re.compile(rf"[ \t]+({TOKEN}*)\Z")
 VALUE_OF = re.compile(rf"[ \t]+({TOKEN}*)=(?!\()([^ \t]*)\Z")

@@ -43,12 +43,12 @@ def results(word: str) -> Iterator[Result]:
     count = 0
     with tempfile.TemporaryDirectory() as folder:
         library = compiled(folder)
-        for program in sorted(TOP.glob("crates/*/out/*_tests")):
-            if not os.access(program, os.X_OK):
-                continue
+        programs = [program for program in sorted(TOP.glob("crates/*/out/*_tests")) if os.access(program, os.X_OK)]
+        for program in programs:
             listed = subprocess.run([program, "--list"], capture_output=True, text=True, timeout=MOST_SECONDS).stdout
             for name in re.findall(r"[A-Za-z0-9_:]+_under_refusals", listed):
                 count += 1
                 if word in name:
                     yield Result(name, tuple(problems_of(program, name, library)))
-    yield Result("there are tests to run", () if count else ("no test program has one",))
+    lacking = "no test program has one" if programs else "no test program is built: `rt ci` builds those of crates whose tests compile"
+    yield Result("there are tests to run", () if count else (lacking,))

@@ -42,7 +42,7 @@ HEADS = [
     "stabilize 1 2 3 rounds=50", "propose-conf-change 1 transition=explicit\nv3", "stabilize log-level=none", "raft-log 2",
     "propose-conf-change 1", "stabilize log-level=warn", "set-randomized-election-timeout 2 timeout=5", "tick-election 2",
     "transfer-leadership from=1 to=2", "stabilize log-level=info", "forget-leader 3", "report-unreachable 2 3", "send-snapshot 2 3",
-    "compact 2 12", "stabilize log-level=none", "status 2", "raft-state", "log-level none",
+    "compact 2 12", "stabilize log-level=none", "status 2", "raft-state", "log-level none", "propose 2 d", "restart 1 2",
 ]
 
 

@@ -29,9 +29,10 @@ ELECTION = ["add-nodes 3 voters=(1,2,3) index=10", "campaign 1", "process-ready 
 FIGURE = [
     "add-nodes 5 voters=(1,2,3,4,5) index=10", "campaign 1", "stabilize",
     "propose 1 a", "stabilize 1 2", "deliver-msgs drop=(3,4,5)",
-    "campaign 5", "process-ready 5", "deliver-msgs 3 type=MsgVote", "deliver-msgs 4 type=MsgVote", "process-ready 3", "process-ready 4", "deliver-msgs 5 type=MsgVoteResp",
-    "process-ready 5", "deliver-msgs 1 type=MsgVote", "process-ready 1", "deliver-msgs drop=(1,2,3,4,5)",
-    "campaign 1", "process-ready 1", "deliver-msgs 2 type=MsgVote", "deliver-msgs 3 type=MsgVote", "process-ready 2", "process-ready 3", "deliver-msgs 1 type=MsgVoteResp", "process-ready 1",
+    "campaign 5", "process-ready 5", "deliver-msgs 3 type=MsgVote", "deliver-msgs 4 type=MsgVote", "process-ready 3", "process-ready 4", "deliver-msgs 5 type=MsgVoteResp from=3",
+    "deliver-msgs 5 type=MsgVoteResp", "process-ready 5", "deliver-msgs 1 type=MsgVote", "process-ready 1", "deliver-msgs drop=(1,2,3,4,5)",
+    "campaign 1", "process-ready 1", "deliver-msgs 2 type=MsgVote", "deliver-msgs 3 type=MsgVote", "process-ready 2", "process-ready 3",
+    "deliver-msgs 1 type=MsgVoteResp from=2", "deliver-msgs 1 type=MsgVoteResp", "process-ready 1",
 ]
 # The terms of the five logs from index 11 on.
 FIGURE_LOGS = {1: [1, 1, 3], 2: [1, 1], 3: [1], 4: [1], 5: [1, 2]}

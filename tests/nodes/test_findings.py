@@ -229,7 +229,7 @@ def test_scripts_again(room: pathlib.Path) -> Iterator[str]:
 
 def test_a_script_shows_it_again(room: pathlib.Path) -> Iterator[str]:
     """What --script writes shows the kind for which it was named; also in a shard."""
-    words = ["--with", f"{PLAIN} --bug half-is-a-quorum", "--seed", "5", "--shard", "2/3", "--count", "12", "--jobs", "2", "--fresh"]
+    words = ["--with", f"{PLAIN} --bug half-is-a-quorum", "--seed", "6", "--shard", "2/3", "--count", "12", "--jobs", "2", "--fresh"]
     said(explore.run, *words, "--json", str(room / "result.json"))
     kinds = [kind for kind in json.loads((room / "result.json").read_text())["kinds"] if kind["kind"].startswith("promise broken: ")]
     if not kinds or not all(re.fullmatch(r"script \d+, from seed \d+, in shard 2/3", kind["first"]) for kind in kinds):

@@ -1,4 +1,4 @@
-"""The table of laws and promises: raftbench_nodes/promises/laws.py names each law of crates/rb_laws once, and each promise; docs/NODE.md shows the same."""
+"""The table of laws and promises: raftbench_nodes/promises/laws.py names each law of rb_calls and rb_laws once, and each promise; docs/NODE.md shows the same."""
 import collections
 import re
 from collections.abc import Iterator
@@ -10,8 +10,8 @@ from tests.repository.promises import functions_of
 
 
 def laws() -> frozenset[str]:
-    """The names of all laws: the public functions of rb_laws."""
-    return frozenset(law.name for law in functions_of("rb_laws") if law.is_public)
+    """The names of all laws: the public functions of rb_calls and rb_laws."""
+    return frozenset(law.name for crate in ("rb_calls", "rb_laws") for law in functions_of(crate) if law.is_public)
 
 
 def test_each_law_stands_once() -> Iterator[str]:

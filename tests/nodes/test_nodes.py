@@ -144,7 +144,7 @@ EVERY_CALL: list[str | Step] = [
     "add-nodes 2 voters=(1,2) index=10", "set-randomized-election-timeout 1 timeout=4", "campaign 1", "stabilize", "propose 1 a",
     Step("propose-conf-change 1", ("v2",)), "tick-heartbeat 1", "report-unreachable 1 2", "send-snapshot 1 2", "compact 1 11",
     "transfer-leadership from=1 to=2", "forget-leader 2", "stabilize", Step("deliver-msgs drop=(2)", (), runner_steps("# node: read 1", "# node: snapshot-lost 1 2")),
-    "tick-heartbeat 1", "tick-heartbeat 2", "process-ready 1 2", "deliver-msgs drop=(1,2)", Step("stabilize", (), runner_steps("# node: restart 1")),
+    "tick-heartbeat 1", "tick-heartbeat 2", "process-ready 1 2", "deliver-msgs drop=(1,2)", Step("stabilize", (), runner_steps("# node: restart 1")), "restart 2",
 ]
 
 
@@ -177,7 +177,7 @@ def part_explore() -> Checks:
         yield "a bug is found", None if status == 1 and files else output + errors
         again, _, _ = tool("explore", *words[:-1], 1)
         yield "the same seeds give the same result", None if without_times(output) == without_times(again) else again
-        block = block_of("promise broken: one vote per term: in 17 scripts, the first is candidate-crashes.txt; 8 directives of voter-crashes.txt, shrunk to 4")
+        block = block_of("promise broken: one vote per term: in 20 scripts, the first is candidate-crashes.txt; 8 directives of voter-crashes.txt, shrunk to 4")
         yield "it is shown as in the document, and first", None if output.startswith(block) else output
         shortest = min((len(read_script(file.read_bytes()).blocks) for file in files), default=99)
         yield "its script is short", None if shortest <= 4 else f"{shortest} directives"
@@ -200,6 +200,8 @@ def part_explore() -> Checks:
             return
         # The program knows no steps of the runner, and what is found by the promises alone has no expectations.
         beside = [it for it in files if "promise-broken" not in it.name and not re.search(r"^# (node|network):", it.read_text("latin-1"), re.MULTILINE)]
+        beside.append(pathlib.Path(folder) / "less.txt")
+        beside[-1].write_text(less)
         checked = subprocess.run([PROGRAM, "check", *map(str, beside)], capture_output=True, text=True, errors="replace", timeout=60)
         yield "its expectations are the program's", None if checked.returncode == 0 else checked.stdout + checked.stderr
 
@@ -246,11 +248,11 @@ def part_first() -> Checks:
         yield "the tour", None if status == 1 and without_times(output.replace(f"{TOP}/", "")) == without_times(wanted) else output
         switches.write_text(block_of("own-answers-at-once   we count our own vote when we give it"))
         output, _, _ = tool("run", "--with", TOP / "nodes/first", "--like", switches, TOP / "examples/tour")
-        yield "its switch", None if "14 scripts, 14 without a difference" in output and "promise" not in output else output
+        yield "its switch", None if "15 scripts, 15 without a difference" in output and "promise" not in output else output
         output, errors, status = tool("switches", "--with", TOP / "nodes/first", "--jobs", JOBS, TOP / "examples/tour")
         found, known = output.splitlines(), {line.split()[0] for line in switches.read_text().splitlines()}
         yield "nodes/switches finds them", None if status == 0 and {line.split()[0] for line in found[:-1]} == known else output + errors
-        yield "and counts", None if found[-1] == "# Of 14 scripts 11 agree without these switches, and 14 with them." else output
+        yield "and counts", None if found[-1] == "# Of 15 scripts 12 agree without these switches, and 15 with them." else output
 
 
 def part_without() -> Checks:

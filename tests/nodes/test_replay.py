@@ -208,7 +208,7 @@ int main(void) {
 
 
 def part_document() -> Checks:
-    shown = re.findall(r"^    (.*)$", DOCUMENT.read_text().split("Here is a trace")[1].split("\n\n| Option")[0], re.MULTILINE)
+    shown = re.findall(r"^    (.*)$", DOCUMENT.read_text().split("Here node 2 votes")[1].split("\n\n| Option")[0], re.MULTILINE)
     status, output, _ = tool(TOP / "nodes" / "trace" / "refused.txt")
     yield "what the document shows", expect((1, shown), (status, output.replace(f"{TOP}/", "").splitlines()))
     if not (compiler := shutil.which("cc")):

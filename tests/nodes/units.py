@@ -23,8 +23,10 @@ from raftbench_nodes.rules.lists import kind_with
 from raftbench_nodes.explore.mutation import Mutator
 from raftbench_nodes.compare.plan import AtOnce, asked_at_once, plan_of
 from raftbench_nodes.process.process import Process
+from raftbench_nodes.protocol.capabilities import reduced
+from raftbench_nodes.protocol.encoding import Hello
 from raftbench_nodes.compare.script import Step, blocks_of
-from raftbench_nodes.explore.shrinker import Budget, Shrinker, with_joined_nodes
+from raftbench_nodes.explore.shrinker import Budget, Shrinker, with_commas, with_joined_nodes
 from raftbench_nodes.compare.stage import Reference
 from raftbench_nodes.compare.runner_steps import step_of, steps_above
 from raftbench_nodes.rules.switches import Unknown
@@ -127,6 +129,20 @@ def part_restarts() -> Checks:
     node.compact(1)
     node.restart()
     yield "a restart applies again from where the log begins", is_equal((node.base, node.applied, node.content, node.commit), (1, 1, b"a", 2))
+    lost = (*BEGUN, "propose 1 b", "campaign 2")
+    one, other = run(Reference(), *lost, "# node: restart 1 / raft-state", "# node: restart 2 / raft-state"), run(Reference(), *lost, "restart 1 2")
+    yield "the directive is the step", is_equal(one.frozen(), other.frozen())
+    one = run(Reference(), *BEGUN, "propose 1 b", "# node: save 1 / restart 1")
+    yield "also of what is saved and not applied yet", is_equal(([entry.body for _, entry in one.nodes[1].entries_from(13)], one.restarted), ([b"b"], {1}))
+
+
+def part_left_out() -> Checks:
+    """Directives that nodes can't take part in, by what they say of themselves."""
+    heads = ("restart 1 2", "deliver-msgs 2 skip=1", "deliver-msgs drop=2 skip=1", "deliver-msgs 2 from=1 count=1", "compact 1 11")
+    hellos = [Hello(calls=frozenset({"restart"})), Hello(), Hello(calls=frozenset({"restart"}), is_ordered=True), Hello(without=frozenset({"compact"}))]
+    for hello, wanted in zip(hellos, ([], [0], [1], [0, 4])):
+        left_out = [at for at, block in enumerate(blocks_of(script(*heads))) if reduced(block, hello) is None]
+        yield f"of {sorted(hello.calls | hello.without)}{' in order' * hello.is_ordered}", is_equal(left_out, wanted)
 
 
 def part_between() -> Checks:
@@ -233,6 +249,9 @@ def part_shrinking() -> Checks:
     steps = script("add-nodes 3 voters=(1,2,3) index=10", "raft-state", "tick-election 2", "status 1")
     yield "ticks give way to a campaign", is_equal(Shrinker(campaigns, Budget(200)).shrunk(steps), script("campaign 2"))
     joined = next(with_joined_nodes(script("add-nodes 1 voters=(1,2) index=10", "raft-state", "add-nodes 1")), None)
+    steps = script("add-nodes 3 voters=(1 2,3) learners=(4, 5)", "propose 1 a=(1 2)", "deliver-msgs drop=()")
+    wanted = script("add-nodes 3 voters=(1,2,3) learners=(4,5)", "propose 1 a=(1 2)", "deliver-msgs drop=()")
+    yield "lists have commas alone", is_equal((next(with_commas(steps), None), list(with_commas(wanted))), (wanted, []))
     yield "two add-nodes are one", is_equal(joined, script("add-nodes 2 voters=(1,2) index=10", "raft-state"))
 
     def leads(steps: list[Step]) -> bool:
@@ -390,6 +409,6 @@ def part_known_failures() -> Checks:
 
 
 UNITS: list[Callable[[], Checks]] = [
-    part_steps, part_network, part_restarts, part_between, part_reads, part_limits, part_uncommitted, part_promises_of_restarts, part_alone, part_excused, part_exceptions, part_shrinking, part_children,
+    part_steps, part_network, part_restarts, part_left_out, part_between, part_reads, part_limits, part_uncommitted, part_promises_of_restarts, part_alone, part_excused, part_exceptions, part_shrinking, part_children,
     part_at_once, part_digest, part_memory, part_fleet, part_known_failures, *LIBRARY_RULES,
 ]

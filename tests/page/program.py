@@ -94,7 +94,7 @@ def reasons_are_those_of_traces() -> None:
             trace = answer(["trace", path])[0].decode().splitlines()
             reasons = [item["reason"] for item in map(json.loads, trace) if "reason" in item]
             told = [str(text) for name, text in (row[:2] for row in remarks(path.read_bytes(), room)) if name == "reason"]
-            same(f"the reasons of {path.name}", [re.sub("^(?:ignored|refused): ", "", text) for text in told], reasons)
+            same(f"the reasons of {path.name}", [re.sub("^(?:ignored|refused|lost): ", "", text) for text in told], reasons)
 
 
 def hints_and_warnings_are_those_of_check() -> None:

@@ -30,6 +30,7 @@ MEMBERS = ["directive", "line", "node?", "message?", "type?", "from?", "to?", "t
 # More messages than are kept on their way.
 MOST = 4096
 # What has no line of its own, but a reason.
+LOSSES = re.compile(r"entry \d+|entries \d+\.\.\d+|term \d+|the vote for \d+|a snapshot|the snapshot")
 UNPRINTED = re.compile(r"DEBUG \d+ (?:refused Msg|removed entries)")
 
 
@@ -172,15 +173,18 @@ def messages_keep_their_numbers() -> None:
 
 
 def reasons_are_told() -> None:
-    """Each ignored message, refused vote and removal has a reason, which `check --why` shows; nothing else has one."""
+    """Each ignored message, refused vote and removal has a reason, which `check --why` shows; nothing else has one, but a restart that loses something."""
     for name, data in scripts():
         events = traced(data, status_of(data))
         ignored = [event for event in events if event.get("row", [""])[0] == "ignored" or UNPRINTED.match(event["text"])]
-        same(f"what has a reason in {name}", [event for event in events if "reason" in event], ignored)
+        reasoned = [event for event in events if "reason" in event]
+        lost = [event for event in reasoned if event.get("row", [""])[0] == "restarted"]
+        same(f"what has a reason in {name}", [event for event in reasoned if event not in lost], ignored)
+        same(f"what restarts lose in {name}", [event["reason"] for event in lost if not LOSSES.match(event["reason"])], [])
     with tempfile.TemporaryDirectory() as room:
         for path in TOUR:
             why = answer(["check", "--why", "-v", "--color", "never", put(room, path.name, path.read_bytes())])[0].decode()
-            told = re.findall(r"^\^   (?:ignored: |refused: )?(.*)$", why, re.M)
+            told = re.findall(r"^\^   (?:ignored: |refused: |lost: )?(.*)$", why, re.M)
             reasons = [event["reason"] for event in traced(path.read_bytes()) if "reason" in event]
             same(f"the reasons of {path.name}", [reason for reason in told if reason not in reasons], [])
 

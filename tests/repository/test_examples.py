@@ -36,10 +36,10 @@ def test_scripts() -> Iterator[str]:
 
 
 def test_recipes() -> Iterator[str]:
-    """The list of examples/how-do-i names each of its eight scripts, each begins with its question, and `check` finds nothing to say of them."""
+    """The list of examples/how-do-i names each of its nine scripts, each begins with its question, and `check` finds nothing to say of them."""
     folder = TOP / "examples" / "how-do-i"
     rows = re.findall(r"^\| (.*) \| \[(.*)\]\((.*)\) \|$", (folder / "README.md").read_text(), re.M)
-    if sorted(name for _, name, _ in rows) != sorted(path.name for path in folder.glob("*.txt")) or len(rows) < 8:
+    if sorted(name for _, name, _ in rows) != sorted(path.name for path in folder.glob("*.txt")) or len(rows) < 9:
         yield f"its README.md names {rows}"
     for question, name, link in rows:
         first = (folder / name).read_text().split("\n")[0]

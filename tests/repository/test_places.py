@@ -22,7 +22,7 @@ class Sample(NamedTuple):
 DIRECTIVE = Sample("How a directive is added", re.compile(r"tick-heartbeat|\bTickHeartbeat\b"), 15)
 EVENT = Sample("How an event is added", re.compile(r"lost-quorum|\bLostQuorum\b"), 5, ("rb_laws",))
 OPTION = Sample("How an option of a directive is added", re.compile(r"checkquorum|\bCheckQuorum\b"), 6, ("rb_node", "rb_tracker", "rb_laws"))
-TYPE = Sample("How a type of message is added", re.compile(r"TimeoutNow"), 8, ("rb_node", "rb_laws"))
+TYPE = Sample("How a type of message is added", re.compile(r"TimeoutNow"), 8, ("rb_node", "rb_calls", "rb_laws"))
 SAMPLES = (DIRECTIVE, OPTION, TYPE, EVENT)
 # The texts of the manual are made of the document. What the names of other tools stand for takes a line only if there is such a name.
 NO_PLACES = {f"crates/rb_report/src/help/{name}.rt" for name in ("pages", "keys", "options", "other_names")}

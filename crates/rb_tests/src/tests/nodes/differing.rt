@@ -1,11 +1,11 @@
 //! Nodes that differ in one field of what a node knows. The fields of a copy are written, each by itself.
 
-use super::making::Player;
+use super::making::{Player, install_of};
 use super::moves::{PLAIN, START};
 use crate::tests::is_in_row;
 use crate::tests::logs::making::{change, payload};
 use crate::tests::logs::tested::Tested;
-use rb_message::{HardState, Message, MessageKind, Outbox, Role};
+use rb_message::{Message, MessageKind, Outbox, Role};
 use rb_node::{Clock, Node, Options, State};
 use rb_raftlog::{PlainLog, RaftLog, SplitLog};
 use rb_tracker::{Config, Progress, Tracker};
@@ -66,11 +66,15 @@ enum Field {
     Role(Role),
     Restored,
     Clock(Clock),
-    Saved(HardState),
+    SavedTerm(u16),
+    SavedVote(u16),
+    SavedCommit(u16),
     Options(Options),
     Log(LogOf),
     /// The entry after index 10 adds this voter.
     LogOfChange(u64),
+    /// The saved snapshot: its term and its index.
+    Saves(u64, u64),
     /// A log without entries.
     EmptyLog,
     Content,
@@ -97,12 +101,6 @@ const CLOCK: Clock = Clock {
     elapsed: 0,
     heartbeat_elapsed: 0,
     timeout: 3,
-};
-
-const SAVED: HardState = HardState {
-    term: 0,
-    vote: 0,
-    commit: 10,
 };
 
 /// Two fields that are written to a node each.
@@ -141,15 +139,9 @@ static NUMBERS: [Pair; 20] = [
             ..CLOCK
         }),
     ),
-    (Field::Nothing, Field::Saved(HardState { term: 1, ..SAVED })),
-    (Field::Nothing, Field::Saved(HardState { vote: 1, ..SAVED })),
-    (
-        Field::Nothing,
-        Field::Saved(HardState {
-            commit: 11,
-            ..SAVED
-        }),
-    ),
+    (Field::Nothing, Field::SavedTerm(1)),
+    (Field::Nothing, Field::SavedVote(1)),
+    (Field::Nothing, Field::SavedCommit(11)),
     (
         Field::Nothing,
         Field::Options(Options {
@@ -177,7 +169,7 @@ static NUMBERS: [Pair; 20] = [
     ),
 ];
 
-static LISTS: [Pair; 36] = [
+static LISTS: [Pair; 39] = [
     (
         Field::Nothing,
         Field::Options(Options {
@@ -194,6 +186,9 @@ static LISTS: [Pair; 36] = [
     (Field::Nothing, Field::LogOfChange(4)),
     (Field::LogOfChange(4), Field::LogOfChange(5)),
     (Field::Nothing, Field::EmptyLog),
+    (Field::Nothing, Field::Saves(1, 9)),
+    (Field::Saves(1, 9), Field::Saves(1, 8)),
+    (Field::Saves(1, 9), Field::Saves(2, 9)),
     (Field::Nothing, Field::Content),
     // the configuration
     (Field::Nothing, Field::Member(Set::Incoming, 4)),
@@ -364,7 +359,9 @@ fn write_value<L: RaftLog>(state: &mut State<L>, field: Field) {
         Field::Role(role) => state.role = role,
         Field::Restored => state.restored = true,
         Field::Clock(clock) => state.clock = clock,
-        Field::Saved(saved) => state.saved = saved,
+        Field::SavedTerm(n) => state.saved.term = u64::from(n),
+        Field::SavedVote(n) => state.saved.vote = u64::from(n),
+        Field::SavedCommit(n) => state.saved.commit = u64::from(n),
         Field::Options(options) => state.options = options,
         _ => write_number(state, field),
     }
@@ -395,6 +392,7 @@ fn write_list<L: RaftLog>(rt: &impl Abort, alloc: Global, state: &mut State<L>, 
         Field::Log(log) => state.log = log_of(rt, alloc, log),
         Field::LogOfChange(id) => state.log = log_of_change(rt, alloc, id),
         Field::EmptyLog => state.log = <L as Tested>::begin(rt, alloc, 10, 1),
+        Field::Saves(term, index) => state.start = install_of(rt, alloc, term, index),
         Field::Content => state.content.append(b"c").expect(rt, "memory"),
         _ => write_messages(rt, alloc, state, field),
     }

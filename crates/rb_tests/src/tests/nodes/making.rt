@@ -94,10 +94,10 @@ fn append_of(
 }
 
 /// A snapshot of voters 1 to 3 without content.
-fn install_of(rt: &impl Abort, alloc: Global, term: u64, index: u64) -> MessageKind {
+pub fn install_of(rt: &impl Abort, alloc: Global, term: u64, index: u64) -> Install {
     let snapshot = snapshot_of(rt, alloc, (index, term), b"", Members::Three);
     is(rt, snapshot.index <= MAX_INDEX, "an index that there is");
-    MessageKind::Snapshot(Install::new(alloc, snapshot).expect(rt, "memory"))
+    Install::new(alloc, snapshot).expect(rt, "memory")
 }
 
 fn kind_of(rt: &impl Abort, alloc: Global, term: u64, says: Says) -> MessageKind {
@@ -120,7 +120,9 @@ fn kind_of(rt: &impl Abort, alloc: Global, term: u64, says: Says) -> MessageKind
         Says::Refused(refused, hint) => MessageKind::AppendRefusal { refused, hint },
         Says::Heartbeat(commit) => MessageKind::Heartbeat { commit },
         Says::HeartbeatAnswer => MessageKind::HeartbeatResponse,
-        Says::Snapshot(snapshot_term, index) => install_of(rt, alloc, snapshot_term, index),
+        Says::Snapshot(snapshot_term, index) => {
+            MessageKind::Snapshot(install_of(rt, alloc, snapshot_term, index))
+        }
         Says::Payload => MessageKind::Proposal(Body::Payload(payload(rt, alloc, b'p'))),
         Says::TransferTo(target) => MessageKind::TransferLeader { target },
         Says::TimeoutNow => MessageKind::TimeoutNow,

@@ -26,6 +26,7 @@ pub const LEADER: Role = Role::Leader;
 pub enum Told {
     Nothing,
     Started,
+    Restarted,
     Became,
     CannotAsLeader,
     CannotAsNoVoter,
@@ -153,6 +154,7 @@ fn counted(outcome: VoteResult) -> Told {
 fn event_told(event: &Event) -> Told {
     match &event.kind {
         EventKind::Started { .. } => Told::Started,
+        EventKind::Restarted { .. } => Told::Restarted,
         EventKind::Became { .. } => Told::Became,
         EventKind::CannotCampaign { why, .. } => reason(*why),
         EventKind::VoteCounted {
