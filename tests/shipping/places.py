@@ -33,7 +33,7 @@ class Place:
         self.clone.mkdir()
         for name in (program, *names):
             if (TOP / name).is_dir():
-                shutil.copytree(TOP / name, self.clone / name)
+                shutil.copytree(TOP / name, self.clone / name, ignore=shutil.ignore_patterns("__pycache__"))
             else:
                 shutil.copy(TOP / name, self.clone / name)
         self.program, self.at, self.around = self.clone / program, self.room, dict(os.environ)
