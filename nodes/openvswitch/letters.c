@@ -43,6 +43,9 @@ uint64_t number(const struct json *object, const char *name)
     return found != NULL ? (uint64_t)json_integer(found) : 0;
 }
 
+/* An index or a term of raft.c's. It may say 0, which is before its first. */
+static uint64_t shifted(uint64_t number) { return number > 0 ? number - SHIFT : 0; }
+
 static const char *text(const struct json *object, const char *name)
 {
     const struct json *found = part(object, name, JSON_STRING);
@@ -110,7 +113,7 @@ static void fill_vote_request(struct rb_message *m, const struct json *p)
 {
     m->type = part(p, "is_prevote", JSON_TRUE) ? RB_PRE_VOTE : RB_VOTE;
     m->index = number(p, "last_log_index") - SHIFT;
-    m->log_term = number(p, "last_log_term");
+    m->log_term = number(p, "last_log_term") - SHIFT;
     m->transfer = part(p, "leadership_transfer", JSON_TRUE) != NULL;
     m->term += m->type == RB_PRE_VOTE;
 }
@@ -127,15 +130,15 @@ static void fill_append_request(struct rb_message *m, const struct json *p)
     const struct json *log = part(p, "log", JSON_ARRAY);
     struct rb_entry *entries = rb_take(log == NULL ? 0 : json_array_size(log), sizeof *entries);
     m->type = RB_APP;
-    m->index = number(p, "prev_log_index") - SHIFT;
-    m->log_term = number(p, "prev_log_term");
+    m->index = shifted(number(p, "prev_log_index"));
+    m->log_term = number(p, "prev_log_term") - SHIFT;
     m->commit = number(p, "leader_commit") - SHIFT;
     m->entries = entries;
     m->entry_count = log == NULL ? 0 : json_array_size(log);
     for (size_t at = 0; at < m->entry_count; at++) {
         const struct json *entry = json_array_at(log, at);
         const struct json *data = part(entry, "data", JSON_OBJECT);
-        entries[at] = (struct rb_entry){number(entry, "term"), m->index + 1 + at, bytes_of(data), NULL};
+        entries[at] = (struct rb_entry){number(entry, "term") - SHIFT, m->index + 1 + at, bytes_of(data), NULL};
     }
 }
 
@@ -143,7 +146,7 @@ static void fill_append_reply(struct rb_message *m, const struct json *p)
 {
     m->type = RB_APP_RESP;
     m->reject = strcmp(text(p, "result"), "OK") != 0;
-    m->index = number(p, "prev_log_index") + (m->reject ? 0 : number(p, "n_entries")) - SHIFT;
+    m->index = shifted(number(p, "prev_log_index") + (m->reject ? 0 : number(p, "n_entries")));
     m->reject_hint = m->reject ? number(p, "log_end") - 1 - SHIFT : 0;
 }
 
@@ -151,7 +154,7 @@ static void fill_snapshot_request(struct rb_message *m, const struct json *p)
 {
     struct rb_snapshot *snapshot = rb_take(1, sizeof *snapshot);
     snapshot->index = number(p, "last_index") - SHIFT;
-    snapshot->term = number(p, "last_term");
+    snapshot->term = number(p, "last_term") - SHIFT;
     snapshot->content = bytes_of(part(p, "data", JSON_OBJECT));
     show_servers(&snapshot->config.voters, part(p, "last_servers", JSON_OBJECT));
     m->type = RB_SNAP;
@@ -208,7 +211,7 @@ void put_letter(struct rb_text *messages, struct letter *letter)
 {
     const struct json *params = json_array_at(letter->params, 0);
     struct rb_message m = {
-        .from = letter->from, .to = letter->to, .term = number(params, "term"), .before_save = letter->goes_before_save, .own = letter,
+        .from = letter->from, .to = letter->to, .term = shifted(number(params, "term")), .before_save = letter->goes_before_save, .own = letter,
     };
     methods[letter->place].fill(&m, params);
     rb_put_message(messages, &m);

@@ -10,7 +10,7 @@
 #include "openvswitch/json.h"
 #include "openvswitch/uuid.h"
 
-/* raft.c's logs begin at 1: its indexes are one more than in the protocol. */
+/* raft.c's logs and terms begin at 1: its indexes and terms are one more than in the protocol. */
 enum { SHIFT = 1 };
 /* A server of configurations that may neither be empty nor lack who has them. */
 #define DUMMY UINT64_C(0x7fffffff)

@@ -12,7 +12,7 @@ from ..process.process import CallFailure, Process
 from ..promises.checker import name_of
 from ..promises.clusters import WatchedHosts, WatchedReference, breaks
 from ..protocol.capabilities import reduced
-from ..rules.lists import Switched
+from ..rules.own import Ruled
 from .answers import config_line, differing_part, direction, log_lines, log_of, message_line, ready_lines, state_line, view_lines
 from .runner_steps import steps_above
 from .script import directive_of
@@ -125,7 +125,7 @@ class Beside:
             yield "never comes to rest" if self.theirs.is_stuck else "comes to rest early", 0, lines[-1:], other_lines[-1:]
 
     def state_differences(self, ours: AnyNode, theirs: AnyNode) -> Iterator[DifferenceParts]:
-        skipped = self.without | (ours.unsettled() if isinstance(ours, Switched) else frozenset())
+        skipped = self.without | (ours.unsettled() if isinstance(ours, Ruled) else frozenset())
         part = differing_part(ours, theirs, skipped)
         if part:
             yield direction(part, ours, theirs), ours.id, [state_line(ours.id, ours, skipped)], [state_line(theirs.id, theirs, skipped)]

@@ -19,7 +19,7 @@ from ..promises.run import PromiseResult, PromiseRun
 from ..protocol.capabilities import reduced
 from ..protocol.answers import Answer, LogEnd, MemberView, answer_in
 from ..protocol.encoding import Hello, Json, WireMessage, Wrong, change_out, config_out, data_out
-from ..rules.lists import Switched
+from ..rules.own import Ruled
 from .answers import log_of, state_of
 from .comparison import Comparison, Difference, failure
 from .expected import Checker, ExpectedState, NumberedMessage, PlannedCall
@@ -48,25 +48,22 @@ class PlanningReference(Reference):
 
     def __init__(self, kind: type[Node], begins_at_0: bool, hello: Hello, has_views: bool) -> None:
         super().__init__(kind, begins_at_0)
-        self.hello, self.has_views = hello, has_views
+        self.hello, self.has_views, self.is_ruled = hello, has_views, issubclass(kind, Ruled)
+        self.plain: dict[int, Node] = {}
         self.asked: list[PlannedCall] = []
         self.met: set[int] = set()
         self.notes_where = True  # where the script leads
         self.number = 0
         self.steps_to = 0  # the node that the last call is a step of, if more may join it
 
-    def node(self, id: int) -> Node:
-        node = self.nodes[id]
-        assert isinstance(node, Node)
-        return node
-
-    def expected(self, node: Node) -> ExpectedState:
-        skipped = node.unsettled() if isinstance(node, Switched) else NONE
-        return ExpectedState(state_of(node), skipped | READY_LATER if node.id in self.under_way else skipped)
+    def expected(self, id: int) -> ExpectedState:
+        node = self.plain[id]
+        skipped = node.unsettled() if self.is_ruled else NONE  # type: ignore[attr-defined]
+        return ExpectedState(state_of(node), skipped | READY_LATER if id in self.under_way else skipped)
 
     def ask(self, node_id: int, call: str, **parts: Any) -> None:
         self.steps_to = 0
-        self.asked.append(PlannedCall({"call": call, "node": node_id, **parts}, [self.expected(self.node(node_id))], role=self.role_before))
+        self.asked.append(PlannedCall({"call": call, "node": node_id, **parts}, [self.expected(node_id)], role=self.role_before))
 
     # Nothing is printed
 
@@ -96,7 +93,7 @@ class PlanningReference(Reference):
     def make_node(self, id: int, config: Config, index: int, content: bytes, options: Options) -> Node:
         node = super().make_node(id, config, index, content, options)
         base = {"index": index, "term": 1 if index else 0, "content": data_out(content), "config": config_out(config)}
-        self.nodes[id] = node
+        self.nodes[id] = self.plain[id] = node
         self.ask(id, "start", base=base, options=options_out(options, self.hello.limits))
         return node
 
@@ -105,9 +102,9 @@ class PlanningReference(Reference):
 
     def call(self, id: int, name: str, *parts: Any) -> None:
         if self.notes_where:
-            node = self.node(id)
+            node = self.plain[id]
             before = situation(node, id in self.restarted, id in self.under_way)
-            relation = (*message_relation(node, parts[0]), *view_relation(node, parts[0])) if name == "step" else ()
+            relation = (message_relation(node, parts[0]), view_relation(node, parts[0])) if name == "step" else ()
             role, term, commit, last = node.role, node.term, node.commit, node.last()
             super().call(id, name, *parts)
             self.met.add(number_of((self.what, before, relation, effect(node, role, term, commit, last))))
@@ -125,7 +122,7 @@ class PlanningReference(Reference):
             self.asked[-1].cut = m
         elif self.steps_to == id:
             self.asked[-1].call["numbers"].append(m.number)
-            self.asked[-1].states.append(self.expected(self.node(id)))
+            self.asked[-1].states.append(self.expected(id))
             self.asked[-1].whats.append((m.kind, self.role_before))
         else:
             self.ask(id, "step", numbers=[m.number])
@@ -154,7 +151,7 @@ class PlanningReference(Reference):
     def finish(self, id: int) -> bool:
         if id not in self.under_way:
             return False
-        node = self.node(id)
+        node = self.plain[id]
         if self.notes_where:
             before, role, term, commit, last = situation(node, id in self.restarted, False), node.role, node.term, node.commit, node.last()
             super().finish(id)
@@ -182,7 +179,7 @@ class PlanningReference(Reference):
 
     def ask_views(self) -> None:
         for id in sorted(self.touched) if self.has_views else []:
-            node = self.node(id)
+            node = self.plain[id]
             if node.role == "leader":
                 views = {to: MemberView(v.state, v.match, v.next, v.inflight, v.waiting, v.active, v.pending) for to, v in node.views.items() if to != id}
                 self.asked.append(PlannedCall({"call": "status", "node": id}, answer=views))
@@ -190,7 +187,7 @@ class PlanningReference(Reference):
 
     def ask_logs(self) -> None:
         for id in self.nodes if "log" not in self.hello.without else []:
-            self.asked.append(PlannedCall({"call": "log", "node": id}, answer=log_of(self.node(id))))
+            self.asked.append(PlannedCall({"call": "log", "node": id}, answer=log_of(self.plain[id])))
 
 
 class Plan(NamedTuple):

@@ -9,7 +9,7 @@ from typing import Any, NamedTuple, Sequence
 from plain.cluster import Cluster
 from plain.config import Config
 from plain.directives import Request
-from plain.network import MOST_PENDING, Network
+from plain.network import MOST_PENDING, Choice, Network
 from plain.node import Node
 from plain.records import AnyNode, Message, Options, Ready
 from plain.script import Argument
@@ -18,11 +18,12 @@ from ..process.node import HostedNode
 from ..process.process import Process
 from ..protocol.answers import STATE
 from ..protocol.encoding import Hello, WireMessage, is_early
-from ..rules.lists import Switched
+from ..rules.own import Ruled
 from .made import NodeBefore, note_call, note_start
 from .runner_steps import LIMITED, UNORDERED, RunnerStep
 
 AnyKindOfNode = Node | HostedNode
+ALL = Choice()
 # What `stabilize` says of a cluster that doesn't come to rest.
 NEVER = "stopped after 200 rounds"
 
@@ -53,7 +54,19 @@ class HoldingNetwork(Network):
         return (m.sender, m.to) in self.held
 
     def has_for(self, ids: Any) -> bool:
-        return any(m.to in ids and (not self.held or not self.is_held(m)) for m in self.pending)
+        for m in self.pending:
+            if m.to in ids and not (self.held and self.is_held(m)):
+                return True
+        return False
+
+    def take(self, id: int, choice: Choice = ALL) -> list[Message]:
+        """The same; soon done where all of a node's messages are wanted, and none is held back."""
+        if self.held or choice != ALL:
+            return super().take(id, choice)
+        taken = [m for m in self.pending if m.to == id]
+        if taken:
+            self.pending = [m for m in self.pending if m.to != id]
+        return taken
 
     def change(self, id: int, arranged: Any) -> None:
         mine = [m for m in self.pending if m.to == id and not self.is_held(m)]
@@ -175,7 +188,7 @@ class Stage(Cluster):
         return True
 
     def has_work(self, chosen: Sequence[int]) -> bool:
-        return super().has_work(chosen) or any(id in self.under_way for id in chosen)
+        return super().has_work(chosen) or bool(self.under_way) and not self.under_way.isdisjoint(chosen)
 
     # The runner's steps
 
@@ -290,7 +303,7 @@ class Reference(Stage):
     def drop(self, message: Message) -> None:
         super().drop(message)
         sender = self.nodes.get(message.sender)
-        if isinstance(sender, Switched):
+        if isinstance(sender, Ruled):
             sender.lose(message)
 
 

@@ -7,7 +7,7 @@ from typing import Iterable, Iterator, Sequence
 from ..compare.comparison import Comparison
 from ..process.cache import Memory, ScriptRecord, Transcript
 from ..process.process import CallFailure, Process
-from ..rules.lists import Switched
+from ..rules.own import Ruled
 
 # So many scripts are asked again in any case; after that only if one of so many was answered as before.
 MOST_TRIED, LEAST_SAME = 40, 6
@@ -15,7 +15,7 @@ MOST_TRIED, LEAST_SAME = 40, 6
 
 def rules_of(chosen: Comparison) -> str:
     """All that a script's outcome depends on, besides the script, the bench and the nodes."""
-    switches = sorted(chosen.kind.switches) if issubclass(chosen.kind, Switched) else []
+    switches = sorted(chosen.kind.switches) if issubclass(chosen.kind, Ruled) else []
     return f"{chosen.kind.__name__} {switches} {sorted(chosen.aspects)} {chosen.begins_at_0} {chosen.has_steps} {sorted(chosen.known_promises)}"
 
 

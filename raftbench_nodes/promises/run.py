@@ -15,7 +15,7 @@ from ..compare.script import Step, blocks_of, directive_of
 from ..compare.stage import NEVER, Reference, allowed
 from ..process.process import CallFailure, Process
 from ..protocol.capabilities import reduced
-from ..rules.lists import Switched
+from ..rules.own import Ruled
 from .checker import name_of
 from .clusters import WatchedHosts, WatchedReference, WatchedCluster
 
@@ -223,7 +223,7 @@ def run_alone(blocks: Sequence[Block], process: Process, chosen: Comparison, has
     run = promise_run(blocks, process, chosen)
     run.cluster.has_all_reads = has_all_reads
     result = run.result()
-    if not result.broken or not issubclass(chosen.kind, Switched):
+    if not result.broken or not issubclass(chosen.kind, Ruled):
         return result
     reference = WatchedReference(chosen.kind, chosen.begins_at_0)
     reference.has_all_reads = has_all_reads

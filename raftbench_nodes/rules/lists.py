@@ -11,9 +11,11 @@ from plain.node import Node
 
 from .calls import CallRules
 from .changes import ChangeRules
+from .kinds import reduced
 from .limits import LimitRules
-from .own import OwnRules
+from .own import OwnRules, Ruled
 from .reads import ReadRules
+from .streams import StreamRules
 from .switches import Unknown, switches_of
 from .terms import TermRules
 from .views import ViewRules
@@ -21,12 +23,7 @@ from .views import ViewRules
 LIKE = pathlib.Path(__file__).resolve().parents[2] / "nodes" / "like"
 
 
-class Switched(LimitRules, ReadRules, TermRules, ViewRules, ChangeRules, OwnRules):
-    """The plain node with the rules of its switches."""
-
-
-class Calling(CallRules, Switched):
-    """One whose messages may be calls."""
+RULES = (LimitRules, StreamRules, ReadRules, TermRules, ViewRules, ChangeRules, OwnRules)
 
 
 def kind_like(name: str) -> type[Node]:
@@ -41,6 +38,8 @@ def kind_like(name: str) -> type[Node]:
     return kind_with(switches_of(text))
 
 
-def kind_with(switches: Iterable[str]) -> type[Switched]:
+def kind_with(switches: Iterable[str]) -> type[Ruled]:
+    """The plain node with the rules of some switches."""
     names = frozenset(switches)
-    return type("SwitchedNode", (Calling if "messages-are-calls" in names else Switched,), {"switches": names})
+    calls = (CallRules,) if "messages-are-calls" in names else ()
+    return type("SwitchedNode", (*calls, *(reduced(rules, names) for rules in RULES)), {"switches": names})

@@ -1,5 +1,6 @@
 """Switches: rules in which known libraries differ from the reference. nodes/like/ has the lists of known libraries, and a file of your own may be such a
-list. Which rules a switch changes is in own.py, changes.py, views.py, terms.py, calls.py, reads.py and limits.py.
+list. Which rules a switch changes is in own.py, changes.py, views.py, streams.py, terms.py, calls.py, reads.py and
+limits.py.
 """
 from __future__ import annotations
 
@@ -15,6 +16,7 @@ SWITCHES = {
     "leaving-not-pending": "leaving a joint configuration automatically is not a pending change",
     "answers-in-order": "answers go out in the order in which they were made, and not after all that was sent",
     "saved-answers-in-order": "answers go out in the order in which they were made, but acknowledgements of unsaved entries after all that was sent",
+    "answers-wait-for-log": "with the last, an answer to an append rests on the whole log, whatever it acknowledges",
     "full-window-frees": "a heartbeat's answer frees a place of a full window",
     "empty-probe-goes-on": "a probe waits only after an append with entries",
     "snapshot-ends-in-probe": "who has installed a snapshot is probed, from the next tick on",
@@ -60,7 +62,7 @@ SWITCHES = {
     "pre-vote-ignores-vote": "a pre-vote is granted whoever the node voted for in that term",
     "pre-vote-refusal-keeps-term": "a pre-vote that is refused in the next term changes nothing at a precandidate",
     "pre-vote-answer-has-asked-term": "a refused pre-vote is answered with the term that was asked for",
-    "pre-vote-brings-term": "a request for a pre-vote brings the term before the one that it asks for: its sender's",
+    "pre-vote-brings-term": "a request for a pre-vote, and its grant, are of the term before the one that is asked for: their sender's",
     "transfer-needs-whole-log": "who is told to campaign does so only if the leader that it knows tells it, and if its log ends as the leader's",
     "nonvoter-refuses": "a node that isn't a voter of its configuration refuses candidates",
     "known-leader-refuses": "a node that knows a leader refuses candidates, even if it has heard nothing for long",
@@ -74,7 +76,7 @@ SWITCHES = {
     "lone-voter-leads": "a lone voter leads from its start, in the term that it has, and commits what it has saved",
     "lone-voter-begins-term": "a lone voter that leads from its start, or campaigns, begins a term, for which it votes for itself",
     "lost-quorum-asks-at-once": "a leader that steps down without a quorum campaigns at once",
-    "skipped-snapshot-keeps-commit": "a snapshot that ends within the log is acknowledged, and commits nothing",
+    "skipped-snapshot-keeps-commit": "a snapshot that ends below the last entry is acknowledged, and commits nothing; one that ends there is restored",
     "candidate-asks-once": "a candidate that campaigns again asks for no pre-votes",
     "told-candidate-stays-told": "a candidate that a leader told to campaign says so in later campaigns too, which ask for no pre-votes",
     "new-leader-asks-first": "a new leader sends an empty append before it appends its first entry",
@@ -104,6 +106,11 @@ after each commit. Heartbeats have no commit. An answer counts only for the call
     "saved-by-last-entry": "entries that were being saved count as saved only if the last of them is still in the log",
     "empty-is-limited": "a limit of what isn't applied declines empty entries too, also the one that leaves a joint configuration; what is being applied counts for that",
     "declined-change-is-pending": "a change that a limit of what isn't applied declines is pending, as if it were appended",
+    "leader-never-probes": "a leader sends each new entry once, as if all before it had arrived, and to who answers all that it then lacks",
+    "compacting-saves": "compacting saves all that isn't saved",
+    "timeout-ignores-candidates": "who began a timeout less than three ticks ago ignores candidates, whatever began it; a leader always does",
+    "append-draws-timeout": "an append, a snapshot and a vote that is given begin a timeout of three ticks, whatever it was before",
+    "late-vote-passes-pre-vote": "a vote of a precandidate's last election counts as its pre-vote",
     "quorum-by-last-answers": "a leader steps down at the fourth tick after the last answers of a quorum",
 }
 

@@ -4,9 +4,10 @@ from __future__ import annotations
 from typing import Any
 
 from plain.config import both
-from plain.node import Disk
+from plain.node import TIMEOUT, Disk
 from plain.records import Message
 
+from .kinds import only_with
 from .own import Ruled
 
 FROM_LEADERS = ("MsgApp", "MsgHeartbeat", "MsgSnap")
@@ -24,8 +25,11 @@ class TermRules(Ruled):
     was_told = False  # to campaign, by a leader
     has_handed_over = False  # the transfer that is under way
     heard: dict[int, int] = {}
+    has_timeout = False  # whether it began one since its start
 
+    @only_with("lone-voter-leads", "timeout-ignores-candidates")
     def start_from(self, disk: Disk) -> None:
+        self.has_timeout = False
         super().start_from(disk)
         if self.is_lone_leader():
             self.lead_alone()
@@ -40,6 +44,7 @@ class TermRules(Ruled):
     def is_lone_leader(self) -> bool:
         return self.on("lone-voter-leads") and self.config.voters() == {self.id}
 
+    @only_with("pending-change-campaigns", "change-counts-when-appended", "snapshot-always-installed", "unstable-member-campaigns", "nonvoter-times-out")
     def why_not(self) -> str | None:
         why = super().why_not()
         is_free = self.on("pending-change-campaigns") and not self.has_first_form_pending() or self.on("change-counts-when-appended")
@@ -48,9 +53,11 @@ class TermRules(Ruled):
         may = self.on("unstable-member-campaigns") and self.is_unstable() or self.on("nonvoter-times-out") and self.role == "candidate"
         return None if why == "not a voter" and may else why
 
+    @only_with("won-question-campaigns")
     def why_not_now(self, kind: str) -> str | None:
         return None if self.on("won-question-campaigns") and kind == "elected" else super().why_not_now(kind)
 
+    @only_with("earlier-vote-refused", "earlier-append-refused")
     def answer_older(self, m: Message) -> None:
         if self.on("earlier-vote-refused") and m.kind == "MsgVote":
             return self.send("MsgVoteResp", m.sender, refused=True)
@@ -58,11 +65,16 @@ class TermRules(Ruled):
             return self.send("MsgAppResp", m.sender, refused=True, index=m.index, hint=self.last())
         return super().answer_older(m)
 
+    @only_with("refused-candidate-stays")
     def count_vote(self, m: Message) -> None:
         if self.on("refused-candidate-stays") and m.refused:
             return self.ignore(m)
         return super().count_vote(m)
 
+    @only_with(
+        "pre-vote-brings-term", "heartbeat-answers-have-no-term", "answers-need-their-role", "stale-leader-keeps-term", "lead-is-kept",
+        "later-term-keeps-clock",
+    )
     def raise_term(self, m: Message) -> None:
         if self.on("pre-vote-brings-term") and m.kind == "MsgPreVote" and m.term - 1 > self.term:
             return self.follow(m.term - 1, 0)
@@ -83,11 +95,28 @@ class TermRules(Ruled):
         if lead and m.term == self.term:
             self.lead = lead
 
+    @only_with("leader-follows-another", "timeout-ignores-candidates", "late-vote-passes-pre-vote", "append-draws-timeout")
     def by_role(self, m: Message) -> None:
         if self.role == "leader" and m.kind in ("MsgApp", "MsgHeartbeat") and self.on("leader-follows-another"):
             self.follow(self.term, m.sender)
-        super().by_role(m)
+        if m.kind in FROM_LEADERS:
+            self.draw_timeout()
+        if self.role == "precandidate" and m.kind == "MsgVoteResp" and self.on("late-vote-passes-pre-vote"):
+            return self.count_vote(m)
+        return super().by_role(m)
 
+    def draw_timeout(self) -> None:
+        """A follower's timeout begins anew."""
+        self.has_timeout = True
+        if self.on("append-draws-timeout"):
+            self.timeout = TIMEOUT
+
+    @only_with("timeout-ignores-candidates")
+    def follow(self, term: int, lead: int) -> None:
+        self.has_timeout = self.has_timeout or self.role != "follower"
+        super().follow(term, lead)
+
+    @only_with("nonvoter-refuses", "pre-vote-ignores-vote", "lead-is-kept", "timeout-ignores-candidates", "append-draws-timeout")
     def answer_candidate(self, m: Message) -> None:
         lead, vote = self.lead, self.vote
         if self.on("nonvoter-refuses") and self.id not in self.config.voters():
@@ -100,10 +129,15 @@ class TermRules(Ruled):
         if self.on("lead-is-kept") and self.vote == 0 and m.kind == "MsgVote":
             self.lead = 0
         super().answer_candidate(m)
+        if m.kind == "MsgVote" and self.vote == m.sender != vote:
+            self.draw_timeout()
         self.lead = lead if self.on("lead-is-kept") else self.lead
         return None
 
+    @only_with("timeout-ignores-candidates", "known-leader-may-ask", "known-leader-refuses")
     def is_undisturbed(self, m: Message) -> bool:
+        if self.on("timeout-ignores-candidates"):
+            return m.kind in ("MsgVote", "MsgPreVote") and not m.by_transfer and self.waits_out()
         if self.on("known-leader-may-ask") and m.sender == self.lead:
             return False
         asks = m.kind in ("MsgVote", "MsgPreVote") and not m.by_transfer and self.lead not in (0, m.sender)
@@ -114,6 +148,14 @@ class TermRules(Ruled):
             self.send(f"{m.kind}Resp", m.sender, refused=True)
         return is_it
 
+    def waits_out(self) -> bool:
+        """Whether a timeout that it began isn't over. A leader's never is; who asks for votes begins none that counts."""
+        return self.role == "leader" or self.role == "follower" and self.has_timeout and self.elapsed < 3
+
+    @only_with(
+        "lone-voter-leads", "told-candidate-stays-told", "candidate-asks-once", "declined-campaign-forgets-leader", "unstable-member-campaigns",
+        "messages-are-calls", "pre-vote-restarts-clock", "pre-vote-keeps-timeout",
+    )
     def campaign(self, kind: str = "usual") -> None:
         if self.is_lone_leader() and self.why_not_now(kind) is None:
             return self.lead_alone()
@@ -138,6 +180,10 @@ class TermRules(Ruled):
             return "transfer"
         return "elected" if self.on("candidate-asks-once") else "usual"
 
+    @only_with(
+        "unsaved-snapshot-waits", "quorum-by-last-answers", "nonvoter-times-out", "heartbeats-append", "lost-append-goes-again",
+        "refused-append-waits", "messages-are-calls",
+    )
     def tick(self) -> None:
         self.ticks += 1
         if self.on("unsaved-snapshot-waits") and self.role != "leader" and self.restored:
@@ -166,6 +212,7 @@ class TermRules(Ruled):
             self.elapsed = 0
             self.campaign()
 
+    @only_with("heartbeats-append", "transfer-goes-by-sent", "pre-vote-answer-has-asked-term")
     def send(self, kind: str, to: int, **parts: Any) -> None:
         """Heartbeats that are appends have no message of their own. Those that a read asks for have a context."""
         if kind == "MsgHeartbeat" and "context" not in parts and self.on("heartbeats-append"):
@@ -178,6 +225,7 @@ class TermRules(Ruled):
             parts["term"] = self.asked_term
         super().send(kind, to, **parts)
 
+    @only_with("lost-append-goes-again")
     def lose(self, m: Message) -> None:
         """What is in flight is forgotten, and what the member lacks goes again."""
         is_mine = m.kind == "MsgApp" and m.term == self.term and self.role == "leader" and m.to in self.views
@@ -186,12 +234,14 @@ class TermRules(Ruled):
             self.views[m.to].waiting = True
             self.lost |= {m.to}
 
+    @only_with("quorum-by-last-answers", "lone-voter-leads")
     def lead_on(self) -> None:
         self.led_at, self.heard = self.ticks, {}
         if self.is_lone_leader() and not self.on("lone-voter-begins-term"):
             self.commit = max(self.commit, self.durable)
         super().lead_on()
 
+    @only_with("quorum-by-last-answers")
     def new_view(self, id: int, active: bool) -> None:
         super().new_view(id, active)
         self.heard[id] = self.ticks
@@ -202,10 +252,12 @@ class TermRules(Ruled):
         if self.role == "leader" and (is_beat or m.kind in ("MsgAppResp", "MsgHeartbeatResp") and m.term == self.term):
             self.heard[m.sender] = self.ticks
 
+    @only_with("quorum-by-last-answers")
     def has_lost_quorum(self) -> bool:
         looks = self.on("quorum-by-last-answers") and self.role == "leader" and self.options.checkquorum
         return looks and not both(self.config, lambda id: id == self.id or self.ticks - self.heard.get(id, self.led_at) <= 3)
 
+    @only_with("quorum-by-last-answers", "lost-quorum-asks-at-once")
     def keeps_lead(self) -> bool:
         if self.on("quorum-by-last-answers"):
             self.elapsed = 0
@@ -219,10 +271,16 @@ class TermRules(Ruled):
         """Whether a precandidate is refused in the term that it asks for."""
         return self.role == "precandidate" and m.kind == "MsgPreVoteResp" and m.refused and m.term == self.term + 1
 
+    @only_with(
+        "quorum-by-last-answers", "pre-vote-answer-has-asked-term", "pre-vote-refusal-keeps-term", "pre-vote-brings-term", "stranger-ignored",
+        "transfer-has-term", "term-0-is-taken",
+    )
     def step(self, m: Message) -> None:
         self.hear(m)
         self.asked_term = m.term
         if self.on("pre-vote-refusal-keeps-term") and self.is_of_next_term(m):
+            return self.ignore(m)
+        if self.on("pre-vote-brings-term") and (m.kind == "MsgPreVote" or m.kind == "MsgPreVoteResp" and not m.refused) and m.term - 1 < self.term:
             return self.ignore(m)
         if self.on("stranger-ignored") and m.kind in ANSWERS and m.sender not in self.config.members():
             return self.ignore(m)
@@ -237,6 +295,7 @@ class TermRules(Ruled):
             m = m._replace(term=self.term)
         return super().step(m)
 
+    @only_with("proposal-refused", "proposal-keeps-sender")
     def pass_proposal(self, m: Message) -> None:
         if self.on("proposal-refused"):
             return self.drop(m)
@@ -245,6 +304,7 @@ class TermRules(Ruled):
             self.sent[-1] = self.sent[-1]._replace(sender=m.sender)
         return None
 
+    @only_with("transfer-refused", "transfer-to-passer", "transfer-has-term")
     def pass_transfer(self, m: Message) -> None:
         if self.on("transfer-refused"):
             return self.ignore(m)
@@ -252,6 +312,7 @@ class TermRules(Ruled):
         if self.on("transfer-has-term") and self.lead:
             self.sent[-1] = self.sent[-1]._replace(term=self.term)
 
+    @only_with("transfer-needs-whole-log")
     def campaign_by_transfer(self, m: Message) -> None:
         """Told of the last entry of the leader's log, a node may compare it with its own."""
         is_whole = m.sender == self.lead and (m.index, m.log_term) == (self.last(), self.last_term())
@@ -259,6 +320,7 @@ class TermRules(Ruled):
             return self.ignore(m)
         return super().campaign_by_transfer(m)
 
+    @only_with("transfer-to-itself-ends", "one-transfer-at-a-time", "transfer-goes-by-sent")
     def start_transfer(self, m: Message) -> None:
         if self.on("transfer-to-itself-ends") and m.target == self.id and self.transferee and m.target in self.config.voters():
             return self.end_transfer()

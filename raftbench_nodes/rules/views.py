@@ -7,6 +7,7 @@ from plain.config import Config
 from plain.node import Disk, View
 from plain.records import Body, Entry, Message, Numbered, Ready, Snapshot
 
+from .kinds import only_with
 from .own import Ruled
 
 
@@ -15,14 +16,16 @@ class ViewRules(Ruled):
 
     is_new_leader = False
     is_held = False  # while nothing is sent
-    is_answering = False  # while an acknowledgement is handled
+    is_acknowledging = False  # while an acknowledgement is handled
     has_nothing_new = False  # the append that is handled
     held: list[tuple[int, int, int]]  # commits of appends that aren't saved, after the index and the term of their last entry
 
+    @only_with("new-leader-asks-first")
     def lead_on(self) -> None:
         self.is_new_leader = True
         super().lead_on()
 
+    @only_with("new-leader-asks-first")
     def append(self, body: Body) -> bool:
         """A new leader may send its members an empty append before it has an entry of its term. A lone voter sends none."""
         is_new, self.is_new_leader = self.is_new_leader, False
@@ -30,11 +33,15 @@ class ViewRules(Ruled):
             self.tell_all()
         return super().append(body)
 
+    @only_with(
+        "refused-append-waits", "heartbeats-append", "no-empty-after-acknowledged", "full-window-no-snapshot", "no-snapshot-unheard",
+        "change-tells-all", "snapshot-keeps-next",
+    )
     def sends(self, id: int, mode: str) -> None:
         view = self.views.get(id)
         if self.is_held:
             return None
-        if self.is_answering and self.on("no-empty-after-acknowledged"):
+        if self.is_acknowledging and self.on("no-empty-after-acknowledged"):
             mode = "news"
         if view is None or id == self.id or view.next - 1 >= self.base:
             return super().sends(id, mode)
@@ -48,24 +55,29 @@ class ViewRules(Ruled):
             view.next = was
         return None
 
+    @only_with("empty-probe-goes-on")
     def send_news(self, id: int, view: View) -> None:
         was_waiting, has_news = view.waiting, view.next <= self.last()
         super().send_news(id, view)
         if self.on("empty-probe-goes-on") and view.state == "probe" and not has_news:
             view.waiting = was_waiting
 
+    @only_with("acknowledged-past-last")
     def send_append(self, id: int, view: View, entries: tuple[Entry, ...]) -> None:
         if view.next - 1 > self.last():
             self.send("MsgApp", id, index=view.next - 1, commit=self.commit)
         else:
             super().send_append(id, view, entries)
 
+    @only_with("last-snapshot-sent")
     def snapshot(self) -> Snapshot:
         return Snapshot(self.base, self.base_term, self.base_content, self.base_config) if self.on("last-snapshot-sent") else super().snapshot()
 
+    @only_with("acknowledged-past-last")
     def acknowledged(self, m: Message) -> int:
         return m.index if self.on("acknowledged-past-last") else super().acknowledged(m)
 
+    @only_with("heartbeats-append", "full-window-frees")
     def take_beat_answer(self, m: Message) -> None:
         view = self.views.get(m.sender)
         if view and self.on("heartbeats-append"):
@@ -82,11 +94,13 @@ class ViewRules(Ruled):
             self.sends(m.sender, "tell")
         return None
 
+    @only_with("no-empty-after-acknowledged")
     def take_answer(self, m: Message) -> None:
-        self.is_answering = not m.refused
+        self.is_acknowledging = not m.refused
         super().take_answer(m)
-        self.is_answering = False
+        self.is_acknowledging = False
 
+    @only_with("snapshot-ends-in-probe", "probe-ends-above")
     def take_acceptance(self, m: Message, view: View) -> None:
         if self.on("snapshot-ends-in-probe") and view.state == "snapshot" and self.acknowledged(m) >= max(view.pending, view.match + 1):
             view.match = self.acknowledged(m)
@@ -114,6 +128,7 @@ class ViewRules(Ruled):
             self.send("MsgTimeoutNow", m.sender)
         return None
 
+    @only_with("refusal-has-term", "refused-append-waits", "refusal-goes-below-match")
     def take_refusal(self, m: Message, view: View) -> None:
         if self.on("refusal-has-term") and m.log_term:
             m = m._replace(hint=self.hint(m.hint, m.log_term) or min(m.hint, max(self.base - 1, 0)))
@@ -132,6 +147,7 @@ class ViewRules(Ruled):
             return self.sends(m.sender, "tell")
         return super().take_refusal(m, view)
 
+    @only_with("saved-is-acknowledged")
     def send(self, kind: str, to: int, **parts: Any) -> None:
         if kind == "MsgAppResp" and self.has_nothing_new and not parts.get("refused") and self.on("saved-is-acknowledged"):
             parts["index"] = min(parts["index"], self.durable)
@@ -141,10 +157,12 @@ class ViewRules(Ruled):
         """The index that a refusal hints at, if that is the last one."""
         return self.durable if self.on("saved-is-acknowledged") else self.last()
 
+    @only_with("saved-is-acknowledged", "commit-waits-for-saved")
     def put_after(self, numbered: list[Numbered]) -> None:
         self.has_nothing_new = all(self.term_at(at) == entry.term for at, entry in numbered)
         super().put_after(numbered)
 
+    @only_with("saved-is-acknowledged", "commit-waits-for-saved")
     def by_role(self, m: Message) -> None:
         before = self.commit
         super().by_role(m)
@@ -160,6 +178,7 @@ class ViewRules(Ruled):
             self.held.append((self.last(), self.last_term(), self.commit))
             self.commit = before
 
+    @only_with("commit-waits-for-saved")
     def ready(self) -> Ready:
         for index, term, commit in self.held if self.role == "follower" else ():
             if self.term_at(index) == term:
@@ -167,10 +186,12 @@ class ViewRules(Ruled):
         self.held = []
         return super().ready()
 
+    @only_with("commit-waits-for-saved")
     def start_from(self, disk: Disk) -> None:
         self.held = []
         super().start_from(disk)
 
+    @only_with("compacted-is-refused", "append-below-commit-counts", "refusal-has-term", "refusal-hints-last", "old-append-answered")
     def take_append(self, m: Message) -> None:
         if self.on("compacted-is-refused"):
             return self.take_compared(m)
@@ -213,14 +234,18 @@ class ViewRules(Ruled):
         self.commit = max(self.commit, min(m.commit, self.last()))
         return self.answer_append(m, index=m.index + len(m.entries))
 
+    @only_with("snapshot-always-installed", "strange-snapshot-ignored", "outgoing-snapshot-ignored", "skipped-snapshot-keeps-commit")
     def take_snapshot(self, m: Message) -> None:
         assert m.snapshot is not None
         if self.on("snapshot-always-installed"):
             return self.install(m, m.snapshot)
         if m.snapshot.index > self.commit and self.is_left_out(m.snapshot.config):
             return self.answer_append(m, index=self.commit)
-        if self.on("skipped-snapshot-keeps-commit") and m.snapshot.index > self.commit and self.term_at(m.snapshot.index) == m.snapshot.term:
-            return self.answer_append(m, index=m.snapshot.index)
+        index, has_it = m.snapshot.index, self.term_at(m.snapshot.index) == m.snapshot.term
+        if self.on("skipped-snapshot-keeps-commit") and index < self.last() and (has_it or index <= self.commit):
+            return self.answer_append(m, index=index)
+        if self.on("skipped-snapshot-keeps-commit") and index == self.last() and has_it:
+            self.entries, self.commit = [], self.base
         return super().take_snapshot(m)
 
     def install(self, m: Message, new: Snapshot) -> None:

@@ -7,14 +7,20 @@ from raftbench_nodes.compare.exceptions import AcceptedKinds
 from raftbench_nodes.compare.comparison import Comparison
 from raftbench_nodes.explore.explorer import Explorer, Settings, Spec
 from raftbench_nodes.compare.judge import Judge
-from raftbench_nodes.rules.lists import LIKE
+from raftbench_nodes.compare.plan import plan_of
+from raftbench_nodes.compare.script import Step, blocks_of
+from raftbench_nodes.explore.dice import steps_of
+from raftbench_nodes.explore.library import classics
+from raftbench_nodes.rules.calls import CallRules
+from raftbench_nodes.rules.lists import LIKE, RULES, kind_with
 from raftbench_nodes.process.process import Process
 from raftbench_nodes.rules.switches import switches_of
 from plain.node import Node
 from plain.records import Message
 from tests.harness import TOP
 from tests.nodes.breaking import Checks, is_equal
-from tests.nodes.switch_rows import INSTALLING, THREE, TWO, part_switch_rows, pending, ran
+from tests.nodes.switch_rows import CHANGES, INSTALLING, LEADERS, LOGS, THREE, TWO, VOTES, part_switch_rows, pending, ran, ran_on
+from tests.nodes.test_classics import InPlace
 
 CALLS = ("messages-are-calls", "own-answers-at-once", "answers-in-order")
 LIMITED = ("# node: uncommitted 1 / add-nodes 3 voters=(1,2,3) index=10", "campaign 1", "stabilize", "propose 1 abc")
@@ -114,4 +120,31 @@ def part_limits_of_logs() -> Checks:
     yield "a reference that fails", is_equal(found[0].is_reference_wrong, True)
 
 
-PARTS = [part_switch_rows, part_limits_of_logs, part_uncommitted_of_etcd, part_calls, part_leaders_of_libraries]
+def all_rules(names: frozenset[str]) -> type[Node]:
+    """The kind that has all methods of its rules, whether or not they are needed."""
+    return type("AllRules", ((CallRules,) if "messages-are-calls" in names else ()) + RULES, {"switches": names})
+
+
+def part_only_with() -> Checks:
+    """What `only_with` leaves out of a kind of node does nothing: in each row, and in scripts of the tree and of the dice with the lists of nodes/like."""
+    for row in (*CHANGES, *LEADERS, *VOTES, *LOGS):
+        names = frozenset((*row.base, row.switch))
+        one, other = (ran_on(kind, *row.lines).frozen() for kind in (kind_with(names), all_rules(names)))
+        yield f"all rules, {row.switch}, after {row.lines[-1]}", None if one == other else "it differs"
+    scripts = [steps_of(seed, "mixed") for seed in range(3)] + [list(given.steps) for given in classics()[::12]]
+    for file in sorted(LIKE.glob("*.txt")):
+        names = switches_of(file.read_text())
+        for number, steps in enumerate(scripts):
+            one, other = (planned(kind, steps) for kind in (kind_with(names), all_rules(names)))
+            yield f"all rules, {file.name}, script {number}", None if one == other else "it differs"
+    none = (planned(kind, scripts[0]) for kind in (Node, kind_with(()), all_rules(frozenset())))
+    yield "no rules", None if len(set(map(repr, none))) == 1 else "it differs"
+
+
+def planned(kind: type[Node], steps: list[Step]) -> object:
+    """What nodes of a kind are asked in a script, and what they answer."""
+    plan = plan_of(blocks_of(steps), InPlace(), Comparison(kind, frozenset({"views", "messages", "ready"})))
+    return [(each.call, each.states, each.answer, each.end) for each in plan.asked]
+
+
+PARTS = [part_switch_rows, part_only_with, part_limits_of_logs, part_uncommitted_of_etcd, part_calls, part_leaders_of_libraries]

@@ -7,6 +7,7 @@ import dataclasses
 from collections.abc import Callable
 
 from plain.config import Change, Config
+from plain.node import Node
 from plain.records import Entry, Message, Snapshot
 from raftbench_nodes.compare.runner_steps import step_of, steps_above
 from raftbench_nodes.compare.script import Step, blocks_of
@@ -21,8 +22,12 @@ ROUND_TRIP = ("process-ready 1", "deliver-msgs 2", "process-ready 2", "deliver-m
 
 
 def ran(switches: tuple[str, ...], *lines: str) -> Reference:
+    return ran_on(kind_with(switches), *lines)
+
+
+def ran_on(kind: type[Node], *lines: str) -> Reference:
     """A cluster that has run directives, one a line; the words of a change stand after ` | `."""
-    cluster = Reference(kind_with(switches))
+    cluster = Reference(kind)
     steps = []
     for line in lines:
         head, _, words = line.partition(" | ")
@@ -115,6 +120,7 @@ INSTALLING = ("add-nodes 2 voters=(1,2,3) index=10", "add-nodes 1 voters=(1,2,3)
 PROPOSED = (*TWO, "propose 1 a", "process-ready 1")
 HANDED = (*PROPOSED, "deliver-msgs drop=(2)", "transfer-leadership from=1 to=2", "process-ready 1")
 BY_SENT = ("transfer-goes-by-sent",)
+HAS_TWO = (*THREE, "propose 1 a", "propose 1 b", "process-ready 1", "deliver-msgs 2")
 LEADERS = [
     Row("commit-told-later", (*THREE, "propose 1 a", *ROUND_TRIP, "process-ready 1"), waiting(2), [("MsgApp", 0, 12)], []),
     Row("lost-append-goes-again", LOST, waiting(2), [("MsgApp", 1, 11)], []),
@@ -144,7 +150,14 @@ LEADERS = [
     Row("pre-vote-brings-term", ("add-nodes 3 voters=(1,2,3) index=10 prevote=true", "campaign 1", "stabilize 1 2", "deliver-msgs drop=3", "campaign 2", "process-ready 2", "deliver-msgs 3"), of(3, "term"), (0,), (1,)),
     Row("lone-voter-begins-term", ("add-nodes 1 voters=1 index=10",), of(1, "role", "term", "vote"), ("leader", 0, 0), ("leader", 1, 1), ("lone-voter-leads",)),
     Row("lone-voter-begins-term", ("add-nodes 1 voters=1 index=10", "process-ready 1", "# node: restart 1 / raft-state"), of(1, "role", "term"), ("leader", 0), ("leader", 2), ("lone-voter-leads",)),
-    Row("skipped-snapshot-keeps-commit", (*THREE, "propose 1 a", "process-ready 1", "deliver-msgs 2", "process-ready 2", "stabilize 1 3", "send-snapshot 1 2", "deliver-msgs 2 type=MsgSnap"), of(2, "commit"), (12,), (11,)),
+    Row("skipped-snapshot-keeps-commit", HAS_TWO, of(2, "commit", "base"), (12, 10), (11, 10), then=(2, Message("MsgSnap", 1, 2, 1, snapshot=Snapshot(12, 1, b"a", Config(frozenset({1, 2, 3})))))),
+    Row("skipped-snapshot-keeps-commit", HAS_TWO, of(2, "commit", "base"), (13, 10), (13, 13), then=(2, Message("MsgSnap", 1, 2, 1, snapshot=Snapshot(13, 1, b"ab", Config(frozenset({1, 2, 3})))))),
+    # Open vSwitch 4.0.0, raft.c: raft_command_initiate sends to whom next_index is the new entry's, and adds one to that; raft_send_heartbeats sends no entries.
+    Row("leader-never-probes", (*TWO[:2], *ROUND_TRIP, "propose 1 a", "process-ready 1"), waiting(2), [("MsgApp", 1, 10)], [("MsgApp", 1, 10)] * 2),
+    # raft_handle_install_snapshot_reply sets next_index alone.
+    Row("leader-never-probes", (*INSTALLING, "deliver-msgs 3", "process-ready 3", "deliver-msgs 1"), lambda cluster: cluster.nodes[1].views[3].match, 10, 0, ("last-snapshot-sent",)),
+    # raft_store_snapshot sets log_synced to the log's end.
+    Row("compacting-saves", (*THREE, "propose 1 a", "stabilize", "propose 1 b", "compact 1 12"), of(1, "durable"), (12,), (13,)),
     Row("own-vote-at-once", ("add-nodes 1 voters=1 index=10", "campaign 1"), of(1, "role", "commit"), ("candidate", 10), ("leader", 10)),
     Row("own-answers-at-once", ("add-nodes 1 voters=1 index=10", "campaign 1"), of(1, "role", "commit"), ("candidate", 10), ("leader", 11)),
 ]
@@ -154,9 +167,11 @@ ASKS = (*THREE, "campaign 3", "process-ready 3", "deliver-msgs 2")
 VOTED = ("add-nodes 3 voters=(1,2,3) index=10", "campaign 1", "process-ready 1", "deliver-msgs 2")
 EARLIER = ("add-nodes 2 voters=(1,2) index=10", "campaign 2", "campaign 2", "process-ready 2", "deliver-msgs drop=(1)", "campaign 1", "process-ready 1", "deliver-msgs 2", "process-ready 2")
 ASKED = ("add-nodes 2 voters=(1,2) index=10 prevote=true", "campaign 2", "process-ready 2", "deliver-msgs 1", "process-ready 1", "deliver-msgs 2", "process-ready 2")
+ASKED_BY_1 = (*PRE_VOTED, "process-ready 1", "deliver-msgs 2", "process-ready 2", "deliver-msgs 1")
 DUE = ("add-nodes 2 voters=(1,2) index=10 prevote=true", *["tick-heartbeat 1"] * 2, "campaign 1", "process-ready 1", "deliver-msgs drop=(2)")
 BUMPED = (*THREE[:2], "stabilize 1 2", "deliver-msgs drop=3", *["campaign 3"] * 2, "process-ready 3", "set-randomized-election-timeout 2 timeout=4", "tick-election 2")
 BEHIND = ("add-nodes 2 voters=(1,2) index=10 prevote=true", "add-nodes 1 voters=(1,2,3) index=9 prevote=true", "campaign 3", "process-ready 3", "deliver-msgs 2", "process-ready 2")
+LATE = (*ASKED_BY_1, "process-ready 1", "deliver-msgs 2", "process-ready 2", "campaign 1", "process-ready 1", "deliver-msgs 1")
 VOTES = [
     Row("refused-candidate-stays", SPLIT, lambda cluster: sorted(cluster.nodes[id].role for id in (1, 2)), ["follower", "leader"], ["candidate", "leader"]),
     Row("known-leader-refuses", ASKS, of(2, "term"), (2,), (1,)),
@@ -172,6 +187,14 @@ VOTES = [
     Row("pre-vote-refusal-keeps-term", (PRE_VOTED[0], "campaign 2", "stabilize 2 3", "deliver-msgs drop=1", "campaign 1", "stabilize 1 2"), of(1, "role", "term"), ("follower", 1), ("precandidate", 0)),
     Row("pre-vote-answer-has-asked-term", BEHIND, messages("MsgPreVoteResp", "term"), [(0,)], [(1,)]),
     Row("saved-answers-in-order", (*VOTED, "campaign 2", "process-ready 2"), kinds_from(2), ["MsgVote", "MsgVote", "MsgVoteResp"], ["MsgVoteResp", "MsgVote", "MsgVote"]),
+    Row("answers-wait-for-log", (*PROPOSED, "deliver-msgs 2"), ready(2, "index"), [(11,), (12,)], [(12,), (11,)], ("saved-answers-in-order",), then=(2, Message("MsgApp", 1, 2, 1, 11, 1, 11))),
+    # raft_should_suppress_disruptive_server: a follower's election_base is that of its vote, too.
+    Row("timeout-ignores-candidates", (*VOTED, "campaign 3", "campaign 3", "process-ready 3", "deliver-msgs 2"), of(2, "term", "vote"), (2, 3), (1, 1)),
+    Row("timeout-ignores-candidates", (*VOTED, "set-randomized-election-timeout 2 timeout=9", *["tick-heartbeat 2"] * 3, "campaign 3", "campaign 3", "process-ready 3", "deliver-msgs 2"),
+        of(2, "term", "vote"), (2, 3), (2, 3)),
+    Row("append-draws-timeout", (*TWO, "set-randomized-election-timeout 2 timeout=9", "propose 1 a", "process-ready 1", "deliver-msgs 2"), of(2, "timeout"), (9,), (3,)),
+    Row("late-vote-passes-pre-vote", LATE, of(1, "role", "term"), ("precandidate", 1), ("candidate", 2)),
+    Row("pre-vote-brings-term", (*PRE_VOTED, "stabilize 1 2", "deliver-msgs drop=3", "campaign 3", "process-ready 3", "deliver-msgs 2", "process-ready 2"), kinds(3), ["MsgPreVoteResp"], []),
     Row("nonvoter-refuses", ("add-nodes 1", "add-nodes 2 voters=(1,2,3) index=10", "campaign 2", "process-ready 2", "deliver-msgs 1", "process-ready 1"), messages("MsgVoteResp", "refused"), [(False,)], [(True,)]),
     Row("told-candidate-stays-told", (*TWO, "transfer-leadership from=1 to=2", "process-ready 1", "deliver-msgs 2", "campaign 2", "process-ready 2"), messages("MsgVote", "by_transfer"), [(True,), (False,)], [(True,), (True,)]),
 ]
