@@ -48,8 +48,8 @@ class PlanningReference(Reference):
 
     def __init__(self, kind: type[Node], begins_at_0: bool, hello: Hello, has_views: bool) -> None:
         super().__init__(kind, begins_at_0)
-        self.hello, self.has_views, self.is_ruled = hello, has_views, issubclass(kind, Ruled)
-        self.plain: dict[int, Node] = {}
+        self.hello, self.has_views = hello, has_views
+        self.plain: dict[int, Node] = {}  # the same as `nodes`, all of which are plain ones
         self.asked: list[PlannedCall] = []
         self.met: set[int] = set()
         self.notes_where = True  # where the script leads
@@ -58,7 +58,7 @@ class PlanningReference(Reference):
 
     def expected(self, id: int) -> ExpectedState:
         node = self.plain[id]
-        skipped = node.unsettled() if self.is_ruled else NONE  # type: ignore[attr-defined]
+        skipped = node.unsettled() if isinstance(node, Ruled) else NONE
         return ExpectedState(state_of(node), skipped | READY_LATER if id in self.under_way else skipped)
 
     def ask(self, node_id: int, call: str, **parts: Any) -> None:

@@ -54,13 +54,10 @@ class HoldingNetwork(Network):
         return (m.sender, m.to) in self.held
 
     def has_for(self, ids: Any) -> bool:
-        for m in self.pending:
-            if m.to in ids and not (self.held and self.is_held(m)):
-                return True
-        return False
+        return any(m.to in ids and not (self.held and self.is_held(m)) for m in self.pending)
 
     def take(self, id: int, choice: Choice = ALL) -> list[Message]:
-        """The same; soon done where all of a node's messages are wanted, and none is held back."""
+        """Takes the chosen messages. If all of a node's are wanted and none is held back, none is looked at twice."""
         if self.held or choice != ALL:
             return super().take(id, choice)
         taken = [m for m in self.pending if m.to == id]
@@ -188,7 +185,7 @@ class Stage(Cluster):
         return True
 
     def has_work(self, chosen: Sequence[int]) -> bool:
-        return super().has_work(chosen) or bool(self.under_way) and not self.under_way.isdisjoint(chosen)
+        return super().has_work(chosen) or not self.under_way.isdisjoint(chosen)
 
     # The runner's steps
 

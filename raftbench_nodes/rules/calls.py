@@ -70,6 +70,7 @@ class Member:
 class CallRules(Ruled):
     """The rules of `messages-are-calls`."""
 
+    serves = frozenset(("messages-are-calls",))
     calls = 0  # how many were made
     asked = asked_ticks = 0  # the call for votes of this campaign
     handed = handed_ticks = 0  # the call that hands the lead over
@@ -86,27 +87,24 @@ class CallRules(Ruled):
         self.commits_sent: dict[int, int] = {}
         super().__init__(*given)
 
-    def are_calls(self) -> bool:
-        return self.on("messages-are-calls")
-
     def number(self) -> int:
         self.calls += 1
         return self.calls
 
     def send(self, kind: str, to: int, **parts: Any) -> None:
         self.has_refused = bool(parts.get("refused")) if kind == "MsgAppResp" else self.has_refused
-        if self.are_calls() and kind.endswith("Resp"):
+        if kind.endswith("Resp"):
             parts.setdefault("context", self.answering)
-        elif self.are_calls() and kind == "MsgVote":
+        elif kind == "MsgVote":
             parts["context"] = self.asked
-        elif self.are_calls() and kind == "MsgTimeoutNow":
+        elif kind == "MsgTimeoutNow":
             self.handed, self.handed_ticks = self.number(), 0
             parts["context"], parts["term"] = self.handed, 0
         super().send(kind, to, **parts)
 
     def ready(self) -> Ready:
         ready = super().ready()
-        return ready._replace(messages=sorted(ready.messages, key=receiver)) if self.are_calls() else ready
+        return ready._replace(messages=sorted(ready.messages, key=receiver))
 
     def start_from(self, disk: Disk) -> None:
         super().start_from(disk)
@@ -148,13 +146,13 @@ class CallRules(Ruled):
         super().view_members()
         for id in sorted(self.members.keys() - self.views.keys()):
             member = self.members.pop(id)
-            if self.are_calls() and member.is_free():
+            if member.is_free():
                 self.go_on(member)
             self.gone[member.call] = self.ticks
 
     def append(self, body: Body) -> bool:
         done = super().append(body)
-        if self.are_calls() and done:
+        if done:
             self.ask_members()
         return done
 
@@ -166,12 +164,10 @@ class CallRules(Ruled):
                 self.members[id].ask(self.last())
 
     def tell_all(self) -> None:
-        if not self.are_calls():
-            super().tell_all()
+        """Members are called one by one, when something is to be sent."""
 
     def sends(self, id: int, mode: str) -> None:
-        if not self.are_calls():
-            super().sends(id, mode)
+        """Nothing goes but by calls."""
 
     def go_on(self, member: Member) -> None:
         """Sends what a member lacks up to the last entry, or an empty append."""
@@ -195,7 +191,7 @@ class CallRules(Ruled):
 
     def tell_commit(self) -> None:
         """Members that nothing is on its way to hear of a new commit by an empty append."""
-        while self.are_calls() and self.role == "leader" and self.heard_commit > self.told:
+        while self.role == "leader" and self.heard_commit > self.told:
             self.told = self.heard_commit
             for id in self.others():
                 if self.members[id].is_free():
@@ -217,8 +213,6 @@ class CallRules(Ruled):
         return member is not None and m.context == (member.beat if m.kind == "MsgHeartbeatResp" else member.call)
 
     def step(self, m: Message) -> None:
-        if not self.are_calls():
-            return super().step(m)
         self.answering = m.context
         self.end_left(m)
         if m.kind == "MsgAppResp":
@@ -237,7 +231,7 @@ class CallRules(Ruled):
         else:
             super().step(m)
         self.end_left(m)
-        return self.tell_commit()
+        self.tell_commit()
 
     def end_left(self, m: Message) -> None:
         """An answer ends the call of an earlier leadership, also of one that it has just ended."""
@@ -249,25 +243,20 @@ class CallRules(Ruled):
 
     def is_undisturbed(self, m: Message) -> bool:
         is_it = super().is_undisturbed(m)
-        if is_it and self.are_calls() and not self.on("known-leader-refuses"):
+        if is_it and not self.on("known-leader-refuses"):
             self.send("MsgVoteResp", m.sender, refused=True)
         return is_it
 
     def answer_older(self, m: Message) -> None:
-        if self.are_calls() and m.kind in ANSWERED:
+        if m.kind in ANSWERED:
             index, hint = (m.snapshot.index, 0) if m.snapshot else (m.index, self.last())
             return self.send(ANSWERED[m.kind], m.sender, refused=True, index=index, hint=hint)
         return super().answer_older(m)
 
     def take_beat_answer(self, m: Message) -> None:
-        if not self.are_calls():
-            return super().take_beat_answer(m)
         self.members[m.sender].beat = 0
-        return None
 
     def take_answer(self, m: Message) -> None:
-        if not self.are_calls():
-            return super().take_answer(m)
         member, view = self.members[m.sender], self.views[m.sender]
         member.call = 0
         if m.refused:
@@ -280,16 +269,14 @@ class CallRules(Ruled):
             member.last = self.last()
             self.call_member(member)
         self.commits()
-        return self.hand_over(m.sender)
+        self.hand_over(m.sender)
 
     def take_beat(self, m: Message) -> None:
-        super().take_beat(m._replace(commit=0) if self.are_calls() else m)
+        super().take_beat(m._replace(commit=0))
 
     # Handing the lead over
 
     def start_transfer(self, m: Message) -> None:
-        if not self.are_calls():
-            return super().start_transfer(m)
         if m.target not in self.members or self.transferee or self.handed:
             return self.ignore(m)
         self.elapsed, self.transferee, member = 0, m.target, self.members[m.target]
@@ -309,16 +296,14 @@ class CallRules(Ruled):
 
     def campaign_by_transfer(self, m: Message) -> None:
         """Whoever is asked campaigns, unless it does: the request has no term."""
-        if not self.are_calls():
-            return super().campaign_by_transfer(m)
         if self.role == "leader":
             self.follow(self.term, 0)
         if self.role != "candidate":
             super().campaign_by_transfer(m)
-        return self.send("MsgTimeoutNowResp", m.sender, context=m.context, term=0)
+        self.send("MsgTimeoutNowResp", m.sender, context=m.context, term=0)
 
     def why_not_now(self, kind: str) -> str | None:
-        return None if self.are_calls() and kind == "transfer" else super().why_not_now(kind)
+        return None if kind == "transfer" else super().why_not_now(kind)
 
     def fail(self, member: Member) -> None:
         member.fail(self.last(), member.id == self.transferee)
@@ -330,8 +315,6 @@ class CallRules(Ruled):
         super().ask(kind, term, by_transfer)
 
     def tick(self) -> None:
-        if not self.are_calls():
-            return super().tick()
         if self.role == "leader":
             self.tick_leader()
             self.beat_members([*self.left, *(self.members.values() if self.role == "leader" else ())])
@@ -339,7 +322,7 @@ class CallRules(Ruled):
             self.beat_members(self.left)
             super().tick()
         self.age_calls()
-        return self.tell_commit()
+        self.tell_commit()
 
     def tick_leader(self) -> None:
         self.ticks, self.elapsed = self.ticks + 1, self.elapsed + 1
@@ -373,8 +356,6 @@ class CallRules(Ruled):
             self.end_transfer()
 
     def lose(self, m: Message) -> None:
-        if not self.are_calls():
-            return super().lose(m)
         if m.kind == "MsgTimeoutNow" and m.context == self.handed:
             self.handed = 0
             self.end_transfer()
@@ -384,4 +365,3 @@ class CallRules(Ruled):
             elif m.kind in ("MsgApp", "MsgSnap") and m.context == member.call:
                 self.fail(member)
         self.left = [member for member in self.left if member.call or member.is_asked]
-        return None

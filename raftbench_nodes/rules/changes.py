@@ -5,14 +5,9 @@ from plain.config import Change, ChangeFault, Config, enter_joint
 from plain.node import Disk
 from plain.records import Message, Numbered
 
-from .kinds import only_with
 from .own import Ruled
 
 LEAVING = Change("auto", ())
-
-
-class FirstForm(Change):
-    """A change that was asked for in etcd's first form."""
 
 
 class WholeChange(Change):
@@ -24,17 +19,20 @@ class WholeChange(Change):
 class ChangeRules(Ruled):
     """Changes of the configuration."""
 
+    serves = frozenset((
+        "added-view-at-last", "change-counts-when-appended", "change-has-all-members", "change-tells-all", "changes-wait", "demoted-leader-stops",
+        "impossible-change-declined", "leaves-when-committed", "leaving-needs-applying", "leaving-not-pending", "leaving-not-told",
+        "no-words-leave-with-auto", "removed-and-added-anew", "transfer-ends-with-voter",
+    ))
     is_growing = False  # while views begin as those of added members
     applies = True
     first_led = 0  # the index of the first entry of this leadership
     removed: frozenset[int] = frozenset()  # by the change that is applied
 
-    @only_with("leaving-needs-applying")
     def advance(self) -> None:
         self.applies = self.commit > self.applied
         super().advance()
 
-    @only_with("leaving-not-told")
     def leave_by_itself(self) -> None:
         if not self.on("leaving-not-told"):
             return super().leave_by_itself()
@@ -43,7 +41,6 @@ class ChangeRules(Ruled):
             self.pending_change = self.last()
         return None
 
-    @only_with("change-has-all-members", "no-words-leave-with-auto")
     def config_after(self, change: Change) -> Config:
         if isinstance(change, WholeChange):
             return change.members
@@ -51,7 +48,6 @@ class ChangeRules(Ruled):
             return enter_joint(self.config, (), change.transition == "implicit")
         return super().config_after(change)
 
-    @only_with("change-counts-when-appended")
     def recount(self) -> None:
         """The configuration that the whole log comes to, if changes count when they are appended."""
         if not self.on("change-counts-when-appended"):
@@ -66,24 +62,10 @@ class ChangeRules(Ruled):
         if self.config != before and self.role == "leader":
             self.view_members()
 
-    def is_unstable(self) -> bool:
-        """Whether the last change isn't known to be committed."""
-        return any(isinstance(entry.body, Change) for _, entry in self.entries_from(self.commit + 1))
-
-    @only_with("changes-wait")
     def lead_on(self) -> None:
         self.first_led = self.last() + 1
         super().lead_on()
 
-    @only_with("pending-change-campaigns")
-    def propose_change(self, change: Change, is_v1: bool = False) -> None:
-        super().propose_change(FirstForm(*change) if is_v1 else change, is_v1)
-
-    def has_first_form_pending(self) -> bool:
-        """Whether a change of the first form is committed and isn't applied."""
-        return any(isinstance(entry.body, FirstForm) for _, entry in self.entries_from(self.applied + 1, self.commit))
-
-    @only_with("changes-wait", "impossible-change-declined", "change-has-all-members")
     def append_change(self, change: Change) -> None:
         if self.on("changes-wait") and (self.is_unstable() or self.commit < self.first_led):
             return
@@ -101,7 +83,6 @@ class ChangeRules(Ruled):
             return True
         return False
 
-    @only_with("leaves-when-committed")
     def commits(self) -> bool:
         moved = super().commits()
         is_gone = self.role == "leader" and self.id not in self.config.voters() and not self.is_unstable()
@@ -109,7 +90,6 @@ class ChangeRules(Ruled):
             self.follow(self.term, 0)
         return moved
 
-    @only_with("leaves-when-committed")
     def take_proposal(self, m: Message) -> None:
         """A leader that removes itself goes on until that is committed, and then isn't one."""
         if self.on("leaves-when-committed") and self.id not in self.views and isinstance(m.body, bytes) and not self.transferee:
@@ -117,23 +97,14 @@ class ChangeRules(Ruled):
         else:
             super().take_proposal(m)
 
-    @only_with("change-counts-when-appended")
     def put_after(self, numbered: list[Numbered]) -> None:
         super().put_after(numbered)
         self.recount()
 
-    @only_with("change-counts-when-appended", "restart-forgets-commit", "restart-keeps-applied")
     def start_from(self, disk: Disk) -> None:
-        before = (self.applied, self.content, self.config) if hasattr(self, "disk") else None
         super().start_from(disk)
         self.recount()
-        if self.on("restart-forgets-commit"):
-            self.commit = disk.base
-        if self.on("restart-keeps-applied") and before and before[0] <= self.last():
-            self.applied, self.content, self.config = before
-            self.commit = max(self.commit, self.applied)
 
-    @only_with("change-counts-when-appended", "removed-and-added-anew")
     def apply_change(self, index: int, change: Change) -> None:
         if self.on("change-counts-when-appended"):
             is_gone = self.role == "leader" and self.id not in self.config.voters()
@@ -144,7 +115,6 @@ class ChangeRules(Ruled):
             self.removed = frozenset(id for letter, id in change.words if letter == "r") - self.config.incoming
         super().apply_change(index, change)
 
-    @only_with("removed-and-added-anew", "demoted-leader-stops", "change-tells-all", "added-view-at-last")
     def view_members(self) -> None:
         self.is_growing = True
         self.views = {id: view for id, view in self.views.items() if id not in self.removed}
@@ -152,15 +122,19 @@ class ChangeRules(Ruled):
             self.view_added()
         elif self.on("change-tells-all"):
             self.view_added()
-            if not self.commits():
-                for id in self.others():
-                    self.sends(id, "news")
-            heirs = self.config.voters() if self.on("transfer-ends-with-voter") else self.config.members()
-            if self.transferee not in heirs:
-                self.end_transfer()
+            self.tell_new()
         else:
             super().view_members()
         self.is_growing = False
+
+    def tell_new(self) -> None:
+        """Sends all members what is new, after a change."""
+        if not self.commits():
+            for id in self.others():
+                self.sends(id, "news")
+        heirs = self.config.voters() if self.on("transfer-ends-with-voter") else self.config.members()
+        if self.transferee not in heirs:
+            self.end_transfer()
 
     def view_added(self) -> None:
         members = self.config.members()
@@ -168,7 +142,6 @@ class ChangeRules(Ruled):
         for id in sorted(members - set(self.views)):
             self.new_view(id, True)
 
-    @only_with("added-view-at-last")
     def new_view(self, id: int, active: bool) -> None:
         super().new_view(id, active)
         if self.on("added-view-at-last") and id != self.id and self.is_growing:

@@ -9,21 +9,28 @@ from typing import Iterable
 
 from plain.node import Node
 
+from .appends import AppendRules
 from .calls import CallRules
+from .campaigns import CampaignRules
 from .changes import ChangeRules
-from .kinds import reduced
+from .clocks import BeatRules, ClockRules, QuorumRules
 from .limits import LimitRules
 from .own import OwnRules, Ruled
 from .reads import ReadRules
+from .saves import AcknowledgeRules, SaveRules
 from .streams import StreamRules
 from .switches import Unknown, switches_of
-from .terms import TermRules
+from .terms import TermRules, VoteRules
+from .transfers import TransferRules
 from .views import ViewRules
 
 LIKE = pathlib.Path(__file__).resolve().parents[2] / "nodes" / "like"
 
-
-RULES = (LimitRules, StreamRules, ReadRules, TermRules, ViewRules, ChangeRules, OwnRules)
+# All rules. What an earlier class does is done before, or instead of, what a later one does.
+RULES: tuple[type[Ruled], ...] = (
+    CallRules, LimitRules, StreamRules, ReadRules, CampaignRules, QuorumRules, ClockRules, TermRules, VoteRules, TransferRules, BeatRules, ViewRules,
+    AppendRules, AcknowledgeRules, SaveRules, ChangeRules, OwnRules,
+)
 
 
 def kind_like(name: str) -> type[Node]:
@@ -39,7 +46,7 @@ def kind_like(name: str) -> type[Node]:
 
 
 def kind_with(switches: Iterable[str]) -> type[Ruled]:
-    """The plain node with the rules of some switches."""
+    """The plain node with the rules that some switches need."""
     names = frozenset(switches)
-    calls = (CallRules,) if "messages-are-calls" in names else ()
-    return type("SwitchedNode", (*calls, *(reduced(rules, names) for rules in RULES)), {"switches": names})
+    rules = (it for it in RULES if not names.isdisjoint(it.serves))
+    return type("SwitchedNode", (*rules, Ruled), {"switches": names})

@@ -7,36 +7,30 @@ from plain.config import both
 from plain.node import Disk, PendingRead, View
 from plain.records import Message, Read
 
-from .kinds import only_with
 from .own import Ruled
 
 
 class ReadRules(Ruled):
     """Reads in the order in which a leader was asked. A heartbeat names the last of them, and its answer counts for that one."""
 
+    serves = frozenset(("reads-are-forwarded",))
     early: tuple[Message, ...] = ()  # asked for before the leader has committed in its term
     askers: dict[int, int] = {}  # who asked for which read
     is_answering = False  # while an answer to an append is taken
 
-    @only_with("reads-are-forwarded")
     def start_from(self, disk: Disk) -> None:
         super().start_from(disk)
         self.early, self.askers = (), {}
 
-    @only_with("reads-are-forwarded")
     def read(self, id: int) -> None:
-        if not self.on("reads-are-forwarded"):
-            return super().read(id)
-        return self.take_read(Message("MsgReadIndex", self.id, self.id, context=id))
+        self.take_read(Message("MsgReadIndex", self.id, self.id, context=id))
 
-    @only_with("reads-are-forwarded")
     def step(self, m: Message) -> None:
-        if self.on("reads-are-forwarded") and m.kind == "MsgReadIndex":
+        if m.kind == "MsgReadIndex":
             self.take_read(m)
         else:
             super().step(m)
 
-    @only_with("reads-are-forwarded")
     def by_role(self, m: Message) -> None:
         if m.kind == "MsgReadIndexResp" and self.role == "follower":
             self.served.append(Read(m.context, m.index))
@@ -67,36 +61,29 @@ class ReadRules(Ruled):
         else:
             self.send("MsgReadIndexResp", asker, index=index, context=id)
 
-    @only_with("reads-are-forwarded")
     def send(self, kind: str, to: int, **parts: Any) -> None:
-        if kind == "MsgHeartbeat" and self.reads and self.on("reads-are-forwarded"):
+        if kind == "MsgHeartbeat" and self.reads:
             parts.setdefault("context", next(reversed(self.reads)))
         super().send(kind, to, **parts)
 
-    @only_with("reads-are-forwarded")
     def take_beat_answer(self, m: Message) -> None:
         """Once a quorum has answered for a read, it is served, and so are those that were asked for before."""
-        if not self.on("reads-are-forwarded"):
-            return super().take_beat_answer(m)
         super().take_beat_answer(m._replace(context=0))
         asked = self.reads.get(m.context) if m.sender in self.views else None
         if asked is None:
-            return None
+            return
         asked.heard.add(m.sender)
         if both(self.config, asked.heard.__contains__):
             for id in list(self.reads):
                 self.answer_read(id, self.askers[id], self.reads.pop(id).index)
                 if id == m.context:
                     break
-        return None
 
-    @only_with("reads-are-forwarded")
     def take_acceptance(self, m: Message, view: View) -> None:
         self.is_answering = True
         super().take_acceptance(m, view)
         self.is_answering = False
 
-    @only_with("reads-are-forwarded")
     def tell_all(self) -> None:
         """Reads that waited for the first commit of the term are asked about before it is told."""
         if self.is_answering and self.early and self.known_term(self.commit) == self.term:

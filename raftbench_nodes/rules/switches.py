@@ -1,6 +1,5 @@
 """Switches: rules in which known libraries differ from the reference. nodes/like/ has the lists of known libraries, and a file of your own may be such a
-list. Which rules a switch changes is in own.py, changes.py, views.py, streams.py, terms.py, calls.py, reads.py and
-limits.py.
+list. Each class of rules, of those in lists.py, names the switches that it serves.
 """
 from __future__ import annotations
 

@@ -3,6 +3,10 @@ are from the lines of their sources that nodes/like names.
 """
 from __future__ import annotations
 
+import inspect
+import re
+from collections.abc import Sequence
+
 from raftbench_nodes.compare.exceptions import AcceptedKinds
 from raftbench_nodes.compare.comparison import Comparison
 from raftbench_nodes.explore.explorer import Explorer, Settings, Spec
@@ -11,18 +15,22 @@ from raftbench_nodes.compare.plan import plan_of
 from raftbench_nodes.compare.script import Step, blocks_of
 from raftbench_nodes.explore.dice import steps_of
 from raftbench_nodes.explore.library import classics
-from raftbench_nodes.rules.calls import CallRules
-from raftbench_nodes.rules.lists import LIKE, RULES, kind_with
 from raftbench_nodes.process.process import Process
-from raftbench_nodes.rules.switches import switches_of
+from raftbench_nodes.rules.calls import CallRules
+from raftbench_nodes.rules.clocks import QuorumRules
+from raftbench_nodes.rules.lists import LIKE, RULES, kind_with
+from raftbench_nodes.rules.own import NONE, Ruled
+from raftbench_nodes.rules.switches import SWITCHES, switches_of
 from plain.node import Node
 from plain.records import Message
 from tests.harness import TOP
 from tests.nodes.breaking import Checks, is_equal
-from tests.nodes.switch_rows import CHANGES, INSTALLING, LEADERS, LOGS, THREE, TWO, VOTES, part_switch_rows, pending, ran, ran_on
+from tests.nodes.switch_rows import CHANGES, INSTALLING, LEADERS, LOGS, THREE, TWO, VOTES, ended, part_switch_rows, pending, ran
 from tests.nodes.test_classics import InPlace
 
 CALLS = ("messages-are-calls", "own-answers-at-once", "answers-in-order")
+# Switches of others that matter only with one that the class serves.
+COMBINED: dict[type[Ruled], frozenset[str]] = {CallRules: frozenset(("known-leader-refuses",)), QuorumRules: frozenset(("heartbeat-answers-have-no-term",))}
 LIMITED = ("# node: uncommitted 1 / add-nodes 3 voters=(1,2,3) index=10", "campaign 1", "stabilize", "propose 1 abc")
 
 
@@ -120,25 +128,38 @@ def part_limits_of_logs() -> Checks:
     yield "a reference that fails", is_equal(found[0].is_reference_wrong, True)
 
 
-def all_rules(names: frozenset[str]) -> type[Node]:
-    """The kind that has all methods of its rules, whether or not they are needed."""
-    return type("AllRules", ((CallRules,) if "messages-are-calls" in names else ()) + RULES, {"switches": names})
+def with_all_rules(names: frozenset[str]) -> type[Node]:
+    """The kind that also has the rules that none of its switches needs, but for those of a single switch, which don't ask for it."""
+    rules = (it for it in RULES if len(it.serves) > 1 or it.serves & names)
+    return type("WithAllRules", (*rules, Ruled), {"switches": names})
 
 
-def part_only_with() -> Checks:
-    """What `only_with` leaves out of a kind of node does nothing: in each row, and in scripts of the tree and of the dice with the lists of nodes/like."""
+def part_rules_that_are_needed() -> Checks:
+    """A class serves the switches that it asks for, and each switch is served. What `kind_with` leaves out does nothing: in each row, and in scripts of the
+    tree and of the dice with the lists of nodes/like.
+    """
+    for rules in RULES:
+        asked = re.findall(r'\bon\("([a-z0-9-]+)"', inspect.getsource(rules))
+        yield f"{rules.__name__} serves what it asks for", is_equal(sorted({*asked} - rules.serves - COMBINED.get(rules, NONE)), [])
+    yield "all switches are served", is_equal(sorted(SWITCHES.keys() ^ {name for rules in RULES for name in rules.serves}), [])
     for row in (*CHANGES, *LEADERS, *VOTES, *LOGS):
-        names = frozenset((*row.base, row.switch))
-        one, other = (ran_on(kind, *row.lines).frozen() for kind in (kind_with(names), all_rules(names)))
-        yield f"all rules, {row.switch}, after {row.lines[-1]}", None if one == other else "it differs"
+        kinds = kinds_with(frozenset((*row.base, row.switch)))
+        yield f"all rules, {row.switch}, after {row.lines[-1]}", are_equal([ended(row, kind).frozen() for kind in kinds])
     scripts = [steps_of(seed, "mixed") for seed in range(3)] + [list(given.steps) for given in classics()[::12]]
     for file in sorted(LIKE.glob("*.txt")):
-        names = switches_of(file.read_text())
+        kinds = kinds_with(switches_of(file.read_text()))
         for number, steps in enumerate(scripts):
-            one, other = (planned(kind, steps) for kind in (kind_with(names), all_rules(names)))
-            yield f"all rules, {file.name}, script {number}", None if one == other else "it differs"
-    none = (planned(kind, scripts[0]) for kind in (Node, kind_with(()), all_rules(frozenset())))
-    yield "no rules", None if len(set(map(repr, none))) == 1 else "it differs"
+            yield f"all rules, {file.name}, script {number}", are_equal([planned(kind, steps) for kind in kinds])
+    plain: tuple[type[Node], ...] = (Node, *kinds_with(NONE))
+    yield "no rules", are_equal([planned(kind, scripts[0]) for kind in plain])
+
+
+def kinds_with(names: frozenset[str]) -> tuple[type[Node], ...]:
+    return kind_with(names), with_all_rules(names)
+
+
+def are_equal(shown: Sequence[object]) -> str | None:
+    return None if all(each == shown[0] for each in shown) else "it differs"
 
 
 def planned(kind: type[Node], steps: list[Step]) -> object:
@@ -147,4 +168,4 @@ def planned(kind: type[Node], steps: list[Step]) -> object:
     return [(each.call, each.states, each.answer, each.end) for each in plan.asked]
 
 
-PARTS = [part_switch_rows, part_only_with, part_limits_of_logs, part_uncommitted_of_etcd, part_calls, part_leaders_of_libraries]
+PARTS = [part_switch_rows, part_rules_that_are_needed, part_limits_of_logs, part_uncommitted_of_etcd, part_calls, part_leaders_of_libraries]

@@ -230,15 +230,20 @@ LOGS = [
 ]
 
 
-def after(row: Row, switches: tuple[str, ...]) -> object:
-    cluster = ran((*row.base, *switches), *row.lines)
+def ended(row: Row, kind: type[Node]) -> Reference:
+    """A row's cluster at its end."""
+    cluster = ran_on(kind, *row.lines)
     if row.then:
         id, given = row.then
         if isinstance(given, Message):
             cluster.nodes[id].step(given)
         else:
             cluster.nodes[id].propose_change(given)
-    return row.shown(cluster)
+    return cluster
+
+
+def after(row: Row, switches: tuple[str, ...]) -> object:
+    return row.shown(ended(row, kind_with((*row.base, *switches))))
 
 
 def part_switch_rows() -> Checks:
