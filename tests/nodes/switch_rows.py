@@ -78,6 +78,15 @@ def ready(id: int, *names: str) -> Shown:
     return lambda cluster: [tuple(getattr(m, name) for name in names) for m in cluster.nodes[id].ready().messages]
 
 
+def kinds_ready(id: int) -> Shown:
+    return lambda cluster: [m.kind for m in cluster.nodes[id].ready().messages]
+
+
+def appended(cluster: Reference) -> object:
+    """The index and the number of entries of the appends that node 1 has ready."""
+    return [(m.index, len(m.entries)) for m in cluster.nodes[1].ready().messages]
+
+
 def reads(cluster: Reference) -> object:
     return [(id, read.index) for id, ready in cluster.readies for read in ready.reads]
 
@@ -150,12 +159,18 @@ LEADERS = [
     Row("pre-vote-brings-term", ("add-nodes 3 voters=(1,2,3) index=10 prevote=true", "campaign 1", "stabilize 1 2", "deliver-msgs drop=3", "campaign 2", "process-ready 2", "deliver-msgs 3"), of(3, "term"), (0,), (1,)),
     Row("lone-voter-begins-term", ("add-nodes 1 voters=1 index=10",), of(1, "role", "term", "vote"), ("leader", 0, 0), ("leader", 1, 1), ("lone-voter-leads",)),
     Row("lone-voter-begins-term", ("add-nodes 1 voters=1 index=10", "process-ready 1", "# node: restart 1 / raft-state"), of(1, "role", "term"), ("leader", 0), ("leader", 2), ("lone-voter-leads",)),
+    # Open vSwitch 4.0.0, raft.c, raft_handle_install_snapshot_request__: cases 2 and 3 compare with log_end alone.
     Row("skipped-snapshot-keeps-commit", HAS_TWO, of(2, "commit", "base"), (12, 10), (11, 10), then=(2, Message("MsgSnap", 1, 2, 1, snapshot=Snapshot(12, 1, b"a", Config(frozenset({1, 2, 3})))))),
     Row("skipped-snapshot-keeps-commit", HAS_TWO, of(2, "commit", "base"), (13, 10), (13, 13), then=(2, Message("MsgSnap", 1, 2, 1, snapshot=Snapshot(13, 1, b"ab", Config(frozenset({1, 2, 3})))))),
-    # Open vSwitch 4.0.0, raft.c: raft_command_initiate sends to whom next_index is the new entry's, and adds one to that; raft_send_heartbeats sends no entries.
+    # raft_command_initiate sends to whom next_index is the new entry's, and adds one to that; raft_send_heartbeats sends no entries.
     Row("leader-never-probes", (*TWO[:2], *ROUND_TRIP, "propose 1 a", "process-ready 1"), waiting(2), [("MsgApp", 1, 10)], [("MsgApp", 1, 10)] * 2),
+    # raft_handle_append_reply lowers next_index by each refusal, a late one's too, and sends all from there on.
+    Row("leader-never-probes", (*TWO, "propose 1 a", "stabilize"), appended, [], [(11, 1)], then=(1, Message("MsgAppResp", 2, 1, 1, 11, refused=True, hint=12))),
     # raft_handle_install_snapshot_reply sets next_index alone.
     Row("leader-never-probes", (*INSTALLING, "deliver-msgs 3", "process-ready 3", "deliver-msgs 1"), lambda cluster: cluster.nodes[1].views[3].match, 10, 0, ("last-snapshot-sent",)),
+    # raft_conn_run ends install_snapshot_request_in_progress where the connection breaks.
+    Row("leader-never-probes", (*INSTALLING, "deliver-msgs drop=3"), kinds_ready(1), [], ["MsgSnap"], ("last-snapshot-sent",), then=(1, Message("MsgAppResp", 3, 1, 1, 10, refused=True, hint=9))),
+    Row("leader-never-probes", INSTALLING, kinds_ready(1), [], [], ("last-snapshot-sent",), then=(1, Message("MsgAppResp", 3, 1, 1, 10, refused=True, hint=9))),
     # raft_store_snapshot sets log_synced to the log's end.
     Row("compacting-saves", (*THREE, "propose 1 a", "stabilize", "propose 1 b", "compact 1 12"), of(1, "durable"), (12,), (13,)),
     Row("own-vote-at-once", ("add-nodes 1 voters=1 index=10", "campaign 1"), of(1, "role", "commit"), ("candidate", 10), ("leader", 10)),
@@ -187,13 +202,20 @@ VOTES = [
     Row("pre-vote-refusal-keeps-term", (PRE_VOTED[0], "campaign 2", "stabilize 2 3", "deliver-msgs drop=1", "campaign 1", "stabilize 1 2"), of(1, "role", "term"), ("follower", 1), ("precandidate", 0)),
     Row("pre-vote-answer-has-asked-term", BEHIND, messages("MsgPreVoteResp", "term"), [(0,)], [(1,)]),
     Row("saved-answers-in-order", (*VOTED, "campaign 2", "process-ready 2"), kinds_from(2), ["MsgVote", "MsgVote", "MsgVoteResp"], ["MsgVoteResp", "MsgVote", "MsgVote"]),
+    # Open vSwitch 4.0.0, raft-rpc.c, raft_rpc_get_min_sync_index: an append_reply has log_end - 1, whatever its result is.
     Row("answers-wait-for-log", (*PROPOSED, "deliver-msgs 2"), ready(2, "index"), [(11,), (12,)], [(12,), (11,)], ("saved-answers-in-order",), then=(2, Message("MsgApp", 1, 2, 1, 11, 1, 11))),
-    # raft_should_suppress_disruptive_server: a follower's election_base is that of its vote, too.
+    Row("answers-wait-for-log", (*PROPOSED, "deliver-msgs 2"), ready(2, "refused"), [(True,), (False,)], [(False,), (True,)], ("saved-answers-in-order",), then=(2, Message("MsgApp", 1, 2, 1, 20, 1, 11))),
+    # raft.c, raft_should_suppress_disruptive_server: a follower's election_base is that of its vote, too; a leader ignores all.
     Row("timeout-ignores-candidates", (*VOTED, "campaign 3", "campaign 3", "process-ready 3", "deliver-msgs 2"), of(2, "term", "vote"), (2, 3), (1, 1)),
     Row("timeout-ignores-candidates", (*VOTED, "set-randomized-election-timeout 2 timeout=9", *["tick-heartbeat 2"] * 3, "campaign 3", "campaign 3", "process-ready 3", "deliver-msgs 2"),
         of(2, "term", "vote"), (2, 3), (2, 3)),
+    Row("timeout-ignores-candidates", (*THREE, "campaign 3", "process-ready 3", "deliver-msgs 1"), of(1, "role", "term"), ("follower", 2), ("leader", 1)),
+    # raft_handle_append_request and raft_handle_vote_request__: raft_reset_election_timer.
     Row("append-draws-timeout", (*TWO, "set-randomized-election-timeout 2 timeout=9", "propose 1 a", "process-ready 1", "deliver-msgs 2"), of(2, "timeout"), (9,), (3,)),
+    Row("append-draws-timeout", ("add-nodes 2 voters=(1,2) index=10", "set-randomized-election-timeout 2 timeout=9", "campaign 1", "process-ready 1", "deliver-msgs 2"), of(2, "timeout"), (9,), (3,), ("later-term-keeps-clock",)),
+    # raft_handle_vote_reply: any vote of its term counts for a candidate, and a pre-vote only before raft_start_election of the next term.
     Row("late-vote-passes-pre-vote", LATE, of(1, "role", "term"), ("precandidate", 1), ("candidate", 2)),
+    # raft_receive_term__ answers no vote_request of an earlier term.
     Row("pre-vote-brings-term", (*PRE_VOTED, "stabilize 1 2", "deliver-msgs drop=3", "campaign 3", "process-ready 3", "deliver-msgs 2", "process-ready 2"), kinds(3), ["MsgPreVoteResp"], []),
     Row("nonvoter-refuses", ("add-nodes 1", "add-nodes 2 voters=(1,2,3) index=10", "campaign 2", "process-ready 2", "deliver-msgs 1", "process-ready 1"), messages("MsgVoteResp", "refused"), [(False,)], [(True,)]),
     Row("told-candidate-stays-told", (*TWO, "transfer-leadership from=1 to=2", "process-ready 1", "deliver-msgs 2", "campaign 2", "process-ready 2"), messages("MsgVote", "by_transfer"), [(True,), (False,)], [(True,), (True,)]),
