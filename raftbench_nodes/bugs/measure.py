@@ -10,15 +10,17 @@ import multiprocessing
 import pathlib
 import resource
 import time
-from typing import NamedTuple, Sequence
+from typing import Any, NamedTuple, Sequence
 
 from ..compare.comparison import Comparison
 from ..compare.exceptions import AcceptedKinds
 from ..compare.judge import Judge
-from ..explore.explorer import Explorer, ScriptResult, Settings, strictest
+from ..explore.calibrating import strictest
+from ..explore.explorer import Explorer, ScriptResult, Settings
 from ..explore.library import classics, distilled
 from ..explore.search import Library, Limits, Search, surprise
 from ..process.process import Process
+from ..process.workers import Task
 from ..tools.explore import ALONE
 from .registry import BUGS
 
@@ -33,26 +35,32 @@ class Shows(Exception):
 
 
 class InPlace:
-    """A fleet of one, which works when it is asked."""
+    """A fleet of one, which works when it is asked. A script that shows a bug ends the search."""
 
     def __init__(self, explorer: Explorer) -> None:
         self.explorer = explorer
-        self.chunks: list[object] = []
+        self.given: list[tuple[Task, Sequence[Any]]] = []
 
-    def give(self, task: object, chunk: object) -> None:
-        self.chunks.append(chunk)
+    def give(self, task: Task, chunk: Sequence[Any]) -> None:
+        self.given.append((task, chunk))
 
     def drop(self) -> None:
-        self.chunks = [[] for _ in self.chunks]
+        self.given = [(task, ()) for task, _ in self.given]
 
-    def take(self) -> list[ScriptResult]:
-        found = []
-        for spec in self.chunks.pop(0):  # type: ignore[attr-defined]
-            found.append(self.explorer.explore(spec))
-            shown = next((shown.kind for shown in found[-1].kinds if surprise(shown.kind) < 4 and "took more than" not in shown.kind), None)
-            if shown:
-                raise Shows(spec.number, shown)
-        return found
+    def take(self) -> list[Any]:
+        task, chunk = self.given.pop(0)
+        results = []
+        for item in chunk:
+            results.append(task(self.explorer, item))
+            if isinstance(results[-1], ScriptResult):
+                self.look_at(results[-1])
+        return results
+
+    @staticmethod
+    def look_at(found: ScriptResult) -> None:
+        shown = next((shown.kind for shown in found.kinds if surprise(shown.kind) < 4 and "took more than" not in shown.kind), None)
+        if shown:
+            raise Shows(found.spec.number, shown)
 
 
 class Row(NamedTuple):
@@ -84,15 +92,19 @@ def processor_seconds() -> float:
     return own.ru_utime + own.ru_stime + children.ru_utime + children.ru_stime
 
 
+def explorer_of(process: Process, comparison: Comparison) -> Explorer:
+    return Explorer(process, Judge(is_asked=False), Settings(comparison, "mixed", ALONE, AcceptedKinds()))
+
+
 def first_found(bug: str, most: int, compare: str, has_classics: bool = True) -> Row:
     """The first script of the default search that shows a bug, but by a promise that any Raft breaks in clusters joined by hand."""
     process = Process([*PLAIN, "--bug", bug] if bug else PLAIN, SECONDS, SCRIPT_SECONDS)
     comparison = Comparison()
     try:
-        aspects = strictest(process, comparison)[0] if compare == "auto" else frozenset(compare.split(","))
+        aspects = strictest(InPlace(explorer_of(process, comparison)))[0] if compare == "auto" else frozenset(compare.split(","))  # type: ignore[arg-type]
         process.close()
         begun = processor_seconds()
-        explorer = Explorer(process, Judge(is_asked=False), Settings(comparison._replace(aspects=aspects), "mixed", ALONE, AcceptedKinds()))
+        explorer = explorer_of(process, comparison._replace(aspects=aspects))
         library = Library(classics() if has_classics else (), distilled())
         search = Search(InPlace(explorer), Limits(0, 1, most, time.monotonic() + 3600), ALONE, library)  # type: ignore[arg-type]
         number, kind = -1 - len(library.classics), ""

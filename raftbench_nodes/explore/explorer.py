@@ -3,7 +3,6 @@ kind of what was found.
 """
 from __future__ import annotations
 
-import collections
 import pathlib
 import traceback
 from typing import Iterable, NamedTuple, Sequence
@@ -33,7 +32,6 @@ MOST_SLOW_RUNS = 12
 MOST_KNOWN_FAILURES = 4
 # Of this many scripts without the runner's steps the proved program is asked about one.
 JUDGED = 40
-CALIBRATING = 24
 # Of so many scripts that are held to promises alone, one has reads at nodes that don't lead too. Nodes that forward these are asked at once with the
 # switch reads-are-forwarded.
 READ_EVERYWHERE = 4
@@ -43,8 +41,6 @@ MOST_TRIED, LEAST_AGREED = 40, 6
 MOST_EARLY = 400
 # What a mistake in the reference, or in a switch, raises.
 FAULTS = (AssertionError, IndexError, KeyError)
-# An aspect in which more scripts differ first isn't compared by default.
-MOST_LOUD = 4
 # What a kind ends with that shows within a directive, and no more at its end.
 WITHIN = " within a directive"
 
@@ -367,30 +363,3 @@ def name_without(name: bytes, removed: Sequence[int]) -> bytes:
 def is_reference_wrong(judge: Judge, blocks: Sequence[Block]) -> bool:
     cluster = Reference()
     return judge.first_wrong(blocks, [cluster.run(block.directive()) for block in blocks]) is not None
-
-
-def aspect_of(kind: str) -> str | None:
-    """The aspect that a kind of difference is of; None for a state's."""
-    if kind.startswith("views"):
-        return "views"
-    if kind.startswith("ready: "):
-        return "ready"
-    return "messages" if "Msg" in kind.split(" after ")[0] or " of messages" in kind else None
-
-
-def strictest(process: Process, comparison: Comparison) -> tuple[frozenset[str], dict[str, str]]:
-    """The aspects in which the first scripts agree, or nearly all of them; and those in which they don't, with how many."""
-    all_dropped: dict[str, str] = {}
-    aspects = frozenset({"views", "messages", "ready"}) - ({"views"} if "status" in process.without else set())
-    while aspects:
-        explorer = Explorer(process, Judge(is_asked=False), Settings(comparison._replace(aspects=aspects), "mixed", 0, AcceptedKinds()))
-        loud: collections.Counter[str | None] = collections.Counter()
-        for seed in range(CALIBRATING):
-            found = explorer.explore(Spec(seed, seed, False))
-            loud.update(aspect_of(shown.kind) for shown in found.kinds[:1])
-        dropped = {aspect for aspect, count in loud.items() if aspect and count >= MOST_LOUD}
-        if not dropped:
-            break
-        aspects -= dropped
-        all_dropped.update({aspect: f"{loud[aspect]} of {CALIBRATING} scripts" for aspect in sorted(dropped)})
-    return aspects, all_dropped

@@ -11,7 +11,8 @@ import os
 import queue
 import signal
 import threading
-from typing import Any, Callable, Iterator, Protocol, Sequence
+import time
+from typing import Any, Callable, Iterator, NamedTuple, Protocol, Sequence
 
 from ..compare.judge import Unjudged
 from .process import CallFailure, Process
@@ -28,6 +29,16 @@ class Worker(Protocol):
     process: Process
 
 
+class Report(NamedTuple):
+    """What a worker says: the results of a list of items, or what failed; and how many seconds it waited for that list."""
+
+    number: int
+    results: list[Any]
+    name: str = ""  # of the nodes
+    waited: float = 0.0
+    failure: str = ""
+
+
 class WorkerError(Exception):
     """The nodes could not be started, the reference not judged, or a worker ended."""
 
@@ -41,14 +52,18 @@ def work(make: Callable[[], Worker], items: Any, results: Any) -> None:
     gc.set_threshold(*COLLECTS)
     threading.Thread(target=end_with_parent, daemon=True).start()
     worker = make()
+    begun = time.monotonic()
     try:
         while (taken := items.get()) is not None:
+            waited = time.monotonic() - begun
             number, task, chunk = taken
-            results.put(("result", number, [task(worker, item) for item in chunk], worker.process.name))
+            found = [task(worker, item) for item in chunk]
+            begun = time.monotonic()
+            results.put(Report(number, found, worker.process.name, waited))
     except CallFailure as failed:
-        results.put(("failed", 0, str(failed), ""))
+        results.put(Report(0, [], failure=str(failed)))
     except Unjudged as fault:
-        results.put(("failed", 0, f"the reference could not be judged: {fault}", ""))
+        results.put(Report(0, [], failure=f"the reference could not be judged: {fault}"))
     finally:
         worker.process.close()
 
@@ -66,6 +81,7 @@ class Fleet:
 
     def __init__(self, jobs: int, make: Callable[[], Worker]) -> None:
         self.name, self.given, self.taken = "", 0, 0
+        self.waited = 0.0  # seconds for which workers had nothing to do
         self.back: dict[int, list[Any]] = {}
         self.dropped: set[int] = set()
         self.workers: list[multiprocessing.context.ForkProcess] = []
@@ -101,15 +117,15 @@ class Fleet:
         """Takes one report of a worker, if there is one in time."""
         are_over = not all(worker.is_alive() for worker in self.workers)
         try:
-            what, number, result, name = self.results.get(timeout=LOOK_SECONDS)
+            report: Report = self.results.get(timeout=LOOK_SECONDS)
         except queue.Empty:
             if are_over:
                 raise WorkerError("a worker ended") from None
             return
-        if what == "failed":
-            raise WorkerError(result)
-        self.name = self.name or name
-        self.back[number] = result
+        if report.failure:
+            raise WorkerError(report.failure)
+        self.name, self.waited = self.name or report.name, self.waited + report.waited
+        self.back[report.number] = report.results
 
     def end(self, is_patient: bool = True) -> None:
         """Ends the workers; at once, where nobody waits for what they do."""

@@ -13,8 +13,9 @@ from plain.script import Fault, read_script
 from ..compare.exceptions import AcceptedKinds
 from ..compare.judge import Judge, Unjudged
 from ..compare.made import THINGS
+from ..explore.calibrating import CALIBRATING, strictest
 from ..explore.costs import REPAIR, repair_of
-from ..explore.explorer import Explorer, Settings, strictest
+from ..explore.explorer import Explorer, Settings
 from ..explore.lacking import lacking_lines
 from ..explore.library import classics, distilled
 from ..explore.remake import Remaker, remade, text_of
@@ -103,11 +104,12 @@ def calibrated(words: Words) -> Words:
     """With what is compared, where that is to be found out."""
     if words.compare != "auto" or not words.is_calibrated:
         return words
-    process = Process(words.command, words.seconds)
+    fleet, is_through = Fleet(min(words.jobs, CALIBRATING), functools.partial(make_explorer, words)), False
     try:
-        aspects, dropped = strictest(process, words.chosen.comparison)
+        aspects, dropped = strictest(fleet)
+        is_through = True
     finally:
-        process.close()
+        fleet.end(is_through)
     return words._replace(chosen=words.chosen._replace(comparison=words.chosen.comparison._replace(aspects=aspects)), dropped=dropped)
 
 
