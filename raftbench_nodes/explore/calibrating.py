@@ -2,7 +2,7 @@
 from __future__ import annotations
 
 import collections
-from typing import NamedTuple
+from typing import Iterable, NamedTuple
 
 from ..compare.exceptions import AcceptedKinds
 from ..compare.judge import Judge
@@ -12,8 +12,8 @@ from .explorer import Explorer, Settings, Spec
 CALIBRATING = 24
 # An aspect in which more scripts differ first isn't compared by default.
 MOST_LOUD = 4
-# The aspects that may be compared, and what nodes leave out that can't show them.
-SHOWN_BY = {"views": "status", "messages": "", "ready": "ready"}
+# The aspects that may be compared, and what nodes that can't show them have in `without`.
+ASPECTS = {"views": "status", "messages": "", "ready": "ready"}
 
 
 class Trial(NamedTuple):
@@ -32,11 +32,17 @@ def aspect_of(kind: str) -> str | None:
     return "messages" if "Msg" in kind.split(" after ")[0] or " of messages" in kind else None
 
 
-def shown_aspects(explorer: Explorer, _: None) -> frozenset[str]:
-    """The aspects that the nodes show."""
+def lacking_aspects(explorer: Explorer, _: None) -> frozenset[str]:
+    """The aspects that the nodes don't show."""
     if not explorer.process.is_started:
         explorer.process.reset()
-    return frozenset(aspect for aspect, shown_by in SHOWN_BY.items() if shown_by not in explorer.process.without)
+    return frozenset(aspect for aspect, word in ASPECTS.items() if word in explorer.process.without)
+
+
+def shown_aspects(fleet: Fleet, aspects: Iterable[str]) -> frozenset[str]:
+    """Those of some aspects that the nodes show."""
+    fleet.give(lacking_aspects, [None])
+    return frozenset(aspects).difference(*fleet.take())
 
 
 def first_aspect(explorer: Explorer, trial: Trial) -> str | None:
@@ -49,8 +55,7 @@ def first_aspect(explorer: Explorer, trial: Trial) -> str | None:
 
 def strictest(fleet: Fleet) -> tuple[frozenset[str], dict[str, str]]:
     """The aspects that are compared, and those that aren't, with in how many of the first scripts they differ first."""
-    fleet.give(shown_aspects, [None])
-    aspects, all_dropped = frozenset[str](*fleet.take()), dict[str, str]()
+    aspects, all_dropped = shown_aspects(fleet, ASPECTS), dict[str, str]()
     while aspects:
         for seed in range(CALIBRATING):
             fleet.give(first_aspect, [Trial(aspects, seed)])

@@ -13,7 +13,7 @@ from plain.script import Fault, read_script
 from ..compare.exceptions import AcceptedKinds
 from ..compare.judge import Judge, Unjudged
 from ..compare.made import THINGS
-from ..explore.calibrating import CALIBRATING, strictest
+from ..explore.calibrating import CALIBRATING, shown_aspects, strictest
 from ..explore.costs import REPAIR, repair_of
 from ..explore.explorer import Explorer, Settings
 from ..explore.lacking import lacking_lines
@@ -120,7 +120,7 @@ def explored(words: Words) -> Result:
 
 
 def searched(words: Words, is_stopped: Callable[[], bool]) -> Result:
-    begun, progress = time.monotonic(), Progress()
+    begun, progress, aspects = time.monotonic(), Progress(), words.chosen.comparison.aspects
     jobs = words.jobs if words.limits.most is None else max(1, min(words.jobs, words.limits.most))
     fleet, is_through = Fleet(jobs, functools.partial(make_explorer, words)), False
     search = Search(fleet, words.limits, words.chosen.alone, words.library, asks_early=words.remembers_in is not None)
@@ -129,6 +129,7 @@ def searched(words: Words, is_stopped: Callable[[], bool]) -> Result:
         dropped = words.dropped | search.drop_loud_states() if words.is_calibrated else words.dropped
         kinds = shrunk_kinds(fleet, chosen_first(search.sorted_kinds(), words.is_first), search.compared, words.limits.until)
         notes = [*costs(fleet, words.library), *left_out(fleet, words.library), *([GAVE_UP] if search.has_given_up else [])]
+        aspects = shown_aspects(fleet, aspects)
         seconds = time.monotonic() - begun
         is_through = True
     except KeyboardInterrupt:
@@ -140,7 +141,7 @@ def searched(words: Words, is_stopped: Callable[[], bool]) -> Result:
         print(*search.faults[:MOST_FAULTS], sep="\n", end="", file=sys.stderr)
     kinds = [kind.in_shard(words.shard) for kind in kinds] if words.shard else kinds
     return Result(
-        words.chosen.program, fleet.name, sorted(words.chosen.comparison.aspects), search.scripts, search.same, search.compared, search.agreed, search.left_out,
+        words.chosen.program, fleet.name, sorted(aspects), search.scripts, search.same, search.compared, search.agreed, search.left_out,
         seconds, search.wrong, kinds, search.classics_tried, search.classics_same, {what: search.made[what] for what in THINGS}, dropped, notes,
     )
 

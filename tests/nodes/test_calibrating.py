@@ -8,7 +8,7 @@ from collections.abc import Iterator, Sequence
 from raftbench_nodes.compare.comparison import Comparison
 from raftbench_nodes.compare.exceptions import AcceptedKinds
 from raftbench_nodes.compare.judge import Judge
-from raftbench_nodes.explore.calibrating import CALIBRATING, MOST_LOUD, Trial, first_aspect, shown_aspects, strictest
+from raftbench_nodes.explore.calibrating import CALIBRATING, MOST_LOUD, Trial, first_aspect, lacking_aspects, shown_aspects, strictest
 from raftbench_nodes.explore.explorer import Explorer, Settings
 from raftbench_nodes.process.process import Process
 from raftbench_nodes.rules.lists import kind_with
@@ -16,14 +16,14 @@ from tests.harness import TOP
 from tests.nodes.test_classics import InPlace
 
 PLAIN = str(TOP / "nodes" / "plain")
-ALL = frozenset({"views", "messages", "ready"})
+ALL, NONE = frozenset({"views", "messages", "ready"}), frozenset[str]()
 
 
 class Told:
-    """A fleet whose nodes show some aspects, and whose scripts differ in the aspects that they are told to, the first of those that are compared."""
+    """A fleet whose nodes lack some aspects, and whose scripts differ in the aspects that they are told to, the first of those that are compared."""
 
-    def __init__(self, shows: frozenset[str], differ: dict[int, tuple[str, ...]]) -> None:
-        self.shows, self.differ = shows, differ
+    def __init__(self, lacks: frozenset[str], differ: dict[int, tuple[str, ...]]) -> None:
+        self.lacks, self.differ = lacks, differ
         self.given: list[Trial | None] = []
 
     def give(self, _: object, chunk: Sequence[Trial | None]) -> None:
@@ -32,7 +32,7 @@ class Told:
     def take(self) -> list[object]:
         trial = self.given.pop(0)
         if trial is None:
-            return [self.shows]
+            return [self.lacks]
         return [next((aspect for aspect in self.differ.get(trial.seed, ()) if aspect in trial.aspects), None)]
 
 
@@ -41,31 +41,33 @@ def test_what_differs_often_is_dropped(room: object) -> Iterator[str]:
     loud, quiet = range(MOST_LOUD), range(MOST_LOUD - 1)
     said = f"{MOST_LOUD} of {CALIBRATING} scripts"
     cases: list[tuple[frozenset[str], dict[int, tuple[str, ...]], frozenset[str], dict[str, str]]] = [
-        (ALL, {}, ALL, {}),
-        (ALL, {seed: ("views",) for seed in quiet}, ALL, {}),
-        (ALL, {seed: ("views",) for seed in loud}, frozenset({"messages", "ready"}), {"views": said}),
-        (ALL, {seed: ("views", "messages") for seed in loud}, frozenset({"ready"}), {"views": said, "messages": said}),
-        (ALL, {seed: ("ready", "messages", "views") for seed in loud}, frozenset(), {"ready": said, "messages": said, "views": said}),
-        (frozenset({"ready"}), {seed: ("views",) for seed in loud}, frozenset({"ready"}), {}),
+        (NONE, {}, ALL, {}),
+        (NONE, {seed: ("views",) for seed in quiet}, ALL, {}),
+        (NONE, {seed: ("views",) for seed in loud}, ALL - {"views"}, {"views": said}),
+        (NONE, {seed: ("views", "messages") for seed in loud}, frozenset({"ready"}), {"views": said, "messages": said}),
+        (NONE, {seed: ("ready", "messages", "views") for seed in loud}, NONE, {"ready": said, "messages": said, "views": said}),
+        (frozenset({"views"}), {seed: ("views",) for seed in loud}, ALL - {"views"}, {}),
     ]
-    for shows, differ, *wanted in cases:
-        came = list(strictest(Told(shows, differ)))  # type: ignore[arg-type]
+    for lacks, differ, *wanted in cases:
+        came = list(strictest(Told(lacks, differ)))  # type: ignore[arg-type]
         if came != wanted:
             yield f"{differ}: {came}, and not {wanted}"
+    if (shown := shown_aspects(Told(ALL - {"messages"}, {}), ("views", "messages", "order"))) != {"messages", "order"}:  # type: ignore[arg-type]
+        yield f"shown: {shown}"
 
 
 def explorer_of(process: Process, comparison: Comparison) -> Explorer:
     return Explorer(process, Judge(is_asked=False), Settings(comparison, "mixed", 0, AcceptedKinds()))
 
 
-def test_what_nodes_show(room: object) -> Iterator[str]:
+def test_what_nodes_lack(room: object) -> Iterator[str]:
     """Views and readies are compared of nodes that show them."""
     process = InPlace()
     process.process = subprocess.Popen("true")
     process.process.wait()
-    for without, wanted in ((set[str](), ALL), ({"status"}, ALL - {"views"}), ({"ready", "sync"}, ALL - {"ready"})):
+    for without, wanted in ((set[str](), set[str]()), ({"status"}, {"views"}), ({"ready", "sync"}, {"ready"})):
         process.hello = process.hello._replace(without=frozenset(without))
-        if (came := shown_aspects(explorer_of(process, Comparison()), None)) != wanted:
+        if (came := lacking_aspects(explorer_of(process, Comparison()), None)) != wanted:
             yield f"without {without}: {came}"
 
 
