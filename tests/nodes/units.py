@@ -27,10 +27,11 @@ from raftbench_nodes.protocol.capabilities import reduced
 from raftbench_nodes.protocol.encoding import Hello
 from raftbench_nodes.compare.script import Step, blocks_of
 from raftbench_nodes.explore.shrinker import Budget, Shrinker, with_commas, with_joined_nodes
-from raftbench_nodes.compare.stage import Reference
+from raftbench_nodes.compare.stage import HoldingNetwork, Reference
 from raftbench_nodes.compare.runner_steps import step_of, steps_above
 from raftbench_nodes.rules.switches import Unknown
 from plain.config import Config
+from plain.network import Choice, Network
 from plain.node import Node
 from plain.records import Entry, Message, Options
 from tests.harness import TOP
@@ -94,6 +95,24 @@ def part_network() -> Checks:
     yield "nothing that wasn't delivered comes again", is_equal(run(Reference(), *begun, "# network: again 1 2 / raft-state").network.pending[2:], [])
     cluster = run(Reference(), "add-nodes 2 voters=(1,2) index=10", "campaign 1", "stabilize", "propose 1 a", "propose 1 b", "process-ready 1", "# network: cut 2 0 / raft-state")
     yield "cut", is_equal([len(m.entries) for m in cluster.network.pending], [0, 0])
+
+
+def part_taking() -> Checks:
+    """A network that may hold messages back takes what the plain one takes, of those that it doesn't hold; a rule reads the entries that are there."""
+    letters = [Message(kind, sender, to, 1) for kind in ("MsgApp", "MsgVote") for sender in (1, 2) for to in (2, 3)]
+    for held in (set[tuple[int, int]](), {(1, 2)}, {(2, 3), (1, 2)}):
+        for choice in (Choice(), Choice(("MsgVote",)), Choice(sender=1), Choice(skip=1), Choice(most=2)):
+            plain, holding = Network(), HoldingNetwork()
+            plain.pending, holding.pending, holding.held = [m for m in letters if (m.sender, m.to) not in held], list(letters), held
+            has = [{to for to in (1, 2, 3) if network.has_for([to])} for network in (plain, holding)]
+            taken = [network.take(2, choice) for network in (plain, holding)]
+            rest = [[m for m in network.pending if (m.sender, m.to) not in held] for network in (plain, holding)]
+            yield f"{choice} of what isn't held, {held}", is_equal((has[1], taken[1], rest[1], len(holding.pending)), (has[0], taken[0], rest[0], len(letters) - len(taken[0])))
+    plain_node, ruled = node_of(*[Entry(1, b"%d" % at) for at in range(5)]), kind_with(())(1, THREE, 0, b"", Options())
+    ruled.entries = plain_node.entries
+    pairs = [(index, to) for index in range(1, 6) for to in (None, *range(index - 1, 6))]
+    yield "entries that are there", is_equal([ruled.entries_from(*pair) for pair in pairs], [plain_node.entries_from(*pair) for pair in pairs])
+    yield "entries that aren't", is_equal([[at for at, _ in ruled.entries_from(*pair)] for pair in ((0, 2), (4, 9), (7, 9), (-3, 0))], [[1, 2], [4, 5], [], []])
 
 
 # Restarts: what is saved is there, and nothing else (thesis, 3.8)
@@ -409,6 +428,6 @@ def part_known_failures() -> Checks:
 
 
 UNITS: list[Callable[[], Checks]] = [
-    part_steps, part_network, part_restarts, part_left_out, part_between, part_reads, part_limits, part_uncommitted, part_promises_of_restarts, part_alone, part_excused, part_exceptions, part_shrinking, part_children,
+    part_steps, part_network, part_taking, part_restarts, part_left_out, part_between, part_reads, part_limits, part_uncommitted, part_promises_of_restarts, part_alone, part_excused, part_exceptions, part_shrinking, part_children,
     part_at_once, part_digest, part_memory, part_fleet, part_known_failures, *LIBRARY_RULES,
 ]
