@@ -23,7 +23,7 @@ use Rattle.rb_laws.specs.Votes.{IsCast}
 use Rattle.rb_laws.proofs.LinkedLogs.{log_from}
 use Rattle.rb_calls.proofs.ListLaws.{some_at}
 use Rattle.rb_laws.proofs.Spots.{spot, Descends, line, stop}
-use Rattle.rb_laws.proofs.Completeness.{Ack, History, out_of, IsOfTerm}
+use Rattle.rb_laws.proofs.LeaderLogs.{Ack, History, out_of, IsOfTerm}
 use Rattle.rb_laws.proofs.KeptEntries.{IsOn}
 use Rattle.rb_laws.proofs.Tips.{tip, last_is, tip_rooted, log_descends}
 use Rattle.rb_laws.proofs.Histories.{IsMore, with_ack, more_ack}
@@ -76,7 +76,7 @@ came_append g st said id v n append told hears c =
 pub record HasSpot (g : Ground) (st : History) (n : PlainNode) (i : ℕ) : Type 0 where
   pub term : ℕ
   pub has : Descends st.links (tip n.log) (spot i term)
-  pub on : IsOn g.root g.setting.config st n.term (spot i term)
+  pub on : IsOn g.root g.start st n.term (spot i term)
 
 pub say_spot : (g : Ground) (said : List Message) (st : History) (id : ℕ) (v : Ways) (n : PlainNode) (i : ℕ) → IsWhole g said st → All (TellsTrue g st nobody) said → ((m : Message) → v.came m → IsGenuine said id m) → IsSound n → Knows g st id n → g.root.index < i → MaySay v n i → HasSpot g st n i
 say_spot g said st id v n i w told hears s h past may =
@@ -89,7 +89,7 @@ say_spot g said st id v n i w told hears s h past may =
           let x = spot i t.0 in
           let y = spot n.commit h.log.commit_term in
           let down = line g.root st.links (tip n.log) x y tree t.1 (log_descends st.links n.log n.commit h.log.commit_term h.log.linked h.log.commit_held) known in
-          record { term = t.0; has = t.1; on = inr (behind_settled g.root g.setting.config said st n.term y x w.lawful (omega (arith, past)) h.log.commit down) }
+          record { term = t.0; has = t.1; on = inr (behind_settled g.root g.start said st n.term y x w.lawful (omega (arith, past)) h.log.commit down) }
       | inr rest ↦ elim rest as (λ _. HasSpot g st n i) [
         | inl own ↦
             let far = own.1 in

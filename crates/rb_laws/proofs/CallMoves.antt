@@ -28,7 +28,7 @@ use Rattle.rb_laws.proofs.LinkedLogs.{entry_term, compacted_linked}
 use Rattle.rb_laws.proofs.MoveHolds.{Hears, call_holds}
 use Rattle.rb_laws.proofs.Spots.{Spot, spot, same_spot, line, lower}
 use Rattle.rb_laws.proofs.Contents.{IsFilled, filled_of, next_filled}
-use Rattle.rb_laws.proofs.Completeness.{History}
+use Rattle.rb_laws.proofs.LeaderLogs.{History}
 use Rattle.rb_laws.proofs.Tips.{tip, base_spot, last_is, last_held, tip_rooted, log_descends}
 use Rattle.rb_laws.proofs.NodeKnowledge.{Ground, mine, IsCounted, IsLeading, IsStanding, TellsTrue, Knows}
 use Rattle.rb_laws.proofs.FollowerMoves.{acked_same}
@@ -155,17 +155,17 @@ module _ {g : Ground} {said : List Message} {id : ℕ} {others : Company} where
         words = k.words;
       }) h.speaks (omega arith)
 
-  call_around : (st : History) (w : World) {v : Ways} {sound : Type 0} {a b : PlainNode} → sound → w.id ≡ id → IsSaid w.said said → w.setting ≡ g.setting → AreOnce said → Brings said id v → CallMove sound v a b → IsSound a → HasSoundViews a → Holds w a → Around g said id others st a
+  call_around : (st : History) (w : World) {v : Ways} {sound : Type 0} {a b : PlainNode} → sound → w.id ≡ id → IsSaid w.said said → w.setting ≡ g.setting → AreOnce said → Brings said id v → Hears w v → CallMove sound v a b → IsSound a → HasSoundViews a → Holds w a → Around g said id others st a
       → Onwards g said id others st b
-  call_around st w sure own same set once brings (CallChanges m has) s views hold h = absurd (has hold.log)
-  call_around st w sure own same set once brings (CallSteps m) s views hold h = step_around st w own same set once brings m s views hold h
-  call_around st w sure own same set once brings (Applies n i e transition words is next) s views hold h =
+  call_around st w sure own same set once brings hears (CallChanges m has) s views hold h = absurd (has hold.log)
+  call_around st w sure own same set once brings hears (CallSteps m) s views hold h = step_around st w own same set once brings hears m s views hold h
+  call_around st w sure own same set once brings hears (Applies n i e transition words is next) s views hold h =
       subst (λ (b : List ℕ). Onwards g said id others st (record n { applied = i; content = b })) (append-nil n.content) (applies_around st n i e [] (ap bytes_of is) (next sure) h)
-  call_around st w sure own same set once brings (Fills n i e bytes is next) s views hold h = applies_around st n i e bytes (ap bytes_of is) (next sure) h
-  call_around st w sure own same set once brings (Unmarks n) s views hold h = unmarks_around st n h
-  call_around st w sure own same set once brings (Gives_up n) s views hold h = follows_around st n n.term 0 (omega arith) h
-  call_around st w sure own same set once brings (Saves n known) s views hold h = saves_around st n h
-  call_around st w sure own same set once brings (Compacts n i is) s views hold h =
+  call_around st w sure own same set once brings hears (Fills n i e bytes is next) s views hold h = applies_around st n i e bytes (ap bytes_of is) (next sure) h
+  call_around st w sure own same set once brings hears (Unmarks n) s views hold h = unmarks_around st n h
+  call_around st w sure own same set once brings hears (Gives_up n) s views hold h = follows_around st n n.term 0 (omega arith) h
+  call_around st w sure own same set once brings hears (Saves n known) s views hold h = saves_around st n h
+  call_around st w sure own same set once brings hears (Compacts n i is) s views hold h =
       let within = compact_within n.log i (min n.applied n.log.durable) is in
       let upto = within.1 in
       let known = s.is_committed in
@@ -185,7 +185,7 @@ moves_around {g} {said} {id} {others} st {w} known own same set once brings hear
   chain = λ a b c p q r. q (p r);
   each = λ a b m p.
       (let o = p.around in
-      let next = call_around o.history w known own same set once brings m p.sound p.views p.holds o.around in
+      let next = call_around o.history w known own same set once brings hears m p.sound p.views p.holds o.around in
       record {
         sound = ((call_keeps known m).goes p.sound).ordered;
         views = call_views m p.sound p.views;

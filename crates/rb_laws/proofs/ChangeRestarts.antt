@@ -1,5 +1,5 @@
 -- At most one change past the commit of each node, where nodes restart: whoever made links of a term had saved it, so nobody makes others after a restart
-use Rattle.std.proofs.Common.{◌≡◌, ◌⊎◌, ℕ, ◌+◌, ◌-◌, ◌<◌, ◌≤◌, Bool, true, false, List, [], ◌∷◌, Option, Some, None, Ok, min, nat_le, if◌then◌else◌, refl, sym, ap, subst, ◌∙◌, arith, inl, inr}
+use Rattle.std.proofs.Common.{◌≡◌, ◌⊎◌, ℕ, ◌+◌, ◌-◌, ◌<◌, ◌≤◌, List, [], ◌∷◌, Option, Some, None, Ok, min, nat_le, if◌then◌else◌, refl, sym, ap, subst, ◌∙◌, arith, inl, inr}
 use Rattle.std.specs.Prelude.{Contains, slice_get, slice_set}
 use Rattle.std.proofs.lemmas.Bool.{cases_eq, leb-true, le-leb, cond-true}
 use Rattle.std.proofs.lemmas.List.Elements.{All-nil, All-contains}
@@ -30,8 +30,7 @@ use Rattle.rb_laws.proofs.Links.{Link, Extends, IsLinked, still_linked}
 use Rattle.rb_calls.proofs.ListLaws.{each_set, set_here, set_elsewhere}
 use Rattle.rb_laws.proofs.OneChange.{Gist, gist, IsPartBy, Fair, NoAppend, IsIn}
 use Rattle.rb_laws.proofs.OneChangeHistory.{Sane, SaneSince, happened_sane, begun_sane}
-use Rattle.rb_laws.proofs.RestartedLogs.{again_twice, IsRestartable, started_restartable, restarted_started, restarted_restartable, saved_base, again_saved, saved_sound, CompactsTo, compacts_to, compacted_sound, by_call, leaves_restartable, saved_restartable}
-use Rattle.rb_laws.proofs.RestartedNodes.{restarted_network}
+use Rattle.rb_laws.proofs.RestartedLogs.{again_twice, IsRestartable, started_restartable, restarted_started, restarted_restartable, saved_base, again_saved, saved_sound, compacts_to, compacted_sound, by_call, leaves_restartable, saved_restartable}
 use Rattle.rb_laws.proofs.SavedLinks.{linked_after}
 use Rattle.rb_laws.proofs.SavedStates.{Leaves, call_leaves, same_again, HasSaved, advance_saves}
 

@@ -31,7 +31,7 @@ use Rattle.rb_laws.proofs.JoinLaws.{Joins, all_join, get_before, set_before, two
 use Rattle.rb_laws.proofs.Links.{Link, still_linked, linked_match}
 use Rattle.rb_calls.proofs.ListLaws.{in_nothing}
 use Rattle.rb_laws.proofs.NetworkLaws.{called_network}
-use Rattle.rb_laws.proofs.RestartedNodes.{IsSaneWith, restarted_network}
+use Rattle.rb_laws.proofs.RestartedNodes.{restarted_network}
 use Rattle.rb_laws.proofs.SafetyLaws.{setting_of, was_elect, its_id}
 use Rattle.rb_laws.proofs.SavedLinks.{IsStrictWith, called_strict, restarted_strict, begun_strict, from_here, leads_saved}
 use Rattle.rb_laws.proofs.TieLaws.{IsComing, fair, no_vote}

@@ -33,12 +33,12 @@ use Rattle.rb_laws.proofs.NetworkLaws.{called_network}
 use Rattle.rb_laws.proofs.RestartedNodes.{IsSaneWith, called_sane_with, restarted_network, restarts_safe}
 use Rattle.rb_laws.proofs.RestartHistory.{IsKnownWith, same_since, since_then, calls_known, forgets}
 use Rattle.rb_laws.proofs.RestartMoments.{begun_with as sane_begun, begun_known_with, since_had}
-use Rattle.rb_laws.proofs.Forgetting.{IsSince}
-use Rattle.rb_laws.proofs.SafetyLaws.{setting_of}
+use Rattle.rb_laws.proofs.Histories.{IsSince}
+use Rattle.rb_laws.proofs.SafetyLaws.{setting_of, setting_config}
 use Rattle.rb_laws.proofs.TieLaws.{IsComing, no_vote}
 use Rattle.rb_laws.proofs.Spots.{spot}
 use Rattle.rb_laws.proofs.Tips.{base_spot}
-use Rattle.rb_laws.proofs.Completeness.{History}
+use Rattle.rb_laws.proofs.LeaderLogs.{History}
 use Rattle.rb_laws.proofs.NodeKnowledge.{Ground}
 use Rattle.rb_laws.proofs.NetworkHistory.{AreAlike, no_history, state_known}
 use Rattle.rb_laws.proofs.CommittedLogs.{had, leader_has, commits_agree, contents_same}
@@ -199,7 +199,13 @@ IsAs r from = from ≡ start r
 
 -- what the nodes stand on
 pub ground : AddNodes → Ground
-ground r = record { root = spot (start r).index (start r).term; start = (start r).content; setting = setting_of false (start r).config (start_single r) }
+ground r = record {
+  root = spot (start r).index (start r).term;
+  start = record { content = (start r).content; changes = 0; config = config_of (start r).config };
+  first = refl;
+  setting = setting_of false (start r).config (start_single r);
+  same = setting_config false (start r).config (start_single r);
+}
 
 same_members : (r : AddNodes) (ds : List PlainDirective) → AreSteady (IsAs r) ds → AreSteady (λ (from : Snapshot). from.config ≡ (start r).config) ds
 same_members r ds steady = weaker_steady (IsAs r) (λ (from : Snapshot). from.config ≡ (start r).config) ds (λ from is. ap (λ (x : Snapshot). x.config) is) steady

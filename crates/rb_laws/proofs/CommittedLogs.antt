@@ -10,7 +10,8 @@ use Rattle.rb_laws.specs.Safety.{HasSameUpTo, HasCommitted}
 use Rattle.rb_laws.proofs.Links.{IsLinked, still_linked, linked_match}
 use Rattle.rb_laws.proofs.Spots.{Spot, spot, site, Descends, still_descends, through, lower, line, flat}
 use Rattle.rb_laws.proofs.Contents.{IsFilled, still_filled, one_content, IsContentAt}
-use Rattle.rb_laws.proofs.Completeness.{History, IsTip, IsSettled, complete, safe_meet, from_tip}
+use Rattle.rb_laws.proofs.LeaderLogs.{History, IsTip, from_tip}
+use Rattle.rb_laws.proofs.Completeness.{IsSettled, complete, safe_meet}
 use Rattle.rb_laws.proofs.Tips.{tip, base_spot, tip_rooted, log_descends, log_holds}
 use Rattle.rb_laws.proofs.Histories.{IsMore, still_tip, still_settled}
 use Rattle.rb_laws.proofs.NodeKnowledge.{Ground, Knows}
@@ -22,7 +23,7 @@ pub record Had (g : Ground) (st : History) (n : PlainNode) : Type 0 where
   pub rooted : Descends st.links (base_spot n.log) g.root
   pub commit_term : ℕ
   pub commit_held : term_at n.log n.commit ≡ Ok commit_term
-  pub commit : IsSettled g.root g.setting.config st n.term (spot n.commit commit_term)
+  pub commit : IsSettled g.root g.start st n.term (spot n.commit commit_term)
   pub filled : IsFilled st.links g.root g.start n.log n.applied n.content
   pub leads : n.role ≡ role.Leader → IsTip st n.term (tip n.log)
 
@@ -43,7 +44,7 @@ still_had g old new n more h = record {
   rooted = still_descends old.links new.links (base_spot n.log) g.root more.links h.rooted;
   commit_term = h.commit_term;
   commit_held = h.commit_held;
-  commit = still_settled g.root g.setting.config old new n.term (spot n.commit h.commit_term) more h.commit;
+  commit = still_settled g.root g.start old new n.term (spot n.commit h.commit_term) more h.commit;
   filled = still_filled old.links new.links g.root g.start n.log n.applied n.content more.links h.filled;
   leads = λ is. still_tip old new n.term (tip n.log) more (h.leads is);
 }
@@ -74,7 +75,7 @@ leader_has g said st n l w a b leads later =
       | inl first ↦ subst (λ (y : Spot). Descends st.links (tip l.log) y) (sym first) (tip_rooted g.root st.links l.log b.linked b.rooted)
       | inr m ↦
           let low = m.2 in
-          let has = complete g.root g.setting.config said st e m.0 s top.among m.1 (omega (arith, low, later, term)) in
+          let has = complete g.root g.start said st e m.0 s top.among m.1 (omega (arith, low, later, term)) in
           through st.links x (site m.0) (tip l.log) (through st.links (site m.0) e.tip (tip l.log) up has) m.3
     ] in
     record {
@@ -92,15 +93,15 @@ commits_agree g said st n m j w a b low_n low_m above_n above_m =
     let at_m = log_descends st.links m.log m.commit b.commit_term b.linked b.commit_held in
     elim (cases_lt n.commit m.commit) as (λ _. entry_at n.log j ≡ entry_at m.log j) [
       | inl less ↦
-          let down = safe_meet g.root g.setting.config said st n.term m.term x y s a.commit b.commit (omega (arith, less)) in
+          let down = safe_meet g.root g.start said st n.term m.term x y s a.commit b.commit (omega (arith, less)) in
           (same_upto g said st n.log m.log n.commit a.commit_term w a.linked b.linked a.commit_held (through st.links x y (tip m.log) at_m down)).entries j low_n above_n above_m
       | inr over ↦
-          let down = safe_meet g.root g.setting.config said st m.term n.term y x s b.commit a.commit over in
+          let down = safe_meet g.root g.start said st m.term n.term y x s b.commit a.commit over in
           sym ((same_upto g said st m.log n.log m.commit b.commit_term w b.linked a.linked b.commit_held (through st.links y x (tip n.log) at_n down)).entries j low_m above_m above_n)
     ]
 
 -- what is applied is settled
-applied_spot : (g : Ground) (said : List Message) (st : History) (n : PlainNode) → IsWhole g said st → n.applied ≤ n.commit → (a : Had g st n) → IsSettled g.root g.setting.config st n.term (spot n.applied a.filled.term)
+applied_spot : (g : Ground) (said : List Message) (st : History) (n : PlainNode) → IsWhole g said st → n.applied ≤ n.commit → (a : Had g st n) → IsSettled g.root g.start st n.term (spot n.applied a.filled.term)
 applied_spot g said st n w known a =
     let tree = w.lawful.history.tree in
     let x = spot n.applied a.filled.term in
@@ -109,7 +110,7 @@ applied_spot g said st n w known a =
     let above = (held_in n.log n.applied a.filled.term a.filled.held).0 in
     let at = log_descends st.links n.log n.applied a.filled.term a.linked a.filled.held in
     let top = log_descends st.links n.log n.commit a.commit_term a.linked a.commit_held in
-    behind_settled g.root g.setting.config said st n.term y x w.lawful (omega (arith, start, above)) a.commit (line g.root st.links (tip n.log) x y tree at top known)
+    behind_settled g.root g.start said st n.term y x w.lawful (omega (arith, start, above)) a.commit (line g.root st.links (tip n.log) x y tree at top known)
 
 -- State machine safety, as a user sees it: two nodes that have applied as much have the same content.
 pub contents_same : (g : Ground) (said : List Message) (st : History) (n m : PlainNode) → IsWhole g said st → Had g st n → Had g st m → n.applied ≤ n.commit → m.applied ≤ m.commit → n.applied ≡ m.applied → n.content ≡ m.content
@@ -117,6 +118,6 @@ contents_same g said st n m w a b known_n known_m same =
     let tree = w.lawful.history.tree in
     let x = spot n.applied a.filled.term in
     let y = spot m.applied b.filled.term in
-    let down = safe_meet g.root g.setting.config said st n.term m.term x y w.lawful (applied_spot g said st n w known_n a) (applied_spot g said st m w known_m b) (omega (arith, same)) in
+    let down = safe_meet g.root g.start said st n.term m.term x y w.lawful (applied_spot g said st n w known_n a) (applied_spot g said st m w known_m b) (omega (arith, same)) in
     let one : y ≡ x = flat g.root st.links y x tree down same in
     one_content g.root st.links g.start x n.content m.content tree a.filled.is (subst (λ (z : Spot). IsContentAt st.links g.root g.start z m.content) one b.filled.is)

@@ -1,267 +1,117 @@
--- Elections and acknowledgements over links: a leader has what was committed in an earlier term, and all that is committed stands on one way
--- down (Ongaro's thesis, section 3.6.3). Nothing here is about nodes.
-use Rattle.std.proofs.Common.{◌≡◌, ◌⊎◌, ℕ, zero, suc, ◌-◌, ◌<◌, ◌≤◌, Bool, true, List, refl, sym, ap, subst, ◌∙◌, arith, inl, inr}
+-- Leader completeness: who is elected has what was committed in an earlier term, and all that is committed stands on one way down (Ongaro's thesis,
+-- section 3.6.3), though members change. Whoever is elected or commits is decided on by a quorum of the configuration that it has applied, and has
+-- applied all changes of its log but at most one. Where members are fixed, all numbers of changes are 0. Nothing here is about nodes.
+use Rattle.std.proofs.Common.{◌≡◌, ◌⊎◌, ℕ, zero, suc, ◌+◌, ◌<◌, ◌≤◌, Bool, true, List, refl, sym, ap, subst, ◌∙◌, arith, inl, inr}
 use Rattle.std.specs.Prelude.{Contains}
-use Rattle.std.proofs.lemmas.Bool.{cases_lt, cases_eq}
+use Rattle.std.proofs.lemmas.Bool.{cases_lt}
 use Rattle.rb_tracker.specs.Quorum.{IsQuorum, ShareVoter}
-use Rattle.rb_tracker.specs.declared.config.Config.{Config}
-use Rattle.rb_tracker.proofs.QuorumLaws.{quorums_meet}
 use Rattle.rb_message.specs.declared.message.Message.{Message}
 use Rattle.rb_laws.specs.Votes.{IsCast}
 use Rattle.rb_laws.proofs.Links.{Link}
-use Rattle.rb_laws.proofs.Spots.{Spot, spot, same_spot, site, under, Descends, IsTree, here, one_down, through, lower, older, flat, line, one_at, stop, link_of, link_rooted}
+use Rattle.rb_laws.proofs.Spots.{Spot, site, Descends, IsTree, here, through, lower, flat, line, link_rooted}
+use Rattle.rb_laws.proofs.Applied.{Applied, IsMade, rises, behind_by_number, IsProper, near_meet, IsChangeLink, change_at, change_behind}
+use Rattle.rb_laws.proofs.LeaderLogs.{Election, Ack, History, out_of, IsHistory, from_tip, from_link, IsOfTerm, IsAcked, acked_within, never_lacks, HasStill}
 
--- a node that stood in a term, or was elected in it, and where its log ended then
-pub record Election : Type 0 where
-  pub term : ℕ
-  pub id : ℕ
-  pub tip : Spot
+-- ---- decisions
 
--- a node's answer to a leader of a term: it holds that leader's log up to an index
-pub record Ack : Type 0 where
-  pub voter : ℕ
-  pub term : ℕ
-  pub index : ℕ
-
--- what happened: the links that were made, who stood in which terms, who of them was elected, and what was acknowledged
-pub record History : Type 0 where
-  pub links : List Link
-  pub candidacies : List Election
-  pub elections : List Election
-  pub acks : List Ack
-  -- the candidacies and the acknowledgements that other nodes may have heard of
-  pub out_candidacies : List Election
-  pub out_acks : List Ack
-
--- the part of it that other nodes may have heard of
-abbrev pub out_of : History → History
-out_of st = record st { candidacies = st.out_candidacies; acks = st.out_acks }
-
--- A link of a term was made by who was elected in it: behind the tip of its log then, or behind another link of the term.
-pub record IsBuilt (st : History) (l : Link) : Type 0 where
-  pub election : Election
-  pub among : Contains st.elections election
-  pub of_term : election.term ≡ l.entry.term
-  pub past : election.tip.index < l.index
-  pub behind : (under l ≡ election.tip) ⊎ ((m : Link) × Contains st.links m × (m.entry.term ≡ l.entry.term) × (site m ≡ under l))
-
-pub record IsHistory (root : Spot) (st : History) : Type 0 where
-  pub tree : IsTree root st.links
-  pub once : (a b : Election) → Contains st.elections a → Contains st.elections b → a.term ≡ b.term → a ≡ b
-  pub rooted : (e : Election) → Contains st.elections e → Descends st.links e.tip root
-  pub made : (l : Link) → Contains st.links l → IsBuilt st l
-
--- ---- a leader's log grows at its end
-
-pub from_tip : (root : Spot) (st : History) (n : ℕ) (l : Link) (e : Election) → IsHistory root st → l.index ≤ n → Contains st.links l → Contains st.elections e → e.term ≡ l.entry.term → Descends st.links (site l) e.tip
-from_tip root st zero l e s low among elected term =
-    let past = (s.made l among).past in
-    absurd (omega (arith, low, past))
-from_tip root st (suc n) l e s low among elected term =
-    let made = s.made l among in
-    let past = made.past in
-    let same : made.election ≡ e = s.once made.election e made.among elected (made.of_term ∙ sym term) in
-    elim made.behind as (λ _. Descends st.links (site l) e.tip) [
-      | inl first ↦
-          one_down st.links l e.tip among
-          (subst (λ (x : Spot). Descends st.links x e.tip) (sym (first ∙ ap (λ (x : Election). x.tip) same)) (here st.links e.tip))
-      | inr next ↦
-          let index : next.0.index ≡ l.index - 1 = ap (λ (x : Spot). x.index) next.3 in
-          let r = from_tip root st n next.0 e s (omega (arith, low, index, past)) next.1 elected (term ∙ sym next.2) in
-          one_down st.links l e.tip among (subst (λ (x : Spot). Descends st.links x e.tip) next.3 r)
-    ]
-
-pub from_link : (root : Spot) (st : History) (n : ℕ) (l m : Link) → IsHistory root st → l.index ≤ n → Contains st.links l → Contains st.links m → m.entry.term ≡ l.entry.term → m.index ≤ l.index → Descends st.links (site l) (site m)
-from_link root st zero l m s low one two term less =
-    let past = (s.made l one).past in
-    absurd (omega (arith, low, past))
-from_link root st (suc n) l m s low one two term less =
-    let made = s.made l one in
-    let past = made.past in
-    elim (cases_lt m.index l.index) as (λ _. Descends st.links (site l) (site m)) [
-      | inr over ↦
-          subst (λ (x : Spot). Descends st.links (site l) x) (same_spot (site l) (site m) (omega (arith, over, less)) (sym term)) (here st.links (site l))
-      | inl below ↦ elim made.behind as (λ _. Descends st.links (site l) (site m)) [
-        | inl first ↦
-            let other = s.made m two in
-            let beyond = other.past in
-            let same : other.election ≡ made.election = s.once other.election made.election other.among made.among (other.of_term ∙ term ∙ sym made.of_term) in
-            let tips : other.election.tip.index ≡ l.index - 1 = ap (λ (x : Election). x.tip.index) same ∙ sym (ap (λ (x : Spot). x.index) first) in
-            absurd (omega (arith, beyond, tips, below, past))
-        | inr next ↦
-            let index : next.0.index ≡ l.index - 1 = ap (λ (x : Spot). x.index) next.3 in
-            let r = from_link root st n next.0 m s (omega (arith, low, index, past)) next.1 two (term ∙ sym next.2) (omega (arith, index, below)) in
-            one_down st.links l (site m) one (subst (λ (x : Spot). Descends st.links x (site m)) next.3 r)
-      ]
-    ]
-
--- where the log of a term's leader ended at some time
-pub record IsTip (st : History) (term : ℕ) (x : Spot) : Type 0 where
-  pub election : Election
-  pub among : Contains st.elections election
-  pub of_term : election.term ≡ term
-  pub is : (x ≡ election.tip) ⊎ ((l : Link) × Contains st.links l × (l.entry.term ≡ term) × (site l ≡ x))
-
--- a spot of that leader's log
-pub record IsOfTerm (st : History) (term : ℕ) (x : Spot) : Type 0 where
-  pub tip : Spot
-  pub ends : IsTip st term tip
-  pub descends : Descends st.links tip x
-
-tips_meet : (root : Spot) (st : History) (term : ℕ) (x y : Spot) → IsHistory root st → IsTip st term x → IsTip st term y → x.index ≤ y.index → Descends st.links y x
-tips_meet root st term x y s a b low =
-    let same : a.election ≡ b.election = s.once a.election b.election a.among b.among (a.of_term ∙ sym b.of_term) in
-    elim a.is as (λ _. Descends st.links y x) [
-      | inl first ↦ elim b.is as (λ _. Descends st.links y x) [
-        | inl second ↦
-            subst (λ (z : Spot). Descends st.links y z) (second ∙ sym (ap (λ (e : Election). e.tip) same) ∙ sym first) (here st.links y)
-        | inr l ↦
-            let r = from_tip root st l.0.index l.0 a.election s (omega arith) l.1 a.among (a.of_term ∙ sym l.2) in
-            subst (λ (z : Spot). Descends st.links z x) l.3 (subst (λ (z : Spot). Descends st.links (site l.0) z) (sym first) r)
-      ]
-      | inr m ↦ elim b.is as (λ _. Descends st.links y x) [
-        | inl second ↦
-            let made = s.made m.0 m.1 in
-            let past = made.past in
-            let one : made.election ≡ b.election = s.once made.election b.election made.among b.among (made.of_term ∙ m.2 ∙ sym b.of_term) in
-            let tips : made.election.tip.index ≡ y.index = ap (λ (e : Election). e.tip.index) one ∙ sym (ap (λ (z : Spot). z.index) second) in
-            let index : m.0.index ≡ x.index = ap (λ (z : Spot). z.index) m.3 in
-            absurd (omega (arith, past, tips, index, low))
-        | inr l ↦
-            let first : m.0.index ≡ x.index = ap (λ (z : Spot). z.index) m.3 in
-            let second : l.0.index ≡ y.index = ap (λ (z : Spot). z.index) l.3 in
-            let r = from_link root st l.0.index l.0 m.0 s (omega arith) l.1 m.1 (m.2 ∙ sym l.2) (omega (arith, first, second, low)) in
-            subst (λ (z : Spot). Descends st.links z x) l.3 (subst (λ (z : Spot). Descends st.links (site l.0) z) m.3 r)
-      ]
-    ]
-
--- two spots of one leader's log are on one way down
-pub of_term_meet : (root : Spot) (st : History) (term : ℕ) (x y : Spot) → IsHistory root st → IsOfTerm st term x → IsOfTerm st term y → x.index ≤ y.index → Descends st.links y x
-of_term_meet root st term x y s a b low =
-    elim (cases_lt a.tip.index b.tip.index) as (λ _. Descends st.links y x) [
-      | inl less ↦
-          let up = tips_meet root st term a.tip b.tip s a.ends b.ends (omega (arith, less)) in
-          line root st.links b.tip x y s.tree (through st.links x a.tip b.tip up a.descends) b.descends low
-      | inr over ↦
-          let up = tips_meet root st term b.tip a.tip s b.ends a.ends over in
-          line root st.links a.tip x y s.tree a.descends (through st.links y b.tip a.tip up b.descends) low
-    ]
-
--- ---- what a leader lacks
-
--- a node said that it holds a link's entry
-pub record IsAcked (st : History) (voter : ℕ) (l : Link) : Type 0 where
-  pub ack : Ack
-  pub among : Contains st.acks ack
-  pub by : ack.voter ≡ voter
-  pub of_term : ack.term ≡ l.entry.term
-  pub upto : l.index ≤ ack.index
-
-pub acked_within : (st : History) (v : ℕ) (l : Link) → ((a : Ack) → Contains st.out_acks a → Contains st.acks a) → IsAcked (out_of st) v l → IsAcked st v l
-acked_within st v l within h = record { ack = h.ack; among = within h.ack h.among; by = h.by; of_term = h.of_term; upto = h.upto }
-
--- who was elected in a term has no such entry: its log was shorter, or had another there
-pub record Lacks (st : History) (term : ℕ) (l : Link) : Type 0 where
-  pub election : Election
-  pub among : Contains st.elections election
-  pub of_term : election.term ≡ term
-  pub lacking : (election.tip.index < l.index) ⊎ ((t : ℕ) × Descends st.links election.tip (spot l.index t) × (t ≡ l.entry.term → ⊥))
-
-pub never_lacks : (root : Spot) (st : History) (term : ℕ) (l : Link) → IsHistory root st → (k : Lacks st term l) → Descends st.links k.election.tip (site l) → ⊥
-never_lacks root st term l s k r =
-    elim k.lacking as (λ _. ⊥) [
-      | inl short ↦ (let low = lower st.links k.election.tip (site l) r in omega (arith, low, short))
-      | inr other ↦ other.2 (ap (λ (x : Spot). x.term) (one_at root st.links k.election.tip (site l) (spot l.index other.0) s.tree r other.1 refl))
-    ]
-
-pub has_or_lacks : (root : Spot) (st : History) (e : Election) (l : Link) → IsHistory root st → Contains st.elections e → Contains st.links l → Descends st.links e.tip (site l) ⊎ Lacks st e.term l
-has_or_lacks root st e l s elected among =
-    elim (cases_lt e.tip.index l.index) as (λ _. Descends st.links e.tip (site l) ⊎ Lacks st e.term l) [
-      | inl short ↦ inr (record { election = e; among = elected; of_term = refl; lacking = inl short })
-      | inr within ↦
-          let above = s.tree.above l among in
-          let t = stop root st.links l.index e.tip (s.rooted e elected) (omega (arith, above)) within in
-          elim (cases_eq t.0 l.entry.term) as (λ _. Descends st.links e.tip (site l) ⊎ Lacks st e.term l) [
-            | inl same ↦ inl (subst (λ (k : ℕ). Descends st.links e.tip (spot l.index k)) same t.1)
-            | inr other ↦ inr (record { election = e; among = elected; of_term = refl; lacking = inr (t.0, t.1, other) })
-          ]
-    ]
-
--- a log that ends at a spot has a link's entry, unless the leader of a term between lacks it
-abbrev pub HasStill : History → Spot → ℕ → Link → Type 0
-HasStill st x bound l = Descends st.links x (site l) ⊎ ((t : ℕ) × (l.entry.term < t) × (t < bound) × Lacks st t l)
-
--- ---- what is committed
+-- Those who decide are a quorum of the configuration at a spot that is known to be committed, behind the end of the decider's log, to which at most one
+-- change more leads.
+pub record Decides (root : Spot) (start : Applied) (st : History) (is_known : Spot → Type 0) (top : Spot) (deciders : ℕ → Bool) : Type 0 where
+  pub by : Spot
+  pub known : is_known by
+  pub behind : Descends st.links top by
+  pub made : Applied
+  pub is : IsMade st.links root start by made
+  pub newest : Applied
+  pub ends : IsMade st.links root start top newest
+  pub few : newest.changes ≤ made.changes + 1
+  pub quorum : IsQuorum made.config deciders
 
 -- a quorum said that it holds a link's entry, in the entry's term, and others may have heard so
-pub record IsCommitted (c : Config) (st : History) (l : Link) : Type 0 where
+pub record IsDecision (root : Spot) (start : Applied) (st : History) (is_known : Spot → Type 0) (l : Link) : Type 0 where
   pub among : Contains st.links l
   pub holders : ℕ → Bool
-  pub quorum : IsQuorum c holders
   pub held : (v : ℕ) → holders v ≡ true → IsAcked (out_of st) v l
+  pub decides : Decides root start st is_known (site l) holders
+
+-- A spot of what is committed by a leader of a term or an earlier one. Such a decision rests on spots of fewer decisions.
+abbrev pub Settled : Spot → Applied → History → ℕ → ℕ → Spot → Type 0
+Settled root start st zero term x = x ≡ root
+Settled root start st (suc n) term x =
+    (x ≡ root) ⊎ ((l : Link) × IsDecision root start st (Settled root start st n l.entry.term) l × (l.entry.term ≤ term) × Descends st.links (site l) x)
+
+pub record IsCommitted (root : Spot) (start : Applied) (st : History) (l : Link) : Type 0 where
+  pub rank : ℕ
+  pub is : IsDecision root start st (Settled root start st rank l.entry.term) l
+
+abbrev pub IsSettled : Spot → Applied → History → ℕ → Spot → Type 0
+IsSettled root start st term x = (x ≡ root) ⊎ ((l : Link) × IsCommitted root start st l × (l.entry.term ≤ term) × Descends st.links (site l) x)
+
+-- by leaders of terms before one
+pub record IsKnownBefore (root : Spot) (start : Applied) (st : History) (term : ℕ) (x : Spot) : Type 0 where
+  pub bound : ℕ
+  pub earlier : bound < term
+  pub settled : IsSettled root start st bound x
 
 -- Who was elected has of each of its voters what that one had said to hold in an earlier term, unless a leader between lacks it.
-pub record IsVoted (c : Config) (said : List Message) (st : History) (e : Election) : Type 0 where
+pub record IsVoted (root : Spot) (start : Applied) (said : List Message) (st : History) (e : Election) : Type 0 where
   pub voters : ℕ → Bool
-  pub quorum : IsQuorum c voters
+  pub decides : Decides root start st (IsKnownBefore root start st e.term) e.tip voters
   pub cast : (v : ℕ) → voters v ≡ true → IsCast said v e.term e.id
   pub each : (v : ℕ) → voters v ≡ true → (l : Link) → Contains st.links l → l.entry.term < e.term → IsAcked st v l → HasStill st e.tip e.term l
 
-pub record IsLawful (root : Spot) (c : Config) (said : List Message) (st : History) : Type 0 where
+pub record IsLawful (root : Spot) (start : Applied) (said : List Message) (st : History) : Type 0 where
   pub history : IsHistory root st
-  pub voted : (e : Election) → Contains st.elections e → IsVoted c said st e
+  pub first : start.changes ≡ 0
+  pub proper : IsProper st.links start
+  pub voted : (e : Election) → Contains st.elections e → IsVoted root start said st e
   pub within : (a : Ack) → Contains st.out_acks a → Contains st.acks a
 
--- Leader completeness, by the terms between: the two quorums share a voter.
-complete_upto : (root : Spot) (c : Config) (said : List Message) (st : History) (n : ℕ) (e : Election) (l : Link) → IsLawful root c said st → e.term ≤ n → Contains st.elections e → IsCommitted c st l → l.entry.term < e.term → Descends st.links e.tip (site l)
-complete_upto root c said st zero e l s low elected k later = absurd (omega (arith, low, later))
-complete_upto root c said st (suc n) e l s low elected k later =
-    let v = s.voted e elected in
-    let both : ShareVoter c v.voters k.holders = quorums_meet c v.voters k.holders v.quorum k.quorum in
-    elim (v.each both.id both.first l k.among later (acked_within st both.id l s.within (k.held both.id both.second))) as (λ _. Descends st.links e.tip (site l)) [
-      | inl has ↦ has
-      | inr between ↦
-          let lacks = between.3 in
-          let term = lacks.of_term in
-          let after = between.1 in
-          let before = between.2 in
-          let r = complete_upto root c said st n lacks.election l s (omega (arith, low, term, before)) lacks.among k (omega (arith, term, after)) in
-          absurd (never_lacks root st between.0 l s.history lacks r)
-    ]
+-- ---- of how many decisions a spot is
 
-pub complete : (root : Spot) (c : Config) (said : List Message) (st : History) (e : Election) (l : Link) → IsLawful root c said st → Contains st.elections e → IsCommitted c st l → l.entry.term < e.term → Descends st.links e.tip (site l)
-complete root c said st e l s elected k later = complete_upto root c said st e.term e l s (omega arith) elected k later
+pub settled_of : (root : Spot) (start : Applied) (st : History) (n term : ℕ) (x : Spot) → Settled root start st n term x → IsSettled root start st term x
+settled_of root start st zero term x h = inl h
+settled_of root start st (suc n) term x h =
+    elim h as (λ _. IsSettled root start st term x) [ inl first ↦ inl first | inr d ↦ inr (d.0, record { rank = n; is = d.1 }, d.2, d.3) ]
+
+pub settled_by : (root : Spot) (start : Applied) (st : History) (term : ℕ) (x : Spot) → IsSettled root start st term x → (n : ℕ) × Settled root start st n term x
+settled_by root start st term x h =
+    elim h as (λ _. (n : ℕ) × Settled root start st n term x) [ inl first ↦ (zero, first) | inr d ↦ (suc d.1.rank, inr (d.0, d.1.is, d.2, d.3)) ]
+
+-- ---- what is settled is on one way down, as far as leaders have what is committed
+
+-- leaders of terms before a bound have what was committed in earlier ones
+abbrev pub IsComplete : Spot → Applied → History → ℕ → Type 0
+IsComplete root start st bound =
+    (e : Election) (l : Link) → Contains st.elections e → e.term < bound → IsCommitted root start st l → l.entry.term < e.term → Descends st.links e.tip (site l)
 
 -- two links that are committed are on one way down
-pub committed_meet : (root : Spot) (c : Config) (said : List Message) (st : History) (l m : Link) → IsLawful root c said st → IsCommitted c st l → IsCommitted c st m → l.index ≤ m.index → Descends st.links (site m) (site l)
-committed_meet root c said st l m s a b low =
+meet_before : (root : Spot) (start : Applied) (said : List Message) (st : History) (bound : ℕ) (l m : Link) → IsLawful root start said st → IsComplete root start st bound → IsCommitted root start st l → IsCommitted root start st m → l.entry.term < bound → m.entry.term < bound → l.index ≤ m.index
+    → Descends st.links (site m) (site l)
+meet_before root start said st bound l m s complete a b before_l before_m low =
     let st_s = s.history in
     elim (cases_lt l.entry.term m.entry.term) as (λ _. Descends st.links (site m) (site l)) [
       | inl earlier ↦
-          let made = st_s.made m b.among in
+          let made = st_s.made m b.is.among in
           let term = made.of_term in
-          let has = complete root c said st made.election l s made.among a (omega (arith, earlier, term)) in
-          through st.links (site l) made.election.tip (site m) (from_tip root st m.index m made.election st_s (omega arith) b.among made.among term) has
+          let has = complete made.election l made.among (omega (arith, term, before_m)) a (omega (arith, earlier, term)) in
+          through st.links (site l) made.election.tip (site m) (from_tip root st m.index m made.election st_s (omega arith) b.is.among made.among term) has
       | inr over ↦ elim (cases_lt m.entry.term l.entry.term) as (λ _. Descends st.links (site m) (site l)) [
-        | inr same ↦ from_link root st m.index m l st_s (omega arith) b.among a.among (omega (arith, over, same)) low
+        | inr same ↦ from_link root st m.index m l st_s (omega arith) b.is.among a.is.among (omega (arith, over, same)) low
         | inl later ↦
-            let made = st_s.made l a.among in
+            let made = st_s.made l a.is.among in
             let term = made.of_term in
-            let has = complete root c said st made.election m s made.among b (omega (arith, later, term)) in
-            let r = through st.links (site m) made.election.tip (site l) (from_tip root st l.index l made.election st_s (omega arith) a.among made.among term) has in
+            let has = complete made.election m made.among (omega (arith, term, before_l)) b (omega (arith, later, term)) in
+            let r = through st.links (site m) made.election.tip (site l) (from_tip root st l.index l made.election st_s (omega arith) a.is.among made.among term) has in
             let less = lower st.links (site l) (site m) r in
             let e : site l ≡ site m = flat root st.links (site l) (site m) st_s.tree r (omega (arith, less, low)) in
             subst (λ (x : Spot). Descends st.links (site m) x) (sym e) (here st.links (site m))
       ]
     ]
 
--- a spot of what is committed, by a leader of a term or an earlier one
-abbrev pub IsSettled : Spot → Config → History → ℕ → Spot → Type 0
-IsSettled root c st term x = (x ≡ root) ⊎ ((l : Link) × IsCommitted c st l × (l.entry.term ≤ term) × Descends st.links (site l) x)
-
--- State machine safety: two spots of what is committed are on one way down, whoever committed them and when.
-pub safe_meet : (root : Spot) (c : Config) (said : List Message) (st : History) (t u : ℕ) (x y : Spot) → IsLawful root c said st → IsSettled root c st t x → IsSettled root c st u y → x.index ≤ y.index → Descends st.links y x
-safe_meet root c said st t u x y s a b low =
+-- and so are two spots behind them
+settled_before : (root : Spot) (start : Applied) (said : List Message) (st : History) (bound t u : ℕ) (x y : Spot) → IsLawful root start said st → IsComplete root start st bound → t < bound → u < bound → IsSettled root start st t x → IsSettled root start st u y → x.index ≤ y.index → Descends st.links y x
+settled_before root start said st bound t u x y s complete before_t before_u a b low =
     let tree = s.history.tree in
     elim a as (λ _. Descends st.links y x) [
       | inl first ↦
@@ -270,27 +120,180 @@ safe_meet root c said st t u x y s a b low =
             | inl second ↦ subst (λ (z : Spot). Descends st.links y z) (second ∙ sym first) (here st.links y)
             | inr m ↦
                 subst (λ (z : Spot). Descends st.links y z) (sym first)
-                (line root st.links (site m.0) root y tree (link_rooted root st.links m.0 tree m.1.among) m.3 (omega (arith, index, low)))
+                (line root st.links (site m.0) root y tree (link_rooted root st.links m.0 tree m.1.is.among) m.3 (omega (arith, index, low)))
           ]
       | inr l ↦ elim b as (λ _. Descends st.links y x) [
         | inl second ↦
             let index = ap (λ (z : Spot). z.index) second in
             subst (λ (z : Spot). Descends st.links z x) (sym second)
-            (line root st.links (site l.0) x root tree l.3 (link_rooted root st.links l.0 tree l.1.among) (omega (arith, index, low)))
-        | inr m ↦ elim (cases_lt l.0.index m.0.index) as (λ _. Descends st.links y x) [
-          | inl less ↦
-              let up = committed_meet root c said st l.0 m.0 s l.1 m.1 (omega (arith, less)) in
-              line root st.links (site m.0) x y tree (through st.links x (site l.0) (site m.0) up l.3) m.3 low
-          | inr over ↦
-              let up = committed_meet root c said st m.0 l.0 s m.1 l.1 over in
-              line root st.links (site l.0) x y tree l.3 (through st.links y (site m.0) (site l.0) up m.3) low
-        ]
+            (line root st.links (site l.0) x root tree l.3 (link_rooted root st.links l.0 tree l.1.is.among) (omega (arith, index, low)))
+        | inr m ↦
+            let of_l = l.2 in
+            let of_m = m.2 in
+            elim (cases_lt l.0.index m.0.index) as (λ _. Descends st.links y x) [
+              | inl less ↦
+                  let up = meet_before root start said st bound l.0 m.0 s complete l.1 m.1 (omega (arith, of_l, before_t)) (omega (arith, of_m, before_u)) (omega (arith, less)) in
+                  line root st.links (site m.0) x y tree (through st.links x (site l.0) (site m.0) up l.3) m.3 low
+              | inr over ↦
+                  let up = meet_before root start said st bound m.0 l.0 s complete m.1 l.1 (omega (arith, of_m, before_u)) (omega (arith, of_l, before_t)) over in
+                  line root st.links (site l.0) x y tree l.3 (through st.links y (site m.0) (site l.0) up m.3) low
+            ]
       ]
     ]
 
+-- ---- a change that is settled was decided where all before it were applied
+
+pub record IsCovered (root : Spot) (start : Applied) (st : History) (term : ℕ) (m : Link) (number : ℕ) : Type 0 where
+  pub decision : Link
+  pub committed : IsCommitted root start st decision
+  pub upto : decision.entry.term ≤ term
+  pub behind : Descends st.links (site decision) (site m)
+  pub is : committed.is.decides.made.changes ≡ number
+
+covered : (root : Spot) (start : Applied) (st : History) (n term : ℕ) (x : Spot) (m : Link) (number : ℕ) → IsTree root st.links → Settled root start st n term x → IsChangeLink st.links root start m number → Descends st.links x (site m) → IsCovered root start st term m number
+covered root start st zero term x m number tree settled change r =
+    let past = tree.above m change.among in
+    let high = lower st.links x (site m) r in
+    let is = ap (λ (y : Spot). y.index) settled in
+    absurd (omega (arith, past, high, is))
+covered root start st (suc n) term x m number tree settled change r =
+    elim settled as (λ _. IsCovered root start st term m number) [
+      | inl first ↦ covered root start st zero term x m number tree first change r
+      | inr k ↦
+          let l = k.0 in
+          let d = k.1.decides in
+          let low = k.2 in
+          let down = through st.links (site m) x (site l) k.3 r in
+          let within = rises root st.links start (site l) (site m) change.next d.newest tree down change.makes d.ends in
+          let counts = change.counts in
+          let few = d.few in
+          elim (cases_lt number d.made.changes) as (λ _. IsCovered root start st term m number) [
+            | inr over ↦ record { decision = l; committed = record { rank = n; is = k.1 }; upto = low; behind = down; is = omega (arith, over, within, counts, few) }
+            | inl less ↦
+                let above = change_behind root st.links start (site l) d.by m number d.made tree change down d.behind d.is less in
+                let before = covered root start st n l.entry.term d.by m number tree d.known change above in
+                let upto = before.upto in
+                record { decision = before.decision; committed = before.committed; upto = omega (arith, upto, low); behind = before.behind; is = before.is }
+          ]
+    ]
+
+settled_covered : (root : Spot) (start : Applied) (st : History) (term : ℕ) (x : Spot) (m : Link) (number : ℕ) → IsTree root st.links → IsSettled root start st term x → IsChangeLink st.links root start m number → Descends st.links x (site m) → IsCovered root start st term m number
+settled_covered root start st term x m number tree settled change r = (let k = settled_by root start st term x settled in covered root start st k.0 term x m number tree k.1 change r)
+
+-- ---- leader completeness, by how many changes an election and a commit are apart
+
+-- at most one apart, a voter is among those who decide either
+share : (root : Spot) (start : Applied) (said : List Message) (st : History) (bound t u : ℕ) (x y : Spot) (a b : Applied) (p q : ℕ → Bool) → IsLawful root start said st → IsComplete root start st bound → t < bound → u < bound → IsSettled root start st t x → IsSettled root start st u y
+    → IsMade st.links root start x a → IsMade st.links root start y b → a.changes ≤ b.changes + 1 → b.changes ≤ a.changes + 1 → IsQuorum a.config p → IsQuorum b.config q → (v : ℕ) × (p v ≡ true) × (q v ≡ true)
+share root start said st bound t u x y a b p q s complete before_t before_u first second at over near far one two =
+    let tree = s.history.tree in
+    elim (cases_lt x.index y.index) as (λ _. (v : ℕ) × (p v ≡ true) × (q v ≡ true)) [
+      | inl less ↦
+          let down = settled_before root start said st bound t u x y s complete before_t before_u first second (omega (arith, less)) in
+          let v : ShareVoter a.config p q = near_meet root st.links start x y a b p q tree s.proper at over down far one two in
+          (v.id, v.first, v.second)
+      | inr high ↦
+          let down = settled_before root start said st bound u t y x s complete before_u before_t second first high in
+          let v : ShareVoter b.config q p = near_meet root st.links start y x b a q p tree s.proper over at down near two one in
+          (v.id, v.second, v.first)
+    ]
+
+-- one that is elected has such a commit: the two quorums share a voter
+near_complete : (root : Spot) (start : Applied) (said : List Message) (st : History) (e : Election) (l : Link) → IsLawful root start said st → IsComplete root start st e.term → (v : IsVoted root start said st e) → (k : IsCommitted root start st l) → l.entry.term < e.term
+    → v.decides.made.changes ≤ k.is.decides.made.changes + 1 → k.is.decides.made.changes ≤ v.decides.made.changes + 1 → Descends st.links e.tip (site l)
+near_complete root start said st e l s complete v k later near far =
+    let d = k.is.decides in
+    let x = v.decides in
+    let both = share root start said st e.term x.known.bound l.entry.term x.by d.by x.made d.made v.voters k.is.holders s complete x.known.earlier later x.known.settled (settled_of root start st k.rank l.entry.term d.by d.known) x.is d.is near far x.quorum d.quorum in
+    let acked : IsAcked st both.0 l = acked_within st both.0 l s.within (k.is.held both.0 both.2) in
+    elim (v.each both.0 both.1 l k.is.among later acked) as (λ _. Descends st.links e.tip (site l)) [
+      | inl has ↦ has
+      | inr between ↦
+          let lacks = between.3 in
+          let term = lacks.of_term in
+          let after = between.1 in
+          let before = between.2 in
+          absurd (never_lacks root st between.0 l s.history lacks (complete lacks.election l lacks.among (omega (arith, term, before)) k (omega (arith, term, after))))
+    ]
+
+-- one that has applied more changes has one that was decided after the commit, or before it in the way of its leader
+ahead_complete : (root : Spot) (start : Applied) (said : List Message) (st : History) (e : Election) (l : Link) → IsLawful root start said st → IsComplete root start st e.term → (v : IsVoted root start said st e) → (k : IsCommitted root start st l) → l.entry.term < e.term → k.is.decides.made.changes + 1 < v.decides.made.changes → Descends st.links e.tip (site l)
+ahead_complete root start said st e l s complete v k later more =
+    let tree = s.history.tree in
+    let d = k.is.decides in
+    let x = v.decides in
+    let j : ℕ = d.made.changes + 1 in
+    let few = d.few in
+    let early = x.known.earlier in
+    let has = change_at st.links root start x.by x.made j s.first x.is more in
+    let m = has.link in
+    let counts = has.change.counts in
+    let cover = settled_covered root start st x.known.bound x.by m j tree x.known.settled has.change has.behind in
+    let other = cover.decision in
+    let upto = cover.upto in
+    let below : Descends st.links (site m) (site l) =
+    elim (cases_lt other.index l.index) as (λ _. Descends st.links (site m) (site l)) [
+      | inl less ↦
+          let up = meet_before root start said st e.term other l s complete cover.committed k (omega (arith, upto, early)) later (omega (arith, less)) in
+          let within = rises root st.links start (site l) (site m) has.change.next d.newest tree (through st.links (site m) (site other) (site l) up cover.behind) has.change.makes d.ends in
+          absurd (omega (arith, within, counts, few))
+      | inr over ↦
+          let up = meet_before root start said st e.term l other s complete k cover.committed later (omega (arith, upto, early)) over in
+          behind_by_number root st.links start (site other) (site l) (site m) d.newest has.change.next tree up cover.behind d.ends has.change.makes (omega (arith, counts, few))
+    ] in
+    through st.links (site l) (site m) e.tip (through st.links (site m) x.by e.tip x.behind has.behind) below
+
+-- and none has applied so few: it has the change after the next one, and so as many
+behind_never : (root : Spot) (start : Applied) (said : List Message) (st : History) (e : Election) (term : ℕ) (y : Spot) (b : Applied) → IsLawful root start said st → IsComplete root start st e.term → (v : IsVoted root start said st e) → term < e.term → IsSettled root start st term y → IsMade st.links root start y b → v.decides.made.changes + 1 < b.changes → ⊥
+behind_never root start said st e term y b s complete v earlier settled at more =
+    let tree = s.history.tree in
+    let x = v.decides in
+    let j : ℕ = x.made.changes + 1 in
+    let few = x.few in
+    let has = change_at st.links root start y b j s.first at more in
+    let m = has.link in
+    let counts = has.change.counts in
+    let cover = settled_covered root start st term y m j tree settled has.change has.behind in
+    let upto = cover.upto in
+    let is = cover.is in
+    let down = near_complete root start said st e cover.decision s complete v cover.committed (omega (arith, upto, earlier)) (omega (arith, is)) (omega (arith, is)) in
+    let within = rises root st.links start e.tip (site m) has.change.next x.newest tree (through st.links (site m) (site cover.decision) e.tip down cover.behind) has.change.makes x.ends in
+    omega (arith, within, counts, few)
+
+complete_at : (root : Spot) (start : Applied) (said : List Message) (st : History) (e : Election) (l : Link) → IsLawful root start said st → IsComplete root start st e.term → Contains st.elections e → IsCommitted root start st l → l.entry.term < e.term → Descends st.links e.tip (site l)
+complete_at root start said st e l s complete elected k later =
+    let v = s.voted e elected in
+    let d = k.is.decides in
+    let x = v.decides in
+    elim (cases_lt (d.made.changes + 1) x.made.changes) as (λ _. Descends st.links e.tip (site l)) [
+      | inl ahead ↦ ahead_complete root start said st e l s complete v k later ahead
+      | inr near ↦ elim (cases_lt (x.made.changes + 1) d.made.changes) as (λ _. Descends st.links e.tip (site l)) [
+        | inl behind ↦ absurd (behind_never root start said st e l.entry.term d.by d.made s complete v later (settled_of root start st k.rank l.entry.term d.by d.known) d.is behind)
+        | inr far ↦ near_complete root start said st e l s complete v k later near far
+      ]
+    ]
+
+complete_before : (root : Spot) (start : Applied) (said : List Message) (st : History) (bound : ℕ) → IsLawful root start said st → IsComplete root start st bound
+complete_before root start said st zero s e l elected before k later = absurd (omega (arith, before))
+complete_before root start said st (suc n) s e l elected before k later =
+    let below = complete_before root start said st n s in
+    elim (cases_lt e.term n) as (λ _. Descends st.links e.tip (site l)) [
+      | inl less ↦ below e l elected less k later
+      | inr over ↦
+          let same : n ≡ e.term = omega (arith, over, before) in
+          complete_at root start said st e l s (subst (IsComplete root start st) same below) elected k later
+    ]
+
+pub complete : (root : Spot) (start : Applied) (said : List Message) (st : History) (e : Election) (l : Link) → IsLawful root start said st → Contains st.elections e → IsCommitted root start st l → l.entry.term < e.term → Descends st.links e.tip (site l)
+complete root start said st e l s elected k later = complete_before root start said st (e.term + 1) s e l elected (omega arith) k later
+
+-- State machine safety: two spots of what is committed are on one way down, whoever committed them and when.
+pub safe_meet : (root : Spot) (start : Applied) (said : List Message) (st : History) (t u : ℕ) (x y : Spot) → IsLawful root start said st → IsSettled root start st t x → IsSettled root start st u y → x.index ≤ y.index → Descends st.links y x
+safe_meet root start said st t u x y s a b low = settled_before root start said st (t + u + 1) t u x y s (complete_before root start said st (t + u + 1) s) (omega arith) (omega arith) a b low
+
 -- what is committed by then is of the log of a term's leader, if there is one
-pub safe_of_term : (root : Spot) (c : Config) (said : List Message) (st : History) (e : Election) (x : Spot) → IsLawful root c said st → Contains st.elections e → IsSettled root c st e.term x → IsOfTerm st e.term x
-safe_of_term root c said st e x s elected a =
+pub safe_of_term : (root : Spot) (start : Applied) (said : List Message) (st : History) (e : Election) (x : Spot) → IsLawful root start said st → Contains st.elections e → IsSettled root start st e.term x → IsOfTerm st e.term x
+safe_of_term root start said st e x s elected a =
     elim a as (λ _. IsOfTerm st e.term x) [
       | inl first ↦ record {
         tip = e.tip;
@@ -301,55 +304,14 @@ safe_of_term root c said st e x s elected a =
         | inl earlier ↦ record {
           tip = e.tip;
           ends = record { election = e; among = elected; of_term = refl; is = inl refl };
-          descends = through st.links x (site l.0) e.tip (complete root c said st e l.0 s elected l.1 earlier) l.3;
+          descends = through st.links x (site l.0) e.tip (complete root start said st e l.0 s elected l.1 earlier) l.3;
         }
         | inr over ↦
             let upto = l.2 in
             record {
               tip = site l.0;
-              ends = record { election = e; among = elected; of_term = refl; is = inr (l.0, l.1.among, omega (arith, over, upto), refl) };
+              ends = record { election = e; among = elected; of_term = refl; is = inr (l.0, l.1.is.among, omega (arith, over, upto), refl) };
               descends = l.3;
             }
-      ]
-    ]
-
--- ---- a vote
-
--- Who is as new as a voter has what the voter has, unless a leader between lacks it.
-pub vote_keeps : (root : Spot) (st : History) (bound : ℕ) (voter candidate : Spot) (l : Link) → IsHistory root st → Descends st.links voter root → Descends st.links candidate root → candidate.term < bound
-    → (voter.term < candidate.term) ⊎ ((candidate.term ≡ voter.term) × (voter.index ≤ candidate.index)) → Contains st.links l → Descends st.links voter (site l) → HasStill st candidate bound l
-vote_keeps root st bound voter candidate l s v_root c_root low newer among has =
-    let tree = s.tree in
-    let above = tree.above l among in
-    let far = lower st.links voter (site l) has in
-    let old = older root st.links voter (site l) tree has in
-    elim newer as (λ _. HasStill st candidate bound l) [
-      | inr same ↦
-          let longer = same.1 in
-          let a = link_of st.links voter root v_root (omega (arith, above, far)) in
-          let b = link_of st.links candidate root c_root (omega (arith, above, far, longer)) in
-          let i : a.0.index ≡ voter.index = ap (λ (x : Spot). x.index) a.2 in
-          let j : b.0.index ≡ candidate.index = ap (λ (x : Spot). x.index) b.2 in
-          let terms : a.0.entry.term ≡ b.0.entry.term = ap (λ (x : Spot). x.term) a.2 ∙ sym same.0 ∙ sym (ap (λ (x : Spot). x.term) b.2) in
-          let r = from_link root st b.0.index b.0 a.0 s (omega arith) b.1 a.1 terms (omega (arith, i, j, longer)) in
-          let up : Descends st.links candidate voter = subst (λ (x : Spot). Descends st.links x voter) b.2 (subst (λ (x : Spot). Descends st.links (site b.0) x) a.2 r) in
-          inl (through st.links (site l) voter candidate up has)
-      | inl later ↦ elim (cases_lt root.index candidate.index) as (λ _. HasStill st candidate bound l) [
-        | inr short ↦
-            let least = lower st.links candidate root c_root in
-            let is : candidate ≡ root = flat root st.links candidate root tree c_root (omega (arith, short, least)) in
-            let e = ap (λ (x : Spot). x.term) is in
-            let first = older root st.links (site l) root tree (link_rooted root st.links l tree among) in
-            absurd (omega (arith, e, first, old, later))
-        | inl past ↦
-            let b = link_of st.links candidate root c_root past in
-            let made = s.made b.0 b.1 in
-            let t : made.election.term ≡ candidate.term = made.of_term ∙ ap (λ (x : Spot). x.term) b.2 in
-            elim (has_or_lacks root st made.election l s made.among among) as (λ _. HasStill st candidate bound l) [
-              | inl there ↦
-                  let r = from_tip root st b.0.index b.0 made.election s (omega arith) b.1 made.among made.of_term in
-                  inl (through st.links (site l) made.election.tip candidate (subst (λ (x : Spot). Descends st.links x made.election.tip) b.2 r) there)
-              | inr lacks ↦ inr (made.election.term, omega (arith, t, old, later), omega (arith, t, low), lacks)
-            ]
       ]
     ]

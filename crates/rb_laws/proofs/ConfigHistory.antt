@@ -1,37 +1,27 @@
 -- The configurations of a network's nodes, as members change: each is that of its node's applied index
-use Rattle.std.proofs.Common.{◌≡◌, ℕ, zero, suc, ◌+◌, ◌-◌, ◌<◌, ◌≤◌, List, [], ◌∷◌, Option, Some, None, Result, Ok, Err, refl, sym, ap, subst, ◌∙◌, arith, inl, inr}
+use Rattle.std.proofs.Common.{◌≡◌, ℕ, zero, suc, ◌+◌, ◌-◌, ◌<◌, ◌≤◌, List, [], ◌∷◌, Option, Some, None, Ok, refl, sym, ap, subst, ◌∙◌, arith, inl, inr}
 use Rattle.std.specs.Prelude.{All, slice_get}
 use Rattle.std.proofs.lemmas.List.Elements.{All-nil, All-append, All-contains}
 use Rattle.rb_raftlog.proofs.PlaceLaws.{between-entries, ok_is}
-use Rattle.rb_raftlog.specs.declared.entry.Body.{Body}
-use Rattle.rb_raftlog.specs.declared.entry.Body.TheVariants.{Payload, Change}
 use Rattle.rb_raftlog.specs.declared.entry.Entry.{Entry}
 use Rattle.rb_raftlog.specs.Log.{entry_at}
-use Rattle.rb_tracker.proofs.ChangeLaws.{changed_is}
-use Rattle.rb_tracker.specs.Changes.{changed, IsConfig}
+use Rattle.rb_tracker.specs.Changes.{IsConfig}
 use Rattle.rb_tracker.specs.Configs.{config_of}
-use Rattle.rb_tracker.specs.declared.changes.ChangeFault.{ChangeFault}
 use Rattle.rb_tracker.specs.declared.config.Config.{Config}
 use Rattle.rb_message.specs.declared.kind.MessageKind.{MessageKind}
 use Rattle.rb_message.specs.declared.kind.MessageKind.TheVariants as kind
-use Rattle.rb_node.specs.Compacting.{changed_or_same, config_with}
+use Rattle.rb_node.specs.Compacting.{config_with}
 use Rattle.rb_node.specs.Node.{PlainNode, node_step}
 use Rattle.rb_node.specs.Readying.{applying}
 use Rattle.rb_calls.specs.Calling.{Call, Step, Advance, after}
 use Rattle.rb_laws.specs.Configurations.{config_after_all, AreChosen, BringsNoState, IsStateKnown, AreAgreed}
 use Rattle.rb_laws.specs.Network.{Network, Happening, put_out, happened_to, happened, run, IsStarted}
 use Rattle.rb_laws.specs.Safety.{StartsAlike}
+use Rattle.rb_laws.proofs.Applied.{body_good}
 use Rattle.rb_laws.proofs.AppliedConfigs.{Timeline, Fits, FitsBy, Suit, Both, Brings, Make, state_fits, called_suits}
 use Rattle.rb_calls.proofs.ListLaws.{each_set}
 
 -- ---- the configuration of each index
-
-body_good : (body : Body) (c : Config) → IsConfig c → IsConfig (config_with c body)
-body_good (Payload bytes) c good = good
-body_good (Change transition words) c good =
-    let either : (r : Result Config ChangeFault) → changed c transition words ≡ r → IsConfig (changed_or_same c r) = λ r is.
-    (elim r as (λ x. changed c transition words ≡ x → IsConfig (changed_or_same c x)) [ Ok d ↦ λ e. changed_is c d transition words good e | Err fault ↦ λ _. good ] is) in
-    either (changed c transition words) refl
 
 pub all_good : (chosen : ℕ → Entry) (c : Config) (base k : ℕ) → IsConfig c → IsConfig (config_after_all chosen c base k)
 all_good chosen c base zero good = good
@@ -102,7 +92,7 @@ module _ (chosen : ℕ → Entry) (c : Config) (base : ℕ) (good : IsConfig c) 
 
   run_suits : (hs : List Happening) (s : Network) → AreAgreed chosen hs s → AllSuit (timeline chosen c base good) s → AllSuit (timeline chosen c base good) (run hs s)
   run_suits [] s agreed a = a
-  run_suits (h ∷ hs) s agreed a = run_suits hs (happened s h) agreed.2 (happened_suits s h (slice_get s.nodes h.place) refl agreed.0 agreed.1 a)
+  run_suits (h ∷ hs) s agreed a = run_suits hs (happened s h) agreed.1 (happened_suits s h (slice_get s.nodes h.place) refl agreed.0.0 agreed.0.1 a)
 
 pub begun_suits : (chosen : ℕ → Entry) (s : Network) (a : StartsAlike s) (good : IsConfig (config_of a.members)) → AllSuit (timeline chosen (config_of a.members) a.index good) s
 begun_suits chosen s a good =

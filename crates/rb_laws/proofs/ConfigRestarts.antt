@@ -147,8 +147,8 @@ module _ (chosen : ℕ → Entry) (c : Config) (base : ℕ) (good : IsConfig c) 
 
   pass_back : (os : List Occurrence) (s : Network) → AreAgreedThrough chosen os s → AllBack s → AllBack (passed os s)
   pass_back [] s agreed a = a
-  pass_back (Called h ∷ os) s agreed a = pass_back os (occurred s (Called h)) agreed.2 (happens_back s h (slice_get s.nodes h.place) refl agreed.0 agreed.1 a)
-  pass_back (Restarted place ∷ os) s agreed a = pass_back os (occurred s (Restarted place)) agreed.2 (restarts_back s place (slice_get s.nodes place) refl a)
+  pass_back (Called h ∷ os) s agreed a = pass_back os (occurred s (Called h)) agreed.1 (happens_back s h (slice_get s.nodes h.place) refl agreed.0.0 agreed.0.1 a)
+  pass_back (Restarted place ∷ os) s agreed a = pass_back os (occurred s (Restarted place)) agreed.1 (restarts_back s place (slice_get s.nodes place) refl a)
 
 begun_back : (chosen : ℕ → Entry) (s : Network) (a : StartsAlike s) (good : IsConfig (config_of a.members)) → AllBack chosen (config_of a.members) a.index good s
 begun_back chosen s a good =

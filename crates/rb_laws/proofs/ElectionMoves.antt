@@ -18,7 +18,7 @@ use Rattle.rb_calls.proofs.MatchViewLaws.{of, with_views_at_most, place_set}
 use Rattle.rb_calls.proofs.ProgressLaws.{acked_matched}
 use Rattle.rb_laws.proofs.Holding.{leader_stands}
 use Rattle.rb_laws.proofs.Spots.{spot}
-use Rattle.rb_laws.proofs.Completeness.{Election, History}
+use Rattle.rb_laws.proofs.LeaderLogs.{Election, History}
 use Rattle.rb_laws.proofs.Tips.{tip}
 use Rattle.rb_laws.proofs.Histories.{with_election, more_election, still_settled}
 use Rattle.rb_laws.proofs.NodeKnowledge.{Ground, election, mine, IsCounted, IsSaidUpTo, Knows, still_all, still_has_acked, still_pledged}
@@ -60,7 +60,7 @@ leads_seeing g said st id n views pending w stands none counts h =
             (λ some. still_pledged st new (mine id) id n.term n.vote more (λ l among _ acked. (among, record { ack = acked.ack; among = acked.among; by = acked.by; of_term = acked.of_term; upto = acked.upto })) (h.log.pledged some));
         commit_term = h.log.commit_term;
         commit_held = h.log.commit_held;
-        commit = still_settled g.root g.setting.config st new n.term (spot n.commit h.log.commit_term) more h.log.commit;
+        commit = still_settled g.root g.start st new n.term (spot n.commit h.log.commit_term) more h.log.commit;
         filled = h.log.filled;
       };
       words = record {

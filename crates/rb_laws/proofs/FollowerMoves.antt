@@ -3,6 +3,7 @@
 use Rattle.std.proofs.Common.{◌≡◌, ℕ, ◌+◌, ◌<◌, ◌≤◌, Bool, true, false, List, length, max, Ok, refl, sym, ap, subst, ◌∙◌, arith, inl, inr}
 use Rattle.std.specs.Prelude.{Contains}
 use Rattle.std.proofs.lemmas.Bool.{cases_lt, cases_Bool, and_parts, leb-true}
+use Rattle.rb_raftlog.specs.Bodies.{is_change}
 use Rattle.rb_raftlog.specs.declared.entry.Entry.{Entry}
 use Rattle.rb_raftlog.specs.declared.snapshot.Snapshot.{Snapshot}
 use Rattle.rb_raftlog.specs.Log.{LogValue, last, last_term, term_at, is_term, is_up_to_date, appended}
@@ -19,12 +20,14 @@ use Rattle.rb_node.specs.declared.clock.Clock.{Clock}
 use Rattle.rb_node.specs.Following.{with_appended, restored_to}
 use Rattle.rb_node.specs.Node.{PlainNode}
 use Rattle.rb_node.specs.Votes.{grants, can_vote_for, voted_for}
-use Rattle.rb_laws.proofs.Links.{IsLinked, held_term}
+use Rattle.rb_laws.proofs.Links.{Link, IsLinked, held_term}
 use Rattle.rb_laws.proofs.Holding.{IsElected, follower_leads, follower_stands}
 use Rattle.rb_laws.proofs.LinkedLogs.{log_from, none_linked, appended_linked}
 use Rattle.rb_laws.proofs.Spots.{Spot, spot, site, Descends, here, through, line, flat, lower, older, link_of, link_rooted}
 use Rattle.rb_laws.proofs.Contents.{IsContentAt, IsFilled, filled_of}
-use Rattle.rb_laws.proofs.Completeness.{Election, Ack, History, out_of, IsOfTerm, IsAcked, HasStill, IsCommitted, IsLawful, IsSettled, vote_keeps}
+use Rattle.rb_laws.proofs.LeaderLogs.{Election, Ack, History, out_of, IsOfTerm, IsAcked, HasStill, vote_keeps}
+use Rattle.rb_laws.proofs.Applied.{Applied, root_made, plain_made}
+use Rattle.rb_laws.proofs.Completeness.{Decides, IsCommitted, IsLawful, IsSettled}
 use Rattle.rb_laws.proofs.KeptEntries.{IsOn, on_meet, still_on, still_kept}
 use Rattle.rb_laws.proofs.Histories.{AreHeld, IsPledged}
 use Rattle.rb_laws.proofs.Tips.{tip, base_spot, log_descends, log_holds, tip_rooted, appended_tip, restored_tip}
@@ -32,8 +35,9 @@ use Rattle.rb_laws.proofs.NodeKnowledge.{Ground, TellsAppend, TellsCommit, HasAc
 
 -- all that holds of a history
 pub record IsWhole (g : Ground) (said : List Message) (st : History) : Type 0 where
-  pub lawful : IsLawful g.root g.setting.config said st
-  pub held : AreHeld g.root g.setting.config st
+  pub lawful : IsLawful g.root g.start said st
+  pub plain : (l : Link) → Contains st.links l → is_change l.entry.body ≡ false
+  pub held : AreHeld g.root g.start st
   pub low : g.root.term ≤ 1
   pub elected : (e : Election) → Contains st.elections e → IsElected g.setting said e.id e.term
   pub some : (e : Election) → Contains st.elections e → 0 < e.term
@@ -46,7 +50,7 @@ pub record IsWhole (g : Ground) (said : List Message) (st : History) : Type 0 wh
 -- ---- another end of the log
 
 -- of the log of a term's leader, or settled: its term is no later
-on_late : (g : Ground) (said : List Message) (st : History) (term : ℕ) (x : Spot) → IsWhole g said st → IsOn g.root g.setting.config st term x → x.term ≤ max term g.root.term
+on_late : (g : Ground) (said : List Message) (st : History) (term : ℕ) (x : Spot) → IsWhole g said st → IsOn g.root g.start st term x → x.term ≤ max term g.root.term
 on_late g said st term x w on =
     let tree = w.lawful.history.tree in
     elim on as (λ _. x.term ≤ max term g.root.term) [
@@ -67,19 +71,18 @@ on_late g said st term x w on =
 
 -- with the other end it still has what it has said to hold
 acked_on : (g : Ground) (said : List Message) (st : History) (n m : PlainNode) (a : Ack) → IsWhole g said st → m.term ≡ n.term → Descends st.links (tip n.log) g.root
-    → IsOn g.root g.setting.config st n.term (tip m.log) → (Descends st.links (tip n.log) (tip m.log) → ⊥) → HasAcked g st n.term (tip n.log) a → HasAcked g st m.term (tip m.log) a
+    → IsOn g.root g.start st n.term (tip m.log) → (Descends st.links (tip n.log) (tip m.log) → ⊥) → HasAcked g st n.term (tip n.log) a → HasAcked g st m.term (tip m.log) a
 acked_on g said st n m a w same rooted on none h =
-    let c = g.setting.config in
     let reached = h.reached in
     record {
       reached = omega (arith, reached, same);
       now = λ is.
           (let k = h.now (is ∙ same) in
-          let there = subst (λ (t : ℕ). IsOn g.root c st t (spot a.index k.0)) (is ∙ same) k.2 in
-          (k.0, still_on g.root c said st n.term (tip n.log) (tip m.log) (spot a.index k.0) w.lawful on none there k.1, k.2));
+          let there = subst (λ (t : ℕ). IsOn g.root g.start st t (spot a.index k.0)) (is ∙ same) k.2 in
+          (k.0, still_on g.root g.start said st n.term (tip n.log) (tip m.log) (spot a.index k.0) w.lawful on none there k.1, k.2));
       past = λ later l among term low.
           subst (λ (t : ℕ). HasStill st (tip m.log) (t + 1) l) (sym same)
-          (still_kept g.root c said st n.term (n.term + 1) (tip n.log) (tip m.log) l w.lawful among (omega (arith, term, later, same)) (omega arith) on none rooted
+          (still_kept g.root g.start said st n.term (n.term + 1) (tip n.log) (tip m.log) l w.lawful among (omega (arith, term, later, same)) (omega arith) on none rooted
           (h.past (omega (arith, later, same)) l among term low));
     }
 
@@ -174,7 +177,7 @@ takes_knows g said st id n from append w follows known told h =
           elim (appended_tip g.root st.links v prev term n.commit es tree h.log.linked told.linked) as (λ _. Knows g st id m) [
             | inl ends ↦ same ends
             | inr ends ↦
-                let on : IsOn g.root g.setting.config st n.term (tip new) = subst (IsOn g.root g.setting.config st n.term) (sym ends.0) (inl own) in
+                let on : IsOn g.root g.start st n.term (tip new) = subst (IsOn g.root g.start st n.term) (sym ends.0) (inl own) in
                 let none : Descends st.links (tip v) (tip new) → ⊥ = λ r. ends.1 (subst (λ (x : Spot). Descends st.links (tip v) x) ends.0 r) in
                 knows_by g st id n new from clock follows h linked rooted (on_late g said st n.term (tip new) w on) held filled
                 (λ a acked. acked_on g said st n m a w refl (tip_rooted g.root st.links v h.log.linked h.log.rooted) on none acked)
@@ -184,20 +187,20 @@ takes_knows g said st id n from append w follows known told h =
 -- ---- a snapshot
 
 -- A node restores a snapshot of its term that is settled, of an entry that it hasn't.
-pub restores_knows : (g : Ground) (said : List Message) (st : History) (id : ℕ) (n : PlainNode) (s : Snapshot) → IsWhole g said st → n.role ≡ role.Follower → IsSettled g.root g.setting.config st n.term (spot s.index s.term) → IsContentAt st.links g.root g.start (spot s.index s.term) s.content → n.log.base ≤ s.index → (term_at n.log s.index ≡ Ok s.term → ⊥)
+pub restores_knows : (g : Ground) (said : List Message) (st : History) (id : ℕ) (n : PlainNode) (s : Snapshot) → IsWhole g said st → n.role ≡ role.Follower → IsSettled g.root g.start st n.term (spot s.index s.term) → IsContentAt st.links g.root g.start (spot s.index s.term) s.content → n.log.base ≤ s.index → (term_at n.log s.index ≡ Ok s.term → ⊥)
     → Knows g st id n → Knows g st id (restored_to n s)
 restores_knows g said st id n s w follows settled content above other h =
     let m = restored_to n s in
     let x = spot s.index s.term in
     let tree = w.lawful.history.tree in
     let ends : tip m.log ≡ x = restored_tip n.log s in
-    let on : IsOn g.root g.setting.config st n.term (tip m.log) = inr (subst (IsSettled g.root g.setting.config st n.term) (sym ends) settled) in
+    let on : IsOn g.root g.start st n.term (tip m.log) = inr (subst (IsSettled g.root g.start st n.term) (sym ends) settled) in
     let rooted : Descends st.links x g.root =
     elim settled as (λ _. Descends st.links x g.root) [
       | inl first ↦ subst (λ (y : Spot). Descends st.links y g.root) (sym first) (here st.links g.root)
       | inr l ↦
           let low = lower st.links (base_spot n.log) g.root h.log.rooted in
-          line g.root st.links (site l.0) g.root x tree (link_rooted g.root st.links l.0 tree l.1.among) l.3 (omega (arith, low, above))
+          line g.root st.links (site l.0) g.root x tree (link_rooted g.root st.links l.0 tree l.1.is.among) l.3 (omega (arith, low, above))
     ] in
     let none : Descends st.links (tip n.log) (tip m.log) → ⊥ = λ r.
     other (log_holds g.root st.links n.log s.index s.term tree h.log.linked above (subst (λ (y : Spot). Descends st.links (tip n.log) y) ends r)) in
@@ -273,7 +276,7 @@ votes_knows g said st id n m last_term last_index w same stood gives h =
 -- ---- a commit
 
 -- a settled spot that is behind another at the same index in a log
-pub knows_commit : (g : Ground) (st : History) (id : ℕ) (n : PlainNode) (i t : ℕ) → term_at n.log i ≡ Ok t → IsSettled g.root g.setting.config st n.term (spot i t) → Knows g st id n → Knows g st id (record n { commit = i })
+pub knows_commit : (g : Ground) (st : History) (id : ℕ) (n : PlainNode) (i t : ℕ) → term_at n.log i ≡ Ok t → IsSettled g.root g.start st n.term (spot i t) → Knows g st id n → Knows g st id (record n { commit = i })
 knows_commit g st id n i t held settled h = record {
   log = record {
     itself = h.log.itself;
@@ -295,9 +298,9 @@ knows_commit g st id n i t held settled h = record {
 }
 
 -- what is behind a settled spot is settled
-pub behind_settled : (root : Spot) (c : Config) (said : List Message) (st : History) (term : ℕ) (x low : Spot) → IsLawful root c said st → root.index ≤ low.index → IsSettled root c st term x → Descends st.links x low → IsSettled root c st term low
-behind_settled root c said st term x low s above settled r =
-    elim settled as (λ _. IsSettled root c st term low) [
+pub behind_settled : (root : Spot) (start : Applied) (said : List Message) (st : History) (term : ℕ) (x low : Spot) → IsLawful root start said st → root.index ≤ low.index → IsSettled root start st term x → Descends st.links x low → IsSettled root start st term low
+behind_settled root start said st term x low s above settled r =
+    elim settled as (λ _. IsSettled root start st term low) [
       | inl first ↦
           let high = lower st.links x low r in
           let is = ap (λ (y : Spot). y.index) first in
@@ -306,14 +309,14 @@ behind_settled root c said st term x low s above settled r =
     ]
 
 -- A follower learns by a heartbeat: what it had said to hold, it holds as its leader has it.
-pub beat_settled : (g : Ground) (said : List Message) (st : History) (id : ℕ) (n : PlainNode) (commit i : ℕ) → IsWhole g said st → TellsCommit g st n.term id commit → n.log.base ≤ i → i ≤ commit → i ≤ last n.log → Knows g st id n → (t : ℕ) × (term_at n.log i ≡ Ok t) × IsSettled g.root g.setting.config st n.term (spot i t)
+pub beat_settled : (g : Ground) (said : List Message) (st : History) (id : ℕ) (n : PlainNode) (commit i : ℕ) → IsWhole g said st → TellsCommit g st n.term id commit → n.log.base ≤ i → i ≤ commit → i ≤ last n.log → Knows g st id n → (t : ℕ) × (term_at n.log i ≡ Ok t) × IsSettled g.root g.start st n.term (spot i t)
 beat_settled g said st id n commit i w told above low within h =
     let s = w.lawful in
     let tree = s.history.tree in
     let said_it = told.held in
     let k = (h.log.acked said_it.ack (s.within said_it.ack said_it.among) said_it.by).now said_it.of_term in
     let acked = spot said_it.ack.index k.0 in
-    let on : IsOn g.root g.setting.config st n.term acked = subst (λ (t : ℕ). IsOn g.root g.setting.config st t acked) said_it.of_term k.2 in
+    let on : IsOn g.root g.start st n.term acked = subst (λ (t : ℕ). IsOn g.root g.start st t acked) said_it.of_term k.2 in
     let top = spot told.index told.index_term in
     let upto = said_it.upto in
     let high = told.high in
@@ -322,20 +325,20 @@ beat_settled g said st id n commit i w told above low within h =
     let mine : Descends st.links (tip n.log) x = log_descends st.links n.log i t.0 h.log.linked t.1 in
     let start = lower st.links (base_spot n.log) g.root h.log.rooted in
     let behind : Descends st.links acked x = line g.root st.links (tip n.log) x acked tree mine k.1 (omega (arith, low, upto)) in
-    let settled : IsSettled g.root g.setting.config st n.term x =
-    elim (cases_lt said_it.ack.index told.index) as (λ _. IsSettled g.root g.setting.config st n.term x) [
+    let settled : IsSettled g.root g.start st n.term x =
+    elim (cases_lt said_it.ack.index told.index) as (λ _. IsSettled g.root g.start st n.term x) [
       | inl less ↦
-          let r = on_meet g.root g.setting.config said st n.term acked top s on (inr told.settled) (omega (arith, less)) in
-          behind_settled g.root g.setting.config said st n.term top x s (omega (arith, start, above)) told.settled (through st.links x acked top r behind)
+          let r = on_meet g.root g.start said st n.term acked top s on (inr told.settled) (omega (arith, less)) in
+          behind_settled g.root g.start said st n.term top x s (omega (arith, start, above)) told.settled (through st.links x acked top r behind)
       | inr over ↦
-          let r = on_meet g.root g.setting.config said st n.term top acked s (inr told.settled) on over in
-          behind_settled g.root g.setting.config said st n.term top x s (omega (arith, start, above)) told.settled (line g.root st.links acked x top tree behind r (omega (arith, low, high)))
+          let r = on_meet g.root g.start said st n.term top acked s (inr told.settled) on over in
+          behind_settled g.root g.start said st n.term top x s (omega (arith, start, above)) told.settled (line g.root st.links acked x top tree behind r (omega (arith, low, high)))
     ] in
     (t.0, t.1, settled)
 
 -- A follower learns by an append: up to the append's end it holds what its leader has.
 pub append_settled : (g : Ground) (said : List Message) (st : History) (id : ℕ) (n : PlainNode) (append : PlainAppend) (i : ℕ) → IsWhole g said st → TellsAppend g st n.term append → term_at n.log (append.prev + length append.entries) ≡ Ok (last_term (log_from append.prev append.prev_term append.entries)) → n.log.base ≤ i → i ≤ append.commit → i ≤ append.prev + length append.entries
-    → (append.prev_term ≡ 0 → g.root.index < append.prev → ⊥) → Knows g st id n → (t : ℕ) × (term_at n.log i ≡ Ok t) × IsSettled g.root g.setting.config st n.term (spot i t)
+    → (append.prev_term ≡ 0 → g.root.index < append.prev → ⊥) → Knows g st id n → (t : ℕ) × (term_at n.log i ≡ Ok t) × IsSettled g.root g.start st n.term (spot i t)
 append_settled g said st id n append i w told held above low within named h =
     let s = w.lawful in
     let tree = s.history.tree in
@@ -349,20 +352,37 @@ append_settled g said st id n append i w told held above low within named h =
     let behind : Descends st.links sent x = line g.root st.links (tip n.log) x sent tree has mine within in
     let top = spot append.commit told.commit_term in
     let own : IsOfTerm st n.term sent = elim told.ends as (λ _. IsOfTerm st n.term sent) [ inl is ↦ is | inr past ↦ absurd (named past.0 past.1) ] in
-    let settled : IsSettled g.root g.setting.config st n.term x =
-    elim (cases_lt sent.index append.commit) as (λ _. IsSettled g.root g.setting.config st n.term x) [
+    let settled : IsSettled g.root g.start st n.term x =
+    elim (cases_lt sent.index append.commit) as (λ _. IsSettled g.root g.start st n.term x) [
       | inl less ↦
-          let r = on_meet g.root g.setting.config said st n.term sent top s (inl own) (inr told.commit) (omega (arith, less)) in
-          behind_settled g.root g.setting.config said st n.term top x s (omega (arith, start, above)) told.commit (through st.links x sent top r behind)
+          let r = on_meet g.root g.start said st n.term sent top s (inl own) (inr told.commit) (omega (arith, less)) in
+          behind_settled g.root g.start said st n.term top x s (omega (arith, start, above)) told.commit (through st.links x sent top r behind)
       | inr over ↦
-          let r = on_meet g.root g.setting.config said st n.term top sent s (inr told.commit) (inl own) over in
-          behind_settled g.root g.setting.config said st n.term top x s (omega (arith, start, above)) told.commit (line g.root st.links sent x top tree behind r low)
+          let r = on_meet g.root g.start said st n.term top sent s (inr told.commit) (inl own) over in
+          behind_settled g.root g.start said st n.term top x s (omega (arith, start, above)) told.commit (line g.root st.links sent x top tree behind r low)
     ] in
     (t.0, t.1, settled)
 
+-- with fixed members, all decisions rest on the root
+pub decides_fixed : (g : Ground) (said : List Message) (st : History) (is_known : Spot → Type 0) (top : Spot) (deciders : ℕ → Bool) → IsWhole g said st → is_known g.root → Descends st.links top g.root → IsQuorum g.setting.config deciders → Decides g.root g.start st is_known top deciders
+decides_fixed g said st is_known top deciders w known rooted quorum =
+    let newest = plain_made st.links g.root g.start top w.plain rooted in
+    let none = newest.2 in
+    record {
+      by = g.root;
+      known = known;
+      behind = rooted;
+      made = g.start;
+      is = root_made st.links g.root g.start;
+      newest = newest.0;
+      ends = newest.1;
+      few = omega (arith, none);
+      quorum = subst (λ (c : Config). IsQuorum c deciders) (sym g.same) quorum;
+    }
+
 -- A leader commits what a quorum holds by its views: an entry of its term that a quorum has said to hold.
 pub commits_settled : (g : Ground) (said : List Message) (st : History) (id : ℕ) (n : PlainNode) (i : ℕ) → IsWhole g said st → n.role ≡ role.Leader → n.tracker.config ≡ g.setting.config → 0 < length g.setting.config.incoming → is_held n.tracker i ≡ true → n.commit < i → term_at n.log i ≡ Ok n.term
-    → Knows g st id n → IsSettled g.root g.setting.config st n.term (spot i n.term)
+    → Knows g st id n → IsSettled g.root g.start st n.term (spot i n.term)
 commits_settled g said st id n i w leads config some held past own h =
     let s = w.lawful in
     let tree = s.history.tree in
@@ -377,11 +397,7 @@ commits_settled g said st id n i w leads config some held past own h =
     let term : l.0.entry.term ≡ n.term = ap (λ (y : Spot). y.term) l.2 in
     let holders : ℕ → Bool = λ v. holds n.tracker.views i v in
     let quorum : IsQuorum g.setting.config holders = subst (λ (c : Config). IsQuorum c holders) config (record { some = subst (λ (c : Config). 0 < length c.incoming) (sym config) some; decides = held }) in
-    let committed : IsCommitted g.setting.config st l.0 = record {
-      among = l.1;
-      holders = holders;
-      quorum = quorum;
-      held = λ v yes.
+    let held_by : (v : ℕ) → holders v ≡ true → IsAcked (out_of st) v l.0 = λ v yes.
           (let matched : i ≤ match_of n.tracker.views v = leb-true i (match_of n.tracker.views v) yes in
           elim (h.words.counts leads v) as (λ _. IsAcked (out_of st) v l.0) [
             | inl first ↦ absurd (omega (arith, first, matched, start, commit, past))
@@ -398,6 +414,14 @@ commits_settled g said st id n i w leads config some held past own h =
                   let upto = said_it.upto in
                   record { ack = said_it.ack; among = said_it.among; by = said_it.by; of_term = said_it.of_term ∙ sym term; upto = omega (arith, upto, matched, index) }
             ]
-          ]);
+          ]) in
+    let committed : IsCommitted g.root g.start st l.0 = record {
+      rank = 0;
+      is = record {
+        among = l.1;
+        holders = holders;
+        held = held_by;
+        decides = decides_fixed g said st (λ y. y ≡ g.root) (site l.0) holders w refl (link_rooted g.root st.links l.0 tree l.1) quorum;
+      };
     } in
     inr (l.0, committed, omega (arith, term), subst (λ (y : Spot). Descends st.links (site l.0) y) l.2 (here st.links (site l.0)))

@@ -4,27 +4,22 @@ use Rattle.std.proofs.Common.{◌≡◌, ◌⊎◌, ℕ, ◌+◌, ◌<◌, ◌�
 use Rattle.std.specs.Prelude.{Contains, slice_index_or}
 use Rattle.rb_raftlog.specs.Log.{last_term}
 use Rattle.rb_tracker.specs.Commits.{match_of}
-use Rattle.rb_tracker.specs.declared.config.Config.{Config}
 use Rattle.rb_message.specs.declared.kind.MessageKind.{MessageKind}
 use Rattle.rb_message.specs.declared.kind.MessageKind.TheVariants as kind
 use Rattle.rb_message.specs.declared.message.Message.{Message}
 use Rattle.rb_node.specs.Node.{PlainNode}
-use Rattle.rb_laws.proofs.Links.{Link, Extends}
+use Rattle.rb_laws.proofs.Links.{Link}
 use Rattle.rb_laws.proofs.LinkedLogs.{log_from}
 use Rattle.rb_laws.proofs.Spots.{Spot, spot, site, Descends, still_descends}
-use Rattle.rb_laws.proofs.Completeness.{Election, Ack, History, out_of, IsTip, IsOfTerm, IsAcked, HasStill, IsCommitted, IsSettled}
+use Rattle.rb_laws.proofs.Applied.{Applied}
+use Rattle.rb_laws.proofs.LeaderLogs.{Election, Ack, History, out_of, IsTip, IsOfTerm, IsAcked, HasStill}
 use Rattle.rb_laws.proofs.KeptEntries.{IsOn}
-use Rattle.rb_laws.proofs.Histories.{HasStood, IsPledged}
+use Rattle.rb_laws.proofs.Histories.{IsSince, since_settled, since_elected, HasStood, IsPledged}
 use Rattle.rb_laws.proofs.Tips.{tip}
 use Rattle.rb_laws.proofs.NodeKnowledge.{Ground, election, mine, IsSaidUpTo, HasSaidUpTo, TellsCommit, TellsBy, TellsTrue, IsCounted, Knows}
 use Rattle.rb_laws.proofs.FollowerMoves.{IsWhole}
 
--- ---- what is never forgotten
-
-pub record IsSince (old new : History) : Type 0 where
-  pub links : Extends old.links new.links
-  pub elections : (e : Election) → Contains old.elections e → Contains new.elections e
-  pub out_acks : (a : Ack) → Contains old.out_acks a → Contains new.out_acks a
+-- ---- what is never forgotten (Histories) stays known
 
 abbrev pub since_tip : (old new : History) (term : ℕ) (x : Spot) → IsSince old new → IsTip old term x → IsTip new term x
 since_tip old new term x since t = record {
@@ -66,24 +61,9 @@ since_has old new x bound l since h =
           )
     ]
 
-pub since_settled : (root : Spot) (c : Config) (old new : History) (term : ℕ) (x : Spot) → IsSince old new → IsSettled root c old term x → IsSettled root c new term x
-since_settled root c old new term x since h =
-    elim h as (λ _. IsSettled root c new term x) [
-      | inl first ↦ inl first
-      | inr l ↦
-          let k = l.1 in
-          let committed : IsCommitted c new l.0 = record {
-            among = since.links l.0 k.among;
-            holders = k.holders;
-            quorum = k.quorum;
-            held = λ v holds. (let a = k.held v holds in record { ack = a.ack; among = since.out_acks a.ack a.among; by = a.by; of_term = a.of_term; upto = a.upto });
-          } in
-          inr (l.0, committed, l.2, still_descends old.links new.links (site l.0) x since.links l.3)
-    ]
-
-since_on : (root : Spot) (c : Config) (old new : History) (term : ℕ) (x : Spot) → IsSince old new → IsOn root c old term x → IsOn root c new term x
-since_on root c old new term x since h =
-    elim h as (λ _. IsOn root c new term x) [ inl own ↦ inl (since_of_term old new term x since own) | inr settled ↦ inr (since_settled root c old new term x since settled) ]
+since_on : (root : Spot) (start : Applied) (old new : History) (term : ℕ) (x : Spot) → IsSince old new → IsOn root start old term x → IsOn root start new term x
+since_on root start old new term x since h =
+    elim h as (λ _. IsOn root start new term x) [ inl own ↦ inl (since_of_term old new term x since own) | inr settled ↦ inr (since_settled root start old new term x since settled) ]
 
 -- ---- a part of a history
 
@@ -120,15 +100,18 @@ whole_part g said st stood acks p w =
           rooted = w.lawful.history.rooted;
           made = λ l among. (let b = w.lawful.history.made l among in record { election = b.election; among = b.among; of_term = b.of_term; past = b.past; behind = b.behind });
         };
+        first = w.lawful.first;
+        proper = w.lawful.proper;
         voted = λ e among. (let v = w.lawful.voted e among in record {
           voters = v.voters;
-          quorum = v.quorum;
+          decides = since_elected g.root g.start st new e v.voters since v.decides;
           cast = v.cast;
           each = λ x votes l there earlier acked. since_has st new e.tip e.term l since (v.each x votes l there earlier (acked_among st stood acks x l p acked));
         });
         within = p.acks_out;
       };
-      held = λ a among. (let k = w.held a (p.acks_among a among) in (k.0, since_on g.root g.setting.config st new a.term (spot a.index k.0) since k.1));
+      plain = w.plain;
+      held = λ a among. (let k = w.held a (p.acks_among a among) in (k.0, since_on g.root g.start st new a.term (spot a.index k.0) since k.1));
       low = w.low;
       elected = w.elected;
       some = w.some;
@@ -162,7 +145,7 @@ part_tells_by g st stood acks own (kind.Append append) m p o h =
       ends = elim h.ends as (λ _. IsOfTerm new m.term sent ⊎ ((append.prev_term ≡ 0) × (g.root.index < append.prev))) [ inl own ↦ inl (since_of_term st new m.term sent since own) | inr past ↦ inr past ];
       linked = h.linked;
       commit_term = h.commit_term;
-      commit = since_settled g.root g.setting.config st new m.term (spot append.commit h.commit_term) since h.commit;
+      commit = since_settled g.root g.start st new m.term (spot append.commit h.commit_term) since h.commit;
     }
 part_tells_by g st stood acks own (kind.Heartbeat commit) m p o h =
     let new = with_only st stood acks in
@@ -173,11 +156,11 @@ part_tells_by g st stood acks own (kind.Heartbeat commit) m p o h =
         index = beat.index;
         high = beat.high;
         index_term = beat.index_term;
-        settled = since_settled g.root g.setting.config st new m.term (spot beat.index beat.index_term) (part_since st stood acks) beat.settled;
+        settled = since_settled g.root g.start st new m.term (spot beat.index beat.index_term) (part_since st stood acks) beat.settled;
       })
     ]
 part_tells_by g st stood acks own (kind.Snapshot snapshot) m p o h =
-    (since_settled g.root g.setting.config st (with_only st stood acks) m.term (spot snapshot.index snapshot.term) (part_since st stood acks) h.0, h.1)
+    (since_settled g.root g.start st (with_only st stood acks) m.term (spot snapshot.index snapshot.term) (part_since st stood acks) h.0, h.1)
 part_tells_by g st stood acks own (kind.Vote last_term last_index transfer) m p o h =
     (let e = election m.term m.from (spot last_index last_term) in
     elim h as (λ _. HasStood (with_only st stood acks) own e) [ inl out ↦ inl out | inr its ↦ inr (its.0, o.all_stood e its.0 its.1) ])
@@ -227,13 +210,13 @@ part_knows g st stood acks id n p o h =
         led = h.log.led;
         acked = λ a among by. (let k = h.log.acked a (p.acks_among a among) by in record {
           reached = k.reached;
-          now = λ same. (let x = k.now same in (x.0, x.1, since_on g.root g.setting.config st new a.term (spot a.index x.0) since x.2));
+          now = λ same. (let x = k.now same in (x.0, x.1, since_on g.root g.start st new a.term (spot a.index x.0) since x.2));
           past = λ later l there term low. since_has st new (tip n.log) (n.term + 1) l since (k.past later l there term low);
         });
         pledged = λ some. part_pledged st stood acks (mine id) id n.term n.vote p o (h.log.pledged some);
         commit_term = h.log.commit_term;
         commit_held = h.log.commit_held;
-        commit = since_settled g.root g.setting.config st new n.term (spot n.commit h.log.commit_term) since h.log.commit;
+        commit = since_settled g.root g.start st new n.term (spot n.commit h.log.commit_term) since h.log.commit;
         filled = h.log.filled;
       };
       words = record {

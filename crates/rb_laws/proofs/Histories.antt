@@ -1,15 +1,18 @@
 -- A history goes on: one more link, acknowledgement, candidacy or election. What is known of it stays, and what it promises is kept. Nothing
 -- here is about nodes.
-use Rattle.std.proofs.Common.{◌≡◌, ◌⊎◌, ℕ, ◌+◌, ◌<◌, ◌≤◌, List, [], ◌∷◌, ◌++◌, refl, sym, ap, subst, ◌∙◌, arith, inl, inr}
+use Rattle.std.proofs.Common.{◌≡◌, ◌⊎◌, ℕ, zero, suc, ◌+◌, ◌<◌, ◌≤◌, Bool, true, List, [], ◌∷◌, ◌++◌, refl, sym, ap, subst, ◌∙◌, arith, inl, inr}
 use Rattle.std.specs.Prelude.{Contains}
 use Rattle.std.proofs.lemmas.Bool.{cases_lt}
 use Rattle.std.proofs.lemmas.List.Elements.{Contains-append_left, Contains-push_cases}
-use Rattle.rb_tracker.specs.declared.config.Config.{Config}
+use Rattle.rb_raftlog.specs.Bodies.{is_change}
+use Rattle.rb_tracker.specs.Changes.{IsConfig}
 use Rattle.rb_message.specs.declared.message.Message.{Message}
 use Rattle.rb_laws.specs.Votes.{IsCast}
 use Rattle.rb_laws.proofs.Links.{Link, Extends, push_extends, push_single}
 use Rattle.rb_laws.proofs.Spots.{Spot, spot, site, under, Descends, IsTree, still_descends, lower}
-use Rattle.rb_laws.proofs.Completeness.{Election, Ack, History, out_of, IsBuilt, IsHistory, IsTip, IsOfTerm, IsAcked, Lacks, HasStill, IsCommitted, IsVoted, IsLawful, IsSettled, safe_of_term}
+use Rattle.rb_laws.proofs.LeaderLogs.{Election, Ack, History, out_of, IsBuilt, IsHistory, IsTip, IsOfTerm, IsAcked, Lacks, HasStill}
+use Rattle.rb_laws.proofs.Applied.{Applied, IsProper, still_made}
+use Rattle.rb_laws.proofs.Completeness.{Decides, IsDecision, Settled, IsSettled, IsKnownBefore, IsVoted, IsLawful, safe_of_term}
 use Rattle.rb_laws.proofs.KeptEntries.{IsOn}
 
 -- ---- more of a history
@@ -21,6 +24,15 @@ pub record IsMore (old new : History) : Type 0 where
   pub acks : (a : Ack) → Contains old.acks a → Contains new.acks a
   pub out_candidacies : (e : Election) → Contains old.out_candidacies e → Contains new.out_candidacies e
   pub out_acks : (a : Ack) → Contains old.out_acks a → Contains new.out_acks a
+
+-- what is never forgotten
+pub record IsSince (old new : History) : Type 0 where
+  pub links : Extends old.links new.links
+  pub elections : (e : Election) → Contains old.elections e → Contains new.elections e
+  pub out_acks : (a : Ack) → Contains old.out_acks a → Contains new.out_acks a
+
+pub of_more : (old new : History) → IsMore old new → IsSince old new
+of_more old new more = record { links = more.links; elections = more.elections; out_acks = more.out_acks }
 
 pub more_out : (old new : History) → IsMore old new → IsMore (out_of old) (out_of new)
 more_out old new more = record {
@@ -97,30 +109,71 @@ still_has old new x bound l more h =
       | inr lacks ↦ inr (lacks.0, lacks.1, lacks.2, still_lacks old new lacks.0 l more lacks.3)
     ]
 
-pub still_committed : (c : Config) (old new : History) (l : Link) → IsMore old new → IsCommitted c old l → IsCommitted c new l
-still_committed c old new l more h = record {
-  among = more.links l h.among;
-  holders = h.holders;
+-- ---- decisions stay
+
+since_decides : (root : Spot) (start : Applied) (old new : History) (before after : Spot → Type 0) (top : Spot) (deciders : ℕ → Bool) → IsSince old new → ((x : Spot) → before x → after x) → Decides root start old before top deciders → Decides root start new after top deciders
+since_decides root start old new before after top deciders since known h = record {
+  by = h.by;
+  known = known h.by h.known;
+  behind = still_descends old.links new.links top h.by since.links h.behind;
+  made = h.made;
+  is = still_made old.links new.links root start h.by h.made since.links h.is;
+  newest = h.newest;
+  ends = still_made old.links new.links root start top h.newest since.links h.ends;
+  few = h.few;
   quorum = h.quorum;
-  held = λ v holds. still_acked (out_of old) (out_of new) v l (more_out old new more) (h.held v holds);
 }
 
-pub still_settled : (root : Spot) (c : Config) (old new : History) (term : ℕ) (x : Spot) → IsMore old new → IsSettled root c old term x → IsSettled root c new term x
-still_settled root c old new term x more h =
-    elim h as (λ _. IsSettled root c new term x) [
+since_decision : (root : Spot) (start : Applied) (old new : History) (before after : Spot → Type 0) (l : Link) → IsSince old new → ((x : Spot) → before x → after x) → IsDecision root start old before l → IsDecision root start new after l
+since_decision root start old new before after l since known h = record {
+  among = since.links l h.among;
+  holders = h.holders;
+  held = λ v holds. (let a = h.held v holds in record { ack = a.ack; among = since.out_acks a.ack a.among; by = a.by; of_term = a.of_term; upto = a.upto });
+  decides = since_decides root start old new before after (site l) h.holders since known h.decides;
+}
+
+since_at : (root : Spot) (start : Applied) (old new : History) (n term : ℕ) (x : Spot) → IsSince old new → Settled root start old n term x → Settled root start new n term x
+since_at root start old new zero term x since h = h
+since_at root start old new (suc n) term x since h =
+    elim h as (λ _. Settled root start new (suc n) term x) [
       | inl first ↦ inl first
-      | inr l ↦ inr (l.0, still_committed c old new l.0 more l.1, l.2, still_descends old.links new.links (site l.0) x more.links l.3)
+      | inr k ↦
+          let l = k.0 in
+          let t = l.entry.term in
+          let d = since_decision root start old new (Settled root start old n t) (Settled root start new n t) l since (λ y known. since_at root start old new n t y since known) k.1 in
+          inr (l, d, k.2, still_descends old.links new.links (site l) x since.links k.3)
     ]
 
-pub later_settled : (root : Spot) (c : Config) (st : History) (term later : ℕ) (x : Spot) → term ≤ later → IsSettled root c st term x → IsSettled root c st later x
-later_settled root c st term later x up h =
-    elim h as (λ _. IsSettled root c st later x) [ inl first ↦ inl first | inr l ↦ (let low = l.2 in inr (l.0, l.1, omega (arith, low, up), l.3)) ]
+pub since_settled : (root : Spot) (start : Applied) (old new : History) (term : ℕ) (x : Spot) → IsSince old new → IsSettled root start old term x → IsSettled root start new term x
+since_settled root start old new term x since h =
+    elim h as (λ _. IsSettled root start new term x) [
+      | inl first ↦ inl first
+      | inr k ↦
+          let l = k.0 in
+          let t = l.entry.term in
+          let n = k.1.rank in
+          let d = since_decision root start old new (Settled root start old n t) (Settled root start new n t) l since (λ y known. since_at root start old new n t y since known) k.1.is in
+          inr (l, record { rank = n; is = d }, k.2, still_descends old.links new.links (site l) x since.links k.3)
+    ]
 
-pub still_is_on : (root : Spot) (c : Config) (old new : History) (term : ℕ) (x : Spot) → IsMore old new → IsOn root c old term x → IsOn root c new term x
-still_is_on root c old new term x more h =
-    elim h as (λ _. IsOn root c new term x) [
+since_known : (root : Spot) (start : Applied) (old new : History) (term : ℕ) (x : Spot) → IsSince old new → IsKnownBefore root start old term x → IsKnownBefore root start new term x
+since_known root start old new term x since h = record { bound = h.bound; earlier = h.earlier; settled = since_settled root start old new h.bound x since h.settled }
+
+pub since_elected : (root : Spot) (start : Applied) (old new : History) (e : Election) (voters : ℕ → Bool) → IsSince old new → Decides root start old (IsKnownBefore root start old e.term) e.tip voters → Decides root start new (IsKnownBefore root start new e.term) e.tip voters
+since_elected root start old new e voters since h = since_decides root start old new (IsKnownBefore root start old e.term) (IsKnownBefore root start new e.term) e.tip voters since (λ x known. since_known root start old new e.term x since known) h
+
+pub still_settled : (root : Spot) (start : Applied) (old new : History) (term : ℕ) (x : Spot) → IsMore old new → IsSettled root start old term x → IsSettled root start new term x
+still_settled root start old new term x more h = since_settled root start old new term x (of_more old new more) h
+
+pub later_settled : (root : Spot) (start : Applied) (st : History) (term later : ℕ) (x : Spot) → term ≤ later → IsSettled root start st term x → IsSettled root start st later x
+later_settled root start st term later x up h =
+    elim h as (λ _. IsSettled root start st later x) [ inl first ↦ inl first | inr l ↦ (let low = l.2 in inr (l.0, l.1, omega (arith, low, up), l.3)) ]
+
+pub still_is_on : (root : Spot) (start : Applied) (old new : History) (term : ℕ) (x : Spot) → IsMore old new → IsOn root start old term x → IsOn root start new term x
+still_is_on root start old new term x more h =
+    elim h as (λ _. IsOn root start new term x) [
       | inl own ↦ inl (still_of_term old new term x more own)
-      | inr settled ↦ inr (still_settled root c old new term x more settled)
+      | inr settled ↦ inr (still_settled root start old new term x more settled)
     ]
 
 pub still_built : (old new : History) (l : Link) → IsMore old new → IsBuilt old l → IsBuilt new l
@@ -137,14 +190,14 @@ still_built old new l more h = record {
 
 -- ---- what was acknowledged stands on the leader's way, or is committed
 
-abbrev pub AreHeld : Spot → Config → History → Type 0
-AreHeld root c st = (a : Ack) → Contains st.acks a → (t : ℕ) × IsOn root c st a.term (spot a.index t)
+abbrev pub AreHeld : Spot → Applied → History → Type 0
+AreHeld root start st = (a : Ack) → Contains st.acks a → (t : ℕ) × IsOn root start st a.term (spot a.index t)
 
 -- an election stays as it was, if its voters have said nothing new of earlier terms
-pub still_voted : (c : Config) (said : List Message) (old new : History) (e : Election) → IsMore old new → ((v : ℕ) (l : Link) → IsCast said v e.term e.id → Contains new.links l → l.entry.term < e.term → IsAcked new v l → Contains old.links l × IsAcked old v l) → IsVoted c said old e → IsVoted c said new e
-still_voted c said old new e more back h = record {
+pub still_voted : (root : Spot) (start : Applied) (said : List Message) (old new : History) (e : Election) → IsMore old new → ((v : ℕ) (l : Link) → IsCast said v e.term e.id → Contains new.links l → l.entry.term < e.term → IsAcked new v l → Contains old.links l × IsAcked old v l) → IsVoted root start said old e → IsVoted root start said new e
+still_voted root start said old new e more back h = record {
   voters = h.voters;
-  quorum = h.quorum;
+  decides = since_elected root start old new e h.voters (of_more old new more) h.decides;
   cast = h.cast;
   each = λ v votes l among earlier acked.
       (let was = back v l (h.cast v votes) among earlier acked in
@@ -185,8 +238,8 @@ tip_within root st l x s top h =
     ]
 
 -- so nobody has said that it holds it
-pub none_acked : (root : Spot) (c : Config) (said : List Message) (st : History) (l : Link) → IsLawful root c said st → AreHeld root c st → IsTop root st l → (a : Ack) → Contains st.acks a → a.term ≡ l.entry.term → a.index < l.index
-none_acked root c said st l s held top a among term =
+pub none_acked : (root : Spot) (start : Applied) (said : List Message) (st : History) (l : Link) → IsLawful root start said st → AreHeld root start st → IsTop root st l → (a : Ack) → Contains st.acks a → a.term ≡ l.entry.term → a.index < l.index
+none_acked root start said st l s held top a among term =
     let h = held a among in
     let x = spot a.index h.0 in
     let e = top.ends.election in
@@ -196,7 +249,7 @@ none_acked root c said st l s held top a among term =
       | inl of_term ↦ subst (λ (n : ℕ). IsOfTerm st n x) term of_term
       | inr settled ↦
           subst (λ (n : ℕ). IsOfTerm st n x) top.ends.of_term
-          (safe_of_term root c said st e x s top.ends.among (subst (λ (n : ℕ). IsSettled root c st n x) (sym t) settled))
+          (safe_of_term root start said st e x s top.ends.among (subst (λ (n : ℕ). IsSettled root start st n x) (sym t) settled))
     ] in
     let below = lower st.links own.tip x own.descends in
     let high : own.tip.index ≤ top.top.index = tip_within root st l own.tip s.history top own.ends in
@@ -264,29 +317,35 @@ story_link root st l s top =
     }
 
 -- an entry that somebody holds is no new one
-pub held_before : (root : Spot) (c : Config) (said : List Message) (st : History) (l m : Link) (v : ℕ) → IsLawful root c said st → AreHeld root c st → IsTop root st l → Contains (with_link st l).links m → IsAcked (with_link st l) v m → Contains st.links m × IsAcked st v m
-held_before root c said st l m v s held top among acked =
+pub held_before : (root : Spot) (start : Applied) (said : List Message) (st : History) (l m : Link) (v : ℕ) → IsLawful root start said st → AreHeld root start st → IsTop root st l → Contains (with_link st l).links m → IsAcked (with_link st l) v m → Contains st.links m × IsAcked st v m
+held_before root start said st l m v s held top among acked =
     let was : IsAcked st v m = record { ack = acked.ack; among = acked.among; by = acked.by; of_term = acked.of_term; upto = acked.upto } in
     elim (Contains-push_cases st.links l m among) as (λ _. Contains st.links m × IsAcked st v m) [
       | inl before ↦ (before, was)
       | inr now ↦
           let term = ap (λ (z : Link). z.entry.term) now in
           let index = ap (λ (z : Link). z.index) now in
-          let low = none_acked root c said st l s held top acked.ack acked.among (acked.of_term ∙ sym term) in
+          let low = none_acked root start said st l s held top acked.ack acked.among (acked.of_term ∙ sym term) in
           let high = acked.upto in
           absurd (omega (arith, low, index, high))
     ]
 
-pub lawful_link : (root : Spot) (c : Config) (said : List Message) (st : History) (l : Link) → IsLawful root c said st → AreHeld root c st → IsTop root st l → IsLawful root c said (with_link st l)
-lawful_link root c said st l s held top = record {
+proper_link : (ls : List Link) (start : Applied) (l : Link) → IsProper ls start → (is_change l.entry.body ≡ true → IsConfig start.config) → IsProper (ls ++ l ∷ []) start
+proper_link ls start l proper new m among changes =
+    elim (Contains-push_cases ls l m among) as (λ _. IsConfig start.config) [ inl before ↦ proper m before changes | inr now ↦ new (ap (λ (z : Link). is_change z.entry.body) now ∙ changes) ]
+
+pub lawful_link : (root : Spot) (start : Applied) (said : List Message) (st : History) (l : Link) → IsLawful root start said st → AreHeld root start st → IsTop root st l → (is_change l.entry.body ≡ true → IsConfig start.config) → IsLawful root start said (with_link st l)
+lawful_link root start said st l s held top proper = record {
   history = story_link root st l s.history top;
-  voted = λ e among. still_voted c said st (with_link st l) e (more_link st l)
-      (λ v m _ there _ acked. held_before root c said st l m v s held top there acked) (s.voted e among);
+  first = s.first;
+  proper = proper_link st.links start l s.proper proper;
+  voted = λ e among. still_voted root start said st (with_link st l) e (more_link st l)
+      (λ v m _ there _ acked. held_before root start said st l m v s held top there acked) (s.voted e among);
   within = s.within;
 }
 
-pub held_link : (root : Spot) (c : Config) (st : History) (l : Link) → AreHeld root c st → AreHeld root c (with_link st l)
-held_link root c st l held = λ a among. (let h = held a among in (h.0, still_is_on root c st (with_link st l) a.term (spot a.index h.0) (more_link st l) h.1))
+pub held_link : (root : Spot) (start : Applied) (st : History) (l : Link) → AreHeld root start st → AreHeld root start (with_link st l)
+held_link root start st l held = λ a among. (let h = held a among in (h.0, still_is_on root start st (with_link st l) a.term (spot a.index h.0) (more_link st l) h.1))
 
 -- ---- an acknowledgement
 
@@ -305,22 +364,24 @@ acked_before said st a v term candidate l late cast earlier acked =
           absurd (omega (arith, up, of_term, earlier))
     ]
 
-pub lawful_ack : (root : Spot) (c : Config) (said : List Message) (st : History) (a : Ack) → IsLawful root c said st → IsLate said a → IsLawful root c said (with_ack st a)
-lawful_ack root c said st a s late =
+pub lawful_ack : (root : Spot) (start : Applied) (said : List Message) (st : History) (a : Ack) → IsLawful root start said st → IsLate said a → IsLawful root start said (with_ack st a)
+lawful_ack root start said st a s late =
     let old = s.history in
     let more = more_ack st a in
     record {
       history = record { tree = old.tree; once = old.once; rooted = old.rooted; made = λ l among. still_built st (with_ack st a) l more (old.made l among) };
-      voted = λ e among. still_voted c said st (with_ack st a) e more
+      first = s.first;
+      proper = s.proper;
+      voted = λ e among. still_voted root start said st (with_ack st a) e more
           (λ v l cast there earlier acked. (there, acked_before said st a v e.term e.id l late cast earlier acked)) (s.voted e among);
       within = λ b among. Contains-append_left st.acks (a ∷ []) b (s.within b among);
     }
 
-pub held_ack : (root : Spot) (c : Config) (st : History) (a : Ack) (t : ℕ) → AreHeld root c st → IsOn root c st a.term (spot a.index t) → AreHeld root c (with_ack st a)
-held_ack root c st a t held on = λ b among.
-    (elim (Contains-push_cases st.acks a b among) as (λ _. (u : ℕ) × IsOn root c (with_ack st a) b.term (spot b.index u)) [
-      | inl before ↦ (let h = held b before in (h.0, still_is_on root c st (with_ack st a) b.term (spot b.index h.0) (more_ack st a) h.1))
-      | inr now ↦ (t, subst (λ (x : Ack). IsOn root c (with_ack st a) x.term (spot x.index t)) now (still_is_on root c st (with_ack st a) a.term (spot a.index t) (more_ack st a) on))
+pub held_ack : (root : Spot) (start : Applied) (st : History) (a : Ack) (t : ℕ) → AreHeld root start st → IsOn root start st a.term (spot a.index t) → AreHeld root start (with_ack st a)
+held_ack root start st a t held on = λ b among.
+    (elim (Contains-push_cases st.acks a b among) as (λ _. (u : ℕ) × IsOn root start (with_ack st a) b.term (spot b.index u)) [
+      | inl before ↦ (let h = held b before in (h.0, still_is_on root start st (with_ack st a) b.term (spot b.index h.0) (more_ack st a) h.1))
+      | inr now ↦ (t, subst (λ (x : Ack). IsOn root start (with_ack st a) x.term (spot x.index t)) now (still_is_on root start st (with_ack st a) a.term (spot a.index t) (more_ack st a) on))
     ])
 
 -- ---- a vote, and an election
@@ -355,13 +416,13 @@ pledge_before st x term l none h =
       ]
     ]
 
-pub lawful_election : (root : Spot) (c : Config) (said : List Message) (st : History) (e : Election) → IsLawful root c said st → ((x : Election) → Contains st.elections x → x.term ≡ e.term → ⊥) → Descends st.links e.tip root → IsVoted c said st e → IsLawful root c said (with_election st e)
-lawful_election root c said st e s none rooted voted =
+pub lawful_election : (root : Spot) (start : Applied) (said : List Message) (st : History) (e : Election) → IsLawful root start said st → ((x : Election) → Contains st.elections x → x.term ≡ e.term → ⊥) → Descends st.links e.tip root → IsVoted root start said st e → IsLawful root start said (with_election st e)
+lawful_election root start said st e s none rooted voted =
     let old = s.history in
     let new = with_election st e in
     let more = more_election st e in
-    let still : (x : Election) → IsVoted c said st x → IsVoted c said new x = λ x h.
-    still_voted c said st new x more (λ v l _ there _ acked. (there, record { ack = acked.ack; among = acked.among; by = acked.by; of_term = acked.of_term; upto = acked.upto })) h in
+    let still : (x : Election) → IsVoted root start said st x → IsVoted root start said new x = λ x h.
+    still_voted root start said st new x more (λ v l _ there _ acked. (there, record { ack = acked.ack; among = acked.among; by = acked.by; of_term = acked.of_term; upto = acked.upto })) h in
     record {
       history = record {
         tree = old.tree;
@@ -383,10 +444,12 @@ lawful_election root c said st e s none rooted voted =
             ];
         made = λ l among. still_built st new l more (old.made l among);
       };
+      first = s.first;
+      proper = s.proper;
       voted = λ x among.
-          elim (Contains-push_cases st.elections e x among) as (λ _. IsVoted c said new x) [
+          elim (Contains-push_cases st.elections e x among) as (λ _. IsVoted root start said new x) [
             | inl before ↦ still x (s.voted x before)
-            | inr now ↦ subst (IsVoted c said new) now (still e voted)
+            | inr now ↦ subst (IsVoted root start said new) now (still e voted)
           ];
       within = s.within;
     }

@@ -13,7 +13,9 @@ pub mod JoinLaws
 pub mod TieLaws
 pub mod ClusterLaws
 pub mod Spots
+pub mod Applied
 pub mod Contents
+pub mod LeaderLogs
 pub mod Completeness
 pub mod KeptEntries
 pub mod Tips

@@ -23,7 +23,8 @@ use Rattle.rb_laws.proofs.LinkedLogs.{log_from, entry_term, part_linked}
 use Rattle.rb_calls.proofs.ListLaws.{some_at}
 use Rattle.rb_laws.proofs.Spots.{spot, line, lower}
 use Rattle.rb_laws.proofs.Contents.{IsContentAt}
-use Rattle.rb_laws.proofs.Completeness.{History, IsTip, IsOfTerm, IsSettled}
+use Rattle.rb_laws.proofs.LeaderLogs.{History, IsTip, IsOfTerm}
+use Rattle.rb_laws.proofs.Completeness.{IsSettled}
 use Rattle.rb_laws.proofs.Tips.{tip, base_spot, last_is, log_descends}
 use Rattle.rb_laws.proofs.Histories.{HasStood}
 use Rattle.rb_laws.proofs.NodeKnowledge.{Ground, election, mine, TellsAppend, TellsCommit, TellsBy, TellsTrue, Knows}
@@ -75,8 +76,8 @@ tells_append g said st id n term append w leads same is h =
       ];
       linked = part_linked st.links v prev append.prev_term append.entries base is.prev_term is.entries h.log.linked;
       commit_term = h.log.commit_term;
-      commit = subst (λ (i : ℕ). IsSettled g.root g.setting.config st term (spot i h.log.commit_term)) (sym is.commit)
-          (subst (λ (t : ℕ). IsSettled g.root g.setting.config st t (spot n.commit h.log.commit_term)) (sym same) h.log.commit);
+      commit = subst (λ (i : ℕ). IsSettled g.root g.start st term (spot i h.log.commit_term)) (sym is.commit)
+          (subst (λ (t : ℕ). IsSettled g.root g.start st t (spot n.commit h.log.commit_term)) (sym same) h.log.commit);
     }
 
 -- ---- a heartbeat
@@ -104,7 +105,7 @@ tells_beat g st id n term to commit views same other matched known h =
                 index = n.commit;
                 high = known;
                 index_term = h.log.commit_term;
-                settled = subst (λ (t : ℕ). IsSettled g.root g.setting.config st t (spot n.commit h.log.commit_term)) (sym same) h.log.commit;
+                settled = subst (λ (t : ℕ). IsSettled g.root g.start st t (spot n.commit h.log.commit_term)) (sym same) h.log.commit;
               })
         ]
       ]
@@ -113,7 +114,7 @@ tells_beat g st id n term to commit views same other matched known h =
 -- ---- a snapshot
 
 -- what is applied is settled
-pub applied_settled : (g : Ground) (said : List Message) (st : History) (id : ℕ) (n : PlainNode) → IsWhole g said st → IsSound n → Knows g st id n → (t : ℕ) × (term_at n.log n.applied ≡ Ok t) × IsSettled g.root g.setting.config st n.term (spot n.applied t)
+pub applied_settled : (g : Ground) (said : List Message) (st : History) (id : ℕ) (n : PlainNode) → IsWhole g said st → IsSound n → Knows g st id n → (t : ℕ) × (term_at n.log n.applied ≡ Ok t) × IsSettled g.root g.start st n.term (spot n.applied t)
 applied_settled g said st id n w s h =
     let above = s.past_base in
     let known = s.is_committed in
@@ -123,16 +124,16 @@ applied_settled g said st id n w s h =
     let x = spot n.applied t.0 in
     let y = spot n.commit h.log.commit_term in
     let down = line g.root st.links (tip n.log) x y w.lawful.history.tree (log_descends st.links n.log n.applied t.0 h.log.linked t.1) (log_descends st.links n.log n.commit h.log.commit_term h.log.linked h.log.commit_held) known in
-    (t.0, t.1, behind_settled g.root g.setting.config said st n.term y x w.lawful (omega (arith, start, above)) h.log.commit down)
+    (t.0, t.1, behind_settled g.root g.start said st n.term y x w.lawful (omega (arith, start, above)) h.log.commit down)
 
 pub tells_snapshot : (g : Ground) (said : List Message) (st : History) (id : ℕ) (n : PlainNode) (term : ℕ) (snapshot : Snapshot) → IsWhole g said st → IsSound n → term ≡ n.term → IsOfState n snapshot → Knows g st id n
-    → IsSettled g.root g.setting.config st term (spot snapshot.index snapshot.term) × IsContentAt st.links g.root g.start (spot snapshot.index snapshot.term) snapshot.content
+    → IsSettled g.root g.start st term (spot snapshot.index snapshot.term) × IsContentAt st.links g.root g.start (spot snapshot.index snapshot.term) snapshot.content
 tells_snapshot g said st id n term snapshot w s same is h =
     let a = applied_settled g said st id n w s h in
     let f = h.log.filled in (
-      subst (λ (i : ℕ). IsSettled g.root g.setting.config st term (spot i snapshot.term)) (sym is.index)
-          (subst (λ (t : ℕ). IsSettled g.root g.setting.config st term (spot n.applied t)) (sym (is.term a.0 a.1))
-          (subst (λ (t : ℕ). IsSettled g.root g.setting.config st t (spot n.applied a.0)) (sym same) a.2)),
+      subst (λ (i : ℕ). IsSettled g.root g.start st term (spot i snapshot.term)) (sym is.index)
+          (subst (λ (t : ℕ). IsSettled g.root g.start st term (spot n.applied t)) (sym (is.term a.0 a.1))
+          (subst (λ (t : ℕ). IsSettled g.root g.start st t (spot n.applied a.0)) (sym same) a.2)),
       subst (λ (i : ℕ). IsContentAt st.links g.root g.start (spot i snapshot.term) snapshot.content) (sym is.index)
           (subst (λ (t : ℕ). IsContentAt st.links g.root g.start (spot n.applied t) snapshot.content) (sym (is.term f.term f.held))
           (subst (λ (bytes : List ℕ). IsContentAt st.links g.root g.start (spot n.applied f.term) bytes) (sym is.content) f.is)),

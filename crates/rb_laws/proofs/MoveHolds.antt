@@ -162,7 +162,7 @@ leading_holds {w} n stands won h =
 -- ---- logs
 
 -- a leader appends no change, since none is proposed, and a configuration that isn't joint is not left
-puts_plain : {w : World} {v : Ways} (n : PlainNode) (body : Body) → Hears w v → Puts v n body → Holds w n → is_change body ≡ false
+pub puts_plain : {w : World} {v : Ways} (n : PlainNode) (body : Body) → Hears w v → Puts v n body → Holds w n → is_change body ≡ false
 puts_plain {w} n body hears puts h =
     let single : n.tracker.config.outgoing ≡ [] = ap (λ (c : Config). c.outgoing) h.config ∙ w.setting.single in
     let never : is_joint n.tracker.config ≡ false = ap (λ (ids : List ℕ). not (length ids == 0)) single in

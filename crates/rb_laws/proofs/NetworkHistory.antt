@@ -36,7 +36,8 @@ use Rattle.rb_laws.proofs.LinkedLogs.{none_linked}
 use Rattle.rb_calls.proofs.ListLaws.{each_set, in_nothing}
 use Rattle.rb_laws.proofs.NetworkLaws.{IsSane, called_network, run_sane, safe_call, once_after, pledged}
 use Rattle.rb_laws.proofs.Spots.{Spot, spot, Descends, here}
-use Rattle.rb_laws.proofs.Completeness.{History}
+use Rattle.rb_laws.proofs.Applied.{IsMade, root_made}
+use Rattle.rb_laws.proofs.LeaderLogs.{History}
 use Rattle.rb_laws.proofs.Tips.{base_spot, last_is}
 use Rattle.rb_laws.proofs.Histories.{IsMore}
 use Rattle.rb_laws.proofs.NodeKnowledge.{Ground, mine as is_mine, nobody, TellsTrue, Knows, TellsBy}
@@ -61,14 +62,17 @@ pub whole_said : (g : Ground) (said now : List Message) (st : History) → IsSai
 whole_said g said now st more w = record {
   lawful = record {
     history = w.lawful.history;
+    first = w.lawful.first;
+    proper = w.lawful.proper;
     voted = λ e among. (let v = w.lawful.voted e among in record {
       voters = v.voters;
-      quorum = v.quorum;
+      decides = v.decides;
       cast = λ x yes. still_cast said now x e.term e.id more (v.cast x yes);
       each = v.each;
     });
     within = w.lawful.within;
   };
+  plain = w.plain;
   held = w.held;
   low = w.low;
   elected = λ e among. still_elected g.setting said now e.id e.term more (w.elected e among);
@@ -323,9 +327,12 @@ begun_whole g low = record {
       rooted = λ e among. absurd (nothing e among);
       made = λ l among. absurd (nothing l among);
     };
+    first = g.first;
+    proper = λ l among. absurd (nothing l among);
     voted = λ e among. absurd (nothing e among);
     within = λ a among. among;
   };
+  plain = λ l among. absurd (nothing l among);
   held = λ a among. absurd (nothing a among);
   low = low;
   elected = λ e among. absurd (nothing e among);
@@ -337,7 +344,7 @@ begun_whole g low = record {
   stood_once = λ a b one two term who. absurd (nothing a one);
 }
 
-begun_knows : (g : Ground) (id : ℕ) (start : Snapshot) (options : Options) → spot start.index start.term ≡ g.root → start.content ≡ g.start → Knows g no_history id (started id start options)
+begun_knows : (g : Ground) (id : ℕ) (start : Snapshot) (options : Options) → spot start.index start.term ≡ g.root → start.content ≡ g.start.content → Knows g no_history id (started id start options)
 begun_knows g id start options same content =
     let n : PlainNode = started id start options in
     let term = ap (λ (x : Spot). x.term) same in
@@ -359,7 +366,11 @@ begun_knows g id start options same content =
         commit_term = start.term;
         commit_held = held;
         commit = inl same;
-        filled = record { term = start.term; held = held; is = record { steps = 0; fills = (same, content) } };
+        filled = record {
+          term = start.term;
+          held = held;
+          is = record { made = g.start; is = subst (λ (x : Spot). IsMade [] g.root g.start x g.start) (sym same) (root_made [] g.root g.start); content_is = sym content };
+        };
       };
       words = record {
         counts = λ is. absurd (follower_leads is);
@@ -368,7 +379,7 @@ begun_knows g id start options same content =
       };
     }
 
-pub begun_known : (g : Ground) (members : ConfState) (s : Network) → g.root.term ≤ 1 → IsBegun members s → AreAlike g.root g.start s.nodes → IsKnown g s s.said no_history
+pub begun_known : (g : Ground) (members : ConfState) (s : Network) → g.root.term ≤ 1 → IsBegun members s → AreAlike g.root g.start.content s.nodes → IsKnown g s s.said no_history
 begun_known g members s low b alike = record {
   said = λ m among. among;
   votes = λ m among _. among;
@@ -376,7 +387,7 @@ begun_known g members s low b alike = record {
   knows = λ k n at.
       (let is : IsStarted members (k + 1) n = b.started k n at in
       let same : spot is.start.index is.start.term ≡ g.root = ap (λ (x : PlainNode). base_spot x.log) (sym is.is) ∙ (alike k n at).0 in
-      let content : is.start.content ≡ g.start = ap (λ (x : PlainNode). x.content) (sym is.is) ∙ (alike k n at).1 in
+      let content : is.start.content ≡ g.start.content = ap (λ (x : PlainNode). x.content) (sym is.is) ∙ (alike k n at).1 in
       subst (Knows g no_history (k + 1)) (sym is.is) (begun_knows g (k + 1) is.start is.options same content));
   views = λ k n at. (let is : IsStarted members (k + 1) n = b.started k n at in subst HasSoundViews (sym is.is) (no_views role.Follower));
   told = All-same (TellsTrue g no_history nobody) s.said [] b.silent (All-nil (TellsTrue g no_history nobody));

@@ -20,19 +20,23 @@ use Rattle.rb_laws.proofs.LinkedLogs.{log_from}
 use Rattle.rb_laws.proofs.Holding.{Setting}
 use Rattle.rb_laws.proofs.Spots.{Spot, spot, Descends, still_descends}
 use Rattle.rb_laws.proofs.Tips.{tip, base_spot}
+use Rattle.rb_laws.proofs.Applied.{Applied}
 use Rattle.rb_laws.proofs.Contents.{IsContentAt, IsFilled, still_content, still_filled}
-use Rattle.rb_laws.proofs.Completeness.{Election, Ack, History, IsTip, IsOfTerm, IsAcked, HasStill, IsSettled}
+use Rattle.rb_laws.proofs.LeaderLogs.{Election, Ack, History, IsTip, IsOfTerm, IsAcked, HasStill}
+use Rattle.rb_laws.proofs.Completeness.{IsSettled}
 use Rattle.rb_laws.proofs.KeptEntries.{IsOn}
 use Rattle.rb_laws.proofs.Histories.{IsMore, still_tip, still_of_term, still_has, still_settled, still_is_on, HasStood, still_stood, IsPledged}
 
 abbrev pub election : ℕ → ℕ → Spot → Election
 election term id x = record { term = term; id = id; tip = x }
 
--- where all logs begin, and who decides
+-- where all logs begin, what is applied there, and who decides
 pub record Ground : Type 0 where
   pub root : Spot
-  pub start : List ℕ
+  pub start : Applied
+  pub first : start.changes ≡ 0
   pub setting : Setting
+  pub same : start.config ≡ setting.config
 
 -- ---- when a message is true
 
@@ -41,7 +45,7 @@ pub record TellsAppend (g : Ground) (st : History) (term : ℕ) (append : PlainA
   pub ends : IsOfTerm st term (tip (log_from append.prev append.prev_term append.entries)) ⊎ ((append.prev_term ≡ 0) × (g.root.index < append.prev))
   pub linked : IsLinked st.links (log_from append.prev append.prev_term append.entries)
   pub commit_term : ℕ
-  pub commit : IsSettled g.root g.setting.config st term (spot append.commit commit_term)
+  pub commit : IsSettled g.root g.start st term (spot append.commit commit_term)
 
 -- an acknowledgement of a node, in a term, of an index or further, that others may have heard of
 pub record IsSaidUpTo (st : History) (voter term index : ℕ) : Type 0 where
@@ -71,13 +75,13 @@ pub record TellsCommit (g : Ground) (st : History) (term to commit : ℕ) : Type
   pub index : ℕ
   pub high : commit ≤ index
   pub index_term : ℕ
-  pub settled : IsSettled g.root g.setting.config st term (spot index index_term)
+  pub settled : IsSettled g.root g.start st term (spot index index_term)
 
 abbrev pub TellsBy : Ground → History → (ℕ → Type 0) → MessageKind → Message → Type 0
 TellsBy g st own (kind.Append append) m = TellsAppend g st m.term append
 TellsBy g st own (kind.Heartbeat commit) m = (commit ≤ g.root.index) ⊎ TellsCommit g st m.term m.to commit
 TellsBy g st own (kind.Snapshot snapshot) m =
-    IsSettled g.root g.setting.config st m.term (spot snapshot.index snapshot.term)
+    IsSettled g.root g.start st m.term (spot snapshot.index snapshot.term)
     × IsContentAt st.links g.root g.start (spot snapshot.index snapshot.term) snapshot.content
 TellsBy g st own (kind.Vote last_term last_index transfer) m = HasStood st own (election m.term m.from (spot last_index last_term))
 TellsBy g st own (kind.VoteResponse granted) m = granted ≡ true → 0 < m.to → IsPledged st own m.from m.term m.to
@@ -93,7 +97,7 @@ TellsTrue g st own m = TellsBy g st own m.kind m
 -- lacks it.
 pub record HasAcked (g : Ground) (st : History) (term : ℕ) (x : Spot) (a : Ack) : Type 0 where
   pub reached : a.term ≤ term
-  pub now : a.term ≡ term → (t : ℕ) × Descends st.links x (spot a.index t) × IsOn g.root g.setting.config st a.term (spot a.index t)
+  pub now : a.term ≡ term → (t : ℕ) × Descends st.links x (spot a.index t) × IsOn g.root g.start st a.term (spot a.index t)
   pub past : a.term < term → (l : Link) → Contains st.links l → l.entry.term ≡ a.term → l.index ≤ a.index → HasStill st x (term + 1) l
 
 -- what a leader counts of a member: what was committed at first; of itself what it led with; and what was said to it
@@ -140,7 +144,7 @@ pub record KnowsLog (g : Ground) (st : History) (id : ℕ) (x : Core) : Type 0 w
   pub pledged : 0 < x.vote → IsPledged st (mine id) id x.term x.vote
   pub commit_term : ℕ
   pub commit_held : term_at x.log x.commit ≡ Ok commit_term
-  pub commit : IsSettled g.root g.setting.config st x.term (spot x.commit commit_term)
+  pub commit : IsSettled g.root g.start st x.term (spot x.commit commit_term)
   pub filled : IsFilled st.links g.root g.start x.log x.applied x.content
 
 pub record KnowsWords (g : Ground) (st : History) (id : ℕ) (x : WordPart) : Type 0 where
@@ -214,7 +218,7 @@ still_append g old new term append more h =
       ];
       linked = still_linked old.links new.links w more.links h.linked;
       commit_term = h.commit_term;
-      commit = still_settled g.root g.setting.config old new term (spot append.commit h.commit_term) more h.commit;
+      commit = still_settled g.root g.start old new term (spot append.commit h.commit_term) more h.commit;
     }
 
 still_beat : (g : Ground) (old new : History) (term to commit : ℕ) → IsMore old new → TellsCommit g old term to commit → TellsCommit g new term to commit
@@ -223,7 +227,7 @@ still_beat g old new term to commit more h = record {
   index = h.index;
   high = h.high;
   index_term = h.index_term;
-  settled = still_settled g.root g.setting.config old new term (spot h.index h.index_term) more h.settled;
+  settled = still_settled g.root g.start old new term (spot h.index h.index_term) more h.settled;
 }
 
 still_tells_by : (g : Ground) (old new : History) (own : ℕ → Type 0) (k : MessageKind) (m : Message) → m.kind ≡ k → IsMore old new → AreBack old new m → TellsBy g old own k m → TellsBy g new own k m
@@ -231,7 +235,7 @@ still_tells_by g old new own (kind.Append append) m is more back h = still_appen
 still_tells_by g old new own (kind.Heartbeat commit) m is more back h =
     elim h as (λ _. (commit ≤ g.root.index) ⊎ TellsCommit g new m.term m.to commit) [ inl low ↦ inl low | inr beat ↦ inr (still_beat g old new m.term m.to commit more beat) ]
 still_tells_by g old new own (kind.Snapshot snapshot) m is more back h = (
-  still_settled g.root g.setting.config old new m.term (spot snapshot.index snapshot.term) more h.0,
+  still_settled g.root g.start old new m.term (spot snapshot.index snapshot.term) more h.0,
   still_content old.links new.links g.root g.start (spot snapshot.index snapshot.term) snapshot.content more.links h.1,
 )
 still_tells_by g old new own (kind.Vote last_term last_index transfer) m is more back h = still_stood old new own (election m.term m.from (spot last_index last_term)) more h
@@ -262,7 +266,7 @@ pub record IsNoNews (old new : History) (id : ℕ) (n : PlainNode) : Type 0 wher
 pub still_has_acked : (g : Ground) (old new : History) (term : ℕ) (x : Spot) (a : Ack) → IsMore old new → ((l : Link) → Contains new.links l → l.entry.term ≡ a.term → l.index ≤ a.index → Contains old.links l) → HasAcked g old term x a → HasAcked g new term x a
 still_has_acked g old new term x a more none h = record {
   reached = h.reached;
-  now = λ same. (let k = h.now same in (k.0, still_descends old.links new.links x (spot a.index k.0) more.links k.1, still_is_on g.root g.setting.config old new a.term (spot a.index k.0) more k.2));
+  now = λ same. (let k = h.now same in (k.0, still_descends old.links new.links x (spot a.index k.0) more.links k.1, still_is_on g.root g.start old new a.term (spot a.index k.0) more k.2));
   past = λ later l there of_term low. still_has old new x (term + 1) l more (h.past later l (none l there of_term low) of_term low);
 }
 
@@ -292,7 +296,7 @@ still_knows g old new id n more none h = record {
     pledged = λ some. still_pledged old new (mine id) id n.term n.vote more none.pledged (h.log.pledged some);
     commit_term = h.log.commit_term;
     commit_held = h.log.commit_held;
-    commit = still_settled g.root g.setting.config old new n.term (spot n.commit h.log.commit_term) more h.log.commit;
+    commit = still_settled g.root g.start old new n.term (spot n.commit h.log.commit_term) more h.log.commit;
     filled = still_filled old.links new.links g.root g.start n.log n.applied n.content more.links h.log.filled;
   };
   words = record {

@@ -1,7 +1,9 @@
 -- What one node adds to a history changes nothing that the others know, and leaves the history whole
-use Rattle.std.proofs.Common.{◌≡◌, ◌⊎◌, ℕ, ◌<◌, ◌≤◌, List, sym, ap, subst, ◌∙◌, arith, inl, inr}
+use Rattle.std.proofs.Common.{◌≡◌, ◌⊎◌, ℕ, ◌<◌, ◌≤◌, false, List, sym, ap, subst, ◌∙◌, arith, inl, inr}
 use Rattle.std.specs.Prelude.{All, Contains, slice_index_or}
+use Rattle.std.proofs.lemmas.Bool.{false≢true}
 use Rattle.std.proofs.lemmas.List.Elements.{Contains-push_cases}
+use Rattle.rb_raftlog.specs.Bodies.{is_change}
 use Rattle.rb_message.specs.declared.message.Message.{Message}
 use Rattle.rb_message.specs.declared.role.Role.TheVariants as role
 use Rattle.rb_node.specs.Node.{PlainNode}
@@ -9,7 +11,8 @@ use Rattle.rb_calls.specs.Words.{IsYes}
 use Rattle.rb_laws.proofs.Links.{Link}
 use Rattle.rb_laws.proofs.Holding.{IsElected}
 use Rattle.rb_laws.proofs.Spots.{spot, still_descends}
-use Rattle.rb_laws.proofs.Completeness.{Election, Ack, History, IsVoted}
+use Rattle.rb_laws.proofs.LeaderLogs.{Election, Ack, History}
+use Rattle.rb_laws.proofs.Completeness.{IsVoted}
 use Rattle.rb_laws.proofs.KeptEntries.{IsOn}
 use Rattle.rb_laws.proofs.Histories.{with_link, with_ack, with_candidacy, with_election, more_link, more_election, IsTop, none_acked, held_before, lawful_link, held_link, IsLate, lawful_ack, held_ack, lawful_election, still_is_on}
 use Rattle.rb_laws.proofs.NodeKnowledge.{Ground, IsBack, AreBack, IsNoNews, Knows}
@@ -18,10 +21,15 @@ use Rattle.rb_laws.proofs.OwnEntries.{back_all}
 
 -- ---- a link
 
-pub whole_link : (g : Ground) (said : List Message) (st : History) (l : Link) → IsWhole g said st → IsTop g.root st l → IsWhole g said (with_link st l)
-whole_link g said st l w top = record {
-  lawful = lawful_link g.root g.setting.config said st l w.lawful w.held top;
-  held = held_link g.root g.setting.config st l w.held;
+pub whole_link : (g : Ground) (said : List Message) (st : History) (l : Link) → IsWhole g said st → IsTop g.root st l → is_change l.entry.body ≡ false → IsWhole g said (with_link st l)
+whole_link g said st l w top plain = record {
+  lawful = lawful_link g.root g.start said st l w.lawful w.held top (λ changes. absurd (false≢true (sym plain ∙ changes)));
+  plain = λ m among.
+      elim (Contains-push_cases st.links l m among) as (λ _. is_change m.entry.body ≡ false) [
+        | inl before ↦ w.plain m before
+        | inr now ↦ ap (λ (z : Link). is_change z.entry.body) (sym now) ∙ plain
+      ];
+  held = held_link g.root g.start st l w.held;
   low = w.low;
   elected = w.elected;
   some = w.some;
@@ -53,20 +61,21 @@ no_news_link g said st id maker n l other w top made h =
             | inr now ↦
                 let t = ap (λ (z : Link). z.entry.term) now in
                 let index = ap (λ (z : Link). z.index) now in
-                let below = none_acked g.root g.setting.config said st l w.lawful w.held top a among (sym term ∙ sym t) in
+                let below = none_acked g.root g.start said st l w.lawful w.held top a among (sym term ∙ sym t) in
                 absurd (omega (arith, below, index, low))
           ];
-      pledged = λ x among _ acked. held_before g.root g.setting.config said st l x id w.lawful w.held top among acked;
+      pledged = λ x among _ acked. held_before g.root g.start said st l x id w.lawful w.held top among acked;
       sent = back_all g said st l n.sent w top;
       waiting = back_all g said st l n.waiting w top;
     }
 
 -- ---- an acknowledgement
 
-pub whole_ack : (g : Ground) (said : List Message) (st : History) (a : Ack) (t : ℕ) → IsWhole g said st → IsLate said a → IsOn g.root g.setting.config st a.term (spot a.index t) → IsWhole g said (with_ack st a)
+pub whole_ack : (g : Ground) (said : List Message) (st : History) (a : Ack) (t : ℕ) → IsWhole g said st → IsLate said a → IsOn g.root g.start st a.term (spot a.index t) → IsWhole g said (with_ack st a)
 whole_ack g said st a t w late on = record {
-  lawful = lawful_ack g.root g.setting.config said st a w.lawful late;
-  held = held_ack g.root g.setting.config st a t w.held on;
+  lawful = lawful_ack g.root g.start said st a w.lawful late;
+  plain = w.plain;
+  held = held_ack g.root g.start st a t w.held on;
   low = w.low;
   elected = w.elected;
   some = w.some;
@@ -151,12 +160,13 @@ no_news_election st id n e late = record {
   waiting = same_back st (with_election st e) n.waiting (λ x among. among) (λ a among. among);
 }
 
-pub whole_election : (g : Ground) (said : List Message) (st : History) (e : Election) → IsWhole g said st → 0 < e.term → ((x : Election) → Contains st.elections x → x.term ≡ e.term → ⊥) → Contains st.candidacies e → IsVoted g.setting.config said st e → IsElected g.setting said e.id e.term → IsWhole g said (with_election st e)
+pub whole_election : (g : Ground) (said : List Message) (st : History) (e : Election) → IsWhole g said st → 0 < e.term → ((x : Election) → Contains st.elections x → x.term ≡ e.term → ⊥) → Contains st.candidacies e → IsVoted g.root g.start said st e → IsElected g.setting said e.id e.term → IsWhole g said (with_election st e)
 whole_election g said st e w some none stood voted elected =
     let more = more_election st e in
     record {
-      lawful = lawful_election g.root g.setting.config said st e w.lawful none (w.stood_rooted e stood) voted;
-      held = λ a among. (let h = w.held a among in (h.0, still_is_on g.root g.setting.config st (with_election st e) a.term (spot a.index h.0) more h.1));
+      lawful = lawful_election g.root g.start said st e w.lawful none (w.stood_rooted e stood) voted;
+      plain = w.plain;
+      held = λ a among. (let h = w.held a among in (h.0, still_is_on g.root g.start st (with_election st e) a.term (spot a.index h.0) more h.1));
       low = w.low;
       elected = λ x among.
           elim (Contains-push_cases st.elections e x among) as (λ _. IsElected g.setting said x.id x.term) [

@@ -21,11 +21,12 @@ use Rattle.rb_laws.proofs.Links.{Link, link, still_linked}
 use Rattle.rb_laws.proofs.LinkedLogs.{own_linked}
 use Rattle.rb_laws.proofs.Spots.{Spot, spot, same_spot, site, under, Descends, here, one_down, through, still_descends}
 use Rattle.rb_laws.proofs.Contents.{filled_of, still_filled}
-use Rattle.rb_laws.proofs.Completeness.{Election, History, IsAcked, HasStill, IsVoted}
+use Rattle.rb_laws.proofs.LeaderLogs.{Election, History, IsAcked, HasStill}
+use Rattle.rb_laws.proofs.Completeness.{IsKnownBefore, IsVoted}
 use Rattle.rb_laws.proofs.Histories.{with_link, more_link, still_has, still_settled, still_is_on, IsTop, held_before, IsPledged, pledge_before}
 use Rattle.rb_laws.proofs.Tips.{tip, base_spot, last_held, tip_rooted, own_tip}
 use Rattle.rb_laws.proofs.NodeKnowledge.{Ground, election, mine, nobody, AreBack, Knows, TellsTrue, still_tells, still_pledged, still_counted}
-use Rattle.rb_laws.proofs.FollowerMoves.{IsWhole}
+use Rattle.rb_laws.proofs.FollowerMoves.{IsWhole, decides_fixed}
 
 -- ---- a leader's entry
 
@@ -59,7 +60,7 @@ next_top g said st id n e w leads term h =
     }
 
 pub back_all : (g : Ground) (said : List Message) (st : History) (l : Link) (ms : List Message) → IsWhole g said st → IsTop g.root st l → All (AreBack st (with_link st l)) ms
-back_all g said st l ms w top = λ k d low _ _ m there _ acked. held_before g.root g.setting.config said st l m (slice_index_or ms k d).from w.lawful w.held top there acked
+back_all g said st l ms w top = λ k d low _ _ m there _ acked. held_before g.root g.start said st l m (slice_index_or ms k d).from w.lawful w.held top there acked
 
 pub tells_link : (g : Ground) (said : List Message) (st : History) (l : Link) (own : ℕ → Type 0) (ms : List Message) → IsWhole g said st → IsTop g.root st l → All (TellsTrue g st own) ms → All (TellsTrue g (with_link st l) own) ms
 tells_link g said st l own ms w top h = λ k d low. still_tells g st (with_link st l) own (slice_index_or ms k d) (more_link st l) (back_all g said st l ms w top k d low) (h k d low)
@@ -81,7 +82,7 @@ own_knows g said st id n e w leads term h =
     (one_down new.links l (tip n.log) there (subst (λ (x : Spot). Descends new.links x (tip n.log)) (sym top.behind) (here new.links (tip n.log)))) in
     let last_is : last_term m.log ≡ n.term = ap (λ (x : Spot). x.term) (own_tip n.log e) ∙ term in
     let back : (v t : ℕ) (x : Link) → Contains new.links x → x.entry.term < t → IsAcked new v x → Contains st.links x × IsAcked st v x = λ v t x among earlier acked.
-    held_before g.root g.setting.config said st l x v w.lawful w.held top among acked in
+    held_before g.root g.start said st l x v w.lawful w.held top among acked in
     let within = (held_in n.log n.commit h.log.commit_term h.log.commit_held).1 in
     record {
       log = record {
@@ -111,7 +112,7 @@ own_knows g said st id n e w leads term h =
               reached = was.reached;
               now = λ same.
                   (let x = was.now same in
-                  (x.0, through new.links (spot a.index x.0) (tip n.log) (tip m.log) up (still_descends st.links new.links (tip n.log) (spot a.index x.0) more.links x.1), still_is_on g.root g.setting.config st new a.term (spot a.index x.0) more x.2));
+                  (x.0, through new.links (spot a.index x.0) (tip n.log) (tip m.log) up (still_descends st.links new.links (tip n.log) (spot a.index x.0) more.links x.1), still_is_on g.root g.start st new a.term (spot a.index x.0) more x.2));
               past = λ later x there_x same low.
                   elim (Contains-push_cases st.links l x there_x) as (λ _. HasStill new (tip m.log) (n.term + 1) x) [
                     | inr now ↦ (let t = ap (λ (z : Link). z.entry.term) now in absurd (omega (arith, t, term, same, later)))
@@ -124,7 +125,7 @@ own_knows g said st id n e w leads term h =
         pledged = λ some. still_pledged st new (mine id) id n.term n.vote more (λ x among earlier acked. back id n.term x among earlier acked) (h.log.pledged some);
         commit_term = h.log.commit_term;
         commit_held = own-term_held n.log e n.commit within ∙ h.log.commit_held;
-        commit = still_settled g.root g.setting.config st new n.term (spot n.commit h.log.commit_term) more h.log.commit;
+        commit = still_settled g.root g.start st new n.term (spot n.commit h.log.commit_term) more h.log.commit;
         filled = filled_of new.links g.root g.start n.log m.log n.applied n.content (own-term_held n.log e n.applied (held_in n.log n.applied h.log.filled.term h.log.filled.held).1) (still_filled st.links new.links g.root g.start n.log n.applied n.content more.links h.log.filled);
       };
       words = record {
@@ -138,13 +139,14 @@ own_knows g said st id n e w leads term h =
 
 -- Who is elected by votes that were pledged to it has what its voters have said to hold.
 pub elected_voted : (g : Ground) (said : List Message) (st : History) (id : ℕ) (n : PlainNode) → IsWhole g said st → 0 < length g.setting.config.incoming → n.role ≡ role.Candidate → vote_result g.setting.config n.votes ≡ vote.Won → ((v : ℕ) → has n.votes.granted v ≡ true → IsCast said v n.term id × IsPledged st nobody v n.term id)
-    → ((e : Election) → Contains st.elections e → e.term ≡ n.term → ⊥) → Knows g st id n → IsVoted g.setting.config said st (election n.term id (tip n.log))
+    → ((e : Election) → Contains st.elections e → e.term ≡ n.term → ⊥) → Knows g st id n → IsVoted g.root g.start said st (election n.term id (tip n.log))
 elected_voted g said st id n w some stands won votes none h =
     let stands_there = (h.log.stands stands).stood in
     let decides = won_decides g.setting.config n.votes some won in
     record {
       voters = λ v. has n.votes.granted v;
-      quorum = decides;
+      decides = decides_fixed g said st (IsKnownBefore g.root g.start st n.term) (tip n.log) (λ v. has n.votes.granted v) w
+          (record { bound = 0; earlier = (h.log.stands stands).some; settled = inl refl }) (tip_rooted g.root st.links n.log h.log.linked h.log.rooted) decides;
       cast = λ v yes. (votes v yes).0;
       each = λ v yes l among earlier acked.
           (let p = (votes v yes).1 in

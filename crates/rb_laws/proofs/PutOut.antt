@@ -11,7 +11,7 @@ use Rattle.rb_node.specs.Node.{PlainNode}
 use Rattle.rb_laws.proofs.Spots.{spot}
 use Rattle.rb_calls.proofs.ListLaws.{picked}
 use Rattle.rb_laws.proofs.Links.{Link}
-use Rattle.rb_laws.proofs.Completeness.{Election, Ack, History, out_of, IsAcked}
+use Rattle.rb_laws.proofs.LeaderLogs.{Election, Ack, History, out_of, IsAcked}
 use Rattle.rb_laws.proofs.Histories.{IsMore, more_out, still_voted, still_is_on, HasStood}
 use Rattle.rb_laws.proofs.NodeKnowledge.{Ground, election, mine, nobody, HasSaidUpTo, TellsBy, TellsTrue, AreBack, IsNoNews, Knows, still_knows, still_tells, still_all}
 use Rattle.rb_laws.proofs.FollowerMoves.{IsWhole}
@@ -53,14 +53,17 @@ whole_put g said st id w =
           rooted = w.lawful.history.rooted;
           made = λ l among. (let b = w.lawful.history.made l among in record { election = b.election; among = b.among; of_term = b.of_term; past = b.past; behind = b.behind });
         };
-        voted = λ e among. still_voted g.setting.config said st new e more (λ v l _ there _ acked. (there, same_acked st id v l acked)) (w.lawful.voted e among);
+        first = w.lawful.first;
+        proper = w.lawful.proper;
+        voted = λ e among. still_voted g.root g.start said st new e more (λ v l _ there _ acked. (there, same_acked st id v l acked)) (w.lawful.voted e among);
         within = λ a among.
             elim (Contains-append_cases st.out_acks (its_acks st id) a among) as (λ _. Contains st.acks a) [
               | inl before ↦ w.lawful.within a before
               | inr now ↦ ((picked (λ (x : Ack). x.voter) id st.acks).1 a now).0
             ];
       };
-      held = λ a among. (let k = w.held a among in (k.0, still_is_on g.root g.setting.config st new a.term (spot a.index k.0) more k.1));
+      plain = w.plain;
+      held = λ a among. (let k = w.held a among in (k.0, still_is_on g.root g.start st new a.term (spot a.index k.0) more k.1));
       low = w.low;
       elected = w.elected;
       some = w.some;

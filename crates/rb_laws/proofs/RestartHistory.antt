@@ -20,13 +20,13 @@ use Rattle.rb_laws.proofs.ViewLaws.{no_views}
 use Rattle.rb_calls.proofs.ListLaws.{set_cases, left_out}
 use Rattle.rb_laws.proofs.Holding.{follower_leads}
 use Rattle.rb_laws.proofs.NetworkLaws.{called_network}
-use Rattle.rb_laws.proofs.Completeness.{Election, Ack, History, out_of}
-use Rattle.rb_laws.proofs.Histories.{IsMore}
+use Rattle.rb_laws.proofs.LeaderLogs.{Election, Ack, History, out_of}
+use Rattle.rb_laws.proofs.Histories.{IsMore, IsSince, of_more}
 use Rattle.rb_laws.proofs.NodeKnowledge.{Ground, mine, nobody, TellsTrue, AreBack, IsNoNews, Knows, still_knows}
 use Rattle.rb_laws.proofs.FollowerMoves.{IsWhole}
 use Rattle.rb_laws.proofs.AmongOthers.{KnowsSaved, saved_still, same_history}
 use Rattle.rb_laws.proofs.StepMoves.{onward_more}
-use Rattle.rb_laws.proofs.Forgetting.{IsSince, with_only, IsPart, HasOwn, whole_part, part_tells, part_knows, whole_out}
+use Rattle.rb_laws.proofs.Forgetting.{with_only, IsPart, HasOwn, whole_part, part_tells, part_knows, whole_out}
 use Rattle.rb_laws.proofs.PutOut.{put_by, more_put, put_tells, put_saved, saves_known}
 use Rattle.rb_laws.proofs.NetworkHistory.{IsKnown, KnownThen, known_put, called_then, state_known, true_more}
 use Rattle.rb_laws.proofs.RestartedKnowledge.{start_filled, saved_knows, compacted_knows}
@@ -51,9 +51,6 @@ pub record KnownThrough (g : Ground) (st : History) (s : Network) : Type 0 where
   pub history : History
   pub since : IsSince st history
   pub known : IsKnownWith g s heard history
-
-of_more : (old new : History) → IsMore old new → IsSince old new
-of_more old new more = record { links = more.links; elections = more.elections; out_acks = more.out_acks }
 
 pub same_since : (st : History) → IsSince st st
 same_since st = of_more st st (same_history st)

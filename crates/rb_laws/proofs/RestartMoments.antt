@@ -21,14 +21,15 @@ use Rattle.rb_laws.proofs.NetworkLaws.{IsSane}
 use Rattle.rb_laws.proofs.SafetyLaws.{setting_of, begun_sane, was_elect, its_id}
 use Rattle.rb_laws.proofs.Spots.{spot, still_descends}
 use Rattle.rb_laws.proofs.Contents.{still_filled}
-use Rattle.rb_laws.proofs.Completeness.{History, out_of}
+use Rattle.rb_laws.proofs.LeaderLogs.{History, out_of}
 use Rattle.rb_laws.proofs.Tips.{tip, base_spot}
 use Rattle.rb_laws.proofs.NodeKnowledge.{Ground, Knows}
 use Rattle.rb_laws.proofs.CommittedLogs.{Had, had, leader_has, commits_agree, contents_same}
 use Rattle.rb_laws.proofs.NetworkHistory.{AreAlike, begun_known, no_history}
 use Rattle.rb_laws.proofs.TrueCalls.{all_honest_through}
 use Rattle.rb_laws.proofs.TwoMoments.{TellsBoth, ground_of, alike_at}
-use Rattle.rb_laws.proofs.Forgetting.{IsSince, since_tip, since_settled}
+use Rattle.rb_laws.proofs.Histories.{IsSince, since_settled}
+use Rattle.rb_laws.proofs.Forgetting.{since_tip}
 use Rattle.rb_laws.proofs.RestartedLogs.{IsRestartable, started_restartable, restarted_started}
 use Rattle.rb_laws.proofs.RestartedNodes.{IsSavedWell, IsSaneWith, pass_sane}
 use Rattle.rb_laws.proofs.RestartHistory.{IsKnownWith, pass_known}
@@ -52,7 +53,7 @@ begun_with strict members single s b =
           });
     }
 
-pub begun_known_with : (g : Ground) (members : ConfState) (s : Network) → g.root.term ≤ 1 → IsBegun members s → AreAlike g.root g.start s.nodes → IsKnownWith g s s.said no_history
+pub begun_known_with : (g : Ground) (members : ConfState) (s : Network) → g.root.term ≤ 1 → IsBegun members s → AreAlike g.root g.start.content s.nodes → IsKnownWith g s s.said no_history
 begun_known_with g members s low b alike =
     let known = begun_known g members s low b alike in
     record {
@@ -109,7 +110,7 @@ since_had g old new n since h = record {
   rooted = still_descends old.links new.links (base_spot n.log) g.root since.links h.rooted;
   commit_term = h.commit_term;
   commit_held = h.commit_held;
-  commit = since_settled g.root g.setting.config old new n.term (spot n.commit h.commit_term) since h.commit;
+  commit = since_settled g.root g.start old new n.term (spot n.commit h.commit_term) since h.commit;
   filled = still_filled old.links new.links g.root g.start n.log n.applied n.content since.links h.filled;
   leads = λ is. since_tip old new n.term (tip n.log) since (h.leads is);
 }

@@ -5,7 +5,7 @@ use Rattle.rb_raftlog.specs.declared.entry.Body.{Body}
 use Rattle.rb_raftlog.specs.declared.entry.Body.TheVariants.{Payload, Change}
 use Rattle.rb_raftlog.specs.declared.entry.Entry.{Entry}
 use Rattle.rb_raftlog.specs.declared.snapshot.Snapshot.{Snapshot}
-use Rattle.rb_raftlog.specs.Log.{LogValue, last, term_at, entry_at, made_durable, compacted}
+use Rattle.rb_raftlog.specs.Log.{LogValue, term_at, entry_at, made_durable, compacted}
 use Rattle.rb_raftlog.specs.Log as logs
 use Rattle.rb_raftlog.proofs.PlaceLaws.{between-entries}
 use Rattle.rb_raftlog.proofs.TermLaws.{term_base, same_term, same_entry}
@@ -21,7 +21,8 @@ use Rattle.rb_node.specs.Sends.{snapshot_of}
 use Rattle.rb_laws.specs.Choices.{bytes_of}
 use Rattle.rb_calls.specs.Sound.{IsSound}
 use Rattle.rb_laws.proofs.CallMoves.{saves_knows, compacted_tip}
-use Rattle.rb_laws.proofs.Completeness.{History}
+use Rattle.rb_laws.proofs.LeaderLogs.{History}
+use Rattle.rb_laws.proofs.Applied.{Applied}
 use Rattle.rb_laws.proofs.Contents.{IsFilled, filled_of, next_filled}
 use Rattle.rb_laws.proofs.FollowerMoves.{IsWhole, acked_same}
 use Rattle.rb_laws.proofs.Holding.{follower_leads, follower_stands}
@@ -79,7 +80,7 @@ with_bytes : (content : List ℕ) (body : Body) → content ++ bytes_of body ≡
 with_bytes content (Payload bytes) = refl
 with_bytes content (Change transition words) = append-nil content
 
-fills_all : (ls : List Link) (root : Spot) (start : List ℕ) (v : LogValue) (i : ℕ) (content : List ℕ) (es : List Entry) → IsLinked ls v → ((k : ℕ) (e : Entry) → slice_get es k ≡ Some e → entry_at v (i + 1 + k) ≡ Ok e) → IsFilled ls root start v i content
+fills_all : (ls : List Link) (root : Spot) (start : Applied) (v : LogValue) (i : ℕ) (content : List ℕ) (es : List Entry) → IsLinked ls v → ((k : ℕ) (e : Entry) → slice_get es k ≡ Some e → entry_at v (i + 1 + k) ≡ Ok e) → IsFilled ls root start v i content
     → IsFilled ls root start v (i + length es) (content_after content es)
 fills_all ls root start v i content [] linked held f = (let none : i ≡ i + 0 = omega arith in subst (λ (j : ℕ). IsFilled ls root start v j content) none f)
 fills_all ls root start v i content (e ∷ es) linked held f =
@@ -93,7 +94,7 @@ fills_all ls root start v i content (e ∷ es) linked held f =
     (λ k x is. (let place : i + 1 + 1 + k ≡ i + 1 + suc k = omega arith in ap (entry_at v) place ∙ held (suc k) x is)) one)
 
 -- what the content comes to up to the new base
-start_fills : (ls : List Link) (root : Spot) (start : List ℕ) (n : PlainNode) (i : ℕ) → IsSound n → CompactsTo n i → IsLinked ls (logs.restarted n.log n.start) → IsFilled ls root start (logs.restarted n.log n.start) n.start.index n.start.content
+start_fills : (ls : List Link) (root : Spot) (start : Applied) (n : PlainNode) (i : ℕ) → IsSound n → CompactsTo n i → IsLinked ls (logs.restarted n.log n.start) → IsFilled ls root start (logs.restarted n.log n.start) n.start.index n.start.content
     → IsFilled ls root start (logs.restarted n.log n.start) i (start_at n i).content
 start_fills ls root start n i s c linked before =
     let v = logs.restarted n.log n.start in

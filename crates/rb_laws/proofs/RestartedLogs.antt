@@ -6,19 +6,16 @@ use Rattle.std.specs.Result.{result_unwrap_or}
 use Rattle.std.proofs.lemmas.Bool.{false≢true}
 use Rattle.std.proofs.lemmas.List.{length-take-le, drop-append-le, drop-take, take_all}
 use Rattle.std.proofs.lemmas.List.Elements.{All-head, All-tail}
-use Rattle.rb_raftlog.specs.declared.entry.Body.{Body}
-use Rattle.rb_raftlog.specs.declared.entry.Body.TheVariants.{Payload, Change}
 use Rattle.rb_raftlog.specs.declared.entry.Entry.{Entry}
 use Rattle.rb_raftlog.specs.declared.raft_log.LogFault.{LogFault}
 use Rattle.rb_raftlog.specs.declared.snapshot.Snapshot.{Snapshot}
-use Rattle.rb_raftlog.specs.Bodies.{is_change}
-use Rattle.rb_raftlog.specs.Log.{LogValue, fresh, last, term_at, entry_at, between, made_durable, compacted, compact_fault, saved_entries}
+use Rattle.rb_raftlog.specs.Log.{LogValue, fresh, last, term_at, made_durable, compacted, compact_fault, saved_entries}
 use Rattle.rb_raftlog.specs.Log as logs
 use Rattle.rb_raftlog.proofs.SavedLaws.{durable-saves, restarted-saves}
 use Rattle.rb_raftlog.proofs.TermLaws.{term_base, slice_get_front, IsSameUpTo}
 use Rattle.rb_tracker.proofs.SetLaws.{if_both}
 use Rattle.rb_tracker.specs.declared.config.Config.{Config}
-use Rattle.rb_node.specs.Compacting.{config_with, config_after, start_at}
+use Rattle.rb_node.specs.Compacting.{config_after, start_at}
 use Rattle.rb_node.specs.declared.options.Options.{Options}
 use Rattle.rb_node.specs.Node.{PlainNode, started}
 use Rattle.rb_node.specs.Readying.{saved, saved_start}
@@ -28,6 +25,7 @@ use Rattle.rb_calls.specs.Calling.{Call, Step, Campaign, Propose, Transfer, Tick
 use Rattle.rb_laws.specs.Honesty.{IsPlain}
 use Rattle.rb_calls.specs.Sound.{IsSound}
 use Rattle.rb_laws.proofs.Links.{held_term}
+use Rattle.rb_laws.proofs.Applied.{plain_makes}
 use Rattle.rb_calls.proofs.MoveLaws.{compact_within}
 use Rattle.rb_laws.proofs.SavedStates.{LeavesSaved, Leaves, same_again, HasSaved}
 
@@ -151,14 +149,10 @@ saved_sound n s b =
 
 -- ---- compacting
 
-plain_body : (c : Config) (body : Body) → is_change body ≡ false → config_with c body ≡ c
-plain_body c (Payload bytes) plain = refl
-plain_body c (Change transition words) plain = absurd (false≢true (sym plain))
-
 pub plain_config : (c : Config) (es : List Entry) → All IsPlain es → config_after c es ≡ c
 plain_config c [] plain = refl
 plain_config c (e ∷ es) plain =
-    ap (λ (x : Config). config_after x es) (plain_body c e.body (All-head IsPlain e es plain)) ∙ plain_config c es (All-tail IsPlain e es plain)
+    ap (λ (x : Config). config_after x es) (plain_makes c e.body (All-head IsPlain e es plain)) ∙ plain_config c es (All-tail IsPlain e es plain)
 
 -- what a compacted node goes back to
 pub record CompactsTo (n : PlainNode) (i : ℕ) : Type 0 where

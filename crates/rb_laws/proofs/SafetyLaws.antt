@@ -30,6 +30,10 @@ back s =
 unfoldable pub setting_of : Bool → (members : ConfState) → members.outgoing ≡ [] → Setting
 setting_of strict members single = record { config = config_of members; single = ap set_of single; back = back members; strict = strict }
 
+pub setting_config : (strict : Bool) (members : ConfState) (single : members.outgoing ≡ []) → config_of members ≡ (setting_of strict members single).config
+unfolding setting_of
+setting_config strict members single = refl
+
 -- who starts has said nothing, and nobody has made a link
 begun_in : (g : Setting) (id : ℕ) (start : Snapshot) (options : Options) → IsIn g [] id [] (essence (started id start options))
 begun_in g id start options = record {

@@ -6,7 +6,7 @@ use Rattle.std.proofs.lemmas.List.Elements.{All-nil}
 use Rattle.rb_vocab.specs.declared.conf_state.ConfState.{ConfState}
 use Rattle.rb_raftlog.specs.declared.raft_log.CompactFault.{CompactFault}
 use Rattle.rb_raftlog.specs.Laws.{AreMatching}
-use Rattle.rb_raftlog.specs.Log.{LogValue, term_at, compact_fault, compacted, made_durable}
+use Rattle.rb_raftlog.specs.Log.{term_at, compact_fault, made_durable}
 use Rattle.rb_raftlog.specs.Log as logs
 use Rattle.rb_raftlog.proofs.TermLaws.{same_term}
 use Rattle.rb_tracker.specs.Configs.{config_of}

@@ -8,14 +8,14 @@ use Rattle.rb_message.specs.declared.role.Role.TheVariants as role
 use Rattle.rb_node.specs.Node.{PlainNode}
 use Rattle.rb_laws.proofs.Links.{Link}
 use Rattle.rb_laws.proofs.Holding.{follower_leads, follower_stands}
-use Rattle.rb_laws.proofs.Completeness.{History, out_of}
+use Rattle.rb_laws.proofs.LeaderLogs.{History, out_of}
 use Rattle.rb_laws.proofs.Tips.{tip}
-use Rattle.rb_laws.proofs.Histories.{with_link, with_election, more_link, more_election, IsTop, IsPledged}
+use Rattle.rb_laws.proofs.Histories.{IsSince, with_link, with_election, more_link, more_election, IsTop, IsPledged}
 use Rattle.rb_laws.proofs.NodeKnowledge.{Ground, election, nobody, still_knows}
 use Rattle.rb_laws.proofs.FollowerMoves.{IsWhole}
 use Rattle.rb_laws.proofs.OtherNodes.{no_news_link, no_news_election}
 use Rattle.rb_laws.proofs.AmongOthers.{KnowsSaved}
-use Rattle.rb_laws.proofs.Forgetting.{IsSince, since_tip, whole_out}
+use Rattle.rb_laws.proofs.Forgetting.{since_tip, whole_out}
 
 pub saved_link : (g : Ground) (said : List Message) (st : History) (l : Link) → IsWhole g said st → IsTop g.root st l → (j : ℕ) (y : PlainNode) → KnowsSaved g st j y → KnowsSaved g (with_link st l) j y
 saved_link g said st l w top j y k =

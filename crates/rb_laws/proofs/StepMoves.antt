@@ -3,6 +3,7 @@ use Rattle.std.proofs.Common.{◌≡◌, ◌⊎◌, ℕ, ◌+◌, ◌<◌, ◌�
 use Rattle.std.specs.Prelude.{All, Contains}
 use Rattle.std.proofs.lemmas.Bool.{cases_lt, and_parts, ltb-true, leb-true}
 use Rattle.std.proofs.lemmas.List.Elements.{All-push, All-contains}
+use Rattle.rb_raftlog.specs.Bodies.{is_change}
 use Rattle.rb_raftlog.specs.declared.entry.Body.{Body}
 use Rattle.rb_raftlog.specs.declared.entry.Entry.{Entry}
 use Rattle.rb_raftlog.specs.declared.snapshot.Snapshot.{Snapshot}
@@ -44,7 +45,8 @@ use Rattle.rb_laws.proofs.Electing.{some_voters, one_elected}
 use Rattle.rb_laws.proofs.Holding.{Setting, World, AreOnce, IsElected, Holds, IsSaid, still_cast}
 use Rattle.rb_laws.proofs.Spots.{spot, lower}
 use Rattle.rb_laws.proofs.Contents.{IsContentAt}
-use Rattle.rb_laws.proofs.Completeness.{Election, History, IsSettled}
+use Rattle.rb_laws.proofs.LeaderLogs.{Election, History}
+use Rattle.rb_laws.proofs.Completeness.{IsSettled}
 use Rattle.rb_laws.proofs.Tips.{tip, base_spot}
 use Rattle.rb_laws.proofs.Histories.{IsMore, with_link, with_candidacy, with_election, more_link, more_candidacy, more_election, IsPledged}
 use Rattle.rb_laws.proofs.NodeKnowledge.{Ground, election, mine, nobody, all_said, IsCounted, TellsCommit, IsSaidUpTo, TellsBy, TellsTrue, still_knows, still_all, KnowsLog, KnowsWords, WordPart, word_part, words_of_whole}
@@ -53,6 +55,7 @@ use Rattle.rb_laws.proofs.OwnEntries.{next_link, next_top, tells_link, own_knows
 use Rattle.rb_laws.proofs.OtherNodes.{whole_link, no_news_link, same_back, no_news_candidacy, no_news_election, whole_election}
 use Rattle.rb_laws.proofs.TermMoves.{follows_knows, whole_candidacy, stands_knows, sent_knows, waiting_knows}
 use Rattle.rb_laws.proofs.ElectionMoves.{leading_is, leads_knows, counts_knows}
+use Rattle.rb_laws.proofs.MoveHolds.{Hears, puts_plain}
 use Rattle.rb_laws.proofs.MessageTruth.{leads_or_not, tells_sent}
 use Rattle.rb_laws.proofs.SavedNodes.{saved_link, saved_election}
 use Rattle.rb_laws.proofs.AmongOthers.{genuine_tells, came_append, held_end, say_spot, Speaks, Company, saved_still, Around, Onwards, still_around, acks_around}
@@ -291,9 +294,9 @@ module _ {g : Ground} {said : List Message} {id : ℕ} {others : Company} where
 
   -- ---- logs
 
-  appends_around : (st : History) (n : PlainNode) (body : Body) (pending : ℕ) → n.role ≡ role.Leader → Around g said id others st n
+  appends_around : (st : History) (n : PlainNode) (body : Body) (pending : ℕ) → n.role ≡ role.Leader → is_change body ≡ false → Around g said id others st n
       → Onwards g said id others st (record n { log = own n.log (record { term = n.term; body = body }); pending_change = pending })
-  appends_around st n body pending leads h =
+  appends_around st n body pending leads plain h =
       let e : Entry = record { term = n.term; body = body } in
       let k = h.knows in
       let l = next_link n e id in
@@ -304,7 +307,7 @@ module _ {g : Ground} {said : List Message} {id : ℕ} {others : Company} where
         history = new;
         more = more;
         around = record {
-          whole = whole_link g said st l h.whole top;
+          whole = whole_link g said st l h.whole top plain;
           knows = own_knows g said st id n e h.whole leads refl k;
           told = tells_link g said st l nobody said h.whole top h.told;
           apart = λ j y other is. (let p = h.apart j y other is in (still_knows g st new j y more (no_news_link g said st j id y l (λ _. other) h.whole top (k.log.leads leads).own p.0) p.0, p.1));
@@ -319,12 +322,12 @@ module _ {g : Ground} {said : List Message} {id : ℕ} {others : Company} where
       let tells = came_append g st said id v n append h.told brings.genuine came in
       still_around st n (with_appended n from append) h (takes_knows g said st id n from append h.whole follows known tells h.knows) h.speaks (omega arith)
 
-  came_settled : (st : History) (v : Ways) (n : PlainNode) (s : Snapshot) → Brings said id v → CameNow v n (kind.Snapshot s) → Around g said id others st n → IsSettled g.root g.setting.config st n.term (spot s.index s.term) × IsContentAt st.links g.root g.start (spot s.index s.term) s.content
+  came_settled : (st : History) (v : Ways) (n : PlainNode) (s : Snapshot) → Brings said id v → CameNow v n (kind.Snapshot s) → Around g said id others st n → IsSettled g.root g.start st n.term (spot s.index s.term) × IsContentAt st.links g.root g.start (spot s.index s.term) s.content
   came_settled st v n s brings c h =
       let m = c.came.message in
       let tells : TellsTrue g st nobody m = genuine_tells g st said id m h.told (brings.genuine m c.came.comes) in
       let both = subst (λ (k : MessageKind). TellsBy g st nobody k m) c.came.is tells in
-      (subst (λ (t : ℕ). IsSettled g.root g.setting.config st t (spot s.index s.term)) c.of_term both.0, both.1)
+      (subst (λ (t : ℕ). IsSettled g.root g.start st t (spot s.index s.term)) c.of_term both.0, both.1)
 
   restores_around : (st : History) (v : Ways) (n : PlainNode) (s : Snapshot) → Brings said id v → IsSound n → n.role ≡ role.Follower → n.commit < s.index → CameNow v n (kind.Snapshot s) → (term_at n.log s.index ≡ Ok s.term → ⊥) → Around g said id others st n → Onwards g said id others st (restored_to n s)
   restores_around st v n s brings o follows past came other h =
@@ -335,14 +338,14 @@ module _ {g : Ground} {said : List Message} {id : ℕ} {others : Company} where
 
   -- ---- what a follower learns
 
-  commit_around : (st : History) (n : PlainNode) (i : ℕ) → Around g said id others st n → (t : ℕ) × (term_at n.log i ≡ Ok t) × IsSettled g.root g.setting.config st n.term (spot i t) → Onwards g said id others st (record n { commit = i })
+  commit_around : (st : History) (n : PlainNode) (i : ℕ) → Around g said id others st n → (t : ℕ) × (term_at n.log i ≡ Ok t) × IsSettled g.root g.start st n.term (spot i t) → Onwards g said id others st (record n { commit = i })
   commit_around st n i h x = still_around st n (record n { commit = i }) h (knows_commit g st id n i x.0 x.1 x.2 h.knows) h.speaks (omega arith)
 
   known_around : (st : History) (n : PlainNode) (i : ℕ) → i ≡ n.commit → Around g said id others st n → Onwards g said id others st (record n { commit = i })
   known_around st n i same h =
       let k = h.knows in
       commit_around st n i h
-      (k.log.commit_term, ap (term_at n.log) same ∙ k.log.commit_held, subst (λ (j : ℕ). IsSettled g.root g.setting.config st n.term (spot j k.log.commit_term)) (sym same) k.log.commit)
+      (k.log.commit_term, ap (term_at n.log) same ∙ k.log.commit_held, subst (λ (j : ℕ). IsSettled g.root g.start st n.term (spot j k.log.commit_term)) (sym same) k.log.commit)
 
   learns_around : (st : History) (v : Ways) (n : PlainNode) (i : ℕ) → Brings said id v → IsSound n → n.commit ≤ i → Learned v n i → Around g said id others st n → Onwards g said id others st (record n { commit = i })
   learns_around st v n i brings s up (Known same) h = known_around st n i same h
@@ -375,7 +378,7 @@ module _ {g : Ground} {said : List Message} {id : ℕ} {others : Company} where
       ]
   learns_around st v n i brings s up (By_snapshot x came same held) h =
       let settled = came_settled st v n x brings came h in
-      commit_around st n i h (x.term, held, subst (λ (j : ℕ). IsSettled g.root g.setting.config st n.term (spot j x.term)) (sym same) settled.0)
+      commit_around st n i h (x.term, held, subst (λ (j : ℕ). IsSettled g.root g.start st n.term (spot j x.term)) (sym same) settled.0)
 
   -- ---- what a leader counts
 
@@ -394,23 +397,23 @@ module _ {g : Ground} {said : List Message} {id : ℕ} {others : Company} where
 
   -- ---- each move of a step
 
-  pub step_around : (st : History) (w : World) {v : Ways} {a b : PlainNode} → w.id ≡ id → IsSaid w.said said → w.setting ≡ g.setting → AreOnce said → Brings said id v → StepMove v a b → IsSound a → HasSoundViews a → Holds w a → Around g said id others st a → Onwards g said id others st b
-  step_around st w own same set once brings (StepTells m) s views hold h = tells_around st m s views (hold.config ∙ ap (λ (x : Setting). x.config) set) h
-  step_around st w own same set once brings (Passes n m came sent) s views hold h = says_around st n m s views (sent s) h
-  step_around st w {v} own same set once brings (Waits n m answer may) s views hold h = answers_around st v m.kind n m refl s brings (answer s) may h
-  step_around st w own same set once brings (Follows n term lead up past) s views hold h = follows_around st n term lead up h
-  step_around st w own same set once brings (Asks n may) s views hold h = asks_around st n (may_campaign n may).follows h
-  step_around st w own same set once brings (Campaigns n may) s views hold h = stands_around st n h
-  step_around st w own same set once brings (Leads n stands elected won) s views hold h =
+  pub step_around : (st : History) (w : World) {v : Ways} {a b : PlainNode} → w.id ≡ id → IsSaid w.said said → w.setting ≡ g.setting → AreOnce said → Brings said id v → Hears w v → StepMove v a b → IsSound a → HasSoundViews a → Holds w a → Around g said id others st a → Onwards g said id others st b
+  step_around st w own same set once brings hears (StepTells m) s views hold h = tells_around st m s views (hold.config ∙ ap (λ (x : Setting). x.config) set) h
+  step_around st w own same set once brings hears (Passes n m came sent) s views hold h = says_around st n m s views (sent s) h
+  step_around st w {v} own same set once brings hears (Waits n m answer may) s views hold h = answers_around st v m.kind n m refl s brings (answer s) may h
+  step_around st w own same set once brings hears (Follows n term lead up past) s views hold h = follows_around st n term lead up h
+  step_around st w own same set once brings hears (Asks n may) s views hold h = asks_around st n (may_campaign n may).follows h
+  step_around st w own same set once brings hears (Campaigns n may) s views hold h = stands_around st n h
+  step_around st w own same set once brings hears (Leads n stands elected won) s views hold h =
       let x = hold.stands stands in
       let config = hold.config ∙ ap (λ (y : Setting). y.config) set in
       leads_around st n once s stands (subst (λ (c : Config). vote_result c n.votes ≡ vote.Won) config won)
       (subst (λ (y : Setting). is_voter y.config id ≡ true) set (subst (λ (i : ℕ). is_voter w.setting.config i ≡ true) own x.may))
       (λ voter yes. still_cast w.said said voter n.term id same (subst (λ (i : ℕ). IsCast w.said voter n.term i) own (x.counted voter yes))) h
-  step_around st w {v} own same set once brings (Votes_for n m last_t last_i transfer gives given came is of_term) s views hold h = votes_around st v n m last_t last_i transfer brings gives came is of_term h
-  step_around st w own same set once brings (Counts n m granted came answers) s views hold h = still_around st n _ h h.knows h.speaks (omega arith)
-  step_around st w own same set once brings (Appends n body pending leads puts marks) s views hold h = appends_around st n body pending leads h
-  step_around st w {v} own same set once brings (Takes n from append follows came) s views hold h = takes_around st v n from append brings follows s.is_committed came h
-  step_around st w {v} own same set once brings (Learns n i follows up held why) s views hold h = learns_around st v n i brings s up why h
-  step_around st w {v} own same set once brings (Restores n x follows past came other) s views hold h = restores_around st v n x brings s follows past came other h
-  step_around st w {v} own same set once brings (Acks n at from i view leads here is up said_it) s views hold h = counts_around st v n at from i view brings leads here said_it h
+  step_around st w {v} own same set once brings hears (Votes_for n m last_t last_i transfer gives given came is of_term) s views hold h = votes_around st v n m last_t last_i transfer brings gives came is of_term h
+  step_around st w own same set once brings hears (Counts n m granted came answers) s views hold h = still_around st n _ h h.knows h.speaks (omega arith)
+  step_around st w own same set once brings hears (Appends n body pending leads puts marks) s views hold h = appends_around st n body pending leads (puts_plain n body hears puts hold) h
+  step_around st w {v} own same set once brings hears (Takes n from append follows came) s views hold h = takes_around st v n from append brings follows s.is_committed came h
+  step_around st w {v} own same set once brings hears (Learns n i follows up held why) s views hold h = learns_around st v n i brings s up why h
+  step_around st w {v} own same set once brings hears (Restores n x follows past came other) s views hold h = restores_around st v n x brings s follows past came other h
+  step_around st w {v} own same set once brings hears (Acks n at from i view leads here is up said_it) s views hold h = counts_around st v n at from i view brings leads here said_it h

@@ -14,10 +14,10 @@ use Rattle.rb_calls.proofs.Saying.{with_sent, with_waiting}
 use Rattle.rb_laws.proofs.Holding.{follower_leads, follower_stands, candidate_leads}
 use Rattle.rb_laws.proofs.Links.{Link}
 use Rattle.rb_laws.proofs.Spots.{Spot, spot, site, Descends, through}
-use Rattle.rb_laws.proofs.Completeness.{Election, Ack, History, IsOfTerm, HasStill}
+use Rattle.rb_laws.proofs.LeaderLogs.{Election, Ack, History, IsOfTerm, HasStill}
 use Rattle.rb_laws.proofs.KeptEntries.{IsOn, on_meet}
 use Rattle.rb_laws.proofs.Tips.{tip, tip_rooted}
-use Rattle.rb_laws.proofs.Histories.{with_ack, with_candidacy, more_ack, more_candidacy, still_has, still_settled, still_is_on, later_settled, IsPledged}
+use Rattle.rb_laws.proofs.Histories.{of_more, since_elected, with_ack, with_candidacy, more_ack, more_candidacy, still_has, still_settled, still_is_on, later_settled, IsPledged}
 use Rattle.rb_laws.proofs.NodeKnowledge.{Ground, election, mine, HasAcked, Knows, TellsTrue, still_all, still_has_acked, still_pledged, still_counted}
 use Rattle.rb_laws.proofs.FollowerMoves.{IsWhole}
 use Rattle.rb_laws.proofs.OtherNodes.{AreReached, back_ack, back_acks, same_back}
@@ -51,8 +51,8 @@ acked_later g said st term later y a w up h =
             | inr over ↦
                 let k = h.now (omega (arith, reached, over)) in
                 let x = spot a.index k.0 in
-                let own : IsOn g.root g.setting.config st a.term (site l) = inl (subst (λ (t : ℕ). IsOfTerm st t (site l)) of_term (link_of_term g said st l w among)) in
-                inl (through st.links (site l) x y k.1 (on_meet g.root g.setting.config said st a.term (site l) x w.lawful own k.2 low))
+                let own : IsOn g.root g.start st a.term (site l) = inl (subst (λ (t : ℕ). IsOfTerm st t (site l)) of_term (link_of_term g said st l w among)) in
+                inl (through st.links (site l) x y k.1 (on_meet g.root g.start said st a.term (site l) x w.lawful own k.2 low))
           ];
     }
 
@@ -80,7 +80,7 @@ follows_knows g said st id n term lead w up h =
         pledged = vote_stays st (mine id) id n.term term n.vote h.log.pledged;
         commit_term = h.log.commit_term;
         commit_held = h.log.commit_held;
-        commit = later_settled g.root g.setting.config st n.term term (spot n.commit h.log.commit_term) up h.log.commit;
+        commit = later_settled g.root g.start st n.term term (spot n.commit h.log.commit_term) up h.log.commit;
         filled = h.log.filled;
       };
       words = record {
@@ -100,15 +100,18 @@ whole_candidacy g said st id n w h =
     record {
       lawful = record {
         history = record { tree = w.lawful.history.tree; once = w.lawful.history.once; rooted = w.lawful.history.rooted; made = λ l among. (let b = w.lawful.history.made l among in record { election = b.election; among = b.among; of_term = b.of_term; past = b.past; behind = b.behind }) };
+        first = w.lawful.first;
+        proper = w.lawful.proper;
         voted = λ x among. (let b = w.lawful.voted x among in record {
           voters = b.voters;
-          quorum = b.quorum;
+          decides = since_elected g.root g.start st (with_candidacy st e) x b.voters (of_more st (with_candidacy st e) (more_candidacy st e)) b.decides;
           cast = b.cast;
           each = λ v votes l there earlier acked. still_has st (with_candidacy st e) x.tip x.term l (more_candidacy st e) (b.each v votes l there earlier (record { ack = acked.ack; among = acked.among; by = acked.by; of_term = acked.of_term; upto = acked.upto }));
         });
         within = w.lawful.within;
       };
-      held = λ a among. (let k = w.held a among in (k.0, still_is_on g.root g.setting.config st (with_candidacy st e) a.term (spot a.index k.0) (more_candidacy st e) k.1));
+      plain = w.plain;
+      held = λ a among. (let k = w.held a among in (k.0, still_is_on g.root g.start st (with_candidacy st e) a.term (spot a.index k.0) (more_candidacy st e) k.1));
       low = w.low;
       elected = w.elected;
       some = w.some;
@@ -181,7 +184,7 @@ stands_knows g said st id n w h =
         };
         commit_term = h.log.commit_term;
         commit_held = h.log.commit_held;
-        commit = later_settled g.root g.setting.config new n.term (n.term + 1) (spot n.commit h.log.commit_term) up (still_settled g.root g.setting.config st new n.term (spot n.commit h.log.commit_term) more h.log.commit);
+        commit = later_settled g.root g.start new n.term (n.term + 1) (spot n.commit h.log.commit_term) up (still_settled g.root g.start st new n.term (spot n.commit h.log.commit_term) more h.log.commit);
         filled = h.log.filled;
       };
       words = record {
@@ -214,7 +217,7 @@ waiting_knows g st id n m tells h = record {
 }
 
 -- An acknowledgement of a spot that the log has, of its leader's way or settled: the history has it from now on.
-pub acks_knows : (g : Ground) (st : History) (id : ℕ) (n : PlainNode) (a : Ack) (t : ℕ) → a.voter ≡ id → a.term ≡ n.term → Descends st.links (tip n.log) (spot a.index t) → IsOn g.root g.setting.config st a.term (spot a.index t) → All (AreReached a) n.sent → All (AreReached a) n.waiting → Knows g st id n → Knows g (with_ack st a) id n
+pub acks_knows : (g : Ground) (st : History) (id : ℕ) (n : PlainNode) (a : Ack) (t : ℕ) → a.voter ≡ id → a.term ≡ n.term → Descends st.links (tip n.log) (spot a.index t) → IsOn g.root g.start st a.term (spot a.index t) → All (AreReached a) n.sent → All (AreReached a) n.waiting → Knows g st id n → Knows g (with_ack st a) id n
 acks_knows g st id n a t by of_term has on sent waiting h =
     let new = with_ack st a in
     let more = more_ack st a in
@@ -222,7 +225,7 @@ acks_knows g st id n a t by of_term has on sent waiting h =
     still_has_acked g st new n.term (tip n.log) b more (λ l there _ _. there) k in
     let first : HasAcked g new n.term (tip n.log) a = record {
       reached = omega (arith, of_term);
-      now = λ _. (t, has, still_is_on g.root g.setting.config st new a.term (spot a.index t) more on);
+      now = λ _. (t, has, still_is_on g.root g.start st new a.term (spot a.index t) more on);
       past = λ later l there term low. absurd (omega (arith, later, of_term));
     } in
     record {
@@ -243,7 +246,7 @@ acks_knows g st id n a t by of_term has on sent waiting h =
         pledged = λ some. still_pledged st new (mine id) id n.term n.vote more (back_ack st a id n.term (λ _. omega (arith, of_term))) (h.log.pledged some);
         commit_term = h.log.commit_term;
         commit_held = h.log.commit_held;
-        commit = still_settled g.root g.setting.config st new n.term (spot n.commit h.log.commit_term) more h.log.commit;
+        commit = still_settled g.root g.start st new n.term (spot n.commit h.log.commit_term) more h.log.commit;
         filled = h.log.filled;
       };
       words = record {

@@ -3,6 +3,7 @@ use Rattle.std.proofs.Common.{◌≡◌, ℕ, ◌+◌, ◌<◌, ◌≤◌, true,
 use Rattle.std.specs.Prelude.{slice_get}
 use Rattle.std.proofs.lemmas.Bool.{false≢true}
 use Rattle.rb_raftlog.specs.Log.{entry_at}
+use Rattle.rb_tracker.specs.Configs.{config_of}
 use Rattle.rb_message.specs.declared.message.Message.{Message}
 use Rattle.rb_message.specs.declared.role.Role.TheVariants as role
 use Rattle.rb_node.specs.Node.{PlainNode}
@@ -11,9 +12,9 @@ use Rattle.rb_laws.specs.Network.{Network, Happening, run}
 use Rattle.rb_laws.specs.Safety.{BeginAt, StartsAlike, IsRaftNetwork, HasCommitted}
 use Rattle.rb_calls.specs.Sound.{IsSound}
 use Rattle.rb_laws.proofs.NetworkLaws.{IsSane, run_sane}
-use Rattle.rb_laws.proofs.SafetyLaws.{setting_of, begun_sane}
+use Rattle.rb_laws.proofs.SafetyLaws.{setting_of, setting_config, begun_sane}
 use Rattle.rb_laws.proofs.Spots.{spot, same_spot}
-use Rattle.rb_laws.proofs.Completeness.{History}
+use Rattle.rb_laws.proofs.LeaderLogs.{History}
 use Rattle.rb_laws.proofs.NodeKnowledge.{Ground}
 use Rattle.rb_laws.proofs.FollowerMoves.{IsWhole}
 use Rattle.rb_laws.proofs.CommittedLogs.{Had, had, still_had, leader_has, commits_agree, contents_same}
@@ -22,7 +23,13 @@ use Rattle.rb_laws.proofs.TrueCalls.{all_honest}
 
 -- what the nodes stand on
 abbrev pub ground_of : (s : Network) → StartsAlike s → Ground
-ground_of s a = record { root = spot a.index a.term; start = a.content; setting = setting_of false a.members a.single }
+ground_of s a = record {
+  root = spot a.index a.term;
+  start = record { content = a.content; changes = 0; config = config_of a.members };
+  first = refl;
+  setting = setting_of false a.members a.single;
+  same = setting_config false a.members a.single;
+}
 
 pub alike_at : (index term : ℕ) (content : List ℕ) (nodes : List PlainNode) → BeginAt index term content nodes → AreAlike (spot index term) content nodes
 alike_at index term content nodes begins = λ k n at. (let b = begins k n at in (same_spot (spot n.log.base n.log.base_term) (spot index term) b.0 b.1, b.2))

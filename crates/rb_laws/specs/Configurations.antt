@@ -1,9 +1,12 @@
 -- Each node's configuration as members change: a change counts once it is applied (Ongaro's thesis, section 4.1, has it count once it is appended; etcd
 -- raft documentation, "Membership Changes")
-use Rattle.std.specs.Prelude.{ℕ, zero, suc, ◌≡◌, ◌+◌, ◌<◌, ◌≤◌, ◌⊎◌, true, List, [], ◌∷◌, Contains, Ok, Option, Some, None, slice_get}
+use Rattle.std.specs.Prelude.{ℕ, zero, suc, ◌≡◌, ◌+◌, ◌<◌, ◌≤◌, ◌⊎◌, true, List, [], Contains, Ok, Option, Some, None, slice_get}
+use Rattle.rb_vocab.specs.declared.conf_state.ConfState.{ConfState}
 use Rattle.rb_raftlog.specs.Bodies.{is_change}
 use Rattle.rb_raftlog.specs.declared.entry.Entry.{Entry}
 use Rattle.rb_raftlog.specs.Log.{LogValue, entry_at}
+use Rattle.rb_tracker.specs.Changes.{IsConfig}
+use Rattle.rb_tracker.specs.Configs.{config_of}
 use Rattle.rb_tracker.specs.declared.config.Config.{Config}
 use Rattle.rb_message.specs.Appends.{PlainAppend}
 use Rattle.rb_message.specs.declared.kind.MessageKind.{MessageKind}
@@ -12,8 +15,9 @@ use Rattle.rb_node.specs.Compacting.{config_with}
 use Rattle.rb_node.specs.Node.{PlainNode, node_step}
 use Rattle.rb_calls.specs.Calling.{Call, Step}
 use Rattle.rb_calls.specs.Elections.{Elected}
-use Rattle.rb_laws.specs.Network.{Network, Happening, happened}
-use Rattle.rb_laws.specs.Safety.{IsStateOf}
+use Rattle.rb_laws.specs.Honesty.{AreGenuine}
+use Rattle.rb_laws.specs.Network.{Network, Happening, run, Each, IsBegun}
+use Rattle.rb_laws.specs.Safety.{IsStateOf, StartsAlike}
 
 -- what the entries of some indexes after a base make of a configuration, one after another
 abbrev pub config_after_all : (ℕ → Entry) → Config → ℕ → ℕ → Config
@@ -34,10 +38,19 @@ abbrev pub IsStateKnown : Network → Call → Type 0
 IsStateKnown s (Step m) = Contains s.said m ⊎ (IsStateOf s.nodes m ⊎ BringsNoState m.kind)
 IsStateKnown s _ = Unit {0}
 
--- both, at each step
+-- both, where something happens
+abbrev pub IsAgreedHappening : (ℕ → Entry) → Network → Happening → Type 0
+IsAgreedHappening chosen s h = AreChosen chosen s.nodes × IsStateKnown s h.call
+
 abbrev pub AreAgreed : (ℕ → Entry) → List Happening → Network → Type 0
-AreAgreed chosen [] s = Unit {0}
-AreAgreed chosen (h ∷ hs) s = AreChosen chosen s.nodes × IsStateKnown s h.call × AreAgreed chosen hs (happened s h)
+AreAgreed chosen hs s = Each (IsAgreedHappening chosen) hs s
+
+-- a network at two moments of a run, whose nodes start alike, and in which committed entries agree up to each
+pub record IsAgreedNetwork (chosen : ℕ → Entry) (s : Network) (earlier later : List Happening) : Type 0 where
+  pub starts : StartsAlike s
+  pub proper : IsConfig (config_of starts.members)
+  pub before : AreAgreed chosen earlier s
+  pub since : AreAgreed chosen later (run earlier s)
 
 -- ---- one change at a time
 
@@ -55,6 +68,16 @@ abbrev pub IsElectedAs : (ℕ → ℕ) → Option PlainNode → Happening → Ty
 IsElectedAs leader None h = Unit {0}
 IsElectedAs leader (Some n) h = (term : ℕ) → Elected h.call (node_step n h.told) term → leader term ≡ n.id
 
+abbrev pub IsLedHappening : (ℕ → ℕ) → Network → Happening → Type 0
+IsLedHappening leader s h = IsElectedAs leader (slice_get s.nodes h.place) h
+
 abbrev pub AreElectedAs : (ℕ → ℕ) → List Happening → Network → Type 0
-AreElectedAs leader [] s = Unit {0}
-AreElectedAs leader (h ∷ hs) s = IsElectedAs leader (slice_get s.nodes h.place) h × AreElectedAs leader hs (happened s h)
+AreElectedAs leader hs s = Each (IsLedHappening leader) hs s
+
+-- a network in which each term has at most one leader, and no append is forged
+pub record IsLedNetwork (s : Network) (hs : List Happening) : Type 0 where
+  pub members : ConfState
+  pub begun : IsBegun members s
+  pub leader : ℕ → ℕ
+  pub led : AreElectedAs leader hs s
+  pub genuine : AreGenuine hs s

@@ -46,6 +46,11 @@ abbrev pub run : List Happening → Network → Network
 run [] s = s
 run (h ∷ hs) s = run hs (happened s h)
 
+-- each thing that happens keeps a rule, where it happens
+abbrev pub Each : (Network → Happening → Type 0) → List Happening → Network → Type 0
+Each rule [] s = Unit {0}
+Each rule (h ∷ hs) s = rule s h × Each rule hs (happened s h)
+
 -- ---- where it begins, and who leads
 
 -- a node starts with some members, wherever its log begins

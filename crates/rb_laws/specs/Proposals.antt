@@ -1,5 +1,5 @@
 -- What is proposed, and what becomes of it (Ongaro's thesis, sections 3.5, 3.10 and 4.1)
-use Rattle.std.specs.Prelude.{◌≡◌, ◌<◌, ◌≤◌, ◌⊎◌, true, ◌==◌, List, [], ◌∷◌, length, Contains}
+use Rattle.std.specs.Prelude.{◌≡◌, ◌<◌, ◌≤◌, ◌⊎◌, true, ◌==◌, List, [], length, Contains}
 use Rattle.rb_raftlog.specs.declared.entry.Body.{Body}
 use Rattle.rb_raftlog.specs.declared.entry.Body.TheVariants.{Payload, Change}
 use Rattle.rb_raftlog.specs.declared.limits.TheConstants.{MAX_INDEX}
@@ -13,7 +13,7 @@ use Rattle.rb_message.specs.declared.kind.MessageKind.TheVariants as kind
 use Rattle.rb_message.specs.declared.role.Role.TheVariants.{Leader}
 use Rattle.rb_node.specs.Node.{PlainNode}
 use Rattle.rb_calls.specs.Calling.{Call, Step, Propose}
-use Rattle.rb_laws.specs.Network.{Network, Happening, happened}
+use Rattle.rb_laws.specs.Network.{Network, Happening, Each}
 
 -- a node takes proposals: it leads, is a member, hands the lead to nobody, and its log isn't full
 pub record TakesProposals (n : PlainNode) : Type 0 where
@@ -40,9 +40,11 @@ abbrev pub IsSaidCall : Network → Call → Type 0
 IsSaidCall s (Step m) = Contains s.said m ⊎ BringsNone m.kind
 IsSaidCall s _ = Unit {0}
 
+abbrev pub IsSaidHappening : Network → Happening → Type 0
+IsSaidHappening s h = IsSaidCall s h.call
+
 abbrev pub AreSaid : List Happening → Network → Type 0
-AreSaid [] s = Unit {0}
-AreSaid (h ∷ hs) s = IsSaidCall s h.call × AreSaid hs (happened s h)
+AreSaid hs s = Each IsSaidHappening hs s
 
 -- a node was asked to propose something
 pub record WasProposed (hs : List Happening) (body : Body) : Type 0 where

@@ -1,6 +1,9 @@
 -- Networks whose nodes restart from what they have saved (Ongaro's thesis, section 3.8)
-use Rattle.std.specs.Prelude.{ℕ, ◌≡◌, ◌+◌, ◌≤◌, ◌⊎◌, List, [], ◌∷◌, Option, Some, None, Contains, slice_get, slice_set}
+use Rattle.std.specs.Prelude.{ℕ, ◌≡◌, ◌≤◌, List, [], ◌∷◌, Option, Some, None, Contains, slice_get, slice_set}
+use Rattle.rb_vocab.specs.declared.conf_state.ConfState.{ConfState}
 use Rattle.rb_raftlog.specs.declared.entry.Entry.{Entry}
+use Rattle.rb_tracker.specs.Changes.{IsConfig}
+use Rattle.rb_tracker.specs.Configs.{config_of}
 use Rattle.rb_tracker.specs.declared.config.Config.{Config}
 use Rattle.rb_message.specs.declared.kind.MessageKind.{MessageKind}
 use Rattle.rb_message.specs.declared.kind.MessageKind.TheVariants as kind
@@ -10,9 +13,9 @@ use Rattle.rb_node.specs.Restarting.{restarted}
 use Rattle.rb_calls.specs.Calling.{Call, Step, after}
 use Rattle.rb_laws.specs.Configurations.{AreChosen, IsStateKnown}
 use Rattle.rb_calls.specs.Elections.{Elected}
-use Rattle.rb_laws.specs.Honesty.{IsHonestCall, IsGenuineCall}
-use Rattle.rb_laws.specs.Network.{Network, Happening, happened}
-use Rattle.rb_laws.specs.Safety.{IsTrueCall, IsStateCall, StartsAlike}
+use Rattle.rb_laws.specs.Honesty.{IsHonestHappening, IsGenuineCall}
+use Rattle.rb_laws.specs.Network.{Network, Happening, happened, IsBegun}
+use Rattle.rb_laws.specs.Safety.{IsTrueHappening, StartsAlike}
 
 -- ---- steps
 
@@ -37,13 +40,20 @@ passed (o ∷ os) s = passed os (occurred s o)
 
 -- ---- premises, as of networks whose nodes don't restart: of each call, where it happens
 
+-- a rule of calls, which asks nothing of a restart
+abbrev pub OfCalls : (Network → Happening → Type 0) → Network → Occurrence → Type 0
+OfCalls rule s (Called h) = rule s h
+OfCalls rule s (Restarted place) = Unit {0}
+
+abbrev pub EachThrough : (Network → Occurrence → Type 0) → List Occurrence → Network → Type 0
+EachThrough rule [] s = Unit {0}
+EachThrough rule (o ∷ os) s = rule s o × EachThrough rule os (occurred s o)
+
 abbrev pub IsHonestOccurrence : Config → Network → Occurrence → Type 0
-IsHonestOccurrence c s (Called h) = IsHonestCall c s (h.place + 1) h.call
-IsHonestOccurrence c s (Restarted place) = Unit {0}
+IsHonestOccurrence c s o = OfCalls (IsHonestHappening c) s o
 
 abbrev pub AreHonestThrough : Config → List Occurrence → Network → Type 0
-AreHonestThrough c [] s = Unit {0}
-AreHonestThrough c (o ∷ os) s = IsHonestOccurrence c s o × AreHonestThrough c os (occurred s o)
+AreHonestThrough c os s = EachThrough (IsHonestOccurrence c) os s
 
 abbrev pub IsVoteRequest : MessageKind → Type 0
 IsVoteRequest (kind.Vote last_term last_index transfer) = Unit {0}
@@ -54,23 +64,36 @@ abbrev pub IsAskedCall : List Message → Call → Type 0
 IsAskedCall said (Step m) = IsVoteRequest m.kind → Contains said m
 IsAskedCall said _ = Unit {0}
 
+abbrev pub IsAskedHappening : Network → Happening → Type 0
+IsAskedHappening s h = IsGenuineCall s h.call × IsAskedCall s.said h.call
+
 abbrev pub IsGenuineOccurrence : Network → Occurrence → Type 0
-IsGenuineOccurrence s (Called h) = IsGenuineCall s h.call × IsAskedCall s.said h.call
-IsGenuineOccurrence s (Restarted place) = Unit {0}
+IsGenuineOccurrence s o = OfCalls IsAskedHappening s o
 
 abbrev pub AreGenuineThrough : List Occurrence → Network → Type 0
-AreGenuineThrough [] s = Unit {0}
-AreGenuineThrough (o ∷ os) s = IsGenuineOccurrence s o × AreGenuineThrough os (occurred s o)
+AreGenuineThrough os s = EachThrough IsGenuineOccurrence os s
 
 abbrev pub IsTrueOccurrence : Network → Occurrence → Type 0
-IsTrueOccurrence s (Called h) = IsTrueCall s.said (h.place + 1) h.call ⊎ IsStateCall s.nodes (h.place + 1) h.call
-IsTrueOccurrence s (Restarted place) = Unit {0}
+IsTrueOccurrence s o = OfCalls IsTrueHappening s o
 
 abbrev pub AreTrueThrough : List Occurrence → Network → Type 0
-AreTrueThrough [] s = Unit {0}
-AreTrueThrough (o ∷ os) s = IsTrueOccurrence s o × AreTrueThrough os (occurred s o)
+AreTrueThrough os s = EachThrough IsTrueOccurrence os s
 
--- the same network of Raft's nodes, where they may restart
+-- ---- a network at two moments of a run, where its nodes may restart
+
+pub record IsHonestRestartingNetwork (s : Network) (earlier later : List Occurrence) : Type 0 where
+  pub members : ConfState
+  pub single : members.outgoing ≡ []
+  pub begun : IsBegun members s
+  pub before : AreHonestThrough (config_of members) earlier s
+  pub since : AreHonestThrough (config_of members) later (passed earlier s)
+
+-- And no append and no request for votes is forged.
+pub record IsGenuineRestartingNetwork (s : Network) (earlier later : List Occurrence) : Type 0 where
+  pub honest : IsHonestRestartingNetwork s earlier later
+  pub before : AreGenuineThrough earlier s
+  pub since : AreGenuineThrough later (passed earlier s)
+
 pub record IsRestartingNetwork (s : Network) (earlier later : List Occurrence) : Type 0 where
   pub starts : StartsAlike s
   pub before : AreTrueThrough earlier s
@@ -78,13 +101,20 @@ pub record IsRestartingNetwork (s : Network) (earlier later : List Occurrence) :
 
 -- ---- and as members change
 
-abbrev pub IsAgreedOccurrence : Network → Occurrence → Type 0
-IsAgreedOccurrence s (Called h) = IsStateKnown s h.call
-IsAgreedOccurrence s (Restarted place) = Unit {0}
+abbrev pub IsKnownHappening : Network → Happening → Type 0
+IsKnownHappening s h = IsStateKnown s h.call
+
+abbrev pub IsAgreedOccurrence : (ℕ → Entry) → Network → Occurrence → Type 0
+IsAgreedOccurrence chosen s o = AreChosen chosen s.nodes × OfCalls IsKnownHappening s o
 
 abbrev pub AreAgreedThrough : (ℕ → Entry) → List Occurrence → Network → Type 0
-AreAgreedThrough chosen [] s = Unit {0}
-AreAgreedThrough chosen (o ∷ os) s = AreChosen chosen s.nodes × IsAgreedOccurrence s o × AreAgreedThrough chosen os (occurred s o)
+AreAgreedThrough chosen os s = EachThrough (IsAgreedOccurrence chosen) os s
+
+pub record IsAgreedRestartingNetwork (chosen : ℕ → Entry) (s : Network) (earlier later : List Occurrence) : Type 0 where
+  pub starts : StartsAlike s
+  pub proper : IsConfig (config_of starts.members)
+  pub before : AreAgreedThrough chosen earlier s
+  pub since : AreAgreedThrough chosen later (passed earlier s)
 
 -- Whomever a call elects in a term is the one of that term, and has saved it by then. Each append that comes was put out by a node.
 abbrev pub IsElectedWith : (ℕ → ℕ) → Option PlainNode → Happening → Type 0
@@ -92,10 +122,17 @@ IsElectedWith leader None h = Unit {0}
 IsElectedWith leader (Some n) h =
     (term : ℕ) → Elected h.call (node_step n h.told) term → (leader term ≡ n.id) × (term ≤ (after h.call (node_step n h.told)).node.saved.term)
 
+abbrev pub IsElectedHappening : (ℕ → ℕ) → Network → Happening → Type 0
+IsElectedHappening leader s h = IsElectedWith leader (slice_get s.nodes h.place) h × IsGenuineCall s h.call
+
 abbrev pub IsElectedOccurrence : (ℕ → ℕ) → Network → Occurrence → Type 0
-IsElectedOccurrence leader s (Called h) = IsElectedWith leader (slice_get s.nodes h.place) h × IsGenuineCall s h.call
-IsElectedOccurrence leader s (Restarted place) = Unit {0}
+IsElectedOccurrence leader s o = OfCalls (IsElectedHappening leader) s o
 
 abbrev pub AreElectedThrough : (ℕ → ℕ) → List Occurrence → Network → Type 0
-AreElectedThrough leader [] s = Unit {0}
-AreElectedThrough leader (o ∷ os) s = IsElectedOccurrence leader s o × AreElectedThrough leader os (occurred s o)
+AreElectedThrough leader os s = EachThrough (IsElectedOccurrence leader) os s
+
+pub record IsLedRestartingNetwork (s : Network) (os : List Occurrence) : Type 0 where
+  pub members : ConfState
+  pub begun : IsBegun members s
+  pub leader : ℕ → ℕ
+  pub led : AreElectedThrough leader os s

@@ -1,6 +1,6 @@
 -- Leader completeness and state machine safety (Ongaro's thesis, section 3.6.3): what is asked of the nodes' beginnings and of the messages
 -- that come, and what a leader then has
-use Rattle.std.specs.Prelude.{ℕ, ◌≡◌, ◌+◌, ◌<◌, ◌≤◌, ◌⊎◌, true, false, List, [], ◌∷◌, Some, Contains, slice_get}
+use Rattle.std.specs.Prelude.{ℕ, ◌≡◌, ◌+◌, ◌<◌, ◌≤◌, ◌⊎◌, true, false, List, [], Some, Contains, slice_get}
 use Rattle.rb_vocab.specs.declared.conf_state.ConfState.{ConfState}
 use Rattle.rb_raftlog.specs.Bodies.{is_change}
 use Rattle.rb_raftlog.specs.Log.{LogValue, last, entry_at}
@@ -10,7 +10,7 @@ use Rattle.rb_message.specs.declared.message.Message.{Message}
 use Rattle.rb_node.specs.Node.{PlainNode}
 use Rattle.rb_node.specs.Sends.{snapshot_of}
 use Rattle.rb_calls.specs.Calling.{Call, Step, Propose}
-use Rattle.rb_laws.specs.Network.{Network, Happening, happened, run, IsBegun}
+use Rattle.rb_laws.specs.Network.{Network, Happening, run, Each, IsBegun}
 
 -- ---- premises
 
@@ -53,9 +53,11 @@ IsStateCall nodes id _ = ⊥
 
 -- Each message that comes was put out by a node, or is a snapshot of the state that one has when it comes, and comes to the node that it is
 -- for; or it is harmless.
+abbrev pub IsTrueHappening : Network → Happening → Type 0
+IsTrueHappening s h = IsTrueCall s.said (h.place + 1) h.call ⊎ IsStateCall s.nodes (h.place + 1) h.call
+
 abbrev pub AreTrue : List Happening → Network → Type 0
-AreTrue [] s = Unit {0}
-AreTrue (h ∷ hs) s = (IsTrueCall s.said (h.place + 1) h.call ⊎ IsStateCall s.nodes (h.place + 1) h.call) × AreTrue hs (happened s h)
+AreTrue hs s = Each IsTrueHappening hs s
 
 -- All nodes start alike: with the same members, not joint, and at one index, of one term, which is at most 1, with one content.
 pub record StartsAlike (s : Network) : Type 0 where

@@ -6,33 +6,31 @@
 //! has one more, since with a made-up MsgVote a node could lead twice in a term that it hadn't saved.
 ghost use Rattle.std.specs.Prelude.{◌≡◌, ◌<◌, ◌≤◌, ℕ, List, [], Some, slice_get};
 ghost use Rattle.rb_script.specs.Script.{PlainScript};
-ghost use Rattle.rb_vocab.specs.declared.conf_state.ConfState.{ConfState};
 ghost use Rattle.rb_raftlog.specs.Laws.{AreMatching};
 ghost use Rattle.rb_raftlog.specs.Log.{entry_at};
 ghost use Rattle.rb_message.specs.declared.role.Role.TheVariants.{Leader};
-ghost use Rattle.rb_tracker.specs.Configs.{config_of};
 ghost use Rattle.rb_node.specs.Node.{PlainNode};
 ghost use Rattle.rb_replay.specs.Run.{state};
 ghost use Rattle.rb_laws.specs.Clusters.{HasSameMembers};
-ghost use Rattle.rb_laws.specs.Network.{Network, IsBegun, Leads};
-ghost use Rattle.rb_laws.specs.Restarts.{Occurrence, passed, AreHonestThrough, AreGenuineThrough, IsRestartingNetwork};
+ghost use Rattle.rb_laws.specs.Network.{Network, Leads};
+ghost use Rattle.rb_laws.specs.Restarts.{Occurrence, passed, IsHonestRestartingNetwork, IsGenuineRestartingNetwork, IsRestartingNetwork};
 ghost use Rattle.rb_laws.specs.Safety.{HasCommitted};
 
 /// Election safety: two nodes that lead in one term, at whatever points of a run, are one node.
 pub fn elections_are_safe_with_restarts()
-    ensures { (members : ConfState) (s : Network) (earlier later : List Occurrence) (first second term : ℕ) → members.outgoing ≡ [] → IsBegun members s → AreHonestThrough (config_of members) earlier s → AreHonestThrough (config_of members) later (passed earlier s) → Leads (passed earlier s).nodes first term → Leads (passed later (passed earlier s)).nodes second term → second ≡ first }
+    ensures { (s : Network) (earlier later : List Occurrence) (first second term : ℕ) → IsHonestRestartingNetwork s earlier later → Leads (passed earlier s).nodes first term → Leads (passed later (passed earlier s)).nodes second term → second ≡ first }
 {}
 
 /// Log matching: logs with an entry of the same index and term are the same up to it, as far as both still have it. An entry that was not saved
 /// counts as well: no entry with its index and term comes in its place. No vote, no append and no request for votes is forged, and the configuration
 /// stays; the logs may begin anywhere.
 pub fn logs_match_with_restarts()
-    ensures { (members : ConfState) (s : Network) (earlier later : List Occurrence) (j k : ℕ) (first second : PlainNode) → members.outgoing ≡ [] → IsBegun members s → AreHonestThrough (config_of members) earlier s → AreHonestThrough (config_of members) later (passed earlier s) → AreGenuineThrough earlier s → AreGenuineThrough later (passed earlier s) → slice_get (passed earlier s).nodes j ≡ Some first → slice_get (passed later (passed earlier s)).nodes k ≡ Some second → AreMatching first.log second.log }
+    ensures { (s : Network) (earlier later : List Occurrence) (j k : ℕ) (first second : PlainNode) → IsGenuineRestartingNetwork s earlier later → slice_get (passed earlier s).nodes j ≡ Some first → slice_get (passed later (passed earlier s)).nodes k ≡ Some second → AreMatching first.log second.log }
 {}
 
 /// A node leads only in a term that it has saved, so no restart takes it back to before an election that it won.
 pub fn leaders_have_saved_their_terms()
-    ensures networks { (members : ConfState) (s : Network) (os : List Occurrence) (k : ℕ) (n : PlainNode) → members.outgoing ≡ [] → IsBegun members s → AreHonestThrough (config_of members) os s → AreGenuineThrough os s → slice_get (passed os s).nodes k ≡ Some n → n.role ≡ Leader → n.saved.term ≡ n.term }
+    ensures networks { (s : Network) (os : List Occurrence) (k : ℕ) (n : PlainNode) → IsGenuineRestartingNetwork s os [] → slice_get (passed os s).nodes k ≡ Some n → n.role ≡ Leader → n.saved.term ≡ n.term }
     ensures scripts { (s : PlainScript) (p k : ℕ) (n : PlainNode) → HasSameMembers s → slice_get (state s p).nodes k ≡ Some n → n.role ≡ Leader → n.saved.term ≡ n.term }
 {}
 

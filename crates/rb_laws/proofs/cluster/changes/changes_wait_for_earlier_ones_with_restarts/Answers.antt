@@ -2,10 +2,10 @@ use Rattle.rb_laws.proofs.ChangeRestarts.{one_past_commit, one_past_applied, one
 use Rattle.rb_laws.proofs.cluster.changes.changes_wait_for_earlier_ones_with_restarts.Goals as goal
 
 pub returns-clause-committed : goal.returns-clause-committed
-returns-clause-committed c = one_past_commit
+returns-clause-committed c = λ s os k n net at. one_past_commit net.leader net.members s os k n net.begun net.led at
 
 pub returns-clause-applied : goal.returns-clause-applied
-returns-clause-applied c = one_past_applied
+returns-clause-applied c = λ s os k n net at decides. one_past_applied net.leader net.members s os k n net.begun net.led at decides
 
 pub returns-clause-on_their_way : goal.returns-clause-on_their_way
-returns-clause-on_their_way c = one_on_the_way
+returns-clause-on_their_way c = λ s os m append net said is. one_on_the_way net.leader net.members s os m append net.begun net.led said is

@@ -2,4 +2,5 @@ use Rattle.rb_laws.proofs.SavedLinks.{logs_match}
 use Rattle.rb_laws.proofs.cluster.restarts.logs_match_with_restarts.Goals as goal
 
 pub returns : goal.returns
-returns c = logs_match
+returns c = λ s earlier later j k first second net at there.
+    (let h = net.honest in logs_match h.members s earlier later j k first second h.single h.begun h.before h.since net.before net.since at there)
