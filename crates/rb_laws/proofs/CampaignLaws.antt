@@ -41,7 +41,7 @@ one_asked n to term question answer other =
     if_both (λ (x : PlainNode). Contains x.sent (message n.id to term question)) (to == n.id) _ _
     (λ own. absurd (other (eqb-true to n.id own))) (λ _. Contains-push n.sent (message n.id to term question))
 
-all_asked : (n : PlainNode) (ids : List ℕ) (term : ℕ) (question answer : MessageKind) (id : ℕ) → has ids id ≡ true → (id ≡ n.id → ⊥)
+pub all_asked : (n : PlainNode) (ids : List ℕ) (term : ℕ) (question answer : MessageKind) (id : ℕ) → has ids id ≡ true → (id ≡ n.id → ⊥)
     → Contains (asked n ids term question answer).sent (message n.id id term question)
 all_asked n [] term question answer id is other = absurd (false≢true is)
 all_asked n (x ∷ xs) term question answer id is other =
@@ -134,7 +134,7 @@ pub tick_counts : (t : NodeStep) → (t.node.role ≡ role.Leader → ⊥) → t
     → ticked t ≡ with_node t (with_elapsed t.node (t.node.clock.elapsed + 1))
 tick_counts t never short early = others_ticked (λ (u : NodeStep). u ≡ with_node t (with_elapsed t.node (t.node.clock.elapsed + 1))) t.node.role t never (counted t short early)
 
-two_true : (a b : Bool) → a ≡ true → b ≡ true → (a && b) ≡ true
+pub two_true : (a b : Bool) → a ≡ true → b ≡ true → (a && b) ≡ true
 two_true a b p q = rw (p, q) refl
 
 timed_out : (t : NodeStep) → CanTimeOut t.node → t.node.clock.timeout ≤ t.node.clock.elapsed + 1 → HasCampaigned t.node (non_leader_ticked t).node

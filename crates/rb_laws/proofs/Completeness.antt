@@ -150,15 +150,19 @@ pub record IsCovered (root : Spot) (start : Applied) (st : History) (term : ℕ)
   pub behind : Descends st.links (site decision) (site m)
   pub is : committed.is.decides.made.changes ≡ number
 
-covered : (root : Spot) (start : Applied) (st : History) (n term : ℕ) (x : Spot) (m : Link) (number : ℕ) → IsTree root st.links → Settled root start st n term x → IsChangeLink st.links root start m number → Descends st.links x (site m) → IsCovered root start st term m number
-covered root start st zero term x m number tree settled change r =
+-- no change is behind the root
+none_behind : (root : Spot) (start : Applied) (st : History) (x : Spot) (m : Link) (number : ℕ) → IsTree root st.links → x ≡ root → IsChangeLink st.links root start m number → Descends st.links x (site m) → ⊥
+none_behind root start st x m number tree first change r =
     let past = tree.above m change.among in
     let high = lower st.links x (site m) r in
-    let is = ap (λ (y : Spot). y.index) settled in
-    absurd (omega (arith, past, high, is))
+    let is = ap (λ (y : Spot). y.index) first in
+    omega (arith, past, high, is)
+
+covered : (root : Spot) (start : Applied) (st : History) (n term : ℕ) (x : Spot) (m : Link) (number : ℕ) → IsTree root st.links → Settled root start st n term x → IsChangeLink st.links root start m number → Descends st.links x (site m) → IsCovered root start st term m number
+covered root start st zero term x m number tree settled change r = absurd (none_behind root start st x m number tree settled change r)
 covered root start st (suc n) term x m number tree settled change r =
     elim settled as (λ _. IsCovered root start st term m number) [
-      | inl first ↦ covered root start st zero term x m number tree first change r
+      | inl first ↦ absurd (none_behind root start st x m number tree first change r)
       | inr k ↦
           let l = k.0 in
           let d = k.1.decides in

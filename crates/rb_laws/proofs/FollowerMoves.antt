@@ -398,23 +398,23 @@ commits_settled g said st id n i w leads config some held past own h =
     let holders : ℕ → Bool = λ v. holds n.tracker.views i v in
     let quorum : IsQuorum g.setting.config holders = subst (λ (c : Config). IsQuorum c holders) config (record { some = subst (λ (c : Config). 0 < length c.incoming) (sym config) some; decides = held }) in
     let held_by : (v : ℕ) → holders v ≡ true → IsAcked (out_of st) v l.0 = λ v yes.
-          (let matched : i ≤ match_of n.tracker.views v = leb-true i (match_of n.tracker.views v) yes in
-          elim (h.words.counts leads v) as (λ _. IsAcked (out_of st) v l.0) [
-            | inl first ↦ absurd (omega (arith, first, matched, start, commit, past))
-            | inr rest ↦ elim rest as (λ _. IsAcked (out_of st) v l.0) [
-              | inl itself ↦
-                  let e = itself.1 in
-                  let made = s.history.made l.0 l.1 in
-                  let beyond = made.past in
-                  let same : made.election ≡ e.0 = s.history.once made.election e.0 made.among e.1 (made.of_term ∙ term ∙ sym e.2) in
-                  let tips : made.election.tip.index ≡ e.0.tip.index = ap (λ (y : Election). y.tip.index) same in
-                  let low = e.3 in
-                  absurd (omega (arith, beyond, tips, low, matched, index))
-              | inr said_it ↦
-                  let upto = said_it.upto in
-                  record { ack = said_it.ack; among = said_it.among; by = said_it.by; of_term = said_it.of_term ∙ sym term; upto = omega (arith, upto, matched, index) }
-            ]
-          ]) in
+    (let matched : i ≤ match_of n.tracker.views v = leb-true i (match_of n.tracker.views v) yes in
+    elim (h.words.counts leads v) as (λ _. IsAcked (out_of st) v l.0) [
+      | inl first ↦ absurd (omega (arith, first, matched, start, commit, past))
+      | inr rest ↦ elim rest as (λ _. IsAcked (out_of st) v l.0) [
+        | inl itself ↦
+            let e = itself.1 in
+            let made = s.history.made l.0 l.1 in
+            let beyond = made.past in
+            let same : made.election ≡ e.0 = s.history.once made.election e.0 made.among e.1 (made.of_term ∙ term ∙ sym e.2) in
+            let tips : made.election.tip.index ≡ e.0.tip.index = ap (λ (y : Election). y.tip.index) same in
+            let low = e.3 in
+            absurd (omega (arith, beyond, tips, low, matched, index))
+        | inr said_it ↦
+            let upto = said_it.upto in
+            record { ack = said_it.ack; among = said_it.among; by = said_it.by; of_term = said_it.of_term ∙ sym term; upto = omega (arith, upto, matched, index) }
+      ]
+    ]) in
     let committed : IsCommitted g.root g.start st l.0 = record {
       rank = 0;
       is = record {

@@ -81,7 +81,7 @@ led_role n id role.Precandidate t leads h = absurd (let no : role.Precandidate �
 led_role n id role.Candidate t leads h = absurd (let no : role.Candidate ≡ role.Leader = leads in cc)
 led_role n id role.Leader t leads h = h
 
-leads_on : (n : PlainNode) (id : ℕ) (t : NodeStep) → LeadsIn t.node n.term → LeadsIn (stepped t (yes_from n id)).node n.term
+pub leads_on : (n : PlainNode) (id : ℕ) (t : NodeStep) → LeadsIn t.node n.term → LeadsIn (stepped t (yes_from n id)).node n.term
 leads_on n id t h =
     let term = h.of_term in
     by_term (λ (u : NodeStep). LeadsIn u.node n.term) t (yes_from n id)
@@ -115,13 +115,13 @@ winner_leads t =
 -- ---- votes that come
 
 -- a candidate of a term and a configuration
-record Stands (term : ℕ) (c : Config) (ids : List ℕ) (t : NodeStep) : Type 0 where
-  role : t.node.role ≡ role.Candidate
-  of_term : t.node.term ≡ term
-  config : t.node.tracker.config ≡ c
-  unrefused : t.node.votes.refused ≡ []
-  undecided : is_won c t.node.votes ≡ false
-  enough : is_quorum c (λ id. has t.node.votes.granted id || has ids id) ≡ true
+pub record Stands (term : ℕ) (c : Config) (ids : List ℕ) (t : NodeStep) : Type 0 where
+  pub role : t.node.role ≡ role.Candidate
+  pub of_term : t.node.term ≡ term
+  pub config : t.node.tracker.config ≡ c
+  pub unrefused : t.node.votes.refused ≡ []
+  pub undecided : is_won c t.node.votes ≡ false
+  pub enough : is_quorum c (λ id. has t.node.votes.granted id || has ids id) ≡ true
 
 seen : (g e gi ri : Bool) → ri ≡ false → (gi || ri) ≡ true → (e ≡ true → gi ≡ g) → (g || (if e then true else false)) ≡ true → g ≡ true
 seen g e gi ri none before same is = grind arith
@@ -132,7 +132,7 @@ added g e is = grind arith
 either : (g e r new : Bool) → ((g || (if e then true else false)) ≡ true → new ≡ true) → (g || (if e then true else r)) ≡ true → (new || r) ≡ true
 either g e r new counts is = grind arith
 
-none_kept : (g : Bool) → (g || false) ≡ true → g ≡ true
+pub none_kept : (g : Bool) → (g || false) ≡ true → g ≡ true
 none_kept g is = grind arith
 
 none_refused : (xs : List ℕ) (id : ℕ) → xs ≡ [] → has xs id ≡ false
@@ -151,7 +151,7 @@ unfolding answered
 refused_stays v id = if_both (λ (w : Votes). w.refused ≡ v.refused) (has_answered v id) v (record v { granted = with_id v.granted id }) (λ _. refl) (λ _. refl)
 
 -- what becomes of a candidate to which a yes comes
-abbrev Goes_on_with : ℕ → Config → List ℕ → NodeStep → Type 0
+abbrev pub Goes_on_with : ℕ → Config → List ℕ → NodeStep → Type 0
 Goes_on_with term c ids u = LeadsIn u.node term ⊎ Stands term c ids u
 
 -- the votes with one more yes: nobody refused, and those to come are enough
@@ -194,7 +194,7 @@ stood_role n id ids c role.Leader t stands s = absurd (let no : role.Leader ≡ 
 stood_role n id ids c role.Candidate t stands s =
     decides n id ids c t (vote_result t.node.tracker.config (answered t.node.votes id true)) s (ap (λ (x : Config). vote_result x (answered t.node.votes id true)) (sym s.config))
 
-yes_comes : (n : PlainNode) (id : ℕ) (ids : List ℕ) (c : Config) (t : NodeStep) → Stands n.term c (id ∷ ids) t → Goes_on_with n.term c ids (stepped t (yes_from n id))
+pub yes_comes : (n : PlainNode) (id : ℕ) (ids : List ℕ) (c : Config) (t : NodeStep) → Stands n.term c (id ∷ ids) t → Goes_on_with n.term c ids (stepped t (yes_from n id))
 yes_comes n id ids c t s =
     let term = s.of_term in
     by_term (Goes_on_with n.term c ids) t (yes_from n id)
@@ -221,7 +221,7 @@ election_is_won t ids s quorum =
 asked_one_ballot : (n : PlainNode) (to term : ℕ) (question answer : MessageKind) → ((asked_one n to term question answer).votes ≡ n.votes) × ((asked_one n to term question answer).tracker ≡ n.tracker)
 asked_one_ballot n to term question answer = if_both (λ (x : PlainNode). (x.votes ≡ n.votes) × (x.tracker ≡ n.tracker)) (to == n.id) _ _ (λ _. (refl, refl)) (λ _. (refl, refl))
 
-asked_ballot : (n : PlainNode) (ids : List ℕ) (term : ℕ) (question answer : MessageKind) → ((asked n ids term question answer).votes ≡ n.votes) × ((asked n ids term question answer).tracker ≡ n.tracker)
+pub asked_ballot : (n : PlainNode) (ids : List ℕ) (term : ℕ) (question answer : MessageKind) → ((asked n ids term question answer).votes ≡ n.votes) × ((asked n ids term question answer).tracker ≡ n.tracker)
 asked_ballot n [] term question answer = (refl, refl)
 asked_ballot n (id ∷ ids) term question answer =
     let one = asked_one_ballot n id term question answer in
@@ -242,7 +242,7 @@ no_quorum c id votes =
       | inr other ↦ and_right (is_majority c.incoming (λ j. has [] j)) (is_majority c.outgoing (λ j. has [] j)) (none_majority c.outgoing id other)
     ]
 
-stood_undecided : (t : NodeStep) → is_voter t.node.tracker.config t.node.id ≡ true → StillStands (became_candidate t false).node
+pub stood_undecided : (t : NodeStep) → is_voter t.node.tracker.config t.node.id ≡ true → StillStands (became_candidate t false).node
 stood_undecided t votes =
     let n : PlainNode = candidate t.node in
     let question : MessageKind = kind.Vote (last_term n.log) (last n.log) false in
