@@ -94,3 +94,4 @@ pub mod WinLaws
 pub mod AnsweredLaws
 pub mod LineLaws
 pub mod TakingLaws
+pub mod LoneElections

@@ -15,3 +15,4 @@ pub mod Winning
 pub mod Committing
 pub mod Activity
 pub mod Lines
+pub mod LoneElections

@@ -6,6 +6,7 @@
 mod changes;
 mod entries;
 mod laws;
+mod progress;
 mod restarts;
 mod safety;
 
@@ -18,6 +19,7 @@ pub use laws::{
     clusters_elect_one_leader, clusters_keep_logs_matching, elections_are_safe, leaders_are_chosen,
     logs_match, votes_are_cast_once,
 };
+pub use progress::lone_candidates_are_elected;
 pub use restarts::{
     applied_entries_agree_with_restarts, committed_entries_agree_with_restarts,
     contents_agree_with_restarts, elections_are_safe_with_restarts, leaders_have_saved_their_terms,
