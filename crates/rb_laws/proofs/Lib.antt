@@ -95,3 +95,5 @@ pub mod AnsweredLaws
 pub mod LineLaws
 pub mod TakingLaws
 pub mod LoneElections
+pub mod RefusalLaws
+pub mod SendingLaws

@@ -161,3 +161,48 @@ role_transferee role.Candidate t leads due = cc
 
 pub transfer_times_out : (t : NodeStep) → t.node.role ≡ role.Leader → ELECTION_TICKS ≤ next_count t.node.clock.elapsed → HandsToNobody (ticked t)
 transfer_times_out t leads due = role_transferee t.node.role t leads due
+
+-- ---- a look at the quorum
+
+beat_elapsed : (n : PlainNode) (id : ℕ) → (heartbeat_sent_to n id).clock.elapsed ≡ n.clock.elapsed
+beat_elapsed n id = if_both (λ (x : PlainNode). x.clock.elapsed ≡ n.clock.elapsed) (id == n.id) _ _ (λ _. refl) (λ _. refl)
+
+beats_elapsed : (n : PlainNode) (ids : List ℕ) → (heartbeat_sent_to_each n ids).clock.elapsed ≡ n.clock.elapsed
+beats_elapsed n [] = refl
+beats_elapsed n (id ∷ ids) = beats_elapsed (heartbeat_sent_to n id) ids ∙ beat_elapsed n id
+
+due_elapsed : (n : PlainNode) → (due_heartbeats_sent n).clock.elapsed ≡ n.clock.elapsed
+unfolding due_heartbeats_sent
+due_elapsed n =
+    if_both (λ (x : PlainNode). x.clock.elapsed ≡ n.clock.elapsed) (nat_le HEARTBEAT_TICKS n.clock.heartbeat_elapsed) _ _
+    (λ _. beats_elapsed (with_heartbeat_elapsed n 0) (ids_of n.tracker.views)) (λ _. refl)
+
+reset_elapsed : (n : PlainNode) → (activity_reset n).clock.elapsed ≡ n.clock.elapsed
+reset_elapsed n = if_both (λ (x : PlainNode). x.clock.elapsed ≡ n.clock.elapsed) n.options.check_quorum _ _ (λ _. refl) (λ _. refl)
+
+ended_elapsed : (t : NodeStep) → (transfer_ended t).node.clock.elapsed ≡ t.node.clock.elapsed
+unfolding transfer_ended
+ended_elapsed t = if_both (λ (u : NodeStep). u.node.clock.elapsed ≡ t.node.clock.elapsed) (t.node.transferee == 0) _ _ (λ _. refl) (λ _. refl)
+
+looked_elapsed : (t : NodeStep) → t.node.clock.elapsed ≡ 0 → (active_quorum_checked t).node.clock.elapsed ≡ 0
+unfolding active_quorum_checked
+looked_elapsed t starts =
+    let v : NodeStep = with_node t (activity_reset t.node) in
+    let u : NodeStep = transfer_ended v in
+    if_both (λ (x : NodeStep). x.node.clock.elapsed ≡ 0) (has_lost_quorum t.node) _ _ (λ _. refl) (λ _. due_elapsed u.node ∙ ended_elapsed v ∙ reset_elapsed t.node ∙ starts)
+
+ticked_elapsed : (t : NodeStep) → ELECTION_TICKS ≤ next_count t.node.clock.elapsed → (leader_ticked t).node.clock.elapsed ≡ 0
+unfolding leader_ticked
+ticked_elapsed t due =
+    let n : PlainNode = counters_advanced t.node in
+    if_both (λ (x : NodeStep). x.node.clock.elapsed ≡ 0) (nat_le ELECTION_TICKS n.clock.elapsed) _ _ (λ _. looked_elapsed (with_node t (with_elapsed n 0)) refl)
+    (λ no. absurd (false≢true (sym no ∙ le-leb ELECTION_TICKS n.clock.elapsed due)))
+
+role_elapsed : (r : Role) (t : NodeStep) → r ≡ role.Leader → ELECTION_TICKS ≤ next_count t.node.clock.elapsed → (ticked_by r t).node.clock.elapsed ≡ 0
+role_elapsed role.Leader t leads due = ticked_elapsed t due
+role_elapsed role.Follower t leads due = cc
+role_elapsed role.Precandidate t leads due = cc
+role_elapsed role.Candidate t leads due = cc
+
+pub look_restarts : (t : NodeStep) → t.node.role ≡ role.Leader → ELECTION_TICKS ≤ next_count t.node.clock.elapsed → (ticked t).node.clock.elapsed ≡ 0
+look_restarts t leads due = role_elapsed t.node.role t leads due

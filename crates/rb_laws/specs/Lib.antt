@@ -16,3 +16,4 @@ pub mod Committing
 pub mod Activity
 pub mod Lines
 pub mod LoneElections
+pub mod Sending

@@ -2,7 +2,9 @@
 use Rattle.std.specs.Prelude.{ℕ, ◌≡◌, ◌<◌, ◌≤◌, ◌⊎◌, true, false, [], ◌∷◌, ◌++◌, Ok}
 use Rattle.rb_raftlog.specs.Bodies.{is_change}
 use Rattle.rb_raftlog.specs.declared.entry.Entry.{Entry}
-use Rattle.rb_raftlog.specs.Log.{LogValue, entry_at}
+use Rattle.rb_raftlog.specs.Log.{LogValue, entry_at, is_up_to_date}
+use Rattle.rb_message.specs.declared.event.WhyRefused.{WhyRefused}
+use Rattle.rb_message.specs.declared.event.WhyRefused.TheVariants as why_not
 use Rattle.rb_message.specs.declared.hard_state.HardState.{HardState}
 use Rattle.rb_message.specs.declared.kind.MessageKind.{MessageKind}
 use Rattle.rb_message.specs.declared.kind.MessageKind.TheVariants as kind
@@ -43,6 +45,16 @@ NoChangePast v index = (i : ℕ) (e : Entry) → index < i → entry_at v i ≡ 
 -- a leader knows itself as the leader, and up to which index a change may be in its log
 abbrev pub LeadsKnowing : PlainNode → Type 0
 LeadsKnowing n = n.role ≡ Leader → (n.lead ≡ n.id) × NoChangePast n.log n.pending_change
+
+-- ---- a refused vote
+
+-- A reason to refuse a candidate's request holds: its log is older; or the node's vote is another's; or the node has given none, but knows a leader.
+abbrev pub IsReason : PlainNode → Message → ℕ → ℕ → WhyRefused → Type 0
+IsReason n m last_term last_index (why_not.OlderLog term index own_term own_index) =
+    (term ≡ last_term) × (index ≡ last_index) × (is_up_to_date n.log last_index last_term ≡ false)
+IsReason n m last_term last_index (why_not.Voted term vote) = (vote ≡ n.vote) × (vote ≡ 0 → ⊥) × (vote ≡ m.from → ⊥)
+IsReason n m last_term last_index (why_not.KnowsLeader term lead) = (n.vote ≡ 0) × (lead ≡ n.lead) × (lead ≡ 0 → ⊥)
+IsReason n m last_term last_index (why_not.EarlierTerm term own) = m.term < n.term
 
 -- ---- ready
 

@@ -1,5 +1,6 @@
 //! A line says what its item is: each value stands under its name, and each event and each error in its own words.
-ghost use Rattle.std.specs.Prelude.{◌≡◌, ◌++◌, ℕ, true, codes, decimal};
+ghost use Rattle.std.specs.Prelude.{◌≡◌, ◌++◌, ℕ, true, [], ◌∷◌, codes, decimal};
+ghost use Rattle.rb_script.specs.Bytes.{backslash, carriage_return, closing, comma, equals_sign, hyphen, line_feed, number_sign, opening, space, tab};
 ghost use Rattle.rb_vocab.specs.MessageTypes.{type_text};
 ghost use Rattle.rb_vocab.specs.declared.directive_error.DirectiveError.{DirectiveError};
 ghost use Rattle.rb_tracker.specs.Progresses.{PlainProgress};
@@ -40,4 +41,12 @@ pub fn events_are_told()
 /// An error's line says what is wrong.
 pub fn errors_say_what_is_wrong()
     ensures { (e : DirectiveError) → SaysError (error_text e) e }
+{}
+
+/// The bytes that have a meaning in a script are those of ASCII.
+pub fn bytes_are_ascii()
+    ensures blanks { codes " \t" ≡ space ∷ tab ∷ [] }
+    ensures ends { codes "\n\r" ≡ line_feed ∷ carriage_return ∷ [] }
+    ensures signs { codes "#-\\" ≡ number_sign ∷ hyphen ∷ backslash ∷ [] }
+    ensures arguments { codes "=(,)" ≡ equals_sign ∷ opening ∷ comma ∷ closing ∷ [] }
 {}

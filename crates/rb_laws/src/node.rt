@@ -13,7 +13,9 @@ mod rules;
 mod timing;
 mod winning;
 
-pub use actions::{messages_go_out_once, proposals_are_appended, proposals_are_passed_on};
+pub use actions::{
+    members_are_sent_what_they_lack, messages_go_out_once, proposals_are_appended, proposals_are_passed_on,
+};
 pub use activity::members_are_active_by_their_answers;
 pub use committing::{answered_entries_are_committed, leaders_commit_all_that_they_may};
 pub use following::followers_take_what_leaders_send;
@@ -32,8 +34,9 @@ pub use rules::{
     committed_changes_take_effect, earlier_terms_change_nothing,
     followers_commit_what_leaders_tell, full_windows_take_no_entries,
     joint_configurations_are_left, later_terms_are_taken_up, leaders_are_known_by_their_messages,
-    leaders_know_of_changes, pre_votes_look_at_logs, ready_is_the_state,
+    leaders_know_of_changes, pre_votes_look_at_logs, ready_is_the_state, refusals_lead_back,
     snapshots_are_restored_whole, tests_mean_their_names, timers_start_again, transfers_time_out,
+    votes_are_refused_for_a_reason,
 };
 pub use timing::{leaders_send_heartbeats, silence_ends_in_a_campaign};
 pub use winning::elections_are_won;

@@ -1,18 +1,24 @@
 //! What a node does: these laws ask that something happens, where the others say what never does.
-ghost use Rattle.std.specs.Prelude.{◌≡◌, ◌+◌, ◌++◌, ◌<◌, ℕ, List, [], ◌∷◌};
+ghost use Rattle.std.specs.Prelude.{◌≡◌, ◌+◌, ◌-◌, ◌++◌, ◌<◌, ◌≤◌, ℕ, List, [], ◌∷◌, Some, slice_get};
 ghost use Rattle.rb_raftlog.specs.declared.entry.Body.{Body};
 ghost use Rattle.rb_raftlog.specs.declared.entry.Body.TheVariants.{Payload, Change};
-ghost use Rattle.rb_raftlog.specs.Log.{last, own};
+ghost use Rattle.rb_raftlog.specs.Log.{last, own, entries_after};
+ghost use Rattle.rb_tracker.specs.Progresses.{PlainProgress};
 ghost use Rattle.rb_vocab.specs.declared.change.Transition.{Transition};
 ghost use Rattle.rb_vocab.specs.declared.change.Word.{Word};
+ghost use Rattle.rb_message.specs.declared.kind.MessageKind.TheVariants as kinds;
 ghost use Rattle.rb_message.specs.declared.kind.MessageKind.TheVariants.{Proposal};
 ghost use Rattle.rb_message.specs.declared.message.Message.{Message};
 ghost use Rattle.rb_message.specs.declared.role.Role.TheVariants.{Follower};
+ghost use Rattle.rb_node.specs.declared.sends.SendReason.TheVariants.{Tell};
+ghost use Rattle.rb_node.specs.Leading.{leading};
 ghost use Rattle.rb_node.specs.Node.{PlainNode, NodeStep, with_node, message};
 ghost use Rattle.rb_node.specs.Readying.{ready, advanced};
+ghost use Rattle.rb_node.specs.Sends.{append_of, snapshot_of, sends};
 ghost use Rattle.rb_node.specs.Step.{stepped};
 ghost use Rattle.rb_laws.specs.Outgoing.{to_others, to_itself};
 ghost use Rattle.rb_laws.specs.Proposals.{TakesProposals, MayChange};
+ghost use Rattle.rb_laws.specs.Sending.{MaySendTo, IsFirstView};
 
 /// A payload that a leader is asked for is its next entry, of its term and unchanged, unless it hands the lead over, is no member, or its log is
 /// full. So is a change, if each earlier one is applied, and if it leaves a joint configuration or is made of one that isn't joint; an empty entry
@@ -33,4 +39,12 @@ pub fn proposals_are_passed_on()
 pub fn messages_go_out_once()
     ensures out { (n : PlainNode) → (ready n).send ≡ n.sent ++ to_others n.id n.waiting }
     ensures once { (t : NodeStep) (sent waiting : List Message) → to_itself t.node.id waiting ≡ to_itself t.node.id t.node.waiting → advanced (with_node t (record t.node { sent = sent; waiting = waiting })) ≡ advanced t }
+{}
+
+/// A leader sends another member, unless a probe or a snapshot to it is on its way or its window is full, the entries that its view lacks, or a snapshot
+/// if the log begins later. When it begins to lead it probes each other member from the end of its log on.
+pub fn members_are_sent_what_they_lack()
+    ensures entries { (n : PlainNode) (to : ℕ) (view : PlainProgress) → MaySendTo n to view → n.log.base ≤ view.next - 1 → (sends n to Tell).sent ≡ n.sent ++ message n.id to n.term (append_of n view.next (entries_after n.log (view.next - 1))) ∷ [] }
+    ensures snapshot { (n : PlainNode) (to : ℕ) (view : PlainProgress) → MaySendTo n to view → view.next - 1 < n.log.base → (sends n to Tell).sent ≡ n.sent ++ message n.id to n.term (kinds.Snapshot (snapshot_of n)) ∷ [] }
+    ensures first { (n : PlainNode) (k : ℕ) (e : ℕ × PlainProgress) → slice_get (leading n).tracker.views k ≡ Some e → (e.0 ≡ n.id → ⊥) → IsFirstView n e.1 }
 {}

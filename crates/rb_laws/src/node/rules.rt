@@ -1,5 +1,5 @@
 //! What a single call of a node does by Raft's rules, one law for each rule that the laws over any calls don't need.
-ghost use Rattle.std.specs.Prelude.{◌≡◌, ◌≤◌, ◌<◌, ◌⊎◌, ◌+◌, ◌++◌, ℕ, Bool, true, false, List, [], ◌∷◌, length, Contains, Ok, Some, None, slice_get};
+ghost use Rattle.std.specs.Prelude.{◌≡◌, ◌≤◌, ◌<◌, ◌⊎◌, ◌+◌, ◌++◌, ℕ, Bool, true, false, max, List, [], ◌∷◌, length, Contains, Ok, Some, None, slice_get};
 ghost use Rattle.rb_raftlog.specs.declared.entry.Body.TheVariants.{Change};
 ghost use Rattle.rb_raftlog.specs.declared.entry.Entry.{Entry};
 ghost use Rattle.rb_raftlog.specs.declared.limits.TheConstants.{MAX_INDEX};
@@ -8,13 +8,13 @@ ghost use Rattle.rb_raftlog.specs.Log.{LogValue, last, term_at, entry_at, is_ter
 ghost use Rattle.rb_vocab.specs.declared.change.Transition.TheVariants.{Auto};
 ghost use Rattle.rb_tracker.specs.Active.{quorum_active, is_active};
 ghost use Rattle.rb_tracker.specs.Configs.{is_joint, is_voter, voters};
-ghost use Rattle.rb_tracker.specs.Progresses.{PlainProgress, sent, acked, freed_through};
+ghost use Rattle.rb_tracker.specs.Progresses.{PlainProgress, sent, acked, freed_through, refused};
 ghost use Rattle.rb_tracker.specs.Quorum.{IsQuorum};
 ghost use Rattle.rb_tracker.specs.Sets.{has};
 ghost use Rattle.rb_tracker.specs.Trackers.{PlainTracker, place, view_at};
 ghost use Rattle.rb_tracker.specs.Windows.{is_full};
 ghost use Rattle.rb_tracker.specs.declared.config.Config.{Config};
-ghost use Rattle.rb_tracker.specs.declared.progress.ProgressState.TheVariants.{Replicate};
+ghost use Rattle.rb_tracker.specs.declared.progress.ProgressState.TheVariants.{Probe, Replicate};
 ghost use Rattle.rb_message.specs.Messages.{has_term};
 ghost use Rattle.rb_message.specs.declared.hard_state.HardState.{HardState};
 ghost use Rattle.rb_message.specs.declared.kind.MessageKind.TheVariants as kinds;
@@ -31,10 +31,11 @@ ghost use Rattle.rb_node.specs.Readying.{applying, ready};
 ghost use Rattle.rb_node.specs.Sends.{sends};
 ghost use Rattle.rb_node.specs.Step.{stepped};
 ghost use Rattle.rb_node.specs.Ticking.{next_count};
+ghost use Rattle.rb_node.specs.Votes.{grants, why_refused};
 ghost use Rattle.rb_calls.specs.Calling.{Call, Tick, after, run};
 ghost use Rattle.rb_calls.specs.Elections.{own_turn};
 ghost use Rattle.rb_calls.specs.Learning.{IsLeaders, LearnsBy, IsRestored, KeepsState};
-ghost use Rattle.rb_laws.specs.Rules.{ShowsTerm, HasNoLease, KnowsLeader, LeadsKnowing, IsHardStateOf, SendsNoEntries, HasChangeIn};
+ghost use Rattle.rb_laws.specs.Rules.{ShowsTerm, IsReason, HasNoLease, KnowsLeader, LeadsKnowing, IsHardStateOf, SendsNoEntries, HasChangeIn};
 ghost use Rattle.rb_calls.specs.Sound.{IsSound};
 
 /// A node that doesn't lead in a message's term learns of a commit by its leader's messages alone: by an append that follows an entry of its
@@ -61,10 +62,16 @@ pub fn pre_votes_look_at_logs()
     ensures { (t : NodeStep) (m : Message) (last_term last_index : ℕ) → m.kind ≡ PreVote last_term last_index → is_up_to_date t.node.log last_index last_term ≡ false → ((stepped t m).node.waiting ≡ t.node.waiting) ⊎ ((stepped t m).node.waiting ≡ t.node.waiting ++ message t.node.id m.from t.node.term (PreVoteResponse false) ∷ []) }
 {}
 
-/// A leader's message starts the election timer of its followers again, and so does a vote that is given.
+/// A vote is refused for a reason that holds: the candidate's log is older, or another node has the vote, or a leader is known.
+pub fn votes_are_refused_for_a_reason()
+    ensures { (n : PlainNode) (m : Message) (last_term last_index : ℕ) (pre_vote : Bool) → grants n m last_term last_index pre_vote ≡ false → IsReason n m last_term last_index (why_refused n m last_term last_index pre_vote) }
+{}
+
+/// A leader's message starts the election timer of its followers again, and so does a vote that is given. A leader's look at its quorum starts its own.
 pub fn timers_start_again()
     ensures leader { (t : NodeStep) (m : Message) → IsLeaders m.kind → t.node.term ≤ m.term → (t.node.role ≡ Leader → t.node.term < m.term) → (stepped t m).node.clock.elapsed ≡ 0 }
     ensures vote { (t : NodeStep) (m : Message) (last_term last_index : ℕ) (transfer : Bool) → m.kind ≡ Vote last_term last_index transfer → ((stepped t m).node.vote ≡ t.node.vote) ⊎ ((stepped t m).node.clock.elapsed ≡ 0) }
+    ensures look { (t : NodeStep) → t.node.role ≡ Leader → ELECTION_TICKS ≤ next_count t.node.clock.elapsed → (after Tick t).node.clock.elapsed ≡ 0 }
 {}
 
 /// A node knows of no other leader than itself, if it leads, and the sender of a leader's message of its term. While it knows of one, it
@@ -112,6 +119,15 @@ pub fn full_windows_take_no_entries()
     ensures sent { (p : PlainProgress) (last : ℕ) → ((sent p last).window.in_flight ≡ p.window.in_flight) ⊎ ((sent p last).window.in_flight ≡ p.window.in_flight ++ last ∷ []) }
     ensures acked { (p : PlainProgress) (index i : ℕ) → p.state ≡ Replicate → Contains p.window.in_flight i → index < i → Contains (acked p index).window.in_flight i }
     ensures freed { (p : PlainProgress) (index i : ℕ) → p.state ≡ Replicate → Contains p.window.in_flight i → index < i → Contains (freed_through p index).window.in_flight i }
+{}
+
+/// A refusal leads a probe back: what is sent next begins past what the member is known to hold, and else at most one past its hint and not past what it
+/// refused. So it is sent sooner or later what its log lacks.
+pub fn refusals_lead_back()
+    ensures ahead { (p : PlainProgress) (index hint : ℕ) → p.state ≡ Probe → p.matched < (refused p index hint).next }
+    ensures hint { (p : PlainProgress) (index hint : ℕ) → p.state ≡ Probe → (refused p index hint).next ≤ max (p.matched + 1) (hint + 1) }
+    ensures back { (p : PlainProgress) (index hint : ℕ) → p.state ≡ Probe → (refused p index hint).next ≤ max (p.matched + 1) index }
+    ensures goes_on { (p : PlainProgress) (index hint : ℕ) → p.state ≡ Probe → (refused p index hint).waiting ≡ false }
 {}
 
 /// A leader's look at its quorum ends a transfer.
