@@ -97,3 +97,4 @@ pub mod TakingLaws
 pub mod LoneElections
 pub mod RefusalLaws
 pub mod SendingLaws
+pub mod ScriptLaws

@@ -1,11 +1,12 @@
 -- What is ready is the node's state (Ongaro's thesis, section 3.8 and figure 3.1), and what the tests of a node's rules mean
-use Rattle.std.proofs.Common.{◌≡◌, ℕ, zero, suc, ◌+◌, ◌-◌, ◌<◌, ◌≤◌, Bool, true, false, ◌&&◌, ◌||◌, ◌==◌, List, [], ◌∷◌, length, Option, Some, None, Ok, refl, sym, ap, ◌∙◌, arith, eqb-true, inl, inr}
+use Rattle.std.proofs.Common.{◌≡◌, ℕ, zero, suc, ◌+◌, ◌-◌, ◌<◌, ◌≤◌, Bool, true, false, ◌&&◌, ◌||◌, ◌==◌, List, [], ◌∷◌, ◌++◌, length, Option, Some, None, Ok, refl, sym, ap, ◌∙◌, arith, eqb-true, inl, inr}
 use Rattle.std.specs.Prelude.{slice_get}
 use Rattle.std.specs.List.{list_any}
+use Rattle.std.specs.Option.{option_map}
 use Rattle.std.proofs.lemmas.Bool.{false≢true, cases_Bool, or_left, or_right}
 use Rattle.rb_raftlog.specs.Bodies.{is_change}
 use Rattle.rb_raftlog.specs.declared.entry.Entry.{Entry}
-use Rattle.rb_raftlog.specs.Log.{LogValue, entry_at, between, has_change}
+use Rattle.rb_raftlog.specs.Log.{LogValue, entry_at, between, has_change, last_of}
 use Rattle.rb_raftlog.proofs.PlaceLaws.{between-entries, between-all, not_durable-entries}
 use Rattle.rb_tracker.proofs.ChangeLaws.{has_union}
 use Rattle.rb_tracker.proofs.SetLaws.{if_both}
@@ -102,3 +103,19 @@ change_is_seen v after upto above has =
     let place : after + 1 + k ≡ has.index = omega (arith, past) in
     at_any (λ (e : Entry). is_change e.body) (between v after upto) k has.entry
     (between-all v after upto k has.entry above (omega (arith, place, within)) (ap (entry_at v) place ∙ has.held)) has.changes
+
+-- ---- the last of some entries
+
+last_got : (es : List Entry) (e : Entry) → slice_get (es ++ e ∷ []) (length es) ≡ Some e
+last_got [] e = refl
+last_got (x ∷ xs) e = last_got xs e
+
+length_push : (es : List Entry) (e : Entry) → length (es ++ e ∷ []) ≡ length es + 1
+length_push [] e = refl
+length_push (x ∷ xs) e = (let rest = length_push xs e in omega (arith, rest))
+
+one_more : (es : List Entry) (e : Entry) → length (es ++ e ∷ []) - 1 ≡ length es
+one_more es e = (let size = length_push es e in omega (arith, size))
+
+pub last_of_last : (es : List Entry) (e : Entry) → last_of (es ++ e ∷ []) ≡ Some e.term
+last_of_last es e = ap (λ (o : Option Entry). option_map (λ (x : Entry). x.term) o) (ap (slice_get (es ++ e ∷ [])) (one_more es e) ∙ last_got es e)

@@ -17,3 +17,4 @@ pub mod Activity
 pub mod Lines
 pub mod LoneElections
 pub mod Sending
+pub mod Scripts

@@ -4,3 +4,4 @@
 pub mod cluster;
 pub mod lines;
 pub mod node;
+pub mod scripts;

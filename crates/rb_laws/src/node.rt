@@ -14,7 +14,8 @@ mod timing;
 mod winning;
 
 pub use actions::{
-    members_are_sent_what_they_lack, messages_go_out_once, proposals_are_appended, proposals_are_passed_on,
+    members_are_sent_what_they_lack, messages_go_out_once, proposals_are_appended,
+    proposals_are_passed_on,
 };
 pub use activity::members_are_active_by_their_answers;
 pub use committing::{answered_entries_are_committed, leaders_commit_all_that_they_may};

@@ -4,7 +4,7 @@ ghost use Rattle.rb_raftlog.specs.declared.entry.Body.TheVariants.{Change};
 ghost use Rattle.rb_raftlog.specs.declared.entry.Entry.{Entry};
 ghost use Rattle.rb_raftlog.specs.declared.limits.TheConstants.{MAX_INDEX};
 ghost use Rattle.rb_raftlog.specs.declared.snapshot.Snapshot.{Snapshot};
-ghost use Rattle.rb_raftlog.specs.Log.{LogValue, last, term_at, entry_at, is_term, is_up_to_date, own, has_change};
+ghost use Rattle.rb_raftlog.specs.Log.{LogValue, last, term_at, entry_at, is_term, is_up_to_date, own, has_change, last_of};
 ghost use Rattle.rb_vocab.specs.declared.change.Transition.TheVariants.{Auto};
 ghost use Rattle.rb_tracker.specs.Active.{quorum_active, is_active};
 ghost use Rattle.rb_tracker.specs.Configs.{is_joint, is_voter, voters};
@@ -136,13 +136,14 @@ pub fn transfers_time_out()
 {}
 
 /// The tests of the rules mean what they are named for: a quorum is active if a quorum of the configuration was heard of; an id is a voter's
-/// if it is among the voters; entries have a change if one of them is a change.
+/// if it is among the voters; entries have a change if one of them is a change; their last term is that of the last of them.
 pub fn tests_mean_their_names()
     ensures quorum { (t : PlainTracker) → 0 < length t.config.incoming → quorum_active t ≡ true → IsQuorum t.config (λ id. is_active t.views id) }
     ensures active { (t : PlainTracker) → IsQuorum t.config (λ id. is_active t.views id) → quorum_active t ≡ true }
     ensures voter { (c : Config) (id : ℕ) → is_voter c id ≡ has (voters c) id }
     ensures change { (v : LogValue) (after upto : ℕ) → v.base ≤ after → has_change v after upto ≡ true → HasChangeIn v after upto }
     ensures changes { (v : LogValue) (after upto : ℕ) → v.base ≤ after → HasChangeIn v after upto → has_change v after upto ≡ true }
+    ensures last { (es : List Entry) (e : Entry) → last_of (es ++ e ∷ []) ≡ Some e.term }
 {}
 
 /// A leader knows itself as the leader, and up to which index a change of the configuration may be in its log: no entry past it is a change. So a

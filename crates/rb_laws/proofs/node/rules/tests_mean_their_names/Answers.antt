@@ -1,4 +1,4 @@
-use Rattle.rb_laws.proofs.StateLaws.{active_quorum, quorum_is_active, voter_is, change_is_there, change_is_seen}
+use Rattle.rb_laws.proofs.StateLaws.{active_quorum, quorum_is_active, voter_is, change_is_there, change_is_seen, last_of_last}
 use Rattle.rb_laws.proofs.node.rules.tests_mean_their_names.Goals as goal
 
 pub returns-clause-quorum : goal.returns-clause-quorum
@@ -15,3 +15,6 @@ returns-clause-change c = λ v after upto. change_is_there v after upto
 
 pub returns-clause-changes : goal.returns-clause-changes
 returns-clause-changes c = λ v after upto. change_is_seen v after upto
+
+pub returns-clause-last : goal.returns-clause-last
+returns-clause-last c = λ es e. last_of_last es e
