@@ -40,8 +40,9 @@ WATCHED = (
     watched("ready_is_the_state", "what is saved is the state", "unsaved state sets sync"),
     watched("ready_is_exact messages_go_out_once", "comes to rest"),
     watched(
-        "elections_are_won silence_ends_in_a_campaign leaders_send_heartbeats proposals_are_appended followers_take_what_leaders_send "
-        "leaders_commit_all_that_they_may answered_entries_are_committed transfers_time_out", "heals",
+        "lone_candidates_are_elected elections_are_won silence_ends_in_a_campaign leaders_send_heartbeats proposals_are_appended "
+        "members_are_sent_what_they_lack refusals_lead_back followers_take_what_leaders_send leaders_commit_all_that_they_may "
+        "answered_entries_are_committed transfers_time_out", "heals",
     ),
     watched("timers_start_again candidates_disturb_nobody lost_quorums_end_a_lead", none="clocks aren't shown"),
     watched(
@@ -59,7 +60,10 @@ WATCHED = (
     ),
     watched("entries_were_proposed", none="libraries add entries of their own"),
     watched("nodes_stay_sound calls_are_these events_are_only_added tests_mean_their_names", none="about these definitions"),
-    watched("states_are_shown_by_name messages_are_shown_by_name events_are_told errors_say_what_is_wrong", none="about what raftbench prints"),
+    watched(
+        "states_are_shown_by_name messages_are_shown_by_name events_are_told errors_say_what_is_wrong votes_are_refused_for_a_reason "
+        "moved_messages_are_shown what_is_done_may_be_done bytes_are_ascii", none="about what raftbench reads and prints",
+    ),
 )
 # Promises about what no law says.
 WITHOUT_A_LAW = {
