@@ -156,10 +156,6 @@ go_up ls root start low from (suc d) x h at =
 pub up_from : (ls : List Link) (root : Spot) (start low : Applied) (x from : Spot) → Descends ls x from → IsMade ls root start from low → Up ls root start low x
 up_from ls root start low x from r at = go_up ls root start low from r.steps x r.down at
 
--- each spot that is above the root has something made
-pub made_there : (ls : List Link) (root : Spot) (start : Applied) (x : Spot) → Descends ls x root → (s : Applied) × IsMade ls root start x s
-made_there ls root start x r = (let u = up_from ls root start start x root r (root_made ls root start) in (u.made, u.is))
-
 -- the number of changes rises
 pub rises : (root : Spot) (ls : List Link) (start : Applied) (x low : Spot) (s t : Applied) → IsTree root ls → Descends ls x low → IsMade ls root start low s → IsMade ls root start x t → s.changes ≤ t.changes
 rises root ls start x low s t tree r at top =

@@ -88,9 +88,6 @@ still_of_term old new term x more h = record {
   descends = still_descends old.links new.links h.tip x more.links h.descends;
 }
 
-pub still_acked : (old new : History) (v : ℕ) (l : Link) → IsMore old new → IsAcked old v l → IsAcked new v l
-still_acked old new v l more h = record { ack = h.ack; among = more.acks h.ack h.among; by = h.by; of_term = h.of_term; upto = h.upto }
-
 pub still_lacks : (old new : History) (term : ℕ) (l : Link) → IsMore old new → Lacks old term l → Lacks new term l
 still_lacks old new term l more h = record {
   election = h.election;
