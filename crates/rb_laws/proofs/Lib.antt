@@ -98,3 +98,4 @@ pub mod LoneElections
 pub mod RefusalLaws
 pub mod SendingLaws
 pub mod ScriptLaws
+pub mod BroadcastLaws
