@@ -98,4 +98,3 @@ pub mod LoneElections
 pub mod RefusalLaws
 pub mod SendingLaws
 pub mod ScriptLaws
-pub mod BroadcastLaws

@@ -1,5 +1,5 @@
 //! What a single call of a node does by Raft's rules, one law for each rule that the laws over any calls don't need.
-ghost use Rattle.std.specs.Prelude.{◌≡◌, ◌≤◌, ◌<◌, ◌⊎◌, ◌+◌, ◌++◌, ℕ, Bool, true, false, max, min, List, [], ◌∷◌, length, Contains, Ok, Some, None, slice_get};
+ghost use Rattle.std.specs.Prelude.{◌≡◌, ◌≤◌, ◌<◌, ◌⊎◌, ◌+◌, ◌++◌, ℕ, Bool, true, false, max, List, [], ◌∷◌, length, Contains, Ok, Some, None, slice_get};
 ghost use Rattle.rb_raftlog.specs.declared.entry.Body.TheVariants.{Change};
 ghost use Rattle.rb_raftlog.specs.declared.entry.Entry.{Entry};
 ghost use Rattle.rb_raftlog.specs.declared.limits.TheConstants.{MAX_INDEX};
@@ -121,13 +121,12 @@ pub fn full_windows_take_no_entries()
     ensures freed { (p : PlainProgress) (index i : ℕ) → p.state ≡ Replicate → Contains p.window.in_flight i → index < i → Contains (freed_through p index).window.in_flight i }
 {}
 
-/// A refusal leads a probe back: what is sent next begins past what the member is known to hold, and else one past its hint, or where it refused, if that
-/// is sooner.
+/// A refusal leads a probe back: what is sent next begins past what the member is known to hold, and else at most one past its hint and not past what it
+/// refused. So it is sent sooner or later what its log lacks.
 pub fn refusals_lead_back()
     ensures ahead { (p : PlainProgress) (index hint : ℕ) → p.state ≡ Probe → p.matched < (refused p index hint).next }
     ensures hint { (p : PlainProgress) (index hint : ℕ) → p.state ≡ Probe → (refused p index hint).next ≤ max (p.matched + 1) (hint + 1) }
     ensures back { (p : PlainProgress) (index hint : ℕ) → p.state ≡ Probe → (refused p index hint).next ≤ max (p.matched + 1) index }
-    ensures far { (p : PlainProgress) (index hint : ℕ) → p.state ≡ Probe → min index (hint + 1) ≤ (refused p index hint).next }
     ensures goes_on { (p : PlainProgress) (index hint : ℕ) → p.state ≡ Probe → (refused p index hint).waiting ≡ false }
 {}
 
