@@ -9,6 +9,7 @@ use rb_book::{BookFault, Chapter, title_of};
 use rb_files::{PathError, opened};
 use rb_script::MAX_SCRIPT;
 use rb_text::{ReadFault, ReadSource, read_up_to};
+use std::alloc::{AllocError, Global};
 use std::io;
 use std::path::Path;
 use std::rt::Files;
@@ -24,7 +25,7 @@ pub(crate) fn add_chapters<R: Files + AllocGlobal>(
 ) -> Result<(), SiteFault> {
     for path in scripts {
         if let Some(chapter) = chapter(rt, root, path.as_str(), only_differing)? {
-            chapters.push(chapter)?;
+            add_chapter(rt.alloc(), chapters, chapter)?;
         }
     }
     Ok(())
@@ -55,6 +56,8 @@ fn chapter<R: Files + AllocGlobal>(
         title,
         script,
         differs: ran.differs,
+        last: None,
+        following: None,
     }))
 }
 
@@ -88,4 +91,17 @@ fn place_of<'a>(root: &str, path: &'a str) -> &'a str {
         Some(place) => place,
         None => place,
     }
+}
+
+// Adds a chapter. It and the last one before it know each other's place.
+fn add_chapter(
+    alloc: Global,
+    chapters: &mut Vec<Chapter>,
+    mut chapter: Chapter,
+) -> Result<(), AllocError> {
+    if let Some(last) = chapters.last_mut() {
+        last.following = Some(String::from_str(alloc, chapter.place.as_str())?);
+        chapter.last = Some(String::from_str(alloc, last.place.as_str())?);
+    }
+    Ok(chapters.push(chapter)?)
 }
