@@ -14,9 +14,7 @@ pub mod Methods
 pub mod Beginnings
 pub mod Documents
 pub mod DocumentChanges
-pub mod Inquiries
 pub mod Meanings
-pub mod Reports
 pub mod Questions
 pub mod Notices
 pub mod Replies

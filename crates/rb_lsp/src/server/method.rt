@@ -16,10 +16,6 @@ pub(crate) enum Question {
     Definition,
     References,
     DocumentHighlight,
-    CodeLens,
-    InlayHint,
-    Diagnostic,
-    SelectionRange,
 }
 
 /// A method.
@@ -51,10 +47,6 @@ fn whole_method(name: &str) -> Method
         Method::Asks(Question::FoldingRange)
     } else if name == "textDocument/documentSymbol" {
         Method::Asks(Question::DocumentSymbol)
-    } else if name == "textDocument/codeLens" {
-        Method::Asks(Question::CodeLens)
-    } else if name == "textDocument/diagnostic" {
-        Method::Asks(Question::Diagnostic)
     } else {
         Method::Unknown
     }
@@ -73,10 +65,6 @@ fn message_method(name: &str) -> Method
         Method::Asks(Question::DocumentHighlight)
     } else if name == "textDocument/rangeFormatting" {
         Method::Asks(Question::RangeFormatting)
-    } else if name == "textDocument/inlayHint" {
-        Method::Asks(Question::InlayHint)
-    } else if name == "textDocument/selectionRange" {
-        Method::Asks(Question::SelectionRange)
     } else {
         whole_method(name)
     }
