@@ -9,6 +9,7 @@ pub mod Reading
 pub mod Said
 pub mod Answers
 pub mod Params
+pub mod ItemSpans
 pub mod Cancels
 pub mod Methods
 pub mod Beginnings
