@@ -17,7 +17,6 @@ pub mod RunLaws
 pub mod WorkLaws
 pub mod StopLaws
 pub mod ServedLaws
-pub mod SomeRowLaws
 pub mod FixLaws
 pub mod FrontLaws
 pub mod CompletingLaws

@@ -17,7 +17,6 @@ pub mod RangeFormatting
 pub mod Corrections
 pub mod Actions
 pub mod Completing
-pub mod SomeRows
 pub mod Meanings
 pub mod Edits
 pub mod ActionLaws

@@ -34,7 +34,6 @@ mod run;
 mod same_directives;
 mod served;
 mod shown_message;
-mod some_rows;
 mod stopped_text;
 mod stopping;
 mod work_meter;

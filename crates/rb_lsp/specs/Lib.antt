@@ -9,7 +9,6 @@ pub mod Reading
 pub mod Said
 pub mod Answers
 pub mod Params
-pub mod ItemSpans
 pub mod Cancels
 pub mod Methods
 pub mod Beginnings

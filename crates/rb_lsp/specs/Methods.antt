@@ -1,10 +1,9 @@
--- The methods that a server knows, by name. (LSP 3.17; `raftbench/rows` is this project's.)
+-- The methods that a server knows, by name. (LSP 3.17.)
 use Rattle.std.specs.Prelude.{ℕ, Bool, true, false, List, codes, if◌then◌else◌}
 use Rattle.std.specs.Str.{bytes_eq}
 use Rattle.rb_lsp.specs.declared.server.method.Method.{Method}
 use Rattle.rb_lsp.specs.declared.server.method.Method.TheVariants.{Initialize, Shutdown, Exit, DidOpen, DidChange, DidClose, Asks, Unknown}
 use Rattle.rb_lsp.specs.declared.server.method.Question.TheVariants.{CodeAction, Formatting, RangeFormatting, Hover, Completion, FoldingRange, DocumentSymbol, Definition, References, DocumentHighlight}
-use Rattle.rb_lsp.specs.declared.server.method.Question.TheVariants.{Rows}
 
 -- that asks something of a whole document
 unfoldable pub whole_method : List ℕ → Method
@@ -24,7 +23,7 @@ message_method name =
 unfoldable pub question_method : List ℕ → Method
 question_method name =
     if bytes_eq name (codes "textDocument/hover") then Asks Hover
-    else (if bytes_eq name (codes "textDocument/codeAction") then Asks CodeAction else (if bytes_eq name (codes "textDocument/completion") then Asks Completion else (if bytes_eq name (codes "raftbench/rows") then Asks Rows else message_method name)))
+    else (if bytes_eq name (codes "textDocument/codeAction") then Asks CodeAction else (if bytes_eq name (codes "textDocument/completion") then Asks Completion else message_method name))
 
 -- of a document
 unfoldable pub document_method : List ℕ → Method

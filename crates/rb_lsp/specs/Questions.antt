@@ -12,8 +12,6 @@ use Rattle.rb_lsp.specs.declared.server.query.Query.{Query}
 use Rattle.rb_lsp.specs.declared.server.query.Query.TheVariants as asks
 use Rattle.rb_lsp.specs.declared.server.method.Question.{Question}
 use Rattle.rb_lsp.specs.declared.server.method.Question.TheVariants.{CodeAction, Formatting, RangeFormatting, Hover, Completion, FoldingRange, DocumentSymbol, Definition, References, DocumentHighlight}
-use Rattle.rb_lsp.specs.declared.server.method.Question.TheVariants.{Rows}
-use Rattle.rb_lsp.specs.ItemSpans.{span_of}
 use Rattle.rb_lsp.specs.Documents.{PlainDocument, text_of}
 use Rattle.rb_lsp.specs.declared.server.reach.Reach.{Reach}
 use Rattle.rb_lsp.specs.declared.server.reach.Reach.TheVariants.{Stopped, Cancelled, NoMemory}
@@ -32,7 +30,6 @@ asked_of CodeAction d = option_map (λ range. asks.CodeAction range) (range_at (
 asked_of Formatting d = Some asks.Formatting
 asked_of RangeFormatting d = option_map (λ range. asks.RangeFormatting range) (range_at (codes "range") d)
 asked_of Hover d = option_map (λ position. asks.Hover position) (position_at (codes "position") d)
-asked_of Rows d = option_map (λ span. asks.Rows span) (span_of d)
 asked_of Completion d = option_map (λ position. asks.Completion position) (position_at (codes "position") d)
 asked_of FoldingRange d = Some asks.FoldingRange
 asked_of DocumentSymbol d = Some asks.DocumentSymbol

@@ -16,7 +16,6 @@ mod beginning;
 mod changes;
 mod client;
 mod documents;
-mod item_span;
 mod laws;
 mod limits;
 mod method;
@@ -35,7 +34,6 @@ mod stop;
 
 pub use crate::rpc::ServeFault;
 pub use client::Client;
-pub use item_span::ItemSpan;
 pub use laws::{
     conversations_are_one, notifications_have_no_answer, refusals_are_told,
     requests_have_one_answer, results_stand_in_answers, texts_are_answered, texts_are_diagnosed,

@@ -7,7 +7,6 @@
 
 mod accepted;
 mod brief;
-mod cell_count;
 mod colors;
 mod diff;
 mod end;
@@ -40,7 +39,6 @@ mod why;
 
 pub use accepted::put_accepted;
 pub use brief::put_brief;
-pub use cell_count::cells_left;
 pub use colors::Colors;
 pub use diff::{put_diff_within, put_explained_diff};
 pub use failure::{Failure, failure_sentence, put_failure};

@@ -20,7 +20,6 @@ use crate::actions::message_places::{add_definition, add_highlights, add_referen
 use crate::actions::publishing::add_list;
 use crate::actions::range_formatting::add_range_formatting;
 use crate::actions::served::{shown, text_for};
-use crate::actions::some_rows::add_rows;
 use crate::actions::stopping::KeptRun;
 use crate::actions::work_meter::WorkMeter;
 use crate::offers::{add_folds, add_formatting, add_symbols};
@@ -112,7 +111,7 @@ impl Service for Bench {
 fn needs_run(asked: Query) -> bool
     ensures { result ≡ needs_run asked }
 {
-    matches!(asked, Query::CodeAction(_) | Query::Hover(_) | Query::Rows(_))
+    matches!(asked, Query::CodeAction(_) | Query::Hover(_))
 }
 
 impl Bench {
@@ -161,7 +160,6 @@ impl Bench {
                 add_references(alloc, out, document, position, includes)
             }
             Query::DocumentHighlight(position) => add_highlights(alloc, out, document, position),
-            Query::Rows(span) => add_rows(alloc, out, document, span, run, &mut meter),
         }
     }
 }

@@ -84,18 +84,6 @@ impl BoundedCluster {
     ghost use Rattle.rb_machine.specs.Outcome.{execution, lines_at, shown_items};
     ghost use Rattle.rb_editor.specs.Work.{work_after};
 
-    /// The cluster alone.
-    pub(crate) fn into_cluster(self) -> Cluster<SplitLog>
-        ensures { result ≡ self.cluster }
-    {
-        let BoundedCluster {
-            alloc: _,
-            cluster,
-            work: _,
-        } = self;
-        cluster
-    }
-
     // Runs a directive, and returns what it prints.
     fn printed(
         &mut self,

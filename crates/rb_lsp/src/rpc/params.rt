@@ -50,8 +50,8 @@ pub fn range_at(params: &Value, key: &str) -> Option<Range>
     })
 }
 
-/// The natural number at a key.
-pub fn number_at(params: &Value, key: &str) -> Option<u64>
+// The natural number at a key.
+fn number_at(params: &Value, key: &str) -> Option<u64>
     ensures { result ≡ number_at key.now (view params.now) }
 {
     params.get(key).and_then(Value::as_u64)

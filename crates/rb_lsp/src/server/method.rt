@@ -10,7 +10,6 @@ pub(crate) enum Question {
     Formatting,
     RangeFormatting,
     Hover,
-    Rows,
     Completion,
     FoldingRange,
     DocumentSymbol,
@@ -82,8 +81,6 @@ fn question_method(name: &str) -> Method
         Method::Asks(Question::CodeAction)
     } else if name == "textDocument/completion" {
         Method::Asks(Question::Completion)
-    } else if name == "raftbench/rows" {
-        Method::Asks(Question::Rows)
     } else {
         message_method(name)
     }

@@ -6,7 +6,6 @@ ghost use Rattle.rb_lsp.specs.Questions.{asked_of, includes_definition, says_inc
 
 use crate::document::{Position, Range};
 use crate::rpc::{position_at, range_at};
-use crate::server::item_span::{ItemSpan, span_of};
 use crate::server::method::Question;
 use serde_json::Value;
 
@@ -21,8 +20,6 @@ pub enum Query {
     RangeFormatting(Range),
     /// The hover at a position.
     Hover(Position),
-    /// The rows that a page has of some items.
-    Rows(ItemSpan),
     /// The completions at a position.
     Completion(Position),
     /// The folding ranges.
@@ -63,7 +60,6 @@ pub(crate) fn asked_of(question: Question, params: &Value) -> Option<Query>
         Question::Formatting => Some(Query::Formatting),
         Question::RangeFormatting => Some(Query::RangeFormatting(range_at(params, "range")?)),
         Question::Hover => Some(Query::Hover(position_at(params, "position")?)),
-        Question::Rows => Some(Query::Rows(span_of(params)?)),
         Question::Completion => Some(Query::Completion(position_at(params, "position")?)),
         Question::FoldingRange => Some(Query::FoldingRange),
         Question::DocumentSymbol => Some(Query::DocumentSymbol),
