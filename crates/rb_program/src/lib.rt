@@ -9,6 +9,7 @@
 
 mod arguments;
 mod chart;
+mod chart_format;
 mod chart_over;
 mod checking;
 mod clap_text;
