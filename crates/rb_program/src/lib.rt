@@ -9,7 +9,6 @@
 
 mod arguments;
 mod chart;
-mod chart_format;
 mod chart_over;
 mod checking;
 mod clap_text;
