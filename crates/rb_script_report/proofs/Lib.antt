@@ -1,5 +1,6 @@
 pub mod EachLaws
 pub mod ShownLaws
+pub mod RunLaws
 pub mod MismatchLaws
 pub mod AcceptLaws
 pub mod DoubtLaws

@@ -1,4 +1,5 @@
 pub mod Errors
+pub mod Ran
 pub mod Checked
 pub mod Shows
 pub mod Accepting

@@ -1,0 +1,94 @@
+-- The results of a check: of each path what is counted of it, and what is listed. (This project's.)
+use Rattle.std.specs.Prelude.{ℕ, ◌-◌, ◌==◌, ◌++◌, Bool, if◌then◌else◌, List, [], ◌∷◌, Option, None, Some, length, map, slice_get}
+use Rattle.std.specs.List.{flat_map, fold}
+use Rattle.rb_report.specs.declared.check.failure.Failure.{Failure}
+use Rattle.rb_report.specs.declared.check.outcome.Outcome.{Outcome}
+use Rattle.rb_report.specs.declared.check.outcome.Outcome.TheVariants as outcomes
+use Rattle.rb_report.specs.declared.check.totals.Totals.{Totals}
+use Rattle.rb_report.specs.Counts.{of_all}
+use Rattle.rb_check.specs.declared.differing.Differing.{Differing}
+use Rattle.rb_check.specs.declared.script_result.PathResult.{PathResult}
+use Rattle.rb_check.specs.declared.script_result.PathResult.TheVariants as paths
+use Rattle.rb_check.specs.declared.script_result.ScriptResult.{ScriptResult}
+
+-- ---- after outputs are accepted
+
+-- all but those of these heads, unless that are all
+abbrev pub after_accepting : ScriptResult → List ℕ → ScriptResult
+after_accepting r left = if length left == r.left then r else record r { left = length left; accepted = r.left - length left; first = slice_get left 0 }
+
+-- the same; or accepting failed
+abbrev pub result_after : ScriptResult → List ℕ → Option Failure → ScriptResult
+result_after r left None = after_accepting r left
+result_after r left (Some failure) = record r { failure = Some failure }
+
+-- ---- what is counted
+
+abbrev pub outcome_of : ScriptResult → Outcome
+outcome_of r = outcomes.Ran r.directives r.left r.accepted r.errors r.warnings
+
+abbrev pub failure_of : Option Failure → List Outcome
+failure_of None = []
+failure_of (Some failure) = outcomes.Failed failure ∷ []
+
+abbrev pub outcomes_of : PathResult → List Outcome
+outcomes_of (paths.Ran r) = outcome_of r ∷ failure_of r.failure
+outcomes_of (paths.Refused fault) = outcomes.Refused fault ∷ []
+outcomes_of (paths.Failed failure) = outcomes.Failed failure ∷ []
+
+abbrev pub counts_with : Totals → PathResult → Totals
+counts_with t found = of_all t (outcomes_of found)
+
+-- a path: its result, what went out as it was asked about, what is shown of it, and how long that took
+pub record CheckedPath : Type 0 where
+  pub path : List ℕ
+  pub found : PathResult
+  pub asking : List ℕ
+  pub shown : List ℕ
+  pub milliseconds : ℕ
+
+abbrev pub checked_path : List ℕ → PathResult → List ℕ → List ℕ → ℕ → CheckedPath
+checked_path path found asking shown milliseconds = record { path = path; found = found; asking = asking; shown = shown; milliseconds = milliseconds }
+
+abbrev pub counts_of : Totals → List CheckedPath → Totals
+counts_of t results = fold (λ (u : Totals) (checked : CheckedPath). counts_with u checked.found) t results
+
+-- ---- what is listed
+
+-- a script that differs: how many of its outputs do, of how many, and the line of the first one's head
+pub record ListedScript : Type 0 where
+  pub path : List ℕ
+  pub directives : ℕ
+  pub mismatches : ℕ
+  pub line : ℕ
+
+abbrev pub listed_as : Differing → ListedScript
+listed_as d = record { path = d.path.items; directives = d.directives; mismatches = d.mismatches; line = d.line }
+
+abbrev pub listing : List Differing → List ListedScript
+listing ds = map listed_as ds
+
+-- if there is a first one
+abbrev pub listed_if : List ℕ → ScriptResult → Option ℕ → List ListedScript
+listed_if path r None = []
+listed_if path r (Some line) = record { path = path; directives = r.directives; mismatches = r.left; line = line } ∷ []
+
+abbrev pub listed_of : List ℕ → PathResult → List ListedScript
+listed_of path (paths.Ran r) = listed_if path r r.first
+listed_of path (paths.Refused fault) = []
+listed_of path (paths.Failed failure) = []
+
+abbrev pub listed_in : List CheckedPath → List ListedScript
+listed_in results = flat_map (λ checked. listed_of checked.path checked.found) results
+
+-- ---- what goes out
+
+-- what is shown, unless it goes into a suite
+abbrev pub out_beside : Bool → List ℕ → List ℕ
+out_beside has_suites text = if has_suites then [] else text
+
+abbrev pub out_of : Bool → CheckedPath → List ℕ
+out_of has_suites checked = checked.asking ++ out_beside has_suites checked.shown
+
+abbrev pub out_in : Bool → List CheckedPath → List ℕ
+out_in has_suites results = flat_map (out_of has_suites) results
