@@ -1,271 +1,192 @@
 //! Checking one script. Nothing is held longer than its script.
 
-ghost use Rattle.std.specs.Prelude.{◌≡◌, ℕ, List, false, IfOk, IfErr, Some, length};
+ghost use Rattle.std.specs.Prelude.{◌≡◌, ◌≢◌, ℕ, List, [], false, IfOk, IfErr, Some};
+ghost use Rattle.rb_replay.specs.Report.{mismatches};
 ghost use Rattle.rb_report.specs.declared.check.failure.Failure.TheVariants.{OutOfMemory};
-ghost use Rattle.rb_check.specs.Endings.{AcceptsSaid, AreWanted, AsksAbout, IsAnswered, ending_at};
-ghost use Rattle.rb_check.specs.declared.script_result.ScriptResult.{ScriptResult};
-ghost use Rattle.rb_check.specs.Reported.{Counts, Fails, IsReadAs, IsUnread, Reported};
-ghost use Rattle.rb_check.specs.Shown.{Prints, PrintsPart};
-ghost use Rattle.rb_check.specs.ShownTexts.{Holds};
-ghost use Rattle.rb_check.specs.Subjects.{AreFindings, IsRunOf, numbers_of, plain_of, plain_with};
+ghost use Rattle.rb_script_report.specs.Layouts.{IsLayout};
+ghost use Rattle.rb_check.specs.Findings.{AreFindings, IsOutcome};
+ghost use Rattle.rb_check.specs.Counts.{counted_as, ran_as, counts_after, warnings_in};
+ghost use Rattle.rb_check.specs.Reported.{Fails, Reported, Reports, check_point};
+ghost use Rattle.rb_check.specs.Endings.{AcceptsSaid, AreWanted, IsAnswered, ending_at, has_warnings};
+ghost use Rattle.rb_check.specs.Listed.{ListedScript, Lists};
+ghost use Rattle.rb_check.specs.ScriptTexts.{checked};
+ghost use Rattle.rb_check.specs.Shown.{GoesOut, GoesOutInPart};
 ghost use Rattle.rb_check.specs.Targets.{AreNamedLines, AreNotFound, no_directive_failure};
 
 use crate::accepting::accept;
 use crate::check_request::CheckRequest;
-use crate::checked_script::{CheckedScript, RanScript};
+use crate::checked_script::CheckedScript;
 use crate::ending::{CheckEnding, ending_of};
 use crate::person::Person;
-use crate::picking::{named_directives, picked_of};
-use crate::question::questions_of;
-use crate::remark::Remark;
+use crate::picking::{named_heads, picked_of};
+use crate::ran::{Ran, ScriptEnd};
+use crate::reasons::run_script;
 use crate::report::Report;
 use crate::report_sink::ReportSink;
-use crate::report_state::ReportForm;
 use crate::review::{Reviewer, reviewed};
-use crate::running_check::PathReport;
-use crate::script_result::{PathResult, ScriptResult};
+use crate::runner::Runner;
 use crate::showing::tell;
-use crate::shown_text::ShownText;
-use crate::system::System;
-use rb_bench::{RunProgress, Runner};
+use crate::system::{System, Text};
 use rb_files::PathError;
 use rb_machine::Machine;
 use rb_replay::{Session, StartFault};
-use rb_report::check::{Colors, Failure};
-use rb_script::ScriptFault;
-use rb_script_report::{AcceptFilter, AcceptOptions, Layout, summary_of, warnings};
-
-/// What the bytes of a file are.
-#[derive(Drop)]
-pub(crate) enum ReadScript {
-    /// A script, which ran.
-    Ran(RanScript),
-    /// No script.
-    Refused(ScriptFault),
-}
-
-// Reads the script at the path, and runs it.
-fn read_and_run<T: RunProgress, S: System>(
-    system: &S,
-    runner: &mut Runner<'_, T>,
-    asked: &CheckRequest<'_>,
-    path: &str,
-) -> Result<ReadScript, PathError>
-    ensures read { IfOk result (IsReadAs (S.has_read system.now) asked.now path.now) }
-    ensures fails { IfErr result IsUnread }
-{
-    let text = system.read(path)?;
-    let run = match runner.run_script(&text.bytes, asked.explains) {
-        Ok(run) => run,
-        Err(StartFault::Script(fault)) => return Ok(ReadScript::Refused(fault)),
-        Err(_) => return Err(PathError::alone(Failure::OutOfMemory)),
-    };
-    let warnings = warnings(system.alloc(), &run.session, &run.layout)?;
-    Ok(ReadScript::Ran(RanScript {
-        text,
-        run,
-        warnings,
-    }))
-}
+use rb_report::check::Failure;
+use rb_script_report::{AcceptFilter, AcceptOptions, Layout, Warning, summary_of, warnings};
 
 /// Checks the script at the path: shows its mismatches, and accepts them if that was asked for.
 ///
 /// # Errors
 ///
-/// What failed, where the script could not be read or run, or memory was refused for what is asked about it.
-pub(crate) fn check_script<T: RunProgress, S: System, P: Person, W: ReportSink, E: ReportSink>(
+/// What failed, where the script could not be read or run, or memory was refused for what there is to show.
+pub(crate) fn check_script<T: Runner, S: System, P: Person, W: ReportSink, E: ReportSink>(
     system: &S,
-    runner: &mut Runner<'_, T>,
+    runner: &mut T,
     asked: &CheckRequest<'_>,
     path: &str,
     reviewer: &mut Reviewer<P>,
     report: &mut Report<W, E>,
-) -> Result<PathReport, PathError>
-    // What goes out and what is still to be shown are the script's run, or why the bytes are not a script.
-    ensures reported { IfOk result (λ checked. (asking shown : List ℕ)
-        × Reported (S.has_read system.now) (S.tells_one system.now) asked.now (P.is_known reviewer.old.person) (P.left reviewer.old.person) report.old.state.form path.now reviewer.old.point reviewer.new.point checked.found asking shown
-        × Prints W.held report.old report.new asking × Holds checked.shown shown) }
+) -> Result<(), PathError>
+    // The report shows and counts the script's run, or why the bytes are not a script.
+    ensures reported { IfOk result (λ _.
+        Reports (Reported (S.has_read system.now) (S.tells_one system.now) asked.now (P.is_known reviewer.old.person) (P.left reviewer.old.person) report.old.state.form path.now (check_point report.old.counts reviewer.old.review) (check_point report.new.counts reviewer.new.review))
+        report.old.state report.new.state report.old.differing.items report.new.differing.items (W.held report.old.output) (W.held report.new.output)) }
+    // A failure is not counted yet.
+    ensures failed { IfErr result (λ _. report.new.counts ≡ report.old.counts) }
+    ensures unlisted { IfErr result (λ _. report.new.differing.items ≡ report.old.differing.items) }
     ensures fails { IfErr result (λ error. Fails (S.has_read system.now) (S.tells_one system.now) asked.now path.now error) }
-    ensures part { IfErr result (λ _. PrintsPart W.held report.old report.new) }
-    ensures unasked { asked.now.reviews ≡ false → reviewer.new.point ≡ reviewer.old.point }
+    ensures part { IfErr result (λ _. GoesOutInPart report.old.state report.new.state (W.held report.old.output) (W.held report.new.output)) }
+    ensures unasked { asked.now.reviews ≡ false → reviewer.new.review ≡ reviewer.old.review }
 {
     report.heed(path.as_bytes(), None);
-    let form = report.state.form;
-    match read_and_run(system, runner, asked, path)? {
-        ReadScript::Ran(script) => {
-            report.heed(path.as_bytes(), Some(&script.run.layout.text));
-            let colors = report.colors(asked.colors);
-            let subject = subject_of(path, form, colors, &script);
-            answer(system, asked, &subject, reviewer, report)
+    let text = system.read(path)?;
+    let run = match run_script(system.alloc(), runner, asked.explains, &text.bytes) {
+        Ok(run) => run,
+        Err(StartFault::Script(fault)) => {
+            report.refused(path, fault);
+            return Ok(());
         }
-        ReadScript::Refused(fault) => {
-            let mut shown = ShownText::new(system.alloc(), !report.state.is_closed);
-            shown.remark(form, path.as_bytes(), Remark::Refused(fault));
-            Ok(PathReport {
-                found: PathResult::Refused(fault),
-                shown,
-            })
-        }
-    }
-}
-
-/// How many questions a review asks about the script at the path: none, if it can't be checked.
-pub(crate) fn count_questions<T: RunProgress, S: System>(
-    system: &S,
-    runner: &mut Runner<'_, T>,
-    asked: &CheckRequest<'_>,
-    form: ReportForm,
-    path: &str,
-) -> usize
-    ensures { Counts (S.has_read system.now) (S.tells_one system.now) asked.now form path.now result }
-{
-    match read_and_run(system, runner, asked, path) {
-        Ok(ReadScript::Ran(script)) => {
-            let subject = subject_of(path, form, Colors::Off, &script);
-            asked_of(system, asked, &subject).unwrap_or(0)
-        }
-        Ok(ReadScript::Refused(_)) | Err(_) => 0,
-    }
-}
-
-// How many questions a review asks about a script that ran.
-fn asked_of<S: System>(
-    system: &S,
-    asked: &CheckRequest<'_>,
-    subject: &CheckedScript<'_>,
-) -> Result<usize, PathError>
-    requires { AreFindings subject.now }
-    ensures { IfOk result (AsksAbout (S.tells_one system.now) asked.now (plain_of subject.now)) }
-{
-    match ending_at(asked, subject) {
-        CheckEnding::Reviewed => {
-            let named = named_directives(system, asked, subject)?;
-            let picked = picked_of(system.alloc(), asked, subject, &named)?;
-            let questions = questions_of(system.alloc(), asked, picked, subject)?;
-            Ok(questions.len())
-        }
-        CheckEnding::Kept | CheckEnding::Refused | CheckEnding::Accepted => Ok(0),
-    }
-}
-
-// What is shown of a script that ran.
-fn subject_of<'a>(
-    path: &'a str,
-    form: ReportForm,
-    colors: Colors,
-    script: &'a RanScript,
-) -> CheckedScript<'a>
-    requires { IsRunOf script.now }
-    ensures findings { AreFindings result }
-    ensures plain { plain_of result ≡ plain_with path.now form colors script.now }
-{
-    let run = &script.run;
-    CheckedScript {
+        Err(_) => return Err(PathError::alone(Failure::OutOfMemory)),
+    };
+    report.heed(path.as_bytes(), Some(&run.layout.text));
+    let found = warnings(system.alloc(), &run.session, &run.layout)?;
+    let warnings = found.as_slice();
+    let subject = CheckedScript {
         path,
-        form,
-        colors,
-        script,
-        ran: ran_of(&run.session, &run.layout, script.warnings.len()),
-    }
+        text: &text,
+        session: &run.session,
+        layout: &run.layout,
+        whys: &run.whys,
+        colors: report.colors(asked.colors),
+        warnings,
+        ran: ran_of(path, &text, &run.session, &run.layout, warnings),
+    };
+    answer(system, asked, &subject, reviewer, report)?;
+    Ok(())
 }
 
-// The result of a script that ran and has n warnings, if nothing of it is accepted.
-fn ran_of<M: Machine>(session: &Session<M>, layout: &Layout, n: usize) -> ScriptResult
-    requires { length layout.now.heads.items ≡ length session.now.script.blocks }
-    ensures { result ≡ numbers_of layout.now session.now.script n }
+// The outcome of a script that ran.
+fn ran_of<'a, M: Machine>(
+    path: &'a str,
+    text: &Text,
+    session: &Session<M>,
+    layout: &Layout,
+    warnings: &[Warning],
+) -> Ran<'a>
+    requires layout { IsLayout text.now.bytes.items session.now.script layout.now }
+    requires warnings { warnings.now ≡ warnings_in layout.now.text layout.now.heads.items session.now.script }
+    ensures counts { (left : ℕ) → counted_as result left ≡ ran_as layout.now.text layout.now.heads.items session.now.script left }
+    ensures outcome { IsOutcome path.now session.now.script layout.now result }
+    ensures findings { AreFindings text.now.bytes.items session.now.script layout.now warnings.now result }
 {
-    let summary = summary_of(session, layout);
-    ScriptResult {
+    Ran {
+        path,
         directives: session.len(),
-        left: session.mismatches().len(),
-        accepted: 0,
-        errors: summary.errors,
-        warnings: n,
-        first: summary.first,
-        failure: None,
+        mismatches: session.mismatches().len(),
+        summary: summary_of(session, layout),
+        warnings: warnings.len(),
     }
 }
 
-// What is done with the outputs of the script.
-fn ending_at(asked: &CheckRequest<'_>, subject: &CheckedScript<'_>) -> CheckEnding
-    requires { AreFindings subject.now }
-    ensures { result ≡ ending_at asked.now (plain_of subject.now) }
-{
-    ending_of(asked, !subject.script.warnings.is_empty(), subject.ran.left)
-}
-
-// Shows the run, and accepts outputs, asks about them or leaves them.
-fn answer<S: System, P: Person, W: ReportSink, E: ReportSink>(
+// Shows what there is to show, and does with the outputs what is to be done.
+fn answer<M: Machine, S: System, P: Person, W: ReportSink, E: ReportSink>(
     system: &S,
     asked: &CheckRequest<'_>,
-    subject: &CheckedScript<'_>,
+    subject: &CheckedScript<'_, M>,
     reviewer: &mut Reviewer<P>,
     report: &mut Report<W, E>,
-) -> Result<PathReport, PathError>
-    requires { AreFindings subject.now }
-    ensures answered { IfOk result (λ checked. (asking shown : List ℕ) × (r : ScriptResult)
-        × IsAnswered (S.tells_one system.now) asked.now (P.is_known reviewer.old.person) (P.left reviewer.old.person) (plain_of subject.now) reviewer.old.point reviewer.new.point r asking shown
-        × (checked.found ≡ PathResult.Ran r) × Prints W.held report.old report.new asking × Holds checked.shown shown) }
-    ensures part { IfErr result (λ _. PrintsPart W.held report.old report.new) }
+) -> Result<ScriptEnd, PathError>
+    requires findings { AreFindings subject.now.text.now.bytes.items subject.now.session.now.script subject.now.layout.now subject.now.warnings.now subject.now.ran }
+    requires outcome { IsOutcome subject.now.path.now subject.now.session.now.script subject.now.layout.now subject.now.ran }
+    ensures counts { IfOk result (λ end. report.new.counts ≡ counts_after report.old.counts (counted_as subject.now.ran end.left) end.failure) }
+    ensures answered { IfOk result (λ end. (text : List ℕ) × (listed : List ListedScript)
+        × IsAnswered (S.tells_one system.now) asked.now (P.is_known reviewer.old.person) (P.left reviewer.old.person) report.old.state.form (checked subject.now.path.now subject.now.layout.now subject.now.whys.now subject.now.session.now.script subject.now.colors) reviewer.old.review reviewer.new.review end listed text
+        × Lists report.new.state report.old.differing.items report.new.differing.items listed
+        × GoesOut report.old.state report.new.state (W.held report.old.output) (W.held report.new.output) text) }
+    ensures part { IfErr result (λ _. GoesOutInPart report.old.state report.new.state (W.held report.old.output) (W.held report.new.output)) }
+    ensures listed { IfErr result (λ _. report.new.differing.items ≡ report.old.differing.items) }
+    ensures failed { IfErr result (λ _. report.new.counts ≡ report.old.counts) }
     // It fails only if memory was refused, or a line is named with no directive at it or above it.
-    ensures missed { IfErr result (λ error. AreNotFound (λ lines. AreNamedLines (S.tells_one system.now) subject.now.path.now asked.now.targets.now (Some lines)) (plain_of subject.now).layout.heads.items (no_directive_failure asked.now.accepts) error) }
+    ensures missed { IfErr result (λ error. AreNotFound (λ lines. AreNamedLines (S.tells_one system.now) subject.now.path.now asked.now.targets.now (Some lines)) subject.now.layout.now.heads.items (no_directive_failure asked.now.accepts) error) }
     // Without a review nothing is asked.
-    ensures unasked { asked.now.reviews ≡ false → reviewer.new.point ≡ reviewer.old.point }
+    ensures unasked { asked.now.reviews ≡ false → reviewer.new.review ≡ reviewer.old.review }
 {
-    let named = named_directives(system, asked, subject)?;
-    let picked = picked_of(system.alloc(), asked, subject, &named)?;
-    let mut shown = ShownText::new(system.alloc(), !report.state.is_closed);
-    tell(asked, subject, &named, &mut shown);
-    match ending_at(asked, subject) {
-        CheckEnding::Kept => Ok(ran(subject.ran, shown)),
+    let alloc = system.alloc();
+    tell(system, asked, subject, report)?;
+    let heads = named_heads(system, asked, subject, report)?;
+    let picked = picked_of(alloc, asked, subject, &heads)?;
+    match ending_at(asked, !subject.warnings.is_empty(), subject) {
+        CheckEnding::Kept => {
+            report.ran(alloc, subject.ran);
+            Ok(ScriptEnd::of_left(subject.ran.mismatches))
+        }
         CheckEnding::Refused => {
-            shown.remark(subject.form, subject.path.as_bytes(), Remark::Unaccepted);
-            Ok(ran(subject.ran, shown))
+            report.refuse_to_accept(alloc, subject.ran);
+            Ok(ScriptEnd::of_left(subject.ran.mismatches))
         }
         CheckEnding::Accepted => {
             let errors = asked.accepts_errors;
             let wanted = AcceptOptions { picked, errors };
-            let found = accept(system, wanted, subject, &mut shown, &mut report.errors);
-            Ok(ran(found, shown))
+            Ok(accept(system, wanted, subject, report))
         }
-        CheckEnding::Reviewed => {
-            report.put(subject.path.as_bytes(), &shown);
-            accept_reviewed(system, asked, picked, subject, reviewer, report)
-        }
+        CheckEnding::Reviewed => accept_reviewed(system, asked, picked, subject, reviewer, report),
     }
 }
 
-fn ran(found: ScriptResult, shown: ShownText) -> PathReport
-    ensures found { result.found ≡ PathResult.Ran found }
-    ensures shown { result.shown ≡ shown }
+// What is done with the outputs. Where none differs, it isn't looked at whether there are warnings.
+fn ending_at<M: Machine>(
+    asked: &CheckRequest<'_>,
+    is_warned: bool,
+    subject: &CheckedScript<'_, M>,
+) -> CheckEnding
+    requires { mismatches subject.now.session.now.script ≢ [] → is_warned ≡ has_warnings subject.now.layout.now subject.now.session.now.script }
+    ensures { result ≡ ending_at asked.now subject.now.layout.now subject.now.session.now.script }
 {
-    PathReport {
-        found: PathResult::Ran(found),
-        shown,
-    }
+    ending_of(asked, is_warned, subject.session.mismatches().len())
 }
 
-// Asks about the outputs, and accepts those that are said yes to.
-fn accept_reviewed<S: System, P: Person, W: ReportSink, E: ReportSink>(
+// Accepts the outputs that are said yes to.
+fn accept_reviewed<M: Machine, S: System, P: Person, W: ReportSink, E: ReportSink>(
     system: &S,
     asked: &CheckRequest<'_>,
     picked: AcceptFilter<'_>,
-    subject: &CheckedScript<'_>,
+    subject: &CheckedScript<'_, M>,
     reviewer: &mut Reviewer<P>,
     report: &mut Report<W, E>,
-) -> Result<PathReport, PathError>
-    requires { AreFindings subject.now }
-    ensures accepted { IfOk result (λ checked. (asking shown : List ℕ) × (r : ScriptResult)
-        × AcceptsSaid asked.now (P.is_known reviewer.old.person) (P.left reviewer.old.person) (plain_of subject.now) picked.entry reviewer.old.point reviewer.new.point r asking shown
-        × (checked.found ≡ PathResult.Ran r) × Prints W.held report.old report.new asking × Holds checked.shown shown) }
-    ensures part { IfErr result (λ _. PrintsPart W.held report.old report.new) }
+) -> Result<ScriptEnd, PathError>
+    requires { IsLayout subject.now.text.now.bytes.items subject.now.session.now.script subject.now.layout.now }
+    ensures counts { IfOk result (λ end. report.new.counts ≡ counts_after report.old.counts (counted_as subject.now.ran end.left) end.failure) }
+    ensures accepted { IsOutcome subject.now.path.now subject.now.session.now.script subject.now.layout.now subject.now.ran
+        → IfOk result (λ end. (text : List ℕ) × (listed : List ListedScript)
+        × AcceptsSaid asked.now (P.is_known reviewer.old.person) (P.left reviewer.old.person) report.old.state.form (checked subject.now.path.now subject.now.layout.now subject.now.whys.now subject.now.session.now.script subject.now.colors) picked.entry reviewer.old.review reviewer.new.review end listed text
+        × Lists report.new.state report.old.differing.items report.new.differing.items listed
+        × GoesOut report.old.state report.new.state (W.held report.old.output) (W.held report.new.output) text) }
+    ensures part { IfErr result (λ _. GoesOutInPart report.old.state report.new.state (W.held report.old.output) (W.held report.new.output)) }
+    ensures listed { IfErr result (λ _. report.new.differing.items ≡ report.old.differing.items) }
     ensures memory { IfErr result (λ error. error.failure ≡ OutOfMemory) }
+    ensures failed { IfErr result (λ _. report.new.counts ≡ report.old.counts) }
 {
     let said = reviewed(asked, subject, picked, reviewer, report)?;
-    let wanted = wanted_of(said.as_slice());
-    let mut shown = ShownText::new(system.alloc(), !report.state.is_closed);
-    let found = accept(system, wanted, subject, &mut shown, &mut report.errors);
-    Ok(ran(found, shown))
+    Ok(accept(system, wanted_of(said.as_slice()), subject, report))
 }
 
 // What is said yes to is accepted, new errors too.

@@ -9,10 +9,9 @@ ghost use Rattle.rb_script_report.specs.Checked.{head_of};
 ghost use Rattle.rb_check.specs.Commands.{command_with, difference_text, kept_of, last_end, legend_text, others_text, piece_text, rest_text, shortened};
 
 use crate::piece::CommandPiece;
-use crate::ran_directive::head_of;
+use crate::ran_directive::{RanDirective, head_of};
 use rb_report::check::{Colors, Table, put_explained_diff};
 use rb_script::Through;
-use rb_script_report::RanDirective;
 use rb_text::{Piece, add_pieces};
 use std::alloc::{AllocError, Global};
 
@@ -69,7 +68,6 @@ fn legend(alloc: Global, others: usize) -> Result<Vec<u8>, AllocError>
     Ok(text)
 }
 
-// Adds how many other directives differ, if any does.
 fn add_others(text: &mut Vec<u8>, others: usize) -> Result<(), AllocError>
     ensures { OnOk result (text.new.items ≡ text.old.items ++ others_text others) }
 {
@@ -163,12 +161,11 @@ fn shortened(alloc: Global, diff: &[u8]) -> Result<Vec<u8>, AllocError>
 pub(crate) fn add_difference(
     alloc: Global,
     text: &mut Vec<u8>,
-    path: &[u8],
     ran: RanDirective<'_>,
     others: usize,
     table: &mut Table,
 ) -> Result<(), AllocError>
-    ensures { OnOk result (text.new.items ≡ text.old.items ++ difference_text table.old.left path.now ran.entry.line (head_of ran.entry.block.now) ran.entry.block.now.expected ran.entry.output.now (reasons_in ran.entry.why) others) }
+    ensures { OnOk result (text.new.items ≡ text.old.items ++ difference_text table.old.left ran.entry.place.path.now ran.entry.place.line (head_of ran.entry.block.now) ran.entry.block.now.expected ran.entry.output.now (reasons_in ran.entry.why) others) }
 {
     let head = head_of(alloc, ran.block)?;
     let diff = diff_of(alloc, ran, table)?;
@@ -178,11 +175,12 @@ pub(crate) fn add_difference(
         CommandPiece::Message(short.as_slice()),
         CommandPiece::Bytes(legend.as_slice()),
     ];
+    let place = ran.place;
     add_command(
         text,
         b"error",
-        path,
-        Some(ran.line),
+        place.path,
+        Some(place.line),
         head.as_slice(),
         &message,
     )

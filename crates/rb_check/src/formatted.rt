@@ -1,24 +1,26 @@
-//! What programs get of a script that ran: JSON objects, or workflow commands.
+//! Objects and commands for programs about a script that ran.
 
 ghost use Rattle.std.specs.Prelude.{◌≡◌, ◌++◌, ◌+◌, ◌-◌, ◌<◌, IfOk, length};
+ghost use Rattle.rb_replay.specs.Run.{outputs};
 ghost use Rattle.rb_replay.specs.Report.{mismatches};
+ghost use Rattle.rb_report.specs.Whys.{reasons_in};
 ghost use Rattle.rb_script_report.specs.Checked.{of_first};
-ghost use Rattle.rb_check.specs.Formats.{differing_command, directive_object, error_command, errors_of, mismatch_command, objects_of, script_text};
-ghost use Rattle.rb_script_report.specs.Ran.{plain_ran};
-ghost use Rattle.rb_check.specs.Subjects.{AreFindings, plain_of};
+ghost use Rattle.rb_check.specs.Findings.{AreFindings};
+ghost use Rattle.rb_check.specs.Formats.{differing_command, directive_object, error_command, error_commands, mismatch_command, objects_from, script_text};
 
 use crate::checked_script::CheckedScript;
 use crate::command::{add_command, add_difference};
-use crate::format::LineFormat;
+use crate::format::Format;
+use crate::junit::script_suite;
 use crate::kind::severity;
 use crate::object::add_object;
 use crate::piece::CommandPiece;
-use crate::ran_directive::{checked_directive, head_of};
+use crate::ran_directive::{RanDirective, directive_at, head_of};
 use rb_machine::Machine;
 use rb_replay::Session;
 use rb_report::check::Table;
 use rb_script::Lines;
-use rb_script_report::{RanDirective, first_index, first_line, is_same, is_unexpected};
+use rb_script_report::{first_index, first_line, is_same, is_unexpected};
 use std::alloc::{AllocError, Global};
 
 // Adds a directive as an object if its output is a mismatch or a new error.
@@ -26,34 +28,30 @@ fn add_directive(
     alloc: Global,
     text: &mut Vec<u8>,
     lines: &Lines,
-    path: &[u8],
     ran: RanDirective<'_>,
 ) -> Result<(), AllocError>
-    ensures { IfOk result (λ _. text.new.items ≡ text.old.items ++ directive_object lines.now path.now (plain_ran ran.entry)) }
+    ensures { IfOk result (λ _. text.new.items ≡ text.old.items ++ directive_object lines.now ran.entry.place.path.now ran.entry.place.line ran.entry.block.now ran.entry.output.now (reasons_in ran.entry.why)) }
 {
     if !is_same(ran.block.expected(), ran.output) {
-        return add_object(alloc, text, path, ran, b"mismatch");
+        return add_object(alloc, text, ran, b"mismatch");
     }
-    if is_unexpected(lines, ran.line, ran.output) {
-        return add_object(alloc, text, path, ran, b"error");
+    if is_unexpected(lines, ran.place.line, ran.output) {
+        return add_object(alloc, text, ran, b"error");
     }
     Ok(())
 }
 
 // Adds the script's directives as objects.
-fn add_objects(
+fn add_objects<M: Machine>(
     alloc: Global,
     text: &mut Vec<u8>,
-    subject: &CheckedScript<'_>,
+    subject: &CheckedScript<'_, M>,
 ) -> Result<(), AllocError>
-    requires { AreFindings subject.now }
-    ensures { IfOk result (λ _. text.new.items ≡ text.old.items ++ objects_of (plain_of subject.now)) }
+    requires { length subject.now.layout.now.heads.items ≡ length subject.now.session.now.script.blocks }
+    ensures { IfOk result (λ _. text.new.items ≡ text.old.items ++ objects_from subject.now.layout.now.text subject.now.path.now subject.now.whys.now 0 subject.now.layout.now.heads.items subject.now.session.now.script.blocks (outputs subject.now.session.now.script)) }
 {
-    let run = &subject.script.run;
-    let path = subject.path.as_bytes();
-    for i in 0..run.session.len() {
-        let ran = checked_directive(subject, i);
-        add_directive(alloc, text, &run.layout.text, path, ran)?;
+    for i in 0..subject.session.len() {
+        add_directive(alloc, text, &subject.layout.text, directive_at(subject, i))?;
     }
     Ok(())
 }
@@ -64,12 +62,12 @@ fn add_error(
     text: &mut Vec<u8>,
     is_strict: bool,
     lines: &Lines,
-    path: &[u8],
     ran: RanDirective<'_>,
 ) -> Result<(), AllocError>
-    ensures { IfOk result (λ _. text.new.items ≡ text.old.items ++ error_command is_strict lines.now path.now (plain_ran ran.entry)) }
+    ensures { IfOk result (λ _. text.new.items ≡ text.old.items ++ error_command is_strict lines.now ran.entry.place.path.now ran.entry.place.line ran.entry.block.now ran.entry.output.now) }
 {
-    if !is_same(ran.block.expected(), ran.output) || !is_unexpected(lines, ran.line, ran.output) {
+    let place = ran.place;
+    if !is_same(ran.block.expected(), ran.output) || !is_unexpected(lines, place.line, ran.output) {
         return Ok(());
     }
     let made = head_of(alloc, ran.block)?;
@@ -79,26 +77,23 @@ fn add_error(
         CommandPiece::Bytes(b"\n"),
     ];
     let severity = severity(is_strict);
-    add_command(text, severity, path, Some(ran.line), head, &pieces)?;
+    add_command(text, severity, place.path, Some(place.line), head, &pieces)?;
     Ok(())
 }
 
 // Adds the new errors that are expected, each as a command.
-fn add_errors(
+fn add_errors<M: Machine>(
     alloc: Global,
     text: &mut Vec<u8>,
-    subject: &CheckedScript<'_>,
+    is_strict: bool,
+    subject: &CheckedScript<'_, M>,
 ) -> Result<(), AllocError>
-    requires { AreFindings subject.now }
-    ensures { IfOk result (λ _. text.new.items ≡ text.old.items ++ errors_of subject.now.form.is_strict (plain_of subject.now)) }
+    requires { length subject.now.layout.now.heads.items ≡ length subject.now.session.now.script.blocks }
+    ensures { IfOk result (λ _. text.new.items ≡ text.old.items ++ error_commands is_strict subject.now.layout.now.text subject.now.path.now subject.now.layout.now.heads.items subject.now.session.now.script.blocks (outputs subject.now.session.now.script)) }
 {
-    let run = &subject.script.run;
-    let lines = &run.layout.text;
-    let path = subject.path.as_bytes();
-    let is_strict = subject.form.is_strict;
-    for i in 0..run.session.len() {
-        let ran = checked_directive(subject, i);
-        add_error(alloc, text, is_strict, lines, path, ran)?;
+    let lines = &subject.layout.text;
+    for i in 0..subject.session.len() {
+        add_error(alloc, text, is_strict, lines, directive_at(subject, i))?;
     }
     Ok(())
 }
@@ -114,43 +109,41 @@ fn others_of<M: Machine>(session: &Session<M>) -> usize
 fn add_differing(
     alloc: Global,
     text: &mut Vec<u8>,
-    path: &[u8],
     ran: RanDirective<'_>,
     others: usize,
 ) -> Result<(), AllocError>
-    ensures { IfOk result (λ _. text.new.items ≡ text.old.items ++ differing_command path.now others (plain_ran ran.entry)) }
+    ensures { IfOk result (λ _. text.new.items ≡ text.old.items ++ differing_command ran.entry.place.path.now ran.entry.place.line ran.entry.block.now ran.entry.output.now (reasons_in ran.entry.why) others) }
 {
     let mut table = Table::new(alloc)?;
-    add_difference(alloc, text, path, ran, others, &mut table)?;
+    add_difference(alloc, text, ran, others, &mut table)?;
     Ok(())
 }
 
 // Adds the mismatch at an index as a command.
-fn add_mismatch(
+fn add_mismatch<M: Machine>(
     alloc: Global,
     text: &mut Vec<u8>,
-    subject: &CheckedScript<'_>,
+    subject: &CheckedScript<'_, M>,
     index: usize,
 ) -> Result<(), AllocError>
-    requires findings { AreFindings subject.now }
-    requires within { index < length (plain_of subject.now).script.blocks }
-    ensures { IfOk result (λ _. text.new.items ≡ text.old.items ++ mismatch_command (plain_of subject.now) (index + 1)) }
+    requires count { length subject.now.layout.now.heads.items ≡ length subject.now.session.now.script.blocks }
+    requires within { index < length subject.now.session.now.script.blocks }
+    ensures { IfOk result (λ _. text.new.items ≡ text.old.items ++ mismatch_command subject.now.path.now subject.now.whys.now subject.now.layout.now.heads.items subject.now.session.now.script (index + 1)) }
 {
-    let others = others_of(&subject.script.run.session);
-    let path = subject.path.as_bytes();
-    add_differing(alloc, text, path, checked_directive(subject, index), others)
+    let others = others_of(subject.session);
+    add_differing(alloc, text, directive_at(subject, index), others)
 }
 
 // Adds the first mismatch as a command.
-fn add_first(
+fn add_first<M: Machine>(
     alloc: Global,
     text: &mut Vec<u8>,
-    subject: &CheckedScript<'_>,
+    subject: &CheckedScript<'_, M>,
 ) -> Result<(), AllocError>
-    requires { AreFindings subject.now }
-    ensures { IfOk result (λ _. text.new.items ≡ text.old.items ++ of_first (mismatch_command (plain_of subject.now)) (mismatches (plain_of subject.now).script)) }
+    requires { length subject.now.layout.now.heads.items ≡ length subject.now.session.now.script.blocks }
+    ensures { IfOk result (λ _. text.new.items ≡ text.old.items ++ of_first (mismatch_command subject.now.path.now subject.now.whys.now subject.now.layout.now.heads.items subject.now.session.now.script) (mismatches subject.now.session.now.script)) }
 {
-    match first_index(&subject.script.run.session) {
+    match first_index(subject.session) {
         Some(index) => add_mismatch(alloc, text, subject, index),
         None => Ok(()),
     }
@@ -161,21 +154,23 @@ fn add_first(
 /// # Errors
 ///
 /// If memory was refused.
-pub(crate) fn formatted(
+pub(crate) fn formatted<M: Machine>(
     alloc: Global,
-    format: LineFormat,
-    subject: &CheckedScript<'_>,
+    format: Format,
+    is_strict: bool,
+    subject: &CheckedScript<'_, M>,
 ) -> Result<Vec<u8>, AllocError>
-    requires { AreFindings subject.now }
-    ensures { IfOk result (λ made. made.items ≡ script_text format (plain_of subject.now)) }
+    requires { AreFindings subject.now.text.now.bytes.items subject.now.session.now.script subject.now.layout.now subject.now.warnings.now subject.now.ran }
+    ensures { IfOk result (λ made. made.items ≡ script_text format is_strict subject.now.layout.now.text subject.now.path.now subject.now.whys.now subject.now.layout.now.heads.items subject.now.session.now.script) }
 {
     let mut text = Vec::new(alloc);
     match format {
-        LineFormat::Json => add_objects(alloc, &mut text, subject)?,
-        LineFormat::Github => {
+        Format::Json => add_objects(alloc, &mut text, subject)?,
+        Format::Github => {
             add_first(alloc, &mut text, subject)?;
-            add_errors(alloc, &mut text, subject)?;
+            add_errors(alloc, &mut text, is_strict, subject)?;
         }
+        Format::Junit => return script_suite(alloc, subject, is_strict),
     }
     Ok(text)
 }

@@ -3,13 +3,12 @@
 ghost use Rattle.std.specs.Prelude.{◌≡◌, ◌++◌, IfOk, OnOk};
 ghost use Rattle.rb_report.specs.Heads.{before_value};
 ghost use Rattle.rb_report.specs.Whys.{reasons_in};
+ghost use Rattle.rb_script_report.specs.Checked.{head_of};
 ghost use Rattle.rb_check.specs.Objects.{lines_members, object_end, object_front, object_text, quoted, reasons_member, strings_from};
-ghost use Rattle.rb_script_report.specs.Ran.{plain_ran};
 
-use crate::ran_directive::head_of;
+use crate::ran_directive::{RanDirective, head_of};
 use rb_report::check::{FileLine, Why};
 use rb_script::Lines;
-use rb_script_report::RanDirective;
 use rb_text::{Json, Piece, add_pieces};
 use std::alloc::{AllocError, Global};
 
@@ -72,19 +71,21 @@ fn add_front<'a>(
 pub(crate) fn add_object(
     alloc: Global,
     text: &mut Vec<u8>,
-    path: &[u8],
     ran: RanDirective<'_>,
     status: &[u8],
 ) -> Result<(), AllocError>
-    ensures { IfOk result (λ _. text.new.items ≡ text.old.items ++ object_text path.now status.now (plain_ran ran.entry)) }
+    ensures { IfOk result (λ _. text.new.items ≡ text.old.items ++ object_text ran.entry.place.path.now ran.entry.place.line (head_of ran.entry.block.now) status.now ran.entry.block.now.expected ran.entry.output.now (reasons_in ran.entry.why)) }
 {
     let head = head_of(alloc, ran.block)?;
-    let place = FileLine {
-        path,
-        line: ran.line,
-    };
     let expected = ran.block.expected();
-    add_lines(text, place, head.as_slice(), status, expected, ran.output)?;
+    add_lines(
+        text,
+        ran.place,
+        head.as_slice(),
+        status,
+        expected,
+        ran.output,
+    )?;
     add_end(text, ran.why)?;
     Ok(())
 }

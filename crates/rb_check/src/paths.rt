@@ -1,49 +1,43 @@
 //! `raftbench check`: scripts, and folders of scripts.
 
-ghost use Rattle.std.specs.Prelude.{◌≡◌, ◌≢◌, ◌<◌, ◌≤◌, ◌∷◌, ◌++◌, ℕ, false, [], List, IfErr, IfOk, IsTrue, map, true};
-ghost use Rattle.std.specs.Io.KnownBytes.{Keeps};
+ghost use Rattle.std.specs.Prelude.{◌≡◌, ◌≢◌, ◌<◌, ◌≤◌, ℕ, false, List, IfErr, IfOk, IsTrue, map};
 ghost use Rattle.std.specs.IoError.{error_kind};
-ghost use Rattle.rb_check.specs.declared.remark.Remark.TheVariants as remarks;
-ghost use Rattle.rb_check.specs.declared.visible.Showing.{Showing};
-ghost use Rattle.rb_check.specs.Lost.{failed_path, lost_path, lost_results, whole_failure};
-ghost use Rattle.rb_check.specs.Reported.{AreCounted, AreReported, IsChecked, IsCheckStatus, IsReport, Reports};
+ghost use Rattle.rb_report.specs.declared.check.outcome.Outcome.TheVariants.{Failed};
+ghost use Rattle.rb_report.specs.Counts.{of_outcome, together};
+ghost use Rattle.rb_check.specs.Lost.{counted_failures, lost_failures, lost_text, path_failure, path_text, paths_text, whole_failure, whole_text};
+ghost use Rattle.rb_check.specs.Reported.{AreChecked, IsCheckStatus, IsCounted, IsReport, Reports, check_point};
 ghost use Rattle.rb_check.specs.Reviews.{review_end};
-ghost use Rattle.rb_check.specs.Shown.{GoesOut, Prints, Tells, cleared, failure_lines, remark_text, shown_in, started};
-ghost use Rattle.rb_check.specs.ShownTexts.{Holds};
+ghost use Rattle.rb_check.specs.Shown.{GoesOut, last_text, lists, shown_in, started};
+ghost use Rattle.rb_check.specs.declared.visible.Showing.{Showing};
 
 use crate::check_request::CheckRequest;
-use crate::checking::{check_script, count_questions};
+use crate::checking::check_script;
 use crate::error_stream::ErrorStream;
-use crate::notes::Note;
 use crate::person::{Person, TerminalPerson};
 use crate::progress::ProgressClock;
-use crate::remark::Remark;
 use crate::report::Report;
 use crate::report_sink::{ReportSink, stream_over};
-use crate::report_state::ReportForm;
 use crate::review::{Review, Reviewer};
-use crate::running_check::{PathReport, RunningCheck};
-use crate::script_result::PathResult;
-use crate::shown_text::ShownText;
+use crate::runner::Runner;
 use crate::system::{RuntimeSystem, System};
-use rb_bench::{RunProgress, Runner};
 use rb_files::{FailedPath, Found, PathError, find};
 use rb_report::check::{Failure, Status};
 use rb_script::Through;
+use rb_script_report::Detail;
 use rb_text::FailFast;
 use std::io;
 use std::io::{ErrorKind, Write};
 use std::rt::Files;
-use std::time::{Clock, Duration};
+use std::time::Clock;
 
 /// Checks the scripts of the paths, and gives the program's status.
 ///
 /// # Errors
 ///
 /// If memory was refused at the beginning. Later failures are reported, and are in the status.
-pub fn check<T: RunProgress, R: Files + Input + Print + Clock + AllocGlobal, E: Write + Drop>(
+pub fn check<T: Runner, R: Files + Input + Print + Clock + AllocGlobal, E: Write + Drop>(
     rt: &R,
-    runner: &mut Runner<'_, T>,
+    runner: &mut T,
     asked: CheckRequest<'_>,
     errors: E,
 ) -> io::Result<Status>
@@ -55,79 +49,55 @@ pub fn check<T: RunProgress, R: Files + Input + Print + Clock + AllocGlobal, E: 
 {
     let output = stream_over(rt.alloc(), FailFast(Through(io::writer(rt))))?;
     let errors = ErrorStream::new(rt.alloc(), stream_over(rt.alloc(), errors)?);
-    let check = report_on(rt, runner, &asked, output, errors);
-    Ok(check.status(asked.is_strict))
+    let report = report_on(rt, runner, &asked, output, errors);
+    Ok(report.status(asked.is_strict))
 }
 
 // Reports on the scripts of the paths, on these streams.
-fn report_on<T: RunProgress, R: Files + Input + Clock + AllocGlobal, W: ReportSink, E: ReportSink>(
+fn report_on<T: Runner, R: Files + Input + Clock + AllocGlobal, W: ReportSink, E: ReportSink>(
     rt: &R,
-    runner: &mut Runner<'_, T>,
+    runner: &mut T,
     asked: &CheckRequest<'_>,
     output: W,
     errors: ErrorStream<E>,
-) -> RunningCheck<W, E>
-    ensures { (text : List ℕ) × IsReport asked.now result.report.state result.results.counts text × GoesOut (started asked.now) result.report.state (W.held output) (W.held result.report.output) text }
+) -> Report<W, E>
+    ensures { (text : List ℕ) × IsReport asked.now result.state result.counts text × GoesOut (started asked.now) result.state (W.held output) (W.held result.output) text }
 {
     let mut progress = ProgressClock::from_now(rt, asked.wants_progress);
-    let mut check = RunningCheck::new(rt.alloc(), output, errors, asked);
+    let mut report = Report::new(rt.alloc(), output, errors, asked);
     let found = find(rt, asked.targets, asked.filters);
-    tell_lost(&found, &mut check);
+    report.begin();
+    tell_lost(&found, &mut report);
     let scripts = found.scripts.as_slice();
-    check_each(rt, runner, asked, scripts, &mut progress, &mut check);
-    check.end(asked, scripts.len(), milliseconds(progress.elapsed(rt)));
-    check
+    check_each(rt, runner, asked, scripts, &mut progress, &mut report);
+    let milliseconds = milliseconds(&progress, rt);
+    end(asked, scripts.len(), milliseconds, &mut report);
+    report
 }
 
-// Checks the scripts one after another, until a review ends. If a review asks about them, the questions are counted before.
-fn check_each<T: RunProgress, R: Files + Input + Clock + AllocGlobal, W: ReportSink, E: ReportSink>(
+// Checks the scripts one after another, until a review ends.
+fn check_each<T: Runner, R: Files + Input + Clock + AllocGlobal, W: ReportSink, E: ReportSink>(
     rt: &R,
-    runner: &mut Runner<'_, T>,
+    runner: &mut T,
     asked: &CheckRequest<'_>,
     scripts: &[String],
     progress: &mut ProgressClock,
-    check: &mut RunningCheck<W, E>,
+    report: &mut Report<W, E>,
 )
-    ensures { AreReported W.held asked.now scripts.now check.old check.new }
+    ensures { Reports (AreChecked asked.now report.old.state.form scripts.now report.old.counts report.new.counts)
+        report.old.state report.new.state report.old.differing.items report.new.differing.items (W.held report.old.output) (W.held report.new.output) }
 {
     let system = RuntimeSystem(rt);
-    let form = check.report.state.form;
-    let count = count_all(&system, runner, asked, form, scripts);
     let person = TerminalPerson::new(rt, asked.gives_keys);
-    let mut reviewer = Reviewer::new(rt.alloc(), person, count);
+    let mut reviewer = Reviewer::new(rt.alloc(), person);
     let mut done = 0;
-    'reports: while goes_on(reviewer.point.review, done, scripts.len()) {
-        tell_progress(rt, progress, done, scripts.len(), &mut check.report.errors);
-        let begun = progress.elapsed(rt);
+    'reports: while goes_on(reviewer.review, done, scripts.len()) {
+        tell_progress(rt, progress, done, scripts.len(), report);
         let path = scripts[done].as_str();
-        let report = &mut check.report;
-        let checked = check_one(&system, runner, asked, path, &mut reviewer, report);
-        let took = progress.elapsed(rt).saturating_sub(begun);
-        check.add(path.as_bytes(), checked, milliseconds(took));
+        check_one(&system, runner, asked, path, &mut reviewer, report);
         done += 1;
     }
-    end_review(reviewer.point.review, scripts.len() - done, check);
-}
-
-// How many questions a review asks about the scripts; none, if there is no review.
-fn count_all<T: RunProgress, S: System>(
-    system: &S,
-    runner: &mut Runner<'_, T>,
-    asked: &CheckRequest<'_>,
-    form: ReportForm,
-    scripts: &[String],
-) -> usize
-    ensures { asked.now.reviews ≡ true → AreCounted asked.now form 0 scripts.now result }
-{
-    if !asked.reviews {
-        return 0;
-    }
-    let mut count = 0usize;
-    for i in 0..scripts.len() {
-        let one = count_questions(system, runner, asked, form, scripts[i].as_str());
-        count = count.saturating_add(one);
-    }
-    count
+    end_review(reviewer.review, scripts.len() - done, report);
 }
 
 // Whether a script is still to be checked, unless a review is over.
@@ -143,120 +113,131 @@ fn goes_on(review: Review, done: usize, all: usize) -> bool
 }
 
 // Shows how far the work is, if it is time to.
-fn tell_progress<C: Clock, E: ReportSink>(
+fn tell_progress<C: Clock, W: ReportSink, E: ReportSink>(
     clock: &C,
     progress: &mut ProgressClock,
     done: usize,
     all: usize,
-    errors: &mut ErrorStream<E>,
-) {
+    report: &mut Report<W, E>,
+)
+    ensures counts { report.new.counts ≡ report.old.counts }
+    ensures listed { report.new.differing.items ≡ report.old.differing.items }
+    ensures state { report.new.state ≡ report.old.state }
+    ensures output { report.new.output ≡ report.old.output }
+{
     if progress.is_due(clock) {
-        errors.show_progress(done, all);
+        report.show_progress(done, all);
     }
 }
 
 // If the review ended, says how many scripts are left.
-fn end_review<W: ReportSink, E: ReportSink>(
-    review: Review,
-    left: usize,
-    check: &mut RunningCheck<W, E>,
-)
-    ensures results { check.new.results ≡ check.old.results }
-    ensures shown { Prints W.held check.old.report check.new.report (review_end review check.old.results.counts.accepted left) }
+fn end_review<W: ReportSink, E: ReportSink>(review: Review, left: usize, report: &mut Report<W, E>)
+    ensures counts { report.new.counts ≡ report.old.counts }
+    ensures listed { report.new.differing.items ≡ report.old.differing.items }
+    ensures shown { GoesOut report.old.state report.new.state (W.held report.old.output) (W.held report.new.output) (review_end review report.old.counts.accepted left) }
 {
     if review == Review::Over {
-        let note = Note::Quit(check.results.counts.accepted, left);
-        check.report.show(&note);
+        report.tell_quit(left);
     }
 }
 
 // Checks a script, and reports why if that fails.
-fn check_one<T: RunProgress, S: System, P: Person, W: ReportSink, E: ReportSink>(
+fn check_one<T: Runner, S: System, P: Person, W: ReportSink, E: ReportSink>(
     system: &S,
-    runner: &mut Runner<'_, T>,
+    runner: &mut T,
     asked: &CheckRequest<'_>,
     path: &str,
     reviewer: &mut Reviewer<P>,
     report: &mut Report<W, E>,
-) -> PathReport
-    ensures checked { (asking shown : List ℕ)
-        × IsChecked (S.has_read system.now) (S.tells_one system.now) asked.now (P.is_known reviewer.old.person) (P.left reviewer.old.person) report.old.state.form path.now reviewer.old.point reviewer.new.point result.found asking shown
-        × Prints W.held report.old report.new asking × Holds result.shown shown }
-    ensures unasked { asked.now.reviews ≡ false → reviewer.new.point ≡ reviewer.old.point }
+)
+    ensures counted { Reports (IsCounted (S.has_read system.now) (S.tells_one system.now) asked.now (P.is_known reviewer.old.person) (P.left reviewer.old.person) report.old.state.form path.now (check_point report.old.counts reviewer.old.review) (check_point report.new.counts reviewer.new.review))
+        report.old.state report.new.state report.old.differing.items report.new.differing.items (W.held report.old.output) (W.held report.new.output) }
+    ensures unasked { asked.now.reviews ≡ false → reviewer.new.review ≡ reviewer.old.review }
 {
-    match check_script(system, runner, asked, path, reviewer, report) {
-        Ok(checked) => checked,
-        Err(error) => failed(path.as_bytes(), error, report),
+    if let Err(error) = check_script(system, runner, asked, path, reviewer, report) {
+        report.fail(path.as_bytes(), error);
     }
 }
 
-// Reports why a path failed on the stream of errors. Programs get a notice too.
-fn failed<W: ReportSink, E: ReportSink>(
-    path: &[u8],
-    error: PathError,
+// Ends the report of n scripts, if there is something to end.
+fn end<W: ReportSink, E: ReportSink>(
+    asked: &CheckRequest<'_>,
+    n: usize,
+    milliseconds: u64,
     report: &mut Report<W, E>,
-) -> PathReport
-    ensures found { result.found ≡ PathResult.Failed error.failure }
-    ensures shown { Holds result.shown (remark_text report.old.state.form path.now (remarks.Failed error.failure)) }
-    ensures told { (words : List ℕ) × Tells E.takes_all E.held report.old.errors report.new.errors (cleared report.old.errors.shows_progress ++ failure_lines path.now error words) }
-    // If something of the path acts, a workflow command goes out by numbers.
-    ensures heeded { report.new.showing ≡ shown_in report.old.state.form.format path.now Showing.AsIs }
-    ensures state { report.new.state ≡ report.old.state }
-    ensures held { Keeps (W.held report.old.output) (W.held report.new.output) }
+)
+    ensures counts { report.new.counts ≡ report.old.counts }
+    ensures listed { report.new.differing.items ≡ report.old.differing.items }
+    ensures shown { GoesOut report.old.state report.new.state (W.held report.old.output) (W.held report.new.output)
+        (last_text asked.now n report.old.state.form report.old.differing.items (together report.old.counts report.old.state.own) milliseconds) }
 {
-    report.heed(path, None);
-    report.errors.tell_failure(path, error);
-    let mut shown = ShownText::new(report.alloc, !report.state.is_closed);
-    shown.remark(report.state.form, path, Remark::Failed(error.failure));
-    PathReport {
-        found: PathResult::Failed(error.failure),
-        shown,
+    if n > 0 || report.is_for_programs() {
+        report.end(lists(asked.shown, n), milliseconds);
     }
 }
 
-// Reports and counts the paths that could not be read.
-fn tell_lost<W: ReportSink, E: ReportSink>(found: &Found, check: &mut RunningCheck<W, E>)
-    ensures { Reports W.held check.old check.new (lost_results check.old.report.state.form found.now) }
+// Whether the scripts that differ are listed at the end, of n scripts.
+fn lists(shown: Detail, n: usize) -> bool
+    ensures { result ≡ lists shown n }
 {
-    tell_each_lost(found.lost.as_slice(), check);
-    tell_if(found.is_cut, Failure::OutOfMemory, check);
+    match shown {
+        Detail::Brief => false,
+        Detail::First | Detail::Differing | Detail::All => n > 1,
+    }
+}
+
+// Reports the paths that could not be read.
+fn tell_lost<W: ReportSink, E: ReportSink>(found: &Found, report: &mut Report<W, E>)
+    ensures counts { report.new.counts ≡ counted_failures report.old.counts (lost_failures found.now) }
+    ensures listed { report.new.differing.items ≡ report.old.differing.items }
+    ensures shown { GoesOut report.old.state report.new.state (W.held report.old.output) (W.held report.new.output) (lost_text report.old.state.form found.now) }
+{
+    tell_each_lost(found.lost.as_slice(), report);
+    tell_if(found.is_cut, Failure::OutOfMemory, report);
     tell_if(
         found.scripts.as_slice().is_empty(),
         Failure::NoScripts,
-        check,
+        report,
     );
 }
 
-// Reports and counts the paths that failed.
-fn tell_each_lost<W: ReportSink, E: ReportSink>(lost: &[FailedPath], check: &mut RunningCheck<W, E>)
-    ensures { Reports W.held check.old check.new (map (lost_path check.old.report.state.form) lost.now) }
+// Reports the paths that failed.
+fn tell_each_lost<W: ReportSink, E: ReportSink>(lost: &[FailedPath], report: &mut Report<W, E>)
+    ensures counts { report.new.counts ≡ counted_failures report.old.counts (map path_failure lost.now) }
+    ensures listed { report.new.differing.items ≡ report.old.differing.items }
+    ensures shown { GoesOut report.old.state report.new.state (W.held report.old.output) (W.held report.new.output) (paths_text report.old.state.form lost.now) }
 {
     for i in 0..lost.len() {
-        lose(&lost[i].path, lost[i].error, check);
+        tell_one_lost(&lost[i], report);
     }
 }
 
-// Reports and counts a failure of the check as a whole, if there is one.
+fn tell_one_lost<W: ReportSink, E: ReportSink>(lost: &FailedPath, report: &mut Report<W, E>)
+    ensures counts { report.new.counts ≡ together report.old.counts (of_outcome (Failed (path_failure lost.now))) }
+    ensures listed { report.new.differing.items ≡ report.old.differing.items }
+    // If something of the path acts, a workflow command goes out by numbers.
+    ensures heeded { report.new.showing ≡ shown_in report.old.state.form.format lost.now.path.items Showing.AsIs }
+    ensures shown { GoesOut report.old.state report.new.state (W.held report.old.output) (W.held report.new.output) (path_text report.old.state.form lost.now) }
+{
+    report.heed(&lost.path, None);
+    report.fail(&lost.path, lost.error);
+}
+
+// Reports a failure of the check as a whole, if there is one.
 fn tell_if<W: ReportSink, E: ReportSink>(
     has_failed: bool,
     failure: Failure,
-    check: &mut RunningCheck<W, E>,
+    report: &mut Report<W, E>,
 )
-    ensures { Reports W.held check.old check.new (whole_failure check.old.report.state.form has_failed failure) }
+    ensures counts { report.new.counts ≡ counted_failures report.old.counts (whole_failure has_failed failure) }
+    ensures listed { report.new.differing.items ≡ report.old.differing.items }
+    ensures shown { GoesOut report.old.state report.new.state (W.held report.old.output) (W.held report.new.output) (whole_text report.old.state.form has_failed failure) }
 {
     if has_failed {
-        lose(b"raftbench", PathError::alone(failure), check);
+        report.fail(b"raftbench", PathError::alone(failure));
     }
 }
 
-// Reports and counts a path that failed.
-fn lose<W: ReportSink, E: ReportSink>(path: &[u8], error: PathError, check: &mut RunningCheck<W, E>)
-    ensures { Reports W.held check.old check.new (failed_path check.old.report.state.form path.now error.failure ∷ []) }
-{
-    let checked = failed(path, error, &mut check.report);
-    check.add(path, checked, 0);
-}
-
-fn milliseconds(time: Duration) -> u64 {
-    u64::try_from(time.as_millis()).unwrap_or(u64::MAX)
+fn milliseconds<C: Clock>(progress: &ProgressClock, clock: &C) -> u64 {
+    u64::try_from(progress.elapsed(clock).as_millis()).unwrap_or(u64::MAX)
 }

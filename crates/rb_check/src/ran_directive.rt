@@ -1,29 +1,49 @@
 //! A directive of a script that ran.
 
 ghost use Rattle.std.specs.Prelude.{◌≡◌, ◌<◌, IfOk, Some, length, slice_get};
+ghost use Rattle.rb_replay.specs.Run.{outputs};
+ghost use Rattle.rb_report.specs.Whys.{reasons_in};
 ghost use Rattle.rb_script_report.specs.Checked.{head_of};
-ghost use Rattle.rb_script_report.specs.Ran.{plain_ran};
-ghost use Rattle.rb_check.specs.Subjects.{plain_of, runs_of};
+ghost use Rattle.rb_script_report.specs.Whys.{why_at};
 
 use crate::checked_script::CheckedScript;
-use rb_report::check::put_head;
-use rb_script::{Block, Through};
-use rb_script_report::{RanDirective, ShownScript, directive_at};
+use rb_machine::Machine;
+use rb_report::check::{FileLine, Why, put_head};
+use rb_script::{Block, Lines, Through};
+use rb_script_report::{block_at, number_at, output_at, why_at};
 use std::alloc::{AllocError, Global};
 
+/// A directive that ran: its place, its block, its output and the reasons of that.
+#[derive(Clone, Copy)]
+pub(crate) struct RanDirective<'a> {
+    pub(crate) place: FileLine<'a>,
+    pub(crate) block: &'a Block,
+    pub(crate) output: &'a Lines,
+    pub(crate) why: Why<'a>,
+}
+
 /// The directive at an index, which counts from 0.
-pub(crate) fn checked_directive<'a>(subject: &CheckedScript<'a>, index: usize) -> RanDirective<'a>
-    requires count { length (plain_of subject.now).layout.heads.items ≡ length (plain_of subject.now).script.blocks }
-    requires within { index < length (plain_of subject.now).script.blocks }
-    ensures { slice_get (runs_of (plain_of subject.now)) index ≡ Some (plain_ran result) }
+pub(crate) fn directive_at<'a, M: Machine>(
+    subject: &CheckedScript<'a, M>,
+    index: usize,
+) -> RanDirective<'a>
+    requires count { length subject.now.layout.now.heads.items ≡ length subject.now.session.now.script.blocks }
+    requires within { index < length subject.now.session.now.script.blocks }
+    ensures path { result.place.path.now ≡ subject.now.path.now }
+    ensures line { slice_get subject.now.layout.now.heads.items index ≡ Some result.place.line }
+    ensures block { slice_get subject.now.session.now.script.blocks index ≡ Some result.block.now }
+    ensures output { slice_get (outputs subject.now.session.now.script) index ≡ Some result.output.now }
+    ensures why { reasons_in result.why ≡ why_at subject.now.whys.now index }
 {
-    let run = &subject.script.run;
-    let shown_script = ShownScript {
-        session: &run.session,
-        layout: &run.layout,
-        whys: &run.whys,
-    };
-    directive_at(&shown_script, index)
+    RanDirective {
+        place: FileLine {
+            path: subject.path.as_bytes(),
+            line: number_at(subject.layout.heads.as_slice(), index),
+        },
+        block: block_at(subject.session, index),
+        output: output_at(subject.session, index),
+        why: why_at(subject.whys, index),
+    }
 }
 
 /// The head of the block on one line.

@@ -3,25 +3,29 @@
 //! A review of a script is one definition, `Reviews.review_of`, of what was asked before, of its questions and of the lines that are read: it says what is
 //! accepted and what is still to be asked. Each function here does a part of it.
 
-ghost use Rattle.std.specs.Prelude.{◌≡◌, ◌+◌, ◌++◌, ◌∷◌, [], ◌<◌, ℕ, List, IfErr, IfOk, length};
+ghost use Rattle.std.specs.Prelude.{◌≡◌, ◌++◌, ◌∷◌, [], ◌<◌, ◌≤◌, ◌^◌, ◌+◌, ◌-◌, ℕ, List, IfErr, IfOk, IfSome, drop, length, min};
+ghost use Rattle.rb_replay.specs.Report.{differing, mismatches};
+ghost use Rattle.rb_replay.specs.Run.{outputs};
 ghost use Rattle.rb_report.specs.declared.check.failure.Failure.TheVariants.{OutOfMemory};
-ghost use Rattle.rb_check.specs.Asking.{AreAsked, AreGone, AreReviewed, IsAsked, IsAskedAt, asked_of, subject_text};
-ghost use Rattle.rb_check.specs.Reviews.{AreWithin, Hears, answered_one, comment_text, first_point, next_review, question_text, questions_of, review_behind, review_of, review_so_far, reviewed_all, reviewed_one, reviewing, said_by, said_unasked};
-ghost use Rattle.rb_check.specs.Shown.{Prints, PrintsPart};
-ghost use Rattle.rb_check.specs.Subjects.{AreFindings, plain_of};
+ghost use Rattle.rb_script_report.specs.Checked.{head_line};
+ghost use Rattle.rb_script_report.specs.Layouts.{IsLayout};
+ghost use Rattle.rb_check.specs.Asking.{AreAsked, AreReviewed, IsAsked, IsAskedAt, asked_places, place_if, places_of, subject_text};
+ghost use Rattle.rb_check.specs.Reviews.{answered_one, as_list, next_review, question_text, questions_of, review_behind, review_of, reviewed_all, reviewing, said_by, said_unasked};
+ghost use Rattle.rb_check.specs.ScriptTexts.{checked};
+ghost use Rattle.rb_check.specs.Shown.{GoesOut, GoesOutIf, GoesOutInPart};
 
 use crate::answer::Answer;
 use crate::check_request::CheckRequest;
 use crate::checked_script::CheckedScript;
 use crate::comment::put_comment;
 use crate::person::{Person, ask};
-use crate::question::{ReviewQuestion, question_text, questions_of};
+use crate::question::{ReviewQuestion, question_of, question_text};
+use crate::ran_directive::directive_at;
 use crate::report::Report;
 use crate::report_sink::ReportSink;
-use crate::showing::alone;
 use rb_files::PathError;
-use rb_script::{Lines, Through};
-use rb_script_report::{AcceptFilter, Detail};
+use rb_machine::Machine;
+use rb_script_report::{AcceptFilter, Detail, ShowFault, ShownScript, View, put_alone};
 use std::alloc::{AllocError, Global};
 use std::mem;
 
@@ -38,77 +42,93 @@ pub(crate) enum Review {
     Over,
 }
 
-/// Where a review is.
-#[derive(Clone, Copy)]
-pub(crate) struct ReviewPoint {
-    pub(crate) review: Review,
-    /// How many questions there were about earlier scripts, asked or not.
-    pub(crate) passed: usize,
-    /// How many questions there are about all scripts.
-    pub(crate) count: usize,
-}
-
 /// A review, as far as it has come.
 #[derive(Drop)]
 pub(crate) struct Reviewer<P: Person> {
     alloc: Global,
     /// Who is asked.
     pub(crate) person: P,
-    pub(crate) point: ReviewPoint,
+    pub(crate) review: Review,
     // the lines of the heads whose outputs are accepted, in this script
     said: Vec<usize>,
+    // how many questions were asked in this script, and how many it has
+    number: usize,
+    count: usize,
 }
 
 impl<P: Person> Reviewer<P> {
-    /// Nothing was asked yet, of so many questions.
-    pub(crate) fn new(alloc: Global, person: P, count: usize) -> Reviewer<P>
-        ensures { result.point ≡ first_point count }
+    /// Nothing was asked yet.
+    pub(crate) fn new(alloc: Global, person: P) -> Reviewer<P>
+        ensures { result.review ≡ Review.Each }
     {
         Reviewer {
             alloc,
             person,
-            point: ReviewPoint {
-                review: Review::Each,
-                passed: 0,
-                count,
-            },
+            review: Review::Each,
             said: Vec::new(alloc),
+            number: 0,
+            count: 0,
         }
     }
 
-    // Begins a script.
-    fn begin(&mut self)
+    // Begins a script with n questions.
+    fn begin(&mut self, n: usize)
         ensures said { self.new.said.items ≡ [] }
-        ensures point { self.new.point ≡ record self.old.point { review = review_behind self.old.point.review } }
+        ensures review { self.new.review ≡ review_behind self.old.review }
         ensures person { self.new.person ≡ self.old.person }
+        ensures number { self.new.number ≡ 0 }
+        ensures count { self.new.count ≡ n }
     {
         self.said = Vec::new(self.alloc);
-        self.point.review = review_behind(self.point.review);
+        self.review = review_behind(self.review);
+        self.number = 0;
+        self.count = n;
     }
 
-    // Asks the question, and does what is answered.
+    // The question, in words.
+    fn next_question(&mut self) -> Result<Vec<u8>, AllocError>
+        ensures text { IfOk result (λ text. text.items ≡ question_text self.new.number self.old.count) }
+        ensures number { self.new.number ≡ min (self.old.number + 1) (2 ^ 64 - 1) }
+        ensures count { self.new.count ≡ self.old.count }
+        ensures said { self.new.said ≡ self.old.said }
+        ensures review { self.new.review ≡ self.old.review }
+        ensures person { self.new.person ≡ self.old.person }
+    {
+        self.number = self.number.saturating_add(1);
+        question_text(self.alloc, self.number, self.count)
+    }
+
+    // Asks, and does what is answered.
     fn ask<W: ReportSink, E: ReportSink>(
         &mut self,
         question: ReviewQuestion,
-        number: usize,
         report: &mut Report<W, E>,
     ) -> Result<(), AllocError>
-        ensures shown { IfOk result (λ _. (text : List ℕ) × IsAsked (question_text number self.old.point.count) text × Prints W.held report.old report.new text) }
-        ensures part { IfErr result (λ _. PrintsPart W.held report.old report.new) }
-        ensures point { self.new.point ≡ record self.old.point { review = self.new.point.review } }
-        ensures heard { Hears P.is_known P.left self.old.person self.new.person (IfOk result (λ _. review_so_far P.left self.new ≡ answered_one (review_so_far P.left self.old) question)) }
+        ensures counts { report.new.counts ≡ report.old.counts }
+        ensures listed { report.new.differing.items ≡ report.old.differing.items }
+        // It has the next number.
+        ensures number { IfOk result (λ _. self.new.number ≡ min (self.old.number + 1) (2 ^ 64 - 1)) }
+        ensures count { self.new.count ≡ self.old.count }
+        ensures shown { IfOk result (λ _. (text : List ℕ) × IsAsked (question_text self.new.number self.old.count) text × GoesOut report.old.state report.new.state (W.held report.old.output) (W.held report.new.output) text) }
+        ensures part { IfErr result (λ _. GoesOutInPart report.old.state report.new.state (W.held report.old.output) (W.held report.new.output)) }
+        ensures known { P.is_known self.old.person → P.is_known self.new.person }
+        ensures few { P.is_known self.old.person → length (P.left self.old.person) < 2 ^ 64 → length (P.left self.new.person) ≤ length (P.left self.old.person) }
+        ensures asked { P.is_known self.old.person → length (P.left self.old.person) < 2 ^ 64
+            → IfOk result (λ _. reviewing self.new.said.items self.new.review (P.left self.new.person) ≡ answered_one (reviewing self.old.said.items self.old.review (P.left self.old.person)) question) }
     {
-        let text = question_text(self.alloc, number, self.point.count)?;
+        let text = self.next_question()?;
         let answer = ask(&mut self.person, &text, report);
-        self.point.review = take(&mut self.said, question.head, answer)?;
+        self.review = take(&mut self.said, question.head, answer)?;
         Ok(())
     }
 
     // Accepts an output that isn't asked about, if accepting takes it.
     fn take_rest(&mut self, question: ReviewQuestion) -> Result<(), AllocError>
         ensures said { IfOk result (λ _. self.new.said.items ≡ self.old.said.items ++ said_unasked question) }
-        ensures point { self.new.point ≡ self.old.point }
+        ensures review { self.new.review ≡ self.old.review }
         ensures person { self.new.person ≡ self.old.person }
+        ensures number { self.new.number ≡ self.old.number }
+        ensures count { self.new.count ≡ self.old.count }
     {
         if question.is_taken {
             push(&mut self.said, question.head)?;
@@ -128,98 +148,181 @@ fn review_behind(review: Review) -> Review
 }
 
 /// The lines of the heads of the directives whose outputs are to be accepted, by what is answered.
-pub(crate) fn reviewed<P: Person, W: ReportSink, E: ReportSink>(
+pub(crate) fn reviewed<M: Machine, P: Person, W: ReportSink, E: ReportSink>(
     asked: &CheckRequest<'_>,
-    subject: &CheckedScript<'_>,
+    subject: &CheckedScript<'_, M>,
     picked: AcceptFilter<'_>,
     reviewer: &mut Reviewer<P>,
     report: &mut Report<W, E>,
 ) -> Result<Vec<usize>, PathError>
-    requires { AreFindings subject.now }
+    requires { IsLayout subject.now.text.now.bytes.items subject.now.session.now.script subject.now.layout.now }
+    ensures counts { report.new.counts ≡ report.old.counts }
+    ensures listed { report.new.differing.items ≡ report.old.differing.items }
     ensures memory { IfErr result (λ error. error.failure ≡ OutOfMemory) }
+    ensures known { P.is_known reviewer.old.person → P.is_known reviewer.new.person }
+    ensures few { P.is_known reviewer.old.person → length (P.left reviewer.old.person) < 2 ^ 64 → length (P.left reviewer.new.person) ≤ length (P.left reviewer.old.person) }
     // What goes out are the questions, one after another, as far as they are asked.
-    ensures shown { IfOk result (λ _. (text : List ℕ) × AreReviewed (plain_of subject.now) (questions_of asked.now picked.entry (plain_of subject.now)) reviewer.old.point reviewer.new.point text × Prints W.held report.old report.new text) }
-    ensures part { IfErr result (λ _. PrintsPart W.held report.old report.new) }
+    ensures shown { IfOk result (λ _. (text : List ℕ) × AreReviewed (checked subject.now.path.now subject.now.layout.now subject.now.whys.now subject.now.session.now.script subject.now.colors) picked.entry reviewer.old.review reviewer.new.review text × GoesOut report.old.state report.new.state (W.held report.old.output) (W.held report.new.output) text) }
+    ensures part { IfErr result (λ _. GoesOutInPart report.old.state report.new.state (W.held report.old.output) (W.held report.new.output)) }
     // If the person's lines are known, what is accepted is the review of the questions by them.
-    ensures heard { Hears P.is_known P.left reviewer.old.person reviewer.new.person (IfOk result (λ said. reviewing said.items reviewer.new.point.review (P.left reviewer.new.person)
-        ≡ review_of reviewer.old.point.review (P.left reviewer.old.person) (questions_of asked.now picked.entry (plain_of subject.now)))) }
+    ensures reviewed { P.is_known reviewer.old.person → length (P.left reviewer.old.person) < 2 ^ 64
+        → IfOk result (λ said. reviewing said.items reviewer.new.review (P.left reviewer.new.person)
+        ≡ review_of reviewer.old.review (P.left reviewer.old.person) (questions_of asked.now.accepts_errors picked.entry subject.now.layout.now.text subject.now.layout.now.heads.items subject.now.session.now.script.blocks (outputs subject.now.session.now.script))) }
 {
-    let questions = questions_of(reviewer.alloc, asked, picked, subject)?;
-    reviewer.begin();
-    go_over(subject, &questions, reviewer, report)?;
-    reviewer.point.passed = reviewer.point.passed.saturating_add(questions.len());
+    reviewer.begin(count_questions(asked, subject, picked));
+    go_over(asked, subject, picked, reviewer, report)?;
     let none = Vec::new(reviewer.alloc);
     Ok(mem::replace(&mut reviewer.said, none))
 }
 
-// Asks the questions, as far as they are still to be asked.
-fn go_over<P: Person, W: ReportSink, E: ReportSink>(
-    subject: &CheckedScript<'_>,
-    questions: &[ReviewQuestion],
+// How many questions there are.
+fn count_questions<M: Machine>(
+    asked: &CheckRequest<'_>,
+    subject: &CheckedScript<'_, M>,
+    picked: AcceptFilter<'_>,
+) -> usize
+    requires { IsLayout subject.now.text.now.bytes.items subject.now.session.now.script subject.now.layout.now }
+    ensures questions { result ≡ length (questions_of asked.now.accepts_errors picked.entry subject.now.layout.now.text subject.now.layout.now.heads.items subject.now.session.now.script.blocks (outputs subject.now.session.now.script)) }
+    ensures places { result ≡ length (places_of picked.entry subject.now.layout.now.heads.items (mismatches subject.now.session.now.script)) }
+{
+    let mut count = 0;
+    for index in 0..subject.session.len() {
+        count += one_if(question_at(asked, subject, picked, index));
+    }
+    count
+}
+
+fn one_if(question: Option<ReviewQuestion>) -> usize
+    ensures value { result ≡ length (as_list question) }
+    ensures most { result ≤ 1 }
+{
+    match question {
+        Some(_) => 1,
+        None => 0,
+    }
+}
+
+// What is asked about the directive at an index, which counts from 0.
+fn question_at<M: Machine>(
+    asked: &CheckRequest<'_>,
+    subject: &CheckedScript<'_, M>,
+    picked: AcceptFilter<'_>,
+    index: usize,
+) -> Option<ReviewQuestion>
+    requires layout { IsLayout subject.now.text.now.bytes.items subject.now.session.now.script subject.now.layout.now }
+    requires within { index < length subject.now.session.now.script.blocks }
+    // It is about the directive's head.
+    ensures head { IfSome result (λ question. question.head ≡ head_line subject.now.layout.now.heads.items (index + 1)) }
+    // Its place is the next of those that are left.
+    ensures place { let left = λ (n : ℕ). places_of picked.entry subject.now.layout.now.heads.items (differing (n + 1) (drop n subject.now.session.now.script.blocks) (drop n (outputs subject.now.session.now.script))) in
+        left index ≡ place_if result (index + 1) ++ left (index + 1) }
+    // So is it itself.
+    ensures question { let left = λ (n : ℕ). questions_of asked.now.accepts_errors picked.entry subject.now.layout.now.text (drop n subject.now.layout.now.heads.items) (drop n subject.now.session.now.script.blocks) (drop n (outputs subject.now.session.now.script)) in
+        left index ≡ as_list result ++ left (index + 1) }
+{
+    let ran = directive_at(subject, index);
+    question_of(
+        asked.accepts_errors,
+        picked,
+        &subject.layout.text,
+        ran.place.line,
+        ran.block,
+        ran.output,
+    )
+}
+
+// Asks about each directive whose output differs and that is picked, as far as it is still to be asked.
+fn go_over<M: Machine, P: Person, W: ReportSink, E: ReportSink>(
+    asked: &CheckRequest<'_>,
+    subject: &CheckedScript<'_, M>,
+    picked: AcceptFilter<'_>,
     reviewer: &mut Reviewer<P>,
     report: &mut Report<W, E>,
 ) -> Result<(), PathError>
-    requires findings { AreFindings subject.now }
-    requires within { AreWithin questions.now (length (plain_of subject.now).script.blocks) }
+    requires { IsLayout subject.now.text.now.bytes.items subject.now.session.now.script subject.now.layout.now }
+    ensures counts { report.new.counts ≡ report.old.counts }
+    ensures listed { report.new.differing.items ≡ report.old.differing.items }
     ensures memory { IfErr result (λ error. error.failure ≡ OutOfMemory) }
-    ensures shown { IfOk result (λ _. (text : List ℕ) × AreGone (plain_of subject.now) reviewer.old.point.count reviewer.old.point.passed questions.now reviewer.old.point.review reviewer.new.point.review text × Prints W.held report.old report.new text) }
-    ensures part { IfErr result (λ _. PrintsPart W.held report.old report.new) }
-    ensures point { reviewer.new.point ≡ record reviewer.old.point { review = reviewer.new.point.review } }
-    ensures heard { Hears P.is_known P.left reviewer.old.person reviewer.new.person (IfOk result (λ _. review_so_far P.left reviewer.new ≡ reviewed_all (review_so_far P.left reviewer.old) questions.now)) }
+    ensures shown { reviewer.old.number ≡ 0 → reviewer.old.count ≡ length (places_of picked.entry subject.now.layout.now.heads.items (mismatches subject.now.session.now.script))
+        → IfOk result (λ _. (text : List ℕ) × AreReviewed (checked subject.now.path.now subject.now.layout.now subject.now.whys.now subject.now.session.now.script subject.now.colors) picked.entry reviewer.old.review reviewer.new.review text × GoesOut report.old.state report.new.state (W.held report.old.output) (W.held report.new.output) text) }
+    ensures part { IfErr result (λ _. GoesOutInPart report.old.state report.new.state (W.held report.old.output) (W.held report.new.output)) }
+    ensures known { P.is_known reviewer.old.person → P.is_known reviewer.new.person }
+    ensures few { P.is_known reviewer.old.person → length (P.left reviewer.old.person) < 2 ^ 64 → length (P.left reviewer.new.person) ≤ length (P.left reviewer.old.person) }
+    ensures reviewed { P.is_known reviewer.old.person → length (P.left reviewer.old.person) < 2 ^ 64
+        → IfOk result (λ _. reviewing reviewer.new.said.items reviewer.new.review (P.left reviewer.new.person)
+        ≡ reviewed_all (reviewing reviewer.old.said.items reviewer.old.review (P.left reviewer.old.person)) (questions_of asked.now.accepts_errors picked.entry subject.now.layout.now.text subject.now.layout.now.heads.items subject.now.session.now.script.blocks (outputs subject.now.session.now.script))) }
 {
-    for i in 0..questions.len() {
-        review_one(subject, questions[i], i, reviewer, report)?;
+    for index in 0..subject.session.len() {
+        let question = question_at(asked, subject, picked, index);
+        review_one(subject, index, question, reviewer, report)?;
     }
     Ok(())
 }
 
-// Asks the question, if it is still to be asked: it has this index among those of the script.
-fn review_one<P: Person, W: ReportSink, E: ReportSink>(
-    subject: &CheckedScript<'_>,
-    question: ReviewQuestion,
+// Asks about the directive at an index, where there is something to ask and it is still to be asked.
+fn review_one<M: Machine, P: Person, W: ReportSink, E: ReportSink>(
+    subject: &CheckedScript<'_, M>,
     index: usize,
+    question: Option<ReviewQuestion>,
     reviewer: &mut Reviewer<P>,
     report: &mut Report<W, E>,
 ) -> Result<(), PathError>
-    requires findings { AreFindings subject.now }
-    requires within { question.index < length (plain_of subject.now).script.blocks }
+    requires layout { IsLayout subject.now.text.now.bytes.items subject.now.session.now.script subject.now.layout.now }
+    requires within { index < length subject.now.session.now.script.blocks }
+    ensures counts { report.new.counts ≡ report.old.counts }
+    ensures listed { report.new.differing.items ≡ report.old.differing.items }
     ensures memory { IfErr result (λ error. error.failure ≡ OutOfMemory) }
-    ensures shown { IfOk result (λ _. (text : List ℕ) × AreAsked (plain_of subject.now) reviewer.old.point.count (reviewer.old.point.passed + index + 1) (asked_of reviewer.old.point.review question) text × Prints W.held report.old report.new text) }
-    ensures part { IfErr result (λ _. PrintsPart W.held report.old report.new) }
-    ensures point { reviewer.new.point ≡ record reviewer.old.point { review = reviewer.new.point.review } }
+    // It goes out as its next question, if it has one that is still to be asked.
+    ensures shown { reviewer.old.number < 2 ^ 64 - 1 → IfSome question (λ asks. asks.head ≡ head_line subject.now.layout.now.heads.items (index + 1))
+        → IfOk result (λ _. (text : List ℕ) × AreAsked (checked subject.now.path.now subject.now.layout.now subject.now.whys.now subject.now.session.now.script subject.now.colors) reviewer.old.count (reviewer.old.number + 1) (asked_places reviewer.old.review question (index + 1)) text × GoesOut report.old.state report.new.state (W.held report.old.output) (W.held report.new.output) text) }
+    ensures part { GoesOutInPart report.old.state report.new.state (W.held report.old.output) (W.held report.new.output) }
+    ensures number { reviewer.old.number < 2 ^ 64 - 1 → IfOk result (λ _. reviewer.new.number ≡ reviewer.old.number + length (asked_places reviewer.old.review question (index + 1))) }
+    ensures count { reviewer.new.count ≡ reviewer.old.count }
     // Nothing begins a review again.
-    ensures each { reviewer.new.point.review ≡ Review.Each → reviewer.old.point.review ≡ Review.Each }
-    ensures over { reviewer.old.point.review ≡ Review.Over → reviewer.new.point.review ≡ Review.Over }
-    ensures heard { Hears P.is_known P.left reviewer.old.person reviewer.new.person (IfOk result (λ _. review_so_far P.left reviewer.new ≡ reviewed_one (review_so_far P.left reviewer.old) question)) }
+    ensures each { reviewer.new.review ≡ Review.Each → reviewer.old.review ≡ Review.Each }
+    ensures over { reviewer.old.review ≡ Review.Over → reviewer.new.review ≡ Review.Over }
+    ensures known { P.is_known reviewer.old.person → P.is_known reviewer.new.person }
+    ensures few { P.is_known reviewer.old.person → length (P.left reviewer.old.person) < 2 ^ 64 → length (P.left reviewer.new.person) ≤ length (P.left reviewer.old.person) }
+    ensures reviewed { P.is_known reviewer.old.person → length (P.left reviewer.old.person) < 2 ^ 64
+        → IfOk result (λ _. reviewing reviewer.new.said.items reviewer.new.review (P.left reviewer.new.person)
+        ≡ reviewed_all (reviewing reviewer.old.said.items reviewer.old.review (P.left reviewer.old.person)) (as_list question)) }
 {
-    match reviewer.point.review {
-        Review::Each => ask_about(subject, question, index, reviewer, report),
-        Review::Rest => Ok(reviewer.take_rest(question)?),
-        Review::Skipped => Ok(()),
-        Review::Over => Ok(()),
+    match question {
+        Some(question) => match reviewer.review {
+            Review::Each => ask_about(subject, index, question, reviewer, report),
+            Review::Rest => Ok(reviewer.take_rest(question)?),
+            Review::Skipped => Ok(()),
+            Review::Over => Ok(()),
+        },
+        None => Ok(()),
     }
 }
 
 // Shows what the question is about, and asks it.
-fn ask_about<P: Person, W: ReportSink, E: ReportSink>(
-    subject: &CheckedScript<'_>,
-    question: ReviewQuestion,
+fn ask_about<M: Machine, P: Person, W: ReportSink, E: ReportSink>(
+    subject: &CheckedScript<'_, M>,
     index: usize,
+    question: ReviewQuestion,
     reviewer: &mut Reviewer<P>,
     report: &mut Report<W, E>,
 ) -> Result<(), PathError>
-    requires findings { AreFindings subject.now }
-    requires within { question.index < length (plain_of subject.now).script.blocks }
+    requires layout { IsLayout subject.now.text.now.bytes.items subject.now.session.now.script subject.now.layout.now }
+    requires within { index < length subject.now.session.now.script.blocks }
+    ensures counts { report.new.counts ≡ report.old.counts }
+    ensures listed { report.new.differing.items ≡ report.old.differing.items }
     ensures memory { IfErr result (λ error. error.failure ≡ OutOfMemory) }
-    ensures shown { IfOk result (λ _. (text : List ℕ) × IsAskedAt (plain_of subject.now) reviewer.old.point.count (reviewer.old.point.passed + index + 1) question text × Prints W.held report.old report.new text) }
-    ensures part { IfErr result (λ _. PrintsPart W.held report.old report.new) }
-    ensures point { reviewer.new.point ≡ record reviewer.old.point { review = reviewer.new.point.review } }
-    ensures heard { Hears P.is_known P.left reviewer.old.person reviewer.new.person (IfOk result (λ _. review_so_far P.left reviewer.new ≡ answered_one (review_so_far P.left reviewer.old) question)) }
+    ensures shown { reviewer.old.number < 2 ^ 64 - 1 → question.head ≡ head_line subject.now.layout.now.heads.items (index + 1)
+        → IfOk result (λ _. (text : List ℕ) × IsAskedAt (checked subject.now.path.now subject.now.layout.now subject.now.whys.now subject.now.session.now.script subject.now.colors) reviewer.old.count (reviewer.old.number + 1) (index + 1) text × GoesOut report.old.state report.new.state (W.held report.old.output) (W.held report.new.output) text) }
+    ensures part { GoesOutInPart report.old.state report.new.state (W.held report.old.output) (W.held report.new.output) }
+    ensures number { IfOk result (λ _. reviewer.new.number ≡ min (reviewer.old.number + 1) (2 ^ 64 - 1)) }
+    ensures count { reviewer.new.count ≡ reviewer.old.count }
+    ensures known { P.is_known reviewer.old.person → P.is_known reviewer.new.person }
+    ensures few { P.is_known reviewer.old.person → length (P.left reviewer.old.person) < 2 ^ 64 → length (P.left reviewer.new.person) ≤ length (P.left reviewer.old.person) }
+    ensures asked { P.is_known reviewer.old.person → length (P.left reviewer.old.person) < 2 ^ 64
+        → IfOk result (λ _. reviewing reviewer.new.said.items reviewer.new.review (P.left reviewer.new.person) ≡ answered_one (reviewing reviewer.old.said.items reviewer.old.review (P.left reviewer.old.person)) question) }
 {
-    let text = subject_text(reviewer.alloc, subject, question)?;
-    report.say(&text);
-    let number = reviewer.point.passed.saturating_add(index + 1);
-    Ok(reviewer.ask(question, number, report)?)
+    show(reviewer.alloc, subject, index, question, report)?;
+    Ok(reviewer.ask(question, report)?)
 }
 
 fn push(said: &mut Vec<usize>, head: usize) -> Result<(), AllocError>
@@ -249,28 +352,38 @@ fn take(said: &mut Vec<usize>, head: usize, answer: Answer) -> Result<Review, Al
     }
 }
 
-// What is shown before a question: the comment above the head, and what differs.
-fn subject_text(
+// Shows what is asked about, and the comment above it.
+fn show<M: Machine, W: ReportSink, E: ReportSink>(
     alloc: Global,
-    subject: &CheckedScript<'_>,
+    subject: &CheckedScript<'_, M>,
+    index: usize,
     question: ReviewQuestion,
-) -> Result<Vec<u8>, AllocError>
-    requires findings { AreFindings subject.now }
-    requires within { question.index < length (plain_of subject.now).script.blocks }
-    ensures { IfOk result (λ made. made.items ≡ subject_text (plain_of subject.now) question) }
+    report: &mut Report<W, E>,
+) -> Result<(), PathError>
+    requires layout { IsLayout subject.now.text.now.bytes.items subject.now.session.now.script subject.now.layout.now }
+    requires within { index < length subject.now.session.now.script.blocks }
+    ensures counts { report.new.counts ≡ report.old.counts }
+    ensures listed { report.new.differing.items ≡ report.old.differing.items }
+    ensures memory { IfErr result (λ error. error.failure ≡ OutOfMemory) }
+    ensures shown { GoesOutIf result report.old.state report.new.state (W.held report.old.output) (W.held report.new.output) (subject_text (checked subject.now.path.now subject.now.layout.now subject.now.whys.now subject.now.session.now.script subject.now.colors) question.head (index + 1)) }
 {
-    let mut text = comment_above(alloc, &subject.script.run.layout.text, question.head)?;
-    let differing = alone(alloc, subject, question.index, Detail::Differing)?;
-    text.extend_from_slice(&differing)?;
-    Ok(text)
-}
-
-fn comment_above(alloc: Global, lines: &Lines, head: usize) -> Result<Vec<u8>, AllocError>
-    ensures { IfOk result (λ made. made.items ≡ comment_text lines.now head) }
-{
-    let mut sink = Through(Vec::new(alloc));
-    match put_comment(&mut sink, lines, head) {
-        Ok(()) => Ok(sink.0),
-        Err(_) => Err(AllocError),
+    if !report.is_open() {
+        return Ok(());
     }
+    let view = View {
+        path: subject.path.as_bytes(),
+        colors: subject.colors,
+        shown: Detail::Differing,
+    };
+    let sink = &mut report.output;
+    let Ok(()) = put_comment(sink, &subject.layout.text, question.head) else {
+        return report.showed(Err(ShowFault::Writing));
+    };
+    let run = ShownScript {
+        session: subject.session,
+        layout: subject.layout,
+        whys: subject.whys,
+    };
+    let shown = put_alone(alloc, sink, &run, view, index);
+    report.showed(shown)
 }

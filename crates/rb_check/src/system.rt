@@ -1,21 +1,20 @@
 //! The system calls of a check.
 
-ghost use Rattle.std.specs.Prelude.{◌≡◌, ◌≢◌, ◌+◌, ◌++◌, ℕ, ⊤, Bool, false, Err, IfErr, IfOk, IfSome, IsErr, IsOk, MatchOption, MatchResult, List, length, string_bytes, take};
+ghost use Rattle.std.specs.Prelude.{◌≡◌, ◌≢◌, ◌+◌, ◌++◌, ℕ, ⊤, Bool, false, Err, IfErr, IfOk, IfSome, IsErr, IsOk, MatchOption, MatchResult, List, [], length, string_bytes, take};
 ghost use Rattle.rb_script.specs.Reads.{Reads};
 ghost use Rattle.rb_script_report.specs.Accepting.{accepted};
 ghost use Rattle.rb_check.specs.AcceptTexts.{left_in};
 ghost use Rattle.rb_check.specs.Reported.{IsUnread};
-ghost use Rattle.rb_check.specs.Shown.{Tells, cleared, left_file_text};
-ghost use Rattle.rb_check.specs.Subjects.{plain_of};
+ghost use Rattle.rb_check.specs.Shown.{GoesOut, Told, cleared, left_file_text};
 ghost use Rattle.rb_report.specs.declared.check.failure.Failure.TheVariants.{NotRead, OutOfMemory};
 ghost use Rattle.rb_files.specs.PathErrors.{without_cause};
 ghost use Rattle.rb_files.specs.Places.{WasPut};
 
 use crate::checked_script::CheckedScript;
-use crate::error_stream::ErrorStream;
-use crate::notes::Note;
+use crate::report::Report;
 use crate::report_sink::ReportSink;
 use rb_files::{AtomicReplace, FilePlace, PathError, Unreplaced, file_at, opened, replace};
+use rb_machine::Machine;
 use rb_report::check::Failure;
 use rb_script::MAX_SCRIPT;
 use rb_script_report::AcceptOptions;
@@ -56,16 +55,19 @@ pub(crate) trait System {
         ensures failed { IfErr result IsUnread };
 
     /// Puts the text in the place of the script's file: it is the script with the outputs that are wanted.
-    fn write<E: ReportSink>(
+    fn write<M: Machine, W: ReportSink, E: ReportSink>(
         &self,
-        subject: &CheckedScript<'_>,
+        subject: &CheckedScript<'_, M>,
         wanted: AcceptOptions<'_>,
         text: &[u8],
-        errors: &mut ErrorStream<E>,
+        report: &mut Report<W, E>,
     ) -> Result<(), PathError>
-        requires reads { Reads text.now (accepted wanted (plain_of subject.now).layout.text (plain_of subject.now).layout.heads.items (plain_of subject.now).script) }
+        requires reads { Reads text.now (accepted wanted subject.now.layout.now.text subject.now.layout.now.heads.items subject.now.session.now.script) }
         // Some output is accepted.
-        requires changes { length (left_in wanted (plain_of subject.now)) ≢ subject.now.ran.left }
+        requires changes { length (left_in wanted subject.now.layout.now subject.now.session.now.script) ≢ subject.now.ran.mismatches }
+        ensures counts { report.new.counts ≡ report.old.counts }
+        ensures listed { report.new.differing.items ≡ report.old.differing.items }
+        ensures shown { GoesOut report.old.state report.new.state (W.held report.old.output) (W.held report.new.output) [] }
         ensures written { IfOk result (λ _. has_written self.now subject.now.path.now text.now × WasPut Self.Place.contents Self.Place.is_unchanged Self.Place.is_settled text.now) };
 
     /// Whether both paths lead to one script.
@@ -96,17 +98,17 @@ impl<'a, R: Files + AllocGlobal> System for RuntimeSystem<'a, R> {
         text_of(self.0.alloc(), file, seen)
     }
 
-    fn write<E: ReportSink>(
+    fn write<M: Machine, W: ReportSink, E: ReportSink>(
         &self,
-        subject: &CheckedScript<'_>,
+        subject: &CheckedScript<'_, M>,
         _wanted: AcceptOptions<'_>,
         text: &[u8],
-        errors: &mut ErrorStream<E>,
+        report: &mut Report<W, E>,
     ) -> Result<(), PathError> {
-        let seen = subject.script.text.seen.clone()?;
+        let seen = subject.text.seen.clone()?;
         let mut place = AtomicReplace::new(self.0, subject.path, seen)?;
         let outcome = replace(&mut place, text);
-        told(outcome, &place, errors)
+        told(outcome, &place, report)
     }
 
     fn is_one_script(&self, path: &str, other: &str) -> bool {
@@ -160,19 +162,22 @@ fn are_one<T: PartialEq>(one: &Option<T>, another: &Option<T>) -> bool
 }
 
 // Gives the error of a text that was not put in its place. A new file that could be neither used nor removed is named.
-fn told<R: Files + AllocGlobal, E: ReportSink>(
+fn told<R: Files + AllocGlobal, W: ReportSink, E: ReportSink>(
     outcome: Result<(), Unreplaced>,
     place: &AtomicReplace<'_, R>,
-    errors: &mut ErrorStream<E>,
+    report: &mut Report<W, E>,
 ) -> Result<(), PathError>
+    ensures counts { report.new.counts ≡ report.old.counts }
+    ensures listed { report.new.differing.items ≡ report.old.differing.items }
+    ensures shown { GoesOut report.old.state report.new.state (W.held report.old.output) (W.held report.new.output) [] }
     ensures outcome { MatchResult outcome (λ _. IsOk result) (λ why. result ≡ Err why.error) }
-    ensures left { IsErr outcome → IfSome place.now.new (λ new. Tells E.takes_all E.held errors.old errors.new (cleared errors.old.shows_progress ++ left_file_text (string_bytes new.path))) }
+    ensures left { IsErr outcome → IfSome place.now.new (λ new. Told (E.takes_all report.old.errors.sink) (E.takes_all report.new.errors.sink) (E.held report.old.errors.sink) (E.held report.new.errors.sink) (cleared report.old.errors.shows_progress ++ left_file_text (string_bytes new.path))) }
 {
     match outcome {
         Ok(()) => Ok(()),
         Err(why) => {
             if let Some(left) = place.left() {
-                errors.tell(&Note::LeftFile(left.as_bytes()));
+                report.tell_left(left);
             }
             Err(why.error)
         }

@@ -1,6 +1,5 @@
 pub mod EachLaws
 pub mod ShownLaws
-pub mod RunLaws
 pub mod MismatchLaws
 pub mod AcceptLaws
 pub mod DoubtLaws

@@ -1,5 +1,4 @@
 pub mod Errors
-pub mod Ran
 pub mod Checked
 pub mod Shows
 pub mod Accepting

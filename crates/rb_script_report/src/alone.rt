@@ -3,91 +3,87 @@
 ghost use Rattle.std.specs.Prelude.{◌≡◌, ◌≢◌, ◌+◌, ◌<◌, Err, IsOk, OnOk, length};
 ghost use Rattle.rb_script.specs.Writes.{Writes};
 ghost use Rattle.rb_report.specs.declared.check.table.TheConstants.{MAX_SCRIPT_CELLS};
-ghost use Rattle.rb_report.specs.Diffs.{left_after};
-ghost use Rattle.rb_script_report.specs.Checked.{is_all, left_next, text_at, told_differing, told_directive};
-ghost use Rattle.rb_script_report.specs.Ran.{plain_ran, runs_of};
+ghost use Rattle.rb_script_report.specs.Checked.{left_behind};
+ghost use Rattle.rb_script_report.specs.Whys.{is_all, left_on, told_alone, told_at};
 ghost use Rattle.rb_script_report.specs.Shows.{Shows};
 
+use crate::answers::{block_at, number_at, output_at};
 use crate::errors::{first_line, is_unexpected};
 use crate::fault::ShowFault;
 use crate::hint::hint_of;
 use crate::put::{is_same, shown};
-use crate::ran::{RanDirective, ShownScript, directive_at};
+use crate::reasons::why_at;
+use crate::shown_script::ShownScript;
 use crate::view::{Detail, View};
 use rb_machine::Machine;
 use rb_report::check::{FileLine, MismatchView, Sides, Table, put_mismatch, put_note, put_run};
-use rb_script::{Lines, Sink, WriteFault};
+use rb_script::{Sink, WriteFault};
 use std::alloc::Global;
 
-/// Writes a directive whose output differs, step by step or not.
-pub(crate) fn put_differing<S: Sink>(
+/// Writes the directive at an index as a mismatch, step by step or not.
+pub(crate) fn put_mismatch_at<M: Machine, S: Sink>(
     sink: &mut S,
+    run: &ShownScript<'_, M>,
     view: View<'_>,
     grouped: bool,
-    ran: RanDirective<'_>,
+    index: usize,
     table: &mut Table,
 ) -> Result<(), WriteFault>
-    ensures wrote { Writes result (S.held sink.old) (S.held sink.new) (told_differing table.old.left grouped view.entry.colors view.entry.path.now (plain_ran ran.entry)) }
+    requires count { length run.now.layout.now.heads.items ≡ length run.now.session.now.script.blocks }
+    requires within { index < length run.now.session.now.script.blocks }
+    ensures wrote { Writes result (S.held sink.old) (S.held sink.new) (told_at table.old.left grouped view.entry.colors view.entry.path.now run.now.whys.now run.now.layout.now.heads.items run.now.session.now.script (index + 1)) }
     ensures all { S.takes_all sink.old → IsOk result × S.takes_all sink.new }
-    ensures left { OnOk result (table.new.left ≡ left_after table.old.left ran.entry.block.now.expected ran.entry.output.now) }
+    ensures left { OnOk result (table.new.left ≡ left_behind table.old.left run.now.session.now.script (index + 1)) }
 {
+    let block = block_at(run.session, index);
+    let output = output_at(run.session, index);
     let place = FileLine {
         path: view.path,
-        line: ran.line,
+        line: number_at(run.layout.heads.as_slice(), index),
     };
-    let sides = Sides {
-        expected: ran.block.expected(),
-        output: ran.output,
-    };
+    let expected = block.expected();
+    let sides = Sides { expected, output };
     let shown = MismatchView {
         colors: view.colors,
         grouped,
-        why: ran.why,
-        hint: hint_of(ran.block, ran.output),
+        why: why_at(run.whys, index),
+        hint: hint_of(block, output),
     };
-    put_mismatch(sink, table, place, &ran.block.directive(), sides, shown)
+    put_mismatch(sink, table, place, &block.directive(), sides, shown)
 }
 
-/// Writes a directive. If its output differs, it writes the mismatch. If all directives are shown, it writes the output. Otherwise it names an error that no
-/// comment of the text expects.
-pub(crate) fn put_directive<S: Sink>(
+/// Writes the directive at an index. If its output differs, it writes the mismatch. If all directives are shown, it writes the output. Otherwise
+/// it names an error that no comment expects.
+pub(crate) fn put_directive_at<M: Machine, S: Sink>(
     sink: &mut S,
-    text: &Lines,
+    run: &ShownScript<'_, M>,
     view: View<'_>,
     all: bool,
-    ran: RanDirective<'_>,
+    index: usize,
     table: &mut Table,
 ) -> Result<(), WriteFault>
-    ensures wrote { Writes result (S.held sink.old) (S.held sink.new) (told_directive table.old.left all view.entry.colors text.now view.entry.path.now (plain_ran ran.entry)) }
+    requires count { length run.now.layout.now.heads.items ≡ length run.now.session.now.script.blocks }
+    requires within { index < length run.now.session.now.script.blocks }
+    ensures wrote { Writes result (S.held sink.old) (S.held sink.new) (told_alone table.old.left all view.entry.colors run.now.layout.now.text view.entry.path.now run.now.whys.now run.now.layout.now.heads.items run.now.session.now.script (index + 1)) }
     ensures all { S.takes_all sink.old → IsOk result × S.takes_all sink.new }
-    ensures left { OnOk result (table.new.left ≡ left_next table.old.left ran.entry.block.now ran.entry.output.now) }
+    ensures left { OnOk result (table.new.left ≡ left_on table.old.left run.now.session.now.script (index + 1)) }
 {
-    if !is_same(ran.block.expected(), ran.output) {
-        return put_differing(sink, view, all, ran, table);
+    let block = block_at(run.session, index);
+    let output = output_at(run.session, index);
+    if !is_same(block.expected(), output) {
+        return put_mismatch_at(sink, run, view, all, index, table);
     }
-    let place = FileLine {
-        path: view.path,
-        line: ran.line,
-    };
-    let hint = hint_of(ran.block, ran.output);
+    let path = view.path;
+    let line = number_at(run.layout.heads.as_slice(), index);
+    let place = FileLine { path, line };
     if all {
-        return put_run(
-            sink,
-            place,
-            &ran.block.directive(),
-            ran.output,
-            ran.why,
-            hint,
-        );
+        let why = why_at(run.whys, index);
+        let hint = hint_of(block, output);
+        return put_run(sink, place, &block.directive(), output, why, hint);
     }
-    if is_unexpected(text, ran.line, ran.output) {
-        return put_note(
-            sink,
-            place,
-            &ran.block.directive(),
-            first_line(ran.output),
-            hint,
-        );
+    if is_unexpected(&run.layout.text, line, output) {
+        let hint = hint_of(block, output);
+        return put_note(sink, place, &block.directive(), first_line(output), hint);
     }
     Ok(())
 }
@@ -113,14 +109,13 @@ pub fn put_alone<M: Machine, S: Sink>(
 ) -> Result<(), ShowFault>
     requires count { length run.now.layout.now.heads.items ≡ length run.now.session.now.script.blocks }
     requires within { index < length run.now.session.now.script.blocks }
-    ensures wrote { Shows result (S.held sink.old) (S.held sink.new) (text_at (told_directive MAX_SCRIPT_CELLS (is_all view.entry.shown) view.entry.colors run.now.layout.now.text view.entry.path.now) (runs_of run.now.whys.now run.now.layout.now.heads.items run.now.session.now.script) (index + 1)) }
+    ensures wrote { Shows result (S.held sink.old) (S.held sink.new) (told_alone MAX_SCRIPT_CELLS (is_all view.entry.shown) view.entry.colors run.now.layout.now.text view.entry.path.now run.now.whys.now run.now.layout.now.heads.items run.now.session.now.script (index + 1)) }
     ensures all { S.takes_all sink.old → (result ≢ Err ShowFault.Writing) × S.takes_all sink.new }
 {
     let Ok(mut table) = Table::new(alloc) else {
         return Err(ShowFault::OutOfMemory);
     };
     let all = is_all(view.shown);
-    let ran = directive_at(run, index);
-    let written = put_directive(sink, &run.layout.text, view, all, ran, &mut table);
+    let written = put_directive_at(sink, run, view, all, index, &mut table);
     shown(written)
 }

@@ -11,9 +11,9 @@ ghost use Rattle.rb_report.specs.declared.check.colors.Colors.{Colors};
 ghost use Rattle.rb_report.specs.declared.check.table.TheConstants.{MAX_SCRIPT_CELLS};
 ghost use Rattle.rb_script_report.specs.declared.view.Detail.TheVariants.{Differing};
 ghost use Rattle.rb_script_report.specs.declared.view.Detail.{Detail};
-ghost use Rattle.rb_script_report.specs.Checked.{mismatches_at, told_text, NoneIsNamed};
-ghost use Rattle.rb_script_report.specs.Ran.{runs_of};
+ghost use Rattle.rb_script_report.specs.Checked.{checked_text, mismatches_at, NoneIsNamed};
 ghost use Rattle.rb_script_report.specs.Shows.{IsQuiet, summary_of};
+ghost use Rattle.rb_script_report.specs.Whys.{told_text};
 ghost use Rattle.rb_report.specs.Whys.{OnlyAdds};
 ghost use Rattle.rb_script_report.specs.Errors.{is_unexpected};
 ghost use Rattle.rb_script_report.specs.declared.accept_options.AcceptFilter.TheVariants.{All};
@@ -21,21 +21,26 @@ ghost use Rattle.rb_script_report.specs.declared.accept_options.AcceptOptions.{A
 ghost use Rattle.rb_script_report.specs.Accepting.{is_picked, is_left, accepted, left_heads, picked_unnamed};
 ghost use Rattle.rb_script_report.specs.Doubts.{all_warnings, is_called_rightly};
 
-/// If each error is expected, the report is the mismatches: each once, in order, with the line of its directive and its reasons, and compared with the
+/// If each error is expected, the report is the mismatches: each once, in order, with the line of its directive, and compared with the
 /// cells that those before it left.
 pub fn mismatches_are_shown()
-    ensures { (colors : Colors) (ls : List Line) (path : List ℕ) (whys : List (List Line)) (heads : List ℕ) (s : PlainScript) → length heads ≡ length s.blocks → NoneIsNamed ls (runs_of whys heads s) → told_text Differing colors ls path whys heads s ≡ mismatches_at MAX_SCRIPT_CELLS colors path (runs_of whys heads s) (mismatches s) }
+    ensures { (colors : Colors) (ls : List Line) (path heads : List ℕ) (s : PlainScript) → length heads ≡ length s.blocks → NoneIsNamed ls heads s.blocks (outputs s) → checked_text Differing colors ls path heads s ≡ mismatches_at MAX_SCRIPT_CELLS colors path heads s (mismatches s) }
 {}
 
 /// If a script has neither mismatches nor errors, nothing is shown unless all directives are, and the summary is empty.
 pub fn matching_scripts_show_nothing()
     ensures found { (shown : Detail) (ls : List Line) (heads : List ℕ) (s : PlainScript) → IsQuiet shown s → summary_of ls heads s ≡ record { first = None; errors = 0 } }
-    ensures shown { (shown : Detail) (colors : Colors) (ls : List Line) (path : List ℕ) (whys : List (List Line)) (heads : List ℕ) (s : PlainScript) → IsQuiet shown s → told_text shown colors ls path whys heads s ≡ [] }
+    ensures shown { (shown : Detail) (colors : Colors) (ls : List Line) (path heads : List ℕ) (s : PlainScript) → IsQuiet shown s → checked_text shown colors ls path heads s ≡ [] }
 {}
 
 /// A report with reasons is the report without them, with reasons between its lines, each on a line of its own.
 pub fn reasons_stand_between_outputs()
-    ensures { (shown : Detail) (colors : Colors) (ls : List Line) (path : List ℕ) (whys : List (List Line)) (heads : List ℕ) (s : PlainScript) → OnlyAdds (told_text shown colors ls path [] heads s) (told_text shown colors ls path whys heads s) }
+    ensures { (shown : Detail) (colors : Colors) (ls : List Line) (path : List ℕ) (whys : List (List Line)) (heads : List ℕ) (s : PlainScript) → OnlyAdds (checked_text shown colors ls path heads s) (told_text shown colors ls path whys heads s) }
+{}
+
+/// Without reasons, both definitions give the same report.
+pub fn nothing_is_told_unasked()
+    ensures { (shown : Detail) (colors : Colors) (ls : List Line) (path heads : List ℕ) (s : PlainScript) → told_text shown colors ls path [] heads s ≡ checked_text shown colors ls path heads s }
 {}
 
 /// The line that is shown with a directive is the one on which its head begins.

@@ -2,7 +2,8 @@
 //! each error that no comment expects; and the script after its outputs are accepted.
 //!
 //! [`put_checked`] writes the report of a session on any [`Machine`](rb_machine::Machine) into any sink. One definition says what it
-//! writes, `Checked.told_text`: a fold over the list of the directives. The laws say that it is the mismatches, with reasons between. [`accept`] gives the text with the accepted outputs, and [`warnings`] finds probable mistakes.
+//! writes: `Checked.checked_text`, or `Whys.told_text` with the reasons why messages had no effect. The laws say that it is the
+//! mismatches. [`accept`] gives the text with the accepted outputs, and [`warnings`] finds probable mistakes.
 #![tactic(auto)]
 
 mod accept_options;
@@ -17,8 +18,8 @@ mod layout;
 mod names;
 mod part;
 mod put;
-mod ran;
 mod reasons;
+mod shown_script;
 mod splice;
 mod summary;
 mod text;
@@ -38,13 +39,14 @@ pub use hint::hint_of;
 pub use laws::{
     accepted_scripts_are, called_lines_look_like_directives, echoes_are_left,
     errors_are_accepted_on_request, matching_scripts_show_nothing, mismatches_are_shown,
-    new_errors_are_left, others_stay, reasons_stand_between_outputs, shown_lines_are_of_heads,
+    new_errors_are_left, nothing_is_told_unasked, others_stay, reasons_stand_between_outputs,
+    shown_lines_are_of_heads,
 };
 pub use layout::Layout;
 pub use names::begins_with_name;
 pub use put::{first_index, is_quiet, is_same, put_checked, summary_of};
-pub use ran::{RanDirective, ShownScript, directive_at};
-pub use reasons::LineReasons;
+pub use reasons::{LineReasons, why_at};
+pub use shown_script::ShownScript;
 pub use summary::ScriptSummary;
 pub use unnamed::picked_unnamed;
 pub use view::{Detail, View};

@@ -2,18 +2,19 @@
 
 ghost use Rattle.std.specs.Prelude.{false, ◌≡◌, ◌≢◌, ◌+◌, ◌<◌, ◌≤◌, ℕ, List, [], Option, Err, IfSome, IfNone, IsOk, IsTrue, length};
 ghost use Rattle.rb_script.specs.Writes.{Writes};
+ghost use Rattle.rb_replay.specs.Run.{outputs};
 ghost use Rattle.rb_replay.specs.Report.{same_lines, mismatches};
 ghost use Rattle.rb_report.specs.declared.check.table.TheConstants.{MAX_SCRIPT_CELLS};
-ghost use Rattle.rb_script_report.specs.Checked.{all_told, brief_at, of_first, text_at, told_differing, told_text, IsFirst};
-ghost use Rattle.rb_script_report.specs.Ran.{runs_of};
+ghost use Rattle.rb_script_report.specs.Checked.{of_first, brief_at, IsFirst};
+ghost use Rattle.rb_script_report.specs.Whys.{all_told, told_at, told_text};
 ghost use Rattle.rb_script_report.specs.Shows.{Shows, summary_of, IsQuiet};
 
-use crate::alone::{put_differing, put_directive};
+use crate::alone::{put_directive_at, put_mismatch_at};
 use crate::answers::number_at;
 use crate::errors::{count_errors, has_errors};
 use crate::fault::ShowFault;
 use crate::layout::Layout;
-use crate::ran::{ShownScript, directive_at};
+use crate::shown_script::ShownScript;
 use crate::summary::ScriptSummary;
 use crate::view::{Detail, View};
 use rb_machine::Machine;
@@ -38,12 +39,11 @@ fn put_directives<M: Machine, S: Sink>(
     table: &mut Table,
 ) -> Result<(), WriteFault>
     requires { length run.now.layout.now.heads.items ≡ length run.now.session.now.script.blocks }
-    ensures wrote { Writes result (S.held sink.old) (S.held sink.new) (all_told table.old.left all view.entry.colors run.now.layout.now.text view.entry.path.now (runs_of run.now.whys.now run.now.layout.now.heads.items run.now.session.now.script)) }
+    ensures wrote { Writes result (S.held sink.old) (S.held sink.new) (all_told table.old.left all view.entry.colors run.now.layout.now.text view.entry.path.now run.now.whys.now 0 run.now.layout.now.heads.items run.now.session.now.script.blocks (outputs run.now.session.now.script)) }
     ensures all { S.takes_all sink.old → IsOk result × S.takes_all sink.new }
 {
     for i in 0..run.session.len() {
-        let ran = directive_at(run, i);
-        put_directive(sink, &run.layout.text, view, all, ran, table)?;
+        put_directive_at(sink, run, view, all, i, table)?;
     }
     Ok(())
 }
@@ -70,11 +70,11 @@ fn put_first<M: Machine, S: Sink>(
     table: &mut Table,
 ) -> Result<(), WriteFault>
     requires { length run.now.layout.now.heads.items ≡ length run.now.session.now.script.blocks }
-    ensures wrote { Writes result (S.held sink.old) (S.held sink.new) (of_first (text_at (told_differing table.old.left false view.entry.colors view.entry.path.now) (runs_of run.now.whys.now run.now.layout.now.heads.items run.now.session.now.script)) (mismatches run.now.session.now.script)) }
+    ensures wrote { Writes result (S.held sink.old) (S.held sink.new) (of_first (told_at table.old.left false view.entry.colors view.entry.path.now run.now.whys.now run.now.layout.now.heads.items run.now.session.now.script) (mismatches run.now.session.now.script)) }
     ensures all { S.takes_all sink.old → IsOk result × S.takes_all sink.new }
 {
     match first_index(run.session) {
-        Some(index) => put_differing(sink, view, false, directive_at(run, index), table),
+        Some(index) => put_mismatch_at(sink, run, view, false, index, table),
         None => Ok(()),
     }
 }

@@ -2,11 +2,13 @@
 
 ghost use Rattle.std.specs.Prelude.{◌≡◌, ◌++◌, [], IfOk, OnOk, None, false};
 ghost use Rattle.rb_texts.specs.declared.reason.Reason.{Reason};
-ghost use Rattle.rb_script_report.specs.Whys.{last_reason, all_reasons, below_line, below_reason};
+ghost use Rattle.rb_report.specs.Whys.{reasons_in};
+ghost use Rattle.rb_script_report.specs.Whys.{last_reason, all_reasons, below_line, below_reason, why_at};
 
 use rb_machine::Observer;
 use rb_node::Node;
 use rb_raftlog::RaftLog;
+use rb_report::check::Why;
 use rb_script::Lines;
 use rb_texts::{Item, Reason, is_shown, put_reason, reason_of};
 use rb_vocab::Level;
@@ -124,5 +126,15 @@ impl<L: RaftLog> Observer<L> for LineReasons {
 
     fn settle(&mut self, _id: u64, _node: &Node<L>) -> Result<(), AllocError> {
         Ok(())
+    }
+}
+
+/// The reasons of the directive at an index, which counts from 0; none if there are fewer.
+pub fn why_at(whys: &[Lines], index: usize) -> Why<'_>
+    ensures { reasons_in result ≡ why_at whys.now index }
+{
+    match whys.get(index) {
+        Some(reasons) => Why::Given(reasons),
+        None => Why::Unasked,
     }
 }

@@ -1,9 +1,15 @@
--- The paths so far are reported and counted.
-use Rattle.std.proofs.Common.{take}
+-- The paths so far are reported.
+use Rattle.std.proofs.Common.{◌≡◌, take}
 use Rattle.std.specs.Prelude.{map}
-use Rattle.rb_check.specs.Lost.{lost_path}
-use Rattle.rb_check.specs.Reported.{Reports}
+use Rattle.rb_check.specs.Lost.{counted_failures, path_failure, paths_text}
+use Rattle.rb_check.specs.Shown.{GoesOut}
 use Rattle.rb_check.proofs.paths.tell_each_lost.Given as goal
 
 abbrev pub invariant-loop-i : goal.invariant-loop-i
-invariant-loop-i g l = Reports g.W.Sink.held l.fn.check l.check (map (lost_path l.fn.check.report.state.form) (take l.i l.lost))
+invariant-loop-i g l =
+    let held = g.W.Sink.held in
+    record {
+      counts : l.report.counts ≡ counted_failures l.fn.report.counts (map path_failure (take l.i l.lost));
+      listed : l.report.differing.items ≡ l.fn.report.differing.items;
+      shown : GoesOut l.fn.report.state l.report.state (held l.fn.report.output) (held l.report.output) (paths_text l.fn.report.state.form (take l.i l.lost));
+    }

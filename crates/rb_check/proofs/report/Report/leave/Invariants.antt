@@ -1,0 +1,15 @@
+-- The report has the same outcomes and list, and says what is left so far.
+use Rattle.std.proofs.Common.{◌≡◌, drop}
+use Rattle.rb_check.specs.Shown.{left_text}
+use Rattle.rb_check.proofs.ShownLaws.{Gone}
+use Rattle.rb_check.proofs.report.Report.leave.Given as goal
+
+abbrev pub invariant-loop-i : goal.invariant-loop-i
+invariant-loop-i g l =
+    let held = g.W.Sink.held in
+    let text = left_text l.fn.self.state.form l.path l.picked in
+    record {
+      counts : l.self.counts ≡ l.fn.self.counts;
+      listed : l.self.differing.items ≡ l.fn.self.differing.items;
+      gone : Gone l.fn.self.state l.self.state (held l.fn.self.output) (held l.self.output) (text l.left) (text (drop l.i l.left));
+    }
