@@ -3,7 +3,7 @@ use Rattle.std.specs.Prelude.{ℕ, Bool, true, false, ◌==◌, ◌&&◌, ◌||�
 use Rattle.std.specs.List.{list_all}
 use Rattle.std.specs.Str.{bytes_eq}
 use Rattle.rb_script.specs.declared.marks.LineKind.{LineKind}
-use Rattle.rb_script.specs.declared.marks.LineKind.TheVariants.{Lead, Input, Plain, Continued}
+use Rattle.rb_script.specs.declared.marks.LineKind.TheVariants.{Lead, Input, Continued}
 use Rattle.rb_script.specs.Bytes.{tab, space, number_sign, hyphen, backslash}
 use Rattle.rb_script.specs.Lines.{Line}
 
@@ -59,5 +59,4 @@ is_plain line = not (is_blank line)
 abbrev pub in_run : LineKind → Line → Bool
 in_run Lead line = is_lead line
 in_run Input line = is_input line
-in_run Plain line = is_plain line
 in_run Continued line = continues line

@@ -26,7 +26,7 @@ impl Model for Expected {
 impl Expected {
     ghost use Rattle.std.specs.Prelude.{◌≡◌, length};
     ghost use Rattle.rb_script.specs.Lines.{text_of};
-    ghost use Rattle.rb_script.specs.Script.{shown};
+    ghost use Rattle.rb_script.specs.Script.{needs_double, shown};
     ghost use Rattle.rb_script.specs.Reads.{is_readable};
     ghost use Rattle.rb_script.specs.Reading.{capped};
 
@@ -35,6 +35,14 @@ impl Expected {
         ensures { result ≡ lines }
     {
         let is_double = needs_double(&lines);
+        Expected { lines, is_double }
+    }
+
+    /// Lines that need this form.
+    pub(crate) fn in_form(lines: Lines, is_double: bool) -> Expected
+        requires { is_double ≡ needs_double lines }
+        ensures { result ≡ lines }
+    {
         Expected { lines, is_double }
     }
 

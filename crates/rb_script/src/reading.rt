@@ -3,7 +3,7 @@
 ghost use Rattle.std.specs.Prelude.{◌≡◌, ◌+◌, ◌^◌, ◌<◌, ◌≤◌, ℕ, [], ◌∷◌, ◌++◌, true, false, length, drop, not, slice_index, vec_len, IsTrue, IfOk, IfErr, IfSome, IfNone, MatchOption, None, Ok, Err};
 ghost use Rattle.std.specs.List.{list_all, AllByRecursion};
 ghost use Rattle.rb_script.specs.Lines.{lines};
-ghost use Rattle.rb_script.specs.Marks.{is_lead, in_run};
+ghost use Rattle.rb_script.specs.Marks.{is_lead, is_plain, in_run};
 ghost use Rattle.rb_script.specs.Reads.{begins_lead, begins_rule, is_readable};
 ghost use Rattle.rb_script.specs.Results.{Fails, Gives};
 ghost use Rattle.rb_script.specs.Runs.{head_of, after_head};
@@ -12,7 +12,7 @@ ghost use Rattle.rb_script.specs.Blocks.{closed_or, block_at, blocks_at};
 ghost use Rattle.rb_script.specs.Reading.{parts_of, is_one, block_of, long_line, no_long_line, capped, early_fault, read_of};
 ghost use Rattle.rb_script.specs.Found.{RunsTo, seen, pair_seen};
 ghost use Rattle.rb_script.specs.Flat.{between};
-ghost use Rattle.rb_script.specs.Script.{PlainBlock, text};
+ghost use Rattle.rb_script.specs.Script.{PlainBlock, text, needs_double};
 ghost use Rattle.rb_script.specs.Valid.{IsLine};
 ghost use Rattle.rb_script.specs.Shared.{values, parts_view, IsKeptScript};
 ghost use Rattle.rb_script.specs.HeadLines.{AreHeadLines};
@@ -107,15 +107,32 @@ pub(crate) fn is_readable(lines: &Lines) -> bool
     !after_rule
 }
 
+/// Finds where the run of lines that aren't blank ends, and whether a line ---- is among them, so that only the double form can show them.
+fn plain_run(all: &SharedLines, start: usize) -> (usize, bool)
+    requires { start ≤ length all.now }
+    ensures run { RunsTo is_plain all.now start result.0 }
+    ensures form { result.1 ≡ needs_double (between start result.0 all.now) }
+{
+    let mut is_double = false;
+    for at in start..all.len() {
+        let line = all.line(at);
+        if is_blank(line) {
+            return (at, is_double);
+        }
+        is_double |= is_rule(line);
+    }
+    (all.len(), is_double)
+}
+
 /// Reads a plain expectation, and returns the position after it.
 fn plain(all: &SharedLines, start: usize) -> Result<Option<(Expected, usize)>, AllocError>
     requires { start ≤ length all.now }
     ensures found { IfOk result (λ found. seen all.now found ≡ plain_at (drop start all.now)) }
     ensures within { IfOk result (λ found. IfSome found (λ p. p.1 ≤ length all.now)) }
 {
-    let end = run(all, start, LineKind::Plain);
+    let (end, is_double) = plain_run(all, start);
     let part = Lines::part(all, start, end)?;
-    let expected = Expected::new(part);
+    let expected = Expected::in_form(part, is_double);
     if expected.is_readable() {
         Ok(Some((expected, after_blank(all, end))))
     } else {
