@@ -2,8 +2,9 @@
 use Rattle.std.proofs.Common.{◌≡◌, ℕ, zero, suc, ◌-◌, take, arith, cond, Option, Some, None, drop, Bool, true, false, List, [], ◌∷◌, ◌++◌, refl, ap, sym, ◌∙◌, append-nil}
 use Rattle.std.specs.Prelude.{if◌then◌else◌, ◌&&◌, ◌==◌, not}
 use Rattle.rb_message.specs.declared.message.Message.{Message}
-use Rattle.std.specs.List.{filter}
-use Rattle.std.specs.Option.{option_map}
+use Rattle.std.specs.List.{filter, list_all}
+use Rattle.std.specs.Option.{option_map, is_none}
+use Rattle.std.proofs.lemmas.Bool.{false≢true, and_parts, eqb-true}
 use Rattle.rb_machine.specs.Pending.{Quota, is_spent, chooses, after_one, chosen_by, left_over}
 use Rattle.rb_cluster.specs.Directives.{first_few}
 
@@ -140,3 +141,25 @@ chosen_by_number meant skip count (m ∷ ms) =
     (if b then (if chooses (quota skip count) then m ∷ chosen_by meant (after_one (quota skip count)) ms else chosen_by meant (after_one (quota skip count)) ms) else chosen_by meant (quota skip count) ms)
     ≡ first_few count (drop skip (cond b (m ∷ filter meant ms) (filter meant ms))))
     [ true ↦ meant_first meant skip count m ms (filter meant ms) rest | false ↦ rest skip count ]
+
+-- ---- all are chosen
+
+each_chosen : (meant : Message → Bool) (ms : List Message) → list_all meant ms ≡ true → (chosen_by meant (quota 0 None) ms ≡ ms) × (left_over meant (quota 0 None) ms ≡ [])
+each_chosen meant [] h = (refl, refl)
+each_chosen meant (m ∷ ms) h =
+    let parts = and_parts (meant m) (list_all meant ms) h in
+    let rest = each_chosen meant ms parts.1 in (
+      ap (λ (b : Bool). if b then m ∷ chosen_by meant (quota 0 None) ms else chosen_by meant (quota 0 None) ms) parts.0 ∙ ap (λ (l : List Message). m ∷ l) rest.0,
+      ap (λ (b : Bool). if b then left_over meant (quota 0 None) ms else m ∷ left_over meant (quota 0 None) ms) parts.0 ∙ rest.1,
+    )
+
+no_number : (count : Option ℕ) → is_none count ≡ true → count ≡ None
+no_number None h = refl
+no_number (Some n) h = absurd (false≢true h)
+
+pub all_chosen : (meant : Message → Bool) (q : Quota) (ms : List Message) → (q.skip == 0 && is_none q.count) ≡ true → list_all meant ms ≡ true → (chosen_by meant q ms ≡ ms) × (left_over meant q ms ≡ [])
+all_chosen meant q ms takes h =
+    let parts = and_parts (q.skip == 0) (is_none q.count) takes in
+    let is : q ≡ quota 0 None = ap (λ (k : ℕ). quota k q.count) (eqb-true q.skip 0 parts.0) ∙ ap (quota 0) (no_number q.count parts.1) in
+    let each = each_chosen meant ms h in
+    (ap (λ (x : Quota). chosen_by meant x ms) is ∙ each.0, ap (λ (x : Quota). left_over meant x ms) is ∙ each.1)

@@ -3,6 +3,7 @@
 //! They are in one list, in the order in which they were sent. A message never changes, so a copy of the list costs a pointer a message.
 
 ghost use Rattle.std.specs.Prelude.{◌≡◌, IfOk, OnOk};
+ghost use Rattle.std.specs.List.{list_all};
 ghost use Rattle.rb_machine.specs.Cluster as plain;
 ghost use Rattle.rb_machine.specs.Deliveries.{has_chosen};
 ghost use Rattle.rb_machine.specs.Pending.{is_selected, is_for, is_from, is_meant, mail, other_mail, has_room, sent, all_sent, with_pending};
@@ -53,6 +54,15 @@ pub fn is_meant(id: u64, choice: &MailChoice, message: &Message) -> bool
     is_for(id, &choice.types, message) && is_from(choice.from, message)
 }
 
+// Whether all messages are for this node, and among those of which some are chosen.
+fn are_meant(id: u64, choice: &MailChoice, pending: &[SharedMessage]) -> bool
+    ensures { result ≡ list_all (is_meant id choice.now) pending.now }
+{
+    pending
+        .iter()
+        .all(|shared| is_meant(id, choice, shared.message()))
+}
+
 /// Whether a message to this node is chosen.
 pub(crate) fn has_chosen(choice: &MailChoice, pending: &[SharedMessage], id: u64) -> bool
     ensures { result ≡ has_chosen choice.now pending.now id }
@@ -84,6 +94,13 @@ pub(crate) fn split(
     ensures rest { IfOk result (λ p. p.rest.items ≡ other_mail pending.items id choice.now) }
 {
     let mut quota = Quota::of(choice);
+    // Often all that is pending is chosen: then nothing is moved.
+    if quota.takes_all() && are_meant(id, choice, &pending) {
+        return Ok(SplitMail {
+            for_node: pending,
+            rest: Vec::new(alloc),
+        });
+    }
     let mut mail = Vec::new(alloc);
     let mut others = Vec::new(alloc);
     for shared in pending {

@@ -1,6 +1,7 @@
 //! How many of the messages that come are still skipped, and how many are chosen then.
 
-ghost use Rattle.std.specs.Prelude.{◌≡◌, ◌&&◌, if◌then◌else◌};
+ghost use Rattle.std.specs.Prelude.{◌≡◌, ◌==◌, ◌&&◌, if◌then◌else◌};
+ghost use Rattle.std.specs.Option.{is_none};
 ghost use Rattle.rb_machine.specs.Pending.{quota_of, chooses, after_one};
 
 use rb_directive::MailChoice;
@@ -30,6 +31,13 @@ impl Quota {
             skip: choice.skip,
             count: choice.count,
         }
+    }
+
+    /// Whether each message that is meant is chosen.
+    pub(crate) fn takes_all(&self) -> bool
+        ensures { result ≡ (self.now.skip == 0 && is_none self.now.count) }
+    {
+        self.skip == 0 && self.count.is_none()
     }
 
     /// Whether the message that comes next is chosen. Only one that is meant counts.
