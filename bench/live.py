@@ -3,7 +3,8 @@
 the click until what it did is drawn, at the end and in the middle, for an edit that meets the old run again and for one that never does.
 
 Prints the median and the worst time on the clock, and of the median click where it went: the program, Python, transport, and the browser. Says where
-a median is above the goal, and ends with 1 then: 30 ms at 20 directives, 100 at 10,000, on an idle machine.
+a median is above the goal, and ends with 1 then: 30 ms at 20 directives, 100 at 10,000, on an idle machine. Also says after how long the buttons of all
+nodes say what these may do, and what a restart would lose.
 
     bench/live.py [ROUNDS [DIRECTIVES ..]]     RAFTBENCH names a program that is built elsewhere
 """
@@ -42,7 +43,7 @@ DIRECTIVES = [20, 1_000, 10_000]
 GOALS = {20: 30.0, 1_000: 100.0, 10_000: 100.0}
 BEGIN = [b"add-nodes 3 voters=(1,2,3) index=10", b"campaign 1", b"stabilize"]
 AGAIN = [b"propose 1 x%d", b"process-ready 1", b"deliver-msgs 2 type=MsgApp", b"process-ready 2", b"stabilize", b"tick-heartbeat 1", b"stabilize"]
-# Clicks a button, and answers when the click was, when its answer began and ended, and when what it did was drawn.
+# Clicks a button, and answers when the click was, when its answer began and ended, when what it did was drawn, and when all buttons of nodes were right.
 CLICK = """(selector, where) => new Promise((done) => {
   performance.clearResourceTimings();
   const clicked = performance.now();
@@ -53,7 +54,14 @@ CLICK = """(selector, where) => new Promise((done) => {
       requestAnimationFrame(() => setTimeout(() => {
         const drawn = performance.now();
         const asked = performance.getEntriesByType("resource").find(({ name }) => name.endsWith("/do"));
-        done([clicked, asked.startTime, asked.responseEnd, drawn]);
+        const known = () => {
+          if (document.querySelector("#state [aria-busy='true']")) {
+            setTimeout(known, 1);
+          } else {
+            done([clicked, asked.startTime, asked.responseEnd, drawn, performance.now()]);
+          }
+        };
+        known();
       }));
     }
   };
@@ -111,13 +119,14 @@ class TimedLive(Live):
 
 @dataclasses.dataclass(frozen=True)
 class Click:
-    """Milliseconds of a click, by where they went."""
+    """Milliseconds of a click, by where they went; and until the buttons say again what nodes may do, and would lose."""
 
     whole: float
     program: float
     python: float
     transport: float
     browser: float
+    known: float
 
 
 def script_of(count: int) -> bytes:
@@ -160,7 +169,7 @@ class Measured:
     def rest(self, count: int) -> None:
         """Waits until all of the page is there, and its buttons say what nodes may do."""
         self.until(f"document.getElementById('where').textContent.includes(' of {count},')")
-        self.until("document.querySelector('#state [aria-disabled]') !== null")
+        self.until("document.querySelector('#state [aria-busy=\"true\"]') === null")
         time.sleep(0.2)
 
     def go(self, place: int, count: int) -> None:
@@ -170,9 +179,9 @@ class Measured:
 
     def click(self, key: str, place: int) -> Click:
         OF_PROGRAM.took = OF_SERVER.took = 0.0
-        clicked, asked, answered, drawn = self.browser.value(f"({CLICK})('[data-key=\"{key}\"]', 'step {place} of ')")
+        clicked, asked, answered, drawn, known = self.browser.value(f"({CLICK})('[data-key=\"{key}\"]', 'step {place} of ')")
         program, python = OF_PROGRAM.took, OF_SERVER.took - OF_PROGRAM.took
-        return Click(drawn - clicked, program, python, answered - asked - program - python, asked - clicked + drawn - answered)
+        return Click(drawn - clicked, program, python, answered - asked - program - python, asked - clicked + drawn - answered, known - clicked)
 
 
 def shown(what: str, clicks: list[Click], most: float) -> bool:
@@ -180,7 +189,9 @@ def shown(what: str, clicks: list[Click], most: float) -> bool:
     middle = sorted(clicks, key=lambda it: it.whole)[len(clicks) // 2]
     median = statistics.median(it.whole for it in clicks)
     parts = f"program {middle.program:6.1f}, Python {middle.python:6.1f}, transport {middle.transport:6.1f}, browser {middle.browser:6.1f}"
-    print(f"  {what:44} {median:7.1f} ms, worst {max(it.whole for it in clicks):7.1f}; {parts}{f'; above {most:g} ms' if median > most else ''}", flush=True)
+    known = statistics.median(it.known for it in clicks)
+    worst = max(it.whole for it in clicks)
+    print(f"  {what:44} {median:7.1f} ms, worst {worst:7.1f}; {parts}; buttons {known:6.1f}{f'; above {most:g} ms' if median > most else ''}", flush=True)
     return median <= most
 
 

@@ -4,6 +4,6 @@ A small server on 127.0.0.1 (server.py, guard.py) serves the page (page/, and th
 
 - `raftbench page` gives the rows (program.py); the page gets those that changed (rows.py);
 - `raftbench session` runs an edit (session.py), and shows what a node may do (may.py);
-- `raftbench check --accept` accepts outputs (accepting.py);
+- `raftbench check --accept` accepts outputs (accepting.py), and `check --why` says what a restart loses (losing.py);
 - `raftbench lsp` completes directives and shows hints (language.py).
 """

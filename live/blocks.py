@@ -7,6 +7,7 @@ from __future__ import annotations
 
 import dataclasses
 import functools
+import itertools
 from collections.abc import Iterable, Sequence
 
 RULE = b"----"
@@ -18,6 +19,7 @@ def bare(line: bytes) -> bytes:
 
 
 def is_blank(line: bytes) -> bool:
+    """Whether a line has only blanks."""
     return not bare(line).strip(b" \t")
 
 
@@ -37,6 +39,7 @@ class Block:
 
     @functools.cached_property
     def text(self) -> bytes:
+        """Its lines, joined."""
         return b"".join(self.lines)
 
     @property
@@ -118,30 +121,24 @@ def cut(data: bytes, heads: Iterable[int]) -> tuple[list[Block], list[bytes]]:
 def recut(blocks: Sequence[Block], tail: Sequence[bytes], heads: Sequence[int], front: int, back: int) -> tuple[list[Block], list[bytes]] | None:
     """The same blocks as the program reads them, by the lines of its heads: those before `front`, and the last ones `back`, were cut before.
     Nothing if what is between is read otherwise."""
-    before = sum(len(block.lines) for block in blocks[:front])
-    own = blocks[front:len(blocks) - back]
-    after = [*blocks[len(blocks) - back:]] if back else []
-    data = joined(own, () if back else tail)
-    given = [head - before for head in heads[front:front + len(own)]]
-    if given and not 0 < given[0] <= given[-1] <= data.count(b"\n") + 1 or is_off(blocks[:front], 0, heads):
+    starts = list(itertools.accumulate((len(block.lines) for block in blocks), initial=0))
+    last = len(blocks) - back
+    known = [start + block.head + 1 for start, block in zip(starts, blocks)]
+    if known[:front] != list(heads[:front]) or known[last:] != list(heads[last:]):
+        return None
+    data = joined(blocks[front:last], () if back else tail)
+    given = [head - starts[front] for head in heads[front:last]]
+    if given and not 0 < given[0] <= given[-1] <= data.count(b"\n") + 1:
         return None
     try:
         found, rest = cut(data, given)
     except IndexError:
         return None
-    if back and (rest or is_off(after, before + sum(len(block.lines) for block in own), heads[len(blocks) - back:])):
+    if back and rest:
         return None
-    return [*blocks[:front], *found, *after], list(tail) if back else rest
-
-
-def is_off(blocks: Sequence[Block], line: int, heads: Sequence[int]) -> bool:
-    """Whether blocks that begin after a line have other heads than these."""
-    for block, head in zip(blocks, heads):
-        if line + block.head + 1 != head:
-            return True
-        line += len(block.lines)
-    return False
+    return [*blocks[:front], *found, *blocks[last:]], list(tail) if back else rest
 
 
 def joined(blocks: Iterable[Block], tail: Iterable[bytes]) -> bytes:
+    """The bytes of blocks, and of lines after them."""
     return b"".join(block.text for block in blocks) + b"".join(tail)

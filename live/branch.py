@@ -43,6 +43,7 @@ class Branch:
         self.ran = self.chosen
 
     def close(self) -> None:
+        """Ends its session."""
         if self.session:
             self.session.close()
             self.session = None
@@ -54,6 +55,7 @@ class Branch:
 
     @property
     def count(self) -> int:
+        """How many directives it has."""
         return len(self.heads)
 
     def blocks(self) -> tuple[list[Block], list[bytes]]:
@@ -77,6 +79,7 @@ class Branch:
             self.chosen = place
 
     def run(self, data: bytes) -> Rows:
+        """The rows of a text. Raises Refused with what is wrong with it."""
         if len(data) > MOST_BYTES:
             raise Refused("the script would be longer than 4,194,304 bytes")
         return self.program.rows(data, self.shown.rows) if data else Rows()
@@ -121,6 +124,7 @@ class Branch:
         self.changed(before, was, chosen)
 
     def changed(self, before: Moment, was: bytes, chosen: int) -> None:
+        """Has the session follow a change that was shown, and remembers what was before."""
         if self.data != was:
             self.ran += self.follow()
             self.past.append(before)
@@ -128,6 +132,7 @@ class Branch:
         self.chosen = min(chosen, self.count)
 
     def moment(self) -> Moment:
+        """What it is now."""
         return Moment(self.shown.blocks, self.shown.tail, self.chosen)
 
     def go(self, back: bool) -> None:

@@ -25,6 +25,7 @@ def place_of(branch: Branch, asked: Asked) -> int:
 
 
 def own_place(branch: Branch, asked: Asked) -> int:
+    """The directive that an edit is about, which has to be one."""
     place = place_of(branch, asked)
     if place == 0:
         raise Refused("no directive is chosen")
@@ -80,6 +81,7 @@ def replace(branch: Branch, asked: Asked) -> None:
 
 
 def remove(branch: Branch, asked: Asked) -> None:
+    """Takes a directive out."""
     place = own_place(branch, asked)
     blocks, tail = branch.blocks()
     del blocks[place - 1]
@@ -100,6 +102,7 @@ def move(branch: Branch, asked: Asked) -> None:
 
 
 def duplicate(branch: Branch, asked: Asked) -> None:
+    """Puts a copy of a directive after it."""
     place = own_place(branch, asked)
     blocks, tail = branch.blocks()
     blocks[place - 1] = blocks[place - 1].closed()

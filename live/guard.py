@@ -26,9 +26,11 @@ class Guard:
         self.hosts: tuple[str, ...] = ()
 
     def listen(self, port: int) -> None:
+        """Answers to the names of this port."""
         self.hosts = (f"{ADDRESS}:{port}", f"localhost:{port}")
 
     def key_for_once(self) -> str:
+        """Makes a key that opens once."""
         made = secrets.token_urlsafe(24)
         with self.lock:
             self.once.add(made)

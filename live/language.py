@@ -24,24 +24,28 @@ class Language:
         self.diagnostics: list[dict[str, Any]] = []
 
     def close(self) -> None:
+        """Ends the language server."""
         if self.process:
             self.process.kill()
             self.process.communicate()
             self.process = None
 
     def _start(self) -> None:
+        """Starts it with an empty document."""
         self.process = subprocess.Popen([self.program, "lsp"], stdin=subprocess.PIPE, stdout=subprocess.PIPE, stderr=subprocess.DEVNULL)
         self._request("initialize", processId=None, rootUri=None, capabilities={})
         self._send("initialized", {})
         self._send("textDocument/didOpen", {"textDocument": {"uri": URI, "languageId": "raftbench", "version": 0, "text": ""}})
 
     def _send(self, method: str, params: dict[str, Any], number: int | None = None) -> None:
+        """Sends a notification or, with a number, a request."""
         assert self.process and self.process.stdin
         body = json.dumps({"jsonrpc": "2.0", "method": method, "params": params, **({} if number is None else {"id": number})}).encode()
         self.process.stdin.write(b"Content-Length: %d\r\n\r\n%s" % (len(body), body))
         self.process.stdin.flush()
 
     def _receive(self) -> dict[str, Any]:
+        """The next message; diagnostics are kept."""
         assert self.process and self.process.stdout
         length = 0
         while (line := self.process.stdout.readline()) != b"\r\n":
@@ -55,6 +59,7 @@ class Language:
         return message
 
     def _request(self, method: str, **params: Any) -> Any:
+        """The result of a request."""
         number = next(self.numbers)
         self._send(method, params, number)
         while (message := self._receive()).get("id") != number:

@@ -8,9 +8,10 @@ import queue
 import threading
 from typing import Any
 
-from .blocks import joined
+from .blocks import Block, joined
 from .branch import Branch
 from .edits import EDITS, Asked
+from .losing import losses
 from .may import Offers
 from .program import Program, Refused
 from .rows import stretch
@@ -54,16 +55,24 @@ class Live:
             self.branches[self.home].ready()
 
     def close(self) -> None:
+        """Ends all sessions."""
         with self.lock:
             for branch in self.branches.values():
                 branch.close()
             self.offers.close()
 
     def branch(self, asked: Asked) -> Branch:
+        """The branch that is asked about. Raises Stale if it has been closed."""
         number = asked.get("branch", self.home)
         if not isinstance(number, int) or number not in self.branches:
             raise Stale("this branch has been closed")
         return self.branches[number]
+
+    def branch_or_home(self, asked: Asked) -> Branch:
+        """The branch that is asked about, or the one that the file follows if it has been closed."""
+        with contextlib.suppress(Stale):
+            return self.branch(asked)
+        return self.branches[self.home]
 
     # ---- what one does
 
@@ -72,16 +81,16 @@ class Live:
         with self.lock:
             if asked.get("version") != self.version:
                 raise Stale("the script has changed meanwhile, so nothing was done: look again")
-            branch, kind = self.branch(asked), asked.get("do")
+            branch, kind = self.branch(asked), str(asked.get("do"))
             branch.notes, branch.ran = [], 0
             if kind not in ("undo", "redo"):
                 branch.choose(asked.get("at"))
             if kind in EDITS:
-                EDITS[str(kind)](branch, asked)
+                EDITS[kind](branch, asked)
             elif kind in ("undo", "redo"):
                 branch.go(kind == "undo")
             elif kind in OTHERS:
-                branch = OTHERS[str(kind)](self, branch, asked)
+                branch = OTHERS[kind](self, branch, asked)
             else:
                 raise Refused("that isn't something that can be done here")
             self.renew()
@@ -140,6 +149,12 @@ class Live:
 
     # ---- the file
 
+    def look(self) -> None:
+        """Takes over what another program wrote, if it wrote something. What is being saved here is no change of another's."""
+        with self.lock:
+            if self.file.has_changed():
+                self.see_disk()
+
     def see_disk(self) -> None:
         """Takes over what another program wrote into the file, unless there is something of one's own that isn't saved."""
         with self.lock:
@@ -164,6 +179,7 @@ class Live:
         self.tell()
 
     def tell(self) -> None:
+        """Tells all who wait that there is another version."""
         for watcher in list(self.watchers):
             with contextlib.suppress(queue.Full):
                 watcher.put_nowait(f"version {self.version}")
@@ -171,6 +187,7 @@ class Live:
     # ---- what is shown
 
     def about(self, branch: Branch) -> dict[str, Any]:
+        """What is said of a script beside its rows."""
         return {
             "version": self.version, "branch": branch.number, "home": self.home, "chosen": branch.chosen, "name": self.file.path.name,
             "branches": [{"number": it.number, "directives": it.count, "isSaved": self.is_saved(it)} for it in self.branches.values()],
@@ -180,6 +197,7 @@ class Live:
         }
 
     def is_saved(self, branch: Branch) -> bool:
+        """Whether the file has what a branch has."""
         return branch.data == (self.file.known or b"") and self.file.known is not None
 
     def state(self, branch: Branch, has: object) -> bytes:
@@ -190,14 +208,24 @@ class Live:
             rows = b',"stretch":' + stretch(was, now) if was and since else b',"rows":' + now.rows.raw
             return json.dumps({**self.about(branch), **since}).encode()[:-1] + rows + b"}"
 
-    def may(self, asked: Asked) -> bytes:
-        """What each node may do after a directive, and why not."""
+    def up_to(self, asked: Asked) -> tuple[list[Block], dict[str, Any]]:
+        """The directives up to the one that is asked about; and which that is, of which version."""
         with self.lock:
-            branch, place, version = self.branch(asked), asked.get("place"), self.version
+            branch, place = self.branch(asked), asked.get("place")
             if not isinstance(place, int) or not 0 < place <= branch.count:
                 raise Refused("there is no such directive")
-            blocks = branch.blocks()[0][:place]
-        return json.dumps({"version": version, "place": place, "nodes": self.offers.after(blocks)}).encode()
+            return branch.blocks()[0][:place], {"version": self.version, "place": place}
+
+    def may(self, asked: Asked) -> bytes:
+        """What each node may do after a directive, and why not."""
+        blocks, about = self.up_to(asked)
+        return json.dumps({**about, "nodes": self.offers.after(blocks)}).encode()
+
+    def losses(self, asked: Asked) -> bytes:
+        """What each node would lose if it restarted after a directive."""
+        blocks, about = self.up_to(asked)
+        ids = self.offers.after(blocks).keys() if "restart" in self.names else ()
+        return json.dumps({**about, "nodes": losses(self.program, blocks, ids) if ids else {}}).encode()
 
 
 OTHERS = {"save": Live.save, "load": Live.load, "fork": Live.fork, "close": Live.drop}

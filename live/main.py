@@ -24,6 +24,7 @@ LOOKS_EVERY = 0.25
 
 
 def words_of(words: list[str]) -> argparse.Namespace:
+    """Reads the arguments. Ends with status 2 and a sentence if they are wrong."""
     parser = argparse.ArgumentParser(prog="raftbench-live", description="Opens a page in which one plays with the cluster of a script. What one does becomes the script.")
     parser.add_argument("file", metavar="FILE", type=pathlib.Path, nargs="?", help="the script; a new one if it isn't there")
     parser.add_argument("--port", type=int, default=0, metavar="N", help="listens on this port; by default on one that is free")
@@ -46,37 +47,49 @@ def watch(live: Live) -> None:
     live.warm()
     while True:
         time.sleep(LOOKS_EVERY)
-        if live.file.has_changed():
-            live.see_disk()
+        live.look()
 
 
 def stopped(_signal: int, _frame: object) -> NoReturn:
+    """Ends the server as an interrupt does."""
     raise KeyboardInterrupt
 
 
-def serve(given: argparse.Namespace, top: pathlib.Path, beside: pathlib.Path) -> int:
-    guard = Guard(FRAMES.get(given.in_editor, ""))
+def listening(served: Served, port: int) -> Server:
+    """A server on this port, or on one that is free if it is 0."""
+    try:
+        return Server(served, port)
+    except OSError as fault:
+        raise Refused(f"port {port} can't be had: {fault.strerror}") from None
+
+
+def served_of(given: argparse.Namespace, top: pathlib.Path, beside: pathlib.Path) -> Served:
+    """What is served: the script, the page, and perhaps the user's own nodes."""
     live = Live(given.file, found_program(top, beside))
     tool = theirs.found_tool(top, beside) if given.command else []
     runs = (lambda data: theirs.run(tool, given.command, data)) if given.command else None
-    served = Served(live, files_of(found_assets(top)), guard, runs)
-    server = Server(served, given.port)
+    return Served(live, files_of(found_assets(top)), Guard(FRAMES.get(given.in_editor, "")), runs)
+
+
+def serve(served: Served, port: int, opens_browser: bool) -> int:
+    """Serves the page of a script until it is interrupted. Gives the status."""
+    server = listening(served, port)
     address = f"http://{ADDRESS}:{server.server_address[1]}/#key="
     # Also where a shell in the background has its commands ignore interrupts.
     for signum in (signal.SIGINT, signal.SIGTERM):
         signal.signal(signum, stopped)
     try:
-        print(address + guard.key, flush=True)
-        threading.Thread(target=watch, args=(live,), daemon=True).start()
-        if not given.no_browser:
-            threading.Thread(target=webbrowser.open, args=(address + guard.key_for_once(),), daemon=True).start()
+        print(address + served.guard.key, flush=True)
+        threading.Thread(target=watch, args=(served.live,), daemon=True).start()
+        if opens_browser:
+            threading.Thread(target=webbrowser.open, args=(address + served.guard.key_for_once(),), daemon=True).start()
         server.serve_forever()
     except KeyboardInterrupt:
         return 0
     finally:
         server.server_close()
         served.language.close()
-        live.close()
+        served.live.close()
     return 0
 
 
@@ -87,7 +100,7 @@ def main(words: list[str], top: pathlib.Path, beside: pathlib.Path) -> int:
     try:
         if given.book:
             return write_book(given.book, given.out, found_program(top, beside), given.differing)
-        return serve(given, top, beside)
+        return serve(served_of(given, top, beside), given.port, not given.no_browser)
     except (Missing, Refused, OSError) as fault:
         print(f"raftbench-live: {fault}", file=sys.stderr)
         return 4

@@ -43,6 +43,7 @@ def why_not(output: Sequence[str]) -> str:
 
 
 def texts_of(lines: Sequence[bytes]) -> list[str]:
+    """Lines as texts."""
     return [line.decode("utf-8", "replace") for line in lines]
 
 
@@ -75,6 +76,7 @@ class Offers:
         self.session: Session | None = None
 
     def close(self) -> None:
+        """Ends the session."""
         if self.session:
             self.session.close()
             self.session = None
@@ -101,6 +103,7 @@ class Offers:
             raise
 
     def _ask(self, session: Session) -> dict[str, dict[str, str]]:
+        """Tries what may be done at the end of the session's script."""
         nodes = [Node(found) for found in map(STATE.match, texts_of(session.tried([[b"raft-state"]])[0])) if found]
         leaders = sorted((it for it in nodes if it.role == "leader"), key=lambda it: it.term)
         lead = leaders[-1].id if leaders else 0

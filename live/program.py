@@ -7,12 +7,15 @@ import pathlib
 import re
 import shutil
 import subprocess
+import tempfile
 from collections.abc import Sequence
 
 from .rows import NO_ROWS, Rows, read
 
 MOST_SECONDS = 120
 BEGIN = b'<script type="application/json" id="steps">'
+# What a copy of the script is called in a report.
+COPY = "script.txt"
 
 
 def rows_in(page: bytes) -> tuple[int, int] | None:
@@ -41,6 +44,14 @@ def asked(words: Sequence[str | pathlib.Path], data: bytes = b"", folder: pathli
 
 
 @dataclasses.dataclass(frozen=True)
+class Checked:
+    """What `raftbench check` reports on a script, and the script that it leaves."""
+
+    report: str
+    script: bytes
+
+
+@dataclasses.dataclass(frozen=True)
 class Program:
     """A program `raftbench`. One that isn't proved may not write into scripts, unless that is allowed."""
 
@@ -58,6 +69,16 @@ class Program:
     def page(self, data: bytes) -> tuple[int, bytes, str]:
         """The page of a script, as the program writes it."""
         return asked([self.path, "page", "-"], data)
+
+    def check(self, data: bytes, line: int | None, *options: str) -> Checked:
+        """Checks a copy of a script, or its directive at a line. Raises Refused if that can't be done."""
+        with tempfile.TemporaryDirectory(prefix="raftbench-live-") as room:
+            copy = pathlib.Path(room, COPY)
+            copy.write_bytes(data)
+            status, output, said = asked([self.path, "check", *options, "--color", "never", COPY if line is None else f"{COPY}:{line}"], folder=copy.parent)
+            if status not in (0, 1):
+                raise Refused(said or f"the program ended with status {status}")
+            return Checked(output.decode("utf-8", "replace"), copy.read_bytes())
 
     def names(self) -> dict[str, str]:
         """The directives that it has, each with its words and options in short."""

@@ -16,6 +16,8 @@ from .blocks import Block
 STEP = b'\n["step",'
 HEAD = STEP + b"%d],"
 NUMBER = re.compile(re.escape(STEP) + rb"(\d+)\],")
+# So many are compared at once.
+AT_ONCE = 256
 END = re.compile(rb'\n(?=\["(?:warning|end)",)')
 
 
@@ -30,9 +32,11 @@ class Rows:
 
     @property
     def raw(self) -> bytes:
+        """The rows as the page has them."""
         return self.front + b"".join(STEP + b"%d],%s" % it for it in zip(self.heads, self.steps)) + (b"\n" + self.end if self.end else b"")
 
     def of_directive(self, place: int) -> list[list[Any]]:
+        """The rows of a directive, from 1, as lists."""
         return listed(self.steps[place - 1])
 
 
@@ -90,12 +94,24 @@ def listed(rows: bytes) -> list[list[Any]]:
     return found
 
 
+def same_front(one: Sequence[object], other: Sequence[object]) -> int:
+    """How many are the same at both beginnings. Many are compared at once, which is faster."""
+    least = min(len(one), len(other))
+    at = 0
+    while at + AT_ONCE <= least and list(one[at:at + AT_ONCE]) == list(other[at:at + AT_ONCE]):
+        at += AT_ONCE
+    return next((it for it in range(at, least) if one[it] != other[it]), least)
+
+
+def same_back(one: Sequence[object], other: Sequence[object], front: int) -> int:
+    """How many are the same at both ends, after the first ones."""
+    return same_front(one[front:][::-1], other[front:][::-1])
+
+
 def ends(one: Sequence[object], other: Sequence[object]) -> tuple[int, int]:
     """How many are the same at both beginnings, and then at both ends."""
-    least = min(len(one), len(other))
-    front = next((at for at in range(least) if one[at] is not other[at] and one[at] != other[at]), least)
-    back = next((at for at in range(least - front) if one[-1 - at] is not other[-1 - at] and one[-1 - at] != other[-1 - at]), least - front)
-    return front, back
+    front = same_front(one, other)
+    return front, same_back(one, other, front)
 
 
 @dataclasses.dataclass(frozen=True)
@@ -110,9 +126,9 @@ class Shown:
 def stretch(old: Shown, new: Shown) -> bytes:
     """What of a script isn't as it was, as JSON: after the directives `front`, and before the last ones `back`, these lines and rows stand
     where others were. Lines and rows that stay move together."""
-    of_blocks, of_rows = ends(old.blocks, new.blocks), ends(old.rows.steps, new.rows.steps)
-    front = min(of_blocks[0], of_rows[0])
-    back = min(of_blocks[1], of_rows[1], len(old.blocks) - front, len(new.blocks) - front) if list(old.tail) == list(new.tail) else 0
+    pairs = [(old.blocks, new.blocks), (old.rows.steps, new.rows.steps)]
+    front = min(same_front(*pair) for pair in pairs)
+    back = min(same_back(*pair, front) for pair in pairs) if list(old.tail) == list(new.tail) else 0
     own = slice(front, len(new.blocks) - back)
     lines = [line for block in new.blocks[own] for line in block.lines] + ([] if back else list(new.tail))
     before = sum(len(block.lines) for block in new.blocks[:front])

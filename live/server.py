@@ -46,6 +46,8 @@ class Bad(Exception):
 
 
 class Handler(http.server.BaseHTTPRequestHandler):
+    """Answers the requests of a connection."""
+
     protocol_version = "HTTP/1.1"
     server_version = "raftbench-live"
     sys_version = ""
@@ -57,12 +59,14 @@ class Handler(http.server.BaseHTTPRequestHandler):
         """Nothing is logged."""
 
     def answer(self, status: int, body: bytes, kind: str = "text/plain; charset=utf-8") -> None:
+        """Writes an answer."""
         self.send_response(status)
         self.add_headers({"Content-Type": kind, "Content-Length": str(len(body))})
         self.end_headers()
         self.wfile.write(body)
 
     def add_headers(self, more: dict[str, str]) -> None:
+        """Writes these headers, and those of each answer."""
         always = {
             "Content-Security-Policy": self.served.guard.policy(), "X-Content-Type-Options": "nosniff", "Referrer-Policy": "no-referrer",
             "Cache-Control": "no-store", "Cross-Origin-Resource-Policy": "same-origin", "Cross-Origin-Opener-Policy": "same-origin",
@@ -71,9 +75,11 @@ class Handler(http.server.BaseHTTPRequestHandler):
             self.send_header(name, value)
 
     def do_GET(self) -> None:
+        """Answers a file, or the stream of changes."""
         self.guarded(self.get)
 
     def do_POST(self) -> None:
+        """Answers what the page asks for."""
         self.guarded(self.post)
 
     def guarded(self, does: Callable[[], None]) -> None:
@@ -90,6 +96,7 @@ class Handler(http.server.BaseHTTPRequestHandler):
             self.close_connection = True
 
     def get(self) -> None:
+        """Answers a file of the page; changes need the token."""
         path = self.path.partition("?")[0].removeprefix("/")
         if path == "events":
             self.needs_token()
@@ -100,33 +107,43 @@ class Handler(http.server.BaseHTTPRequestHandler):
         return self.answer(200, body, kind)
 
     def needs_token(self) -> None:
+        """Refuses a request without the token."""
         if not self.served.guard.knows(self.headers):
             raise Bad(401, "open the address that raftbench-live printed when it was started")
 
     # ---- what the page asks for
 
     def post(self) -> None:
-        if self.headers.get("Origin") is None or self.headers.get("Content-Type") != JSON:
-            raise Bad(403, "this server answers only its own page")
-        length = self.headers.get("Content-Length", "")
-        if not length.isdecimal() or self.headers.get("Transfer-Encoding"):
-            raise Bad(411, "the length of the request is missing")
-        if int(length) > MOST_BODY:
-            raise Bad(413, "a request may have 1,048,576 bytes")
-        path = self.path.removeprefix("/")
+        """Answers what the page asks for, which needs the token; only that itself is asked for by a key."""
+        path, length = self.path.removeprefix("/"), self.length()
         if path != "enter":
             self.needs_token()
-        asked = self.body(int(length))
+        asked = self.body(length)
         if path == "enter":
             return self.enter(asked)
-        answers: dict[str, Callable[[dict[str, Any]], bytes]] = {"do": self.do, "state": self.state, "may": self.served.live.may, "ask": self.ask, "theirs": self.theirs}
+        live = self.served.live
+        answers: dict[str, Callable[[dict[str, Any]], bytes]] = {
+            "do": self.do, "state": self.state, "may": live.may, "losses": live.losses, "ask": self.ask, "theirs": self.theirs,
+        }
         if path not in answers:
             raise Bad(404, "that can't be asked for")
         try:
             return self.answer(200, answers[path](asked), JSON)
         except (Refused, OSError) as fault:
-            said = {"fault": str(fault), "asks": isinstance(fault, Doubtful), "version": self.served.live.version}
+            said = {"fault": str(fault), "asks": isinstance(fault, Doubtful), "version": live.version}
             return self.answer(409, json.dumps(said).encode(), JSON)
+
+    def length(self) -> int:
+        """How long the body of a request is, which has to be of the page, and not too long."""
+        if self.headers.get("Origin") is None or self.headers.get("Content-Type") != JSON:
+            raise Bad(403, "this server answers only its own page")
+        length = self.headers.get("Content-Length", "")
+        if not length.isdecimal() or self.headers.get("Transfer-Encoding"):
+            raise Bad(411, "the length of the request is missing")
+        # Python reads no number of thousands of digits.
+        if len(length) > len(str(MOST_BODY)) or int(length) > MOST_BODY:
+            raise Bad(413, "a request may have 1,048,576 bytes")
+        return int(length)
 
     def body(self, length: int) -> dict[str, Any]:
         """The object that a request has. A body that comes too slowly, or not whole, ends the request."""
@@ -142,16 +159,19 @@ class Handler(http.server.BaseHTTPRequestHandler):
         return asked
 
     def enter(self, asked: dict[str, Any]) -> None:
+        """Gives the token for a key."""
         if not self.served.guard.enters(asked.get("key")):
             raise Bad(401, "this key doesn't open, or was used before: open the address that raftbench-live printed when it was started")
         self.answer(200, json.dumps({"token": self.served.guard.token}).encode(), JSON)
 
     def state(self, asked: dict[str, Any]) -> bytes:
+        """The script as it is."""
         live = self.served.live
         with live.lock:
-            return self.shown(live.branch(asked) if asked.get("branch") in live.branches else live.branches[live.home], asked)
+            return self.shown(live.branch_or_home(asked), asked)
 
     def do(self, asked: dict[str, Any]) -> bytes:
+        """Does something to the script, and gives what it is then."""
         return self.shown(self.served.live.do(asked), asked)
 
     def shown(self, branch: Branch, asked: dict[str, Any]) -> bytes:
@@ -174,6 +194,7 @@ class Handler(http.server.BaseHTTPRequestHandler):
         return json.dumps(found).encode()
 
     def theirs(self, asked: dict[str, Any]) -> bytes:
+        """What the user's own nodes do with the script."""
         if not self.served.theirs:
             return b"null"
         live = self.served.live
@@ -223,12 +244,14 @@ class Server(socketserver.ThreadingMixIn, http.server.HTTPServer):
         self.server_name, self.server_port = ADDRESS, self.server_address[1]
 
     def process_request(self, request: Any, client_address: Any) -> None:
+        """Gives a connection a thread, or ends it if too many are open."""
         if self.places.acquire(blocking=False):
             super().process_request(request, client_address)
         else:
             self.shutdown_request(request)
 
     def process_request_thread(self, request: socket.socket | tuple[bytes, socket.socket], client_address: Any) -> None:
+        """Serves a connection, and makes room for another one."""
         try:
             super().process_request_thread(request, client_address)
         finally:

@@ -57,6 +57,7 @@ class Session:
     # ---- the conversation
 
     def line(self) -> bytes:
+        """The next line of its answers. Raises Refused if it has ended."""
         process, line = self.process, b""
         with contextlib.suppress(OSError, ValueError):
             line = process.stdout.readline() if process and process.stdout else b""
@@ -65,6 +66,7 @@ class Session:
         return line
 
     def send(self, command: str, lines: Sequence[bytes] = ()) -> None:
+        """Sends a command; whether it has ended shows when the answer is read."""
         process = self.process
         if process and process.stdin:
             with contextlib.suppress(OSError, ValueError):

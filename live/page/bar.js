@@ -16,7 +16,7 @@ export class Bar {
     /** @type {Set<number>} the nodes of one side */
     this.side = new Set();
     this.field = /** @type {HTMLInputElement} */ (withAttributes(element("input", ""), { id: "live-write", placeholder: "write a directive: i", "aria-label": "Directive after the chosen one", size: 26 }));
-    this.writing = new Writing(this.field, (line, character, text) => live.offers(text, line, character, true), {
+    this.writing = new Writing(this.field, (line, character, text) => live.completions(text, line, character, true), {
       take: (text) => this.taken(text),
       leave: () => live.focus("#directives"),
     });

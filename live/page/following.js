@@ -27,7 +27,7 @@ class Follower {
   }
 
   renew() {
-    this.asked = this.asked.then(() => this.ask());
+    this.asked = this.asked.catch(() => {}).then(() => this.ask());
     return this.asked;
   }
 

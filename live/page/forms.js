@@ -59,7 +59,7 @@ export function editChosen(live, page) {
   field.value = text;
   field.rows = Math.min(12, text.split("\n").length + 1);
   const place = chosen.place;
-  const writing = new Writing(field, (line, character, now) => live.offers(now, line, character, false), {
+  const writing = new Writing(field, (line, character, now) => live.completions(now, line, character, false), {
     take: async (now) => {
       if (await live.ask({ do: "replace", place, text: now, isLatin })) {
         close();

@@ -8,6 +8,7 @@ import { begin, editChosen } from "./forms.js";
 import { makeLegend } from "./legend.js";
 import { LivePage } from "./livepage.js";
 import { Motion } from "./motion.js";
+import { Offers } from "./offers.js";
 import { tellCounts } from "./page.js";
 import { instantAt } from "./position.js";
 import { countPresses } from "./presses.js";
@@ -63,8 +64,6 @@ export class Live {
     this.run = null;
     /** @type {ReturnType<typeof setTimeout> | undefined} */
     this.reading = undefined;
-    /** @type {Record<string, Record<string, string>>} by node, why it can't do what */
-    this.may = {};
     /** @type {{ text: string, yes: string, does: () => void } | null} */
     this.question = null;
     this.hasGone = false;
@@ -74,12 +73,24 @@ export class Live {
     this.heard = 0;
     this.ways = new Ways("");
     this.motion = new Motion();
+    this.offers = new Offers(this);
     this.beside = new Beside();
     this.theirs = new Theirs(this);
     this.bar = new Bar(this);
     countPresses();
     document.addEventListener("keydown", (event) => this.pressed(event));
-    window.addEventListener("beforeunload", (event) => this.state && this.state.branches.some(({ number, isSaved }) => number === this.state?.home && !isSaved) && event.preventDefault());
+    window.addEventListener("beforeunload", (event) => this.leaves(event));
+  }
+
+  /**
+   * Has the browser ask before it leaves a page whose script isn't saved.
+   * @param {Event} event
+   */
+  leaves(event) {
+    const home = this.state?.branches.find(({ number }) => number === this.state?.home);
+    if (home && !home.isSaved) {
+      event.preventDefault();
+    }
   }
 
   /** @param {KeyboardEvent} event */
@@ -105,29 +116,37 @@ export class Live {
       return this.take(await this.talk.post("state", { branch: state.branch }), isOwn);
     }
     this.run = rows ? new Run(rows) : this.run;
-    this.keepingFocus(() => {
-      const place = isOwn || !this.page ? state.chosen : Math.min(this.page.chosen.place, state.of);
-      const isOther = this.state?.branch !== state.branch;
-      this.state = state;
-      this.motion.stop();
-      this.ways = new Ways(state.directives["deliver-msgs"] ?? "");
-      this.may = {};
-      for (const id of ["panes", "keys", "search"]) {
-        byId(id).hidden = state.of === 0;
-      }
-      byId("notice").hidden = state.of > 0;
-      if (this.run && state.of > 0) {
-        this.showRun(this.run, stretch ? stretch.front : -1, place);
-      } else {
-        this.page = null;
-        begin(this, isOther);
-      }
-      this.bar.title(this.page?.model);
-      this.bar.draw();
-      this.beside.renew();
-    });
-    this.askMay();
+    const place = isOwn || !this.page ? state.chosen : Math.min(this.page.chosen.place, state.of);
+    const isOther = this.state?.branch !== state.branch;
+    this.state = state;
+    this.keepingFocus(() => this.draw(state, stretch ? stretch.front : -1, place, isOther));
+    this.offers.ask();
     this.theirs.renew();
+  }
+
+  /**
+   * @param {About} state
+   * @param {number} front how many directives are shown as they are already, or -1
+   * @param {number} place what is chosen
+   * @param {boolean} isOther whether another branch was shown before
+   */
+  draw(state, front, place, isOther) {
+    this.motion.stop();
+    this.ways = new Ways(state.directives["deliver-msgs"] ?? "");
+    this.offers.forget();
+    for (const id of ["panes", "keys", "search"]) {
+      byId(id).hidden = state.of === 0;
+    }
+    byId("notice").hidden = state.of > 0;
+    if (this.run && state.of > 0) {
+      this.showRun(this.run, front, place);
+    } else {
+      this.page = null;
+      begin(this, isOther);
+    }
+    this.bar.title(this.page?.model);
+    this.bar.draw();
+    this.beside.renew();
   }
 
   /**
@@ -255,33 +274,13 @@ export class Live {
     this.bar.draw();
   }
 
-  async askMay() {
-    const { state, page } = this;
-    if (!state || !page) {
-      return;
-    }
-    const { place } = page.chosen;
-    try {
-      const told = await this.talk.post("may", { branch: state.branch, place });
-      if (this.page && told.version === this.state?.version && told.place === this.page.chosen.place) {
-        this.may = told.nodes;
-        this.keepingFocus(() => this.page?.state.renewButtons());
-      }
-    } catch (fault) {
-      if (!(fault instanceof Refusal)) {
-        this.failed(fault, {}, "", "");
-      }
-    }
-  }
-
   /** What follows where another directive or event is chosen. */
   hasChosen() {
     const place = this.page ? this.page.chosen.place : 0;
     if (this.page && this.placed !== place) {
       this.placed = place;
-      this.may = {};
+      this.offers.ask();
       this.bar.draw();
-      this.askMay();
     }
     if (this.page) {
       this.beside.follow(this.page.chosen);
@@ -371,11 +370,15 @@ export class Live {
 
   /** @param {number} number */
   async show(number) {
-    const told = await this.talk.post("state", { branch: number });
-    if (this.beside.number === number) {
-      this.beside.toggle(number);
+    try {
+      const told = await this.talk.post("state", { branch: number });
+      if (this.beside.number === number) {
+        this.beside.toggle(number);
+      }
+      await this.take(told, true);
+    } catch (fault) {
+      this.failed(fault, {}, "", "");
     }
-    await this.take(told, true);
   }
 
   /**
@@ -386,7 +389,7 @@ export class Live {
    * @param {boolean} isNew
    * @returns {Promise<import("./writing.js").Offer>}
    */
-  async offers(text, line, character, isNew) {
+  async completions(text, line, character, isNew) {
     try {
       return await this.talk.post("ask", { branch: this.state?.branch, place: this.page?.chosen.place ?? 0, text, line, character, isNew });
     } catch {
@@ -404,6 +407,20 @@ export class Live {
   /** @param {string} selector */
   focus(selector) {
     /** @type {HTMLElement | null} */ (document.querySelector(selector))?.focus({ preventScroll: false });
+  }
+
+  /**
+   * Goes to the first button of the first of some elements or, from one of them, of the next one.
+   * @param {string} selector
+   */
+  focusNext(selector) {
+    if (this.page) {
+      this.motion.finish(this.page);
+    }
+    const all = [...document.querySelectorAll(selector)];
+    const own = document.activeElement?.closest(selector);
+    const next = all[((own ? all.indexOf(own) : -1) + 1) % all.length];
+    /** @type {HTMLElement | null | undefined} */ (next?.querySelector("button"))?.focus();
   }
 
   /**

@@ -59,6 +59,9 @@ class LiveState extends State {
   choose(position) {
     const { pane, isOpen, live } = this;
     const top = pane.scrollTop;
+    if (position.place !== live.placed) {
+      live.offers.forget();
+    }
     live.keepingFocus(() => super.choose(position));
     if (live.motion.isMoving && !isOpen) {
       this.isOpen = false;
@@ -76,31 +79,45 @@ class LiveState extends State {
    */
   card(node, instant, before) {
     const card = super.card(node, instant, before);
-    card.append(withAttributes(element("div", "live-does", ...this.buttonsOf(node.id)), { "data-node": node.id, role: "group", "aria-label": `What node ${node.id} may do` }));
+    const group = withAttributes(element("div", "live-does"), { "data-node": node.id, role: "group", "aria-label": `What node ${node.id} may do` });
+    card.append(group);
+    this.fill(group);
     return card;
+  }
+
+  /**
+   * Puts the buttons of a node into their group, which is busy as long as it isn't known what the node may do.
+   * @param {HTMLElement} group
+   */
+  fill(group) {
+    group.replaceChildren(...this.buttonsOf(Number(group.dataset.node)));
+    group.setAttribute("aria-busy", String(!this.live.offers.areKnown));
   }
 
   /** @param {number} id */
   buttonsOf(id) {
     const { live } = this;
-    const why = live.may[id] ?? {};
+    const why = live.offers.may[id] ?? {};
     const there = live.state?.directives ?? {};
     const pending = live.pending();
+    const lost = live.offers.losses[id] ?? "";
     const own = OF_NODE.filter(([name]) => name in there).map(([name, text]) => {
-      return button(text, `${name} ${id}`, why[name] ?? "", `${name} ${id}`, () => live.ofNode(name, id, why[name] ?? ""));
+      const says = `${name} ${id}${name === "restart" && lost ? `, which loses ${lost}` : ""}`;
+      return button(text, `${name} ${id}`, why[name] ?? "", says, () => live.ofNode(name, id, why[name] ?? ""));
     });
     const [to, from] = [live.ways.allTo(id, pending), live.ways.allFrom(id, pending, this.model.nodes.map((node) => node.id))];
     return [
       ...own,
       button(`all to it (${to.takes.length})`, `all-to ${id}`, to.why, to.text, () => live.takeWay(to)),
       button(`all from it (${from.takes.length})`, `all-from ${id}`, from.why, from.text, () => live.takeWay(from)),
+      withAttributes(element("span", "live-lost", lost ? `restart loses ${lost}` : ""), { title: lost }),
     ];
   }
 
-  /** Makes the buttons anew, once it is known what the nodes may do. */
+  /** Makes the buttons anew, once more is known of what the nodes may do. */
   renewButtons() {
     for (const group of /** @type {NodeListOf<HTMLElement>} */ (this.pane.querySelectorAll("[data-node]"))) {
-      group.replaceChildren(...this.buttonsOf(Number(group.dataset.node)));
+      this.fill(group);
     }
   }
 
@@ -130,6 +147,8 @@ export class LivePage extends Page {
     LivePage.made = live;
     super(model);
     this.live = live;
+    /** @type {{ spans: import("./mail.js").Spans | null, place: number, messages: Message[] }} */
+    this.found = { spans: null, place: 0, messages: [] };
     const { drawing } = this.picture;
     drawing.addEventListener("click", (event) => this.clicked(event), { capture: true });
     drawing.addEventListener("pointermove", (event) => drawing.classList.toggle("can-deliver", this.messageAt(event) !== null));
@@ -154,8 +173,8 @@ export class LivePage extends Page {
     /** @type {[string[], string, () => void][]} */
     const own = [
       [["i"], "write a directive", () => live.bar.write()],
-      [["c"], "go to what the first node may do", () => live.focus("#state [data-node] button")],
-      [["d"], "go to the first message on its way", () => live.focus(".live-message button")],
+      [["c"], "go to what the next node may do", () => live.focusNext("#state [data-node]")],
+      [["d"], "go to the next message on its way", () => live.focusNext(".live-message")],
       [["s"], "stabilize", () => live.insert("stabilize")],
       [["e"], "edit the directive", () => live.edit()],
       [["u"], "undo", () => live.ask({ do: "undo" })],
@@ -200,7 +219,10 @@ export class LivePage extends Page {
    */
   goFurther(front) {
     const { picture, script, model, chosen } = this;
-    this.search.replace(model);
+    // A filter's type may be in what isn't read yet.
+    if (this.live.run?.isWhole) {
+      this.search.replace(model);
+    }
     if (!placeFrom(picture.layout, front)) {
       picture.replace(model, chosen);
     }
@@ -238,18 +260,9 @@ export class LivePage extends Page {
     if (own) {
       return pending.includes(own) ? own : null;
     }
-    const at = [offsetX + picture.scroll.scrollLeft, offsetY + picture.top];
-    /** @type {Message | null} */
-    let best = null;
-    let least = NEAR;
-    for (const message of pending) {
-      const points = message.drawn?.points ?? [];
-      for (let end = 1; end < points.length; end += 1) {
-        const far = distance(at, points[end - 1], points[end]);
-        [best, least] = far < least ? [message, far] : [best, least];
-      }
-    }
-    return best;
+    // What isn't in view may have been drawn when it had another place.
+    const placed = pending.filter(({ drawn }) => drawn?.version === picture.layout.version);
+    return nearest(placed, [offsetX + picture.scroll.scrollLeft, offsetY + picture.top]);
   }
 
   /** @param {MouseEvent} event */
@@ -262,14 +275,36 @@ export class LivePage extends Page {
     }
   }
 
-  /** The messages that are on their way after the chosen directive. */
+  /** The messages that are on their way after the chosen directive. They are found once, and asked for at each button. */
   pendingNow() {
-    const { step, serial } = instantAt(this.model, { place: this.chosen.place, event: 0 });
-    return this.model.spans.pendingAfter(step.place, serial);
+    const { model: { spans }, chosen: { place } } = this;
+    if (this.found.spans !== spans || this.found.place !== place) {
+      this.found = { spans, place, messages: spans.pendingAfter(place, instantAt(this.model, { place, event: 0 }).serial) };
+    }
+    return this.found.messages;
   }
 }
 /** @type {Live} whose page is being made: a class that is extended calls what it is made of before it has fields of its own */
 LivePage.made = /** @type {any} */ (null);
+
+/**
+ * The message whose line is nearest to a point, if it is near enough.
+ * @param {Message[]} messages
+ * @param {number[]} at
+ */
+function nearest(messages, at) {
+  /** @type {Message | null} */
+  let best = null;
+  let least = NEAR;
+  for (const message of messages) {
+    const points = message.drawn?.points ?? [];
+    for (let end = 1; end < points.length; end += 1) {
+      const far = distance(at, points[end - 1], points[end]);
+      [best, least] = far < least ? [message, far] : [best, least];
+    }
+  }
+  return best;
+}
 
 /**
  * How far a point is from a line between two others.

@@ -15,11 +15,43 @@ export class Motion {
     this.timer = undefined;
     /** Whether what is chosen now is an event that is drawn in motion. */
     this.isMoving = false;
+    /** @type {import("./types.js").Position} what was drawn last */
+    this.at = { place: 0, event: 0 };
   }
 
   stop() {
     clearTimeout(this.timer);
     this.timer = undefined;
+  }
+
+  /**
+   * Shows at once what is still to come, as for one who goes on before it has ended.
+   * @param {Page} page
+   */
+  finish(page) {
+    if (this.timer !== undefined && this.isAt(page)) {
+      this.stop();
+      this.go(page, { place: this.at.place, event: 0 });
+    }
+  }
+
+  /**
+   * Whether nobody has chosen something else meanwhile.
+   * @param {Page} page
+   */
+  isAt({ chosen }) {
+    return chosen.place === this.at.place && chosen.event === this.at.event;
+  }
+
+  /**
+   * @param {Page} page
+   * @param {import("./types.js").Position} position
+   */
+  go(page, position) {
+    this.at = position;
+    this.isMoving = true;
+    page.choose(position);
+    this.isMoving = false;
   }
 
   /**
@@ -35,15 +67,14 @@ export class Motion {
     if (each < SHORTEST || count < 2 || matchMedia("(prefers-reduced-motion: reduce)").matches) {
       return;
     }
-    let event = 0;
+    this.at = { place, event: 0 };
     const next = () => {
-      if (page.model !== model || page.chosen.place !== place || page.chosen.event !== event) {
+      this.timer = undefined;
+      if (page.model !== model || !this.isAt(page)) {
         return;
       }
-      event = event < count ? event + 1 : 0;
-      this.isMoving = true;
-      page.choose({ place, event });
-      this.isMoving = false;
+      const event = this.at.event < count ? this.at.event + 1 : 0;
+      this.go(page, { place, event });
       if (event > 0) {
         requestAnimationFrame(() => this.travel(page, each));
         this.timer = setTimeout(next, each);

@@ -2,8 +2,9 @@
 // new, and then with those that stayed. What comes of it is what reading all rows of the new script gives.
 
 import { firstAbove } from "./history.js";
-import { Mail, Spans } from "./mail.js";
+import { Spans } from "./mail.js";
 import { Reader } from "./rows.js";
+import { mailOf, pendingIn, skippedBy } from "./skipping.js";
 import { shown, spellFor } from "./text.js";
 
 /** @typedef {import("./types.js").Row} Row */
@@ -30,7 +31,7 @@ function linesOf(text) {
   return lines[lines.length - 1] === "" ? lines.slice(0, -1) : lines;
 }
 
-/** Reads rows, and remembers of each message which term its receiver had when it was sent. */
+/** Reads rows by directive, and remembers of each message which term its receiver had when it was sent. */
 class Remembering extends Reader {
   constructor() {
     super();
@@ -46,6 +47,16 @@ class Remembering extends Reader {
     const message = super.sends(name, cells);
     this.sentTerms[message.number] = message.metTerm;
     return message;
+  }
+
+  /** @param {Row[]} rows those of a directive */
+  readStep([first, ...rows]) {
+    this.read(first);
+    const skipped = skippedBy(this.step.head, this.mail);
+    this.mail = skipped.size > 0 ? mailOf(pendingIn(this.mail).filter((message) => !skipped.has(message))) : this.mail;
+    rows.forEach((row) => this.read(row));
+    this.mail = skipped.size > 0 ? mailOf([...skipped, ...pendingIn(this.mail)]) : this.mail;
+    this.step.moment = this.moment;
   }
 }
 
@@ -94,8 +105,7 @@ export class Run {
     const { reader, steps } = this;
     const until = Math.min(steps.length, this.count + most);
     for (; this.count < until; this.count += 1) {
-      steps[this.count].forEach((row) => reader.read(row));
-      reader.step.moment = reader.moment;
+      reader.readStep(steps[this.count]);
     }
     if (until === steps.length && !reader.isWhole) {
       this.end.forEach((row) => reader.read(row));
@@ -161,15 +171,12 @@ export class Run {
     const sent = firstAbove(model.messages.map(({ sentAt }) => sentAt), serial - 1);
     model.messages.length = sent;
     reader.sentTerms.length = sent;
-    reader.mail = new Mail();
     for (const message of model.messages) {
       if (message.met && message.met.place > front) {
         Object.assign(message, { met: null, metAt: 0, fate: "waiting", metTerm: reader.sentTerms[message.number], end: undefined });
       }
-      if (!message.met) {
-        reader.mail.push(message);
-      }
     }
+    reader.mail = mailOf(model.messages.filter(({ met }) => met === null));
   }
 }
 

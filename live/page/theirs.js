@@ -15,21 +15,22 @@ export class Theirs {
     this.isAsked = false;
   }
 
-  /** Has the script run on them; while that goes on, what they did with the last one stays. */
+  /** Has the script run on them, and again if another one is shown by then; while that goes on, what they did with the last one stays. */
   async renew() {
     if (this.isAsked) {
       return;
     }
     this.isAsked = true;
+    const { state, talk } = this.live;
     try {
-      this.told = await this.live.talk.post("theirs", { branch: this.live.state?.branch });
+      this.told = await talk.post("theirs", { branch: state?.branch });
     } catch (fault) {
       this.told = { version: 0, outputs: {}, differences: {}, broken: {}, faults: [String(fault instanceof Error ? fault.message : fault)] };
     } finally {
       this.isAsked = false;
     }
     this.live.bar.draw();
-    if (this.told && this.told.version && this.told.version !== this.live.state?.version) {
+    if (state !== this.live.state) {
       this.renew();
     }
   }

@@ -42,11 +42,13 @@ export class Ways {
       takes = takes.filter((it) => it.from === from);
       words.push(`from=${from}`);
     }
-    if (this.canSkip && takes[0] !== message) {
-      words.push(`skip=${takes.indexOf(message)}`);
-      takes = takes.slice(takes.indexOf(message));
+    const [place, isOneOfSeveral] = [takes.indexOf(message), takes.length > 1];
+    if (this.canSkip && place > 0) {
+      words.push(`skip=${place}`);
+      takes = takes.slice(place);
     }
-    if (this.canCount && takes.length > 1 && takes[0] === message) {
+    // Of several one is meant, also where it is the last one: by its place alone it would be taken with what an edit before it puts behind it.
+    if (this.canCount && isOneOfSeveral && takes[0] === message) {
       takes = [message];
       words.push("count=1");
     }

@@ -52,8 +52,8 @@ export class Writing {
 
   /** @param {Offer} offer */
   show({ items, hints }) {
+    const chosen = this.items[this.at]?.label;
     this.items = items.slice(0, MOST_ITEMS);
-    this.at = -1;
     this.list.hidden = this.items.length === 0;
     this.list.replaceChildren(...this.items.map(({ label, says }, at) => {
       const row = element("li", "", element("b", "", label), " ", element("span", "", says.split("\n")[0]));
@@ -62,15 +62,25 @@ export class Writing {
     }));
     this.hint.textContent = hints[0] ?? "";
     this.field.setAttribute("aria-expanded", String(this.items.length > 0));
-    this.field.removeAttribute("aria-activedescendant");
+    // What was chosen before this answer came stays chosen.
+    this.choose(this.items.findIndex(({ label }) => label === chosen));
+  }
+
+  /** @param {number} at the item that Enter takes, or -1 */
+  choose(at) {
+    this.at = at;
+    [...this.list.children].forEach((row, own) => row.setAttribute("aria-selected", String(own === at)));
+    if (at < 0) {
+      this.field.removeAttribute("aria-activedescendant");
+    } else {
+      this.field.setAttribute("aria-activedescendant", `${this.list.id}-${at}`);
+    }
   }
 
   /** @param {number} by */
   step(by) {
     const count = this.items.length;
-    this.at = this.at < 0 ? (by > 0 ? 0 : count - 1) : (this.at + by + count) % count;
-    [...this.list.children].forEach((row, at) => row.setAttribute("aria-selected", String(at === this.at)));
-    this.field.setAttribute("aria-activedescendant", `${this.list.id}-${this.at}`);
+    this.choose(this.at < 0 ? (by > 0 ? 0 : count - 1) : (this.at + by + count) % count);
   }
 
   /** @param {number} at the item that is put in place of what is there of it */

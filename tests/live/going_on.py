@@ -3,9 +3,11 @@ from __future__ import annotations
 
 import json
 import pathlib
-from collections.abc import Iterable, Sequence
+from collections.abc import Iterable, Iterator, Sequence
+from typing import NamedTuple
 
 from live.rows import stretch
+from tests.live.alone import EQUAL
 from tests.live.player import Player
 from tests.live.playing import on_script
 from tests.live.running import CAMPAIGN, START, Running
@@ -14,16 +16,20 @@ from tests.page.browser import Browser
 from tests.page.scripts import same
 
 LEVEL = b"log-level info\n----\nok\n\n"
-# Reads a script's rows, and then puts stretches in, each a few directives at a time, as a page does. Gives, of each, whether its model is that of all
-# rows of the new script, read at once.
+# Reads a script's rows, and then puts stretches in, each a few directives at a time, as a page does. Gives, of each, whether it could be put in; whether
+# the model is that of all rows of the new script, read at once, as the live page reads them, and as a page alone does; and how long that is.
 GOES_ON = """(async ([first, ...changes]) => {
   const [{ Run }, { readRows }] = await Promise.all([import("/run.js"), import("/rows.js")]);
   const places = (list) => Array.from(list, (it) => it && (Array.isArray(it) ? it.map(({ number }) => number) : it.number));
   const plain = (key, value) => key === "sent" || key === "met" ? value && value.place : key === "message" ? value && value.number
     : key === "blocks" || key === "waiting" ? places(value) : value instanceof Map ? [...value] : value;
   const dump = (model) => JSON.stringify(model, plain);
-  let run = new Run(first);
-  run.goOn(1e9);
+  const fresh = (rows) => {
+    const run = new Run(rows);
+    run.goOn(1e9);
+    return run;
+  };
+  let run = fresh(first);
   return changes.map(({ stretch, rows }) => {
     const isPut = run.change(stretch);
     run = isPut ? run : new Run(rows);
@@ -31,22 +37,46 @@ GOES_ON = """(async ([first, ...changes]) => {
       run.goOn(3);
     }
     const own = dump(run.model);
-    return [isPut, own === dump(readRows(rows)), own.length];
+    return [isPut, own === dump(fresh(rows).model), own === dump(readRows(rows)), own.length];
   });
 })"""
 
 
-def a_run_that_goes_on_is_as_a_fresh_one(browser: Browser) -> None:
-    """Where an edit shows a control character all texts are shown by numbers from then on, so all rows are needed: there, and back."""
-    found = list(changes(ELECTION.read_bytes()))
+class Went(NamedTuple):
+    """What became of a run that went on after an edit."""
+
+    is_put: bool
+    is_fresh: bool
+    is_of_a_page: bool
+    size: int
+
+
+def went_on(browser: Browser, data: bytes) -> Iterator[tuple[str, int, Went]]:
+    """By each edit of a script, how long its rows are, and what became of the run."""
+    found = list(changes(data))
     given = [json.loads(found[0][1].rows.raw), *({"stretch": json.loads(stretch(before, now)), "rows": json.loads(now.rows.raw)} for _, before, now in found)]
+    told: list[Went] = []
 
     def does(player: Player, server: Running, path: pathlib.Path) -> None:
-        told = player.browser.value(f"{GOES_ON}({json.dumps(given)})")
-        for (what, _, now), (is_put, is_same, size) in zip(found, told, strict=True):
-            same(f"whether the model is a fresh one after {what}", is_same and size > 20 * len(now.rows.raw) ** 0.5, True)
-        same("edits after which all rows are needed", [what for (what, _, _), (is_put, _, _) in zip(found, told) if not is_put], [found[-3][0], found[-2][0]])
+        told.extend(Went(*it) for it in player.browser.value(f"{GOES_ON}({json.dumps(given)})"))
     on_script(browser, START, does)
+    for (what, _, now), went in zip(found, told, strict=True):
+        yield what, len(now.rows.raw), went
+
+
+def a_run_that_goes_on_is_as_a_fresh_one(browser: Browser) -> None:
+    """Where an edit shows a control character all texts are shown by numbers from then on, so all rows are needed: there, and back."""
+    found = list(went_on(browser, ELECTION.read_bytes()))
+    for what, size, went in found:
+        same(f"whether the model is a fresh one after {what}", went.is_fresh and went.is_of_a_page and went.size > 20 * size ** 0.5, True)
+    same("edits after which all rows are needed", [what for what, _, went in found if not went.is_put], [found[-3][0], found[-2][0]])
+
+
+def a_run_with_skipped_messages_goes_on(browser: Browser) -> None:
+    """A page alone takes the earliest message that says the same (docs/FORMATS.md), and a live one the one that the directive names."""
+    found = list(went_on(browser, EQUAL))
+    same("edits after which it isn't a fresh one", [what for what, _, went in found if not went.is_fresh], [])
+    same("whether a page alone takes others", any(not went.is_of_a_page for _, _, went in found), True)
 
 
 # All that is drawn but what each node may do, which is asked for later.
@@ -103,15 +133,28 @@ def a_page_that_went_on_is_as_a_fresh_one(browser: Browser) -> None:
     on_script(browser, START + CAMPAIGN, does)
 
 
+# How high the picture is, whenever that changes.
+HEIGHTS = """(() => {
+  window.heights = [];
+  const extent = document.getElementById('extent');
+  new MutationObserver(() => window.heights.push(parseInt(extent.style.height))).observe(extent, { attributes: true });
+})()"""
+
+
 def a_long_page_goes_on_in_parts(browser: Browser) -> None:
     """Of a long script 200 directives show at once after an edit, and then the rest. At the end all is as on a fresh page."""
     def does(player: Player, server: Running, path: pathlib.Path) -> None:
         player.browser.call("Emulation.setEmulatedMedia", features=[{"name": "prefers-reduced-motion", "value": "reduce"}])
         player.browser.value("document.getElementById('directives').focus(), location.hash = '#1', 1")
         player.at(1, 802)
+        whole = player.browser.value("parseInt(document.getElementById('extent').style.height)")
+        player.browser.value(HEIGHTS)
         player.directive("campaign 2")
         player.at(2, 803)
         player.key("Escape")
-        same("counts", player.text("#counts"), "803 directives, 0 mismatches, 3 nodes")
+        player.comes("document.getElementById('counts').textContent", "803 directives, 0 mismatches, 3 nodes")
+        heights = player.browser.value("window.heights")
+        # Those of 202 directives, and of 803.
+        same(f"whether {heights} begin with some of {whole}", (whole / 5 < heights[0] < whole / 3, heights[-1] > whole, heights == sorted(heights)), (True, True, True))
         same_after_a_load(player, server, [1, 2, 201, 402, 403, 404, 703, 803], 803)
     on_script(browser, START + LEVEL * 400 + CAMPAIGN + LEVEL * 400, does)

@@ -2,6 +2,8 @@
 from __future__ import annotations
 
 import json
+import os
+import pathlib
 import time
 from typing import Any
 
@@ -11,11 +13,17 @@ from tests.page.scripts import same
 MOST_SECONDS = 120
 MOST_CLICKS = 3
 SHIFT = 8
+# Where what is seen is written to, to look at.
+SEEN = pathlib.Path(os.environ["SEEN"]) if "SEEN" in os.environ else None
 
 
 class Player:
+    """A browser on the page of a server."""
+
     def __init__(self, browser: Browser, address: str) -> None:
         self.browser = browser
+        # What the page of a server that has ended still asks for is no fault of this one.
+        browser.load("about:blank")
         browser.faults = []
         browser.load(address)
 
@@ -30,6 +38,12 @@ class Player:
         """Nothing may stand in the console but what the page asks of its own server, and what the server refuses."""
         faults = [it for it in self.browser.faults if not it.startswith(("fetches http://127.0.0.1:", "log: Failed to load resource: the server responded with a status of 409"))]
         same("what the console has", faults, [])
+
+    def seen(self, name: str) -> None:
+        """Looks whether all is quiet, and keeps a picture if that is wanted."""
+        self.quiet()
+        if SEEN:
+            self.browser.picture(SEEN / f"{name}.png")
 
     def box(self, selector: str) -> list[float]:
         """Scrolls an element into view and gives its middle. Waits until it is there, since the page replaces its buttons."""
@@ -46,6 +60,7 @@ class Player:
         return list(found)
 
     def click(self, selector: str) -> None:
+        """Clicks the middle of an element."""
         self.browser.click(*self.box(selector))
 
     def click_at(self, selector: str, across: float, down: float) -> None:
@@ -73,6 +88,10 @@ class Player:
         """Waits until directive `step` of `count` is chosen."""
         self.comes(f"document.getElementById('where').textContent.startsWith('step {step} of {count},')")
 
+    def known(self) -> None:
+        """Waits until it is known what each node may do, and what it would lose by a restart."""
+        self.comes("document.querySelectorAll('#state [aria-busy=\"true\"]').length", 0)
+
     def key(self, key: str, **more: Any) -> None:
         """Presses a key, as a keyboard does: Enter and letters also write."""
         codes = {"Enter": 13, "Tab": 9, "Escape": 27, "ArrowDown": 40, "ArrowUp": 38, "End": 35, "Home": 36, "Delete": 46, " ": 32}
@@ -82,6 +101,7 @@ class Player:
         self.browser.call("Input.dispatchKeyEvent", type="keyUp", key=key, **{name: it for name, it in more.items() if name == "modifiers"})
 
     def write(self, text: str) -> None:
+        """Writes a text, letter by letter."""
         for letter in text:
             self.key(letter)
 
@@ -93,4 +113,5 @@ class Player:
         self.key("Enter")
 
     def text(self, selector: str) -> str:
+        """The text of an element, or nothing if it isn't there."""
         return str(self.browser.value(f"document.querySelector({json.dumps(selector)})?.textContent ?? ''"))

@@ -11,6 +11,7 @@ from tests.page.browser import Browser
 
 
 def on_script(browser: Browser, data: bytes, does: Callable[[Player, Running, pathlib.Path], None], *words: str) -> None:
+    """Plays on a script, and looks that the console stayed empty."""
     with tempfile.TemporaryDirectory() as room:
         path = pathlib.Path(room, "script.txt")
         path.write_bytes(data)

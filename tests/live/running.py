@@ -24,9 +24,17 @@ CAMPAIGN = b"campaign 1\n----\nINFO 1 became candidate at term 1\n\n"
 
 
 def around(**more: str) -> dict[str, str]:
+    """The environment of the command. Raises NotHere if there is no program."""
     if not PROGRAM.exists():
         raise NotHere("the program")
     return {**os.environ, "RAFTBENCH": str(PROGRAM), **more}
+
+
+def put(path: pathlib.Path, data: bytes) -> None:
+    """Writes a file as most editors do: whole, in the place of the old one. Nobody sees a part of it."""
+    new = path.with_name(f"{path.name}.new")
+    new.write_bytes(data)
+    new.replace(path)
 
 
 def checked(path: pathlib.Path) -> str:
@@ -63,6 +71,7 @@ class Running:
 
     @property
     def host(self) -> str:
+        """The name by which the server is asked."""
         return f"127.0.0.1:{self.port}"
 
     def request(self, method: str, path: str, body: bytes | None = None, **headers: str) -> tuple[int, dict[str, str], bytes]:
@@ -86,6 +95,7 @@ class Running:
         return status, json.loads(body) if told.get("Content-Type") == "application/json" else body.decode()
 
     def enter(self) -> Running:
+        """Exchanges the key for the token, and looks at the script."""
         status, told = self.post("/enter", {"key": self.key})
         assert status == 200, told
         self.token = told["token"]
@@ -93,6 +103,7 @@ class Running:
         return self
 
     def look(self, **asked: object) -> dict[str, Any]:
+        """Looks at the script as it is."""
         status, self.state = self.post("/state", asked)
         assert status == 200, self.state
         return self.state

@@ -5,7 +5,6 @@ With SEEN=FOLDER in the environment it writes what is seen into a folder, to loo
 """
 from __future__ import annotations
 
-import os
 import pathlib
 import re
 import subprocess
@@ -13,15 +12,16 @@ import tempfile
 from collections.abc import Callable, Iterator
 
 from tests.harness import PROGRAM, TOP, Result, results_of
+from tests.live import arrows, cards, changing, staying
+from tests.live.alone import each_waiting_message_is_taken_alone, the_program_takes_it_alone
 from tests.live.each_message import ways_take_what_they_say
-from tests.live.going_on import a_long_page_goes_on_in_parts, a_page_that_went_on_is_as_a_fresh_one, a_run_that_goes_on_is_as_a_fresh_one
-from tests.live.player import SHIFT, Player
+from tests.live.going_on import a_long_page_goes_on_in_parts, a_page_that_went_on_is_as_a_fresh_one, a_run_that_goes_on_is_as_a_fresh_one, a_run_with_skipped_messages_goes_on
+from tests.live.player import Player
 from tests.live.playing import on_script
-from tests.live.running import CAMPAIGN, START, Running, checked
+from tests.live.running import CAMPAIGN, START, Running, checked, put
 from tests.page.browser import Browser, found
 from tests.page.scripts import same
 
-SEEN = pathlib.Path(os.environ["SEEN"]) if "SEEN" in os.environ else None
 # The directives that were played, as the script has them.
 ELECTION = ["add-nodes 3 voters=(1,2,3) index=10", "campaign 1", "process-ready 1", "deliver-msgs 2 type=MsgVote", "process-ready 2", "deliver-msgs 1 type=MsgVoteResp", "stabilize"]
 # Figure 3.7 (a) to (c), with terms from 1 on: the entry of the first leader reaches one other node; the leader of the next term has another entry at
@@ -38,6 +38,7 @@ FIGURE = [
 FIGURE_LOGS = {1: [1, 1, 3], 2: [1, 1], 3: [1], 4: [1], 5: [1, 2]}
 # The leader repairs them all.
 REPAIR = [*FIGURE, "stabilize"]
+MOST_PRESSES = 40
 # The sides that are cut off, by the directive that drops what is between them.
 SIDES = {"deliver-msgs drop=(3,4,5)": "12", "deliver-msgs drop=(1,2,3,4,5)": "5"}
 
@@ -46,12 +47,6 @@ def heads_of(path: pathlib.Path) -> list[str]:
     """The heads of a script, each below an empty line or at its beginning."""
     lines = ["", *path.read_text().split("\n")]
     return [line for above, line in zip(lines, lines[1:]) if not above and line]
-
-
-def see(player: Player, name: str) -> None:
-    player.quiet()
-    if SEEN:
-        player.browser.picture(SEEN / f"{name}.png")
 
 
 def logs_of(path: pathlib.Path) -> dict[int, list[int]]:
@@ -71,6 +66,7 @@ def saved(player: Player, server: Running, path: pathlib.Path, heads: list[str])
 
 
 def choose_side(player: Player, ids: str) -> None:
+    """Checks the boxes of these nodes, and of no others."""
     for box in player.browser.value("[...document.querySelectorAll('[data-key^=\"side \"]')].map((box) => [box.dataset.key, box.checked])"):
         if box[1] != (box[0].removeprefix("side ") in ids):
             player.click(f'[data-key="{box[0]}"]')
@@ -106,6 +102,7 @@ def by_mouse(player: Player, heads: list[str]) -> None:
 
 
 def by_keys(player: Player, heads: list[str]) -> None:
+    """Plays directives by writing them."""
     player.comes("document.activeElement.id", "live-count")
     for _ in range(int(heads[0].split()[1]) - 3):
         player.key("ArrowUp")
@@ -123,12 +120,13 @@ def by_keys(player: Player, heads: list[str]) -> None:
 
 
 def play(browser: Browser, heads: list[str], does: Callable[[Player, list[str]], None], name: str) -> None:
+    """Plays directives on a new file, saves it, and looks at what was saved."""
     with tempfile.TemporaryDirectory() as room:
         path = pathlib.Path(room, "new.txt")
         with Running(path) as server:
             player = Player(browser, server.address)
             does(player, heads)
-            see(player, name)
+            player.seen(name)
             if does is by_mouse:
                 player.click('[data-key="save"]')
             else:
@@ -148,6 +146,38 @@ def election_by_keys(browser: Browser) -> None:
     play(browser, ELECTION, by_keys, "election-keys")
 
 
+def press_until(player: Player, key: str, code: str, wanted: str) -> None:
+    """Presses a key until an expression has a value."""
+    for _ in range(MOST_PRESSES):
+        if player.browser.value(code) == wanted:
+            return
+        player.key(key)
+    same(code, player.browser.value(code), wanted)
+
+
+def on_buttons(player: Player, heads: list[str]) -> None:
+    """Plays the election by keys that go to buttons, and Enter; no directive is written."""
+    player.comes("document.activeElement.id", "live-count")
+    player.key("Enter")
+    player.at(1, 1)
+    for count, head in enumerate(heads[1:], 2):
+        name, _, rest = head.partition(" ")
+        if name == "stabilize":
+            player.key("s")
+        elif name == "deliver-msgs":
+            press_until(player, "d", "document.activeElement.title", head)
+            player.key("Enter")
+        else:
+            press_until(player, "c", "document.activeElement.closest('[data-node]')?.dataset.node", rest)
+            press_until(player, "Tab", "document.activeElement.dataset.key", head)
+            player.key("Enter")
+        player.at(count, count)
+
+
+def election_by_keys_on_buttons(browser: Browser) -> None:
+    play(browser, ELECTION, on_buttons, "election-buttons")
+
+
 def figure_by_mouse(browser: Browser) -> None:
     play(browser, FIGURE, by_mouse, "figure-mouse")
 
@@ -160,28 +190,8 @@ def figure_and_repair_by_keys(browser: Browser) -> None:
     play(browser, REPAIR, by_keys, "repair-keys")
 
 
-def arrows_are_clicked(browser: Browser) -> None:
-    """A click on the line of a message in the picture delivers it, with Shift it drops it."""
-    def does(player: Player, server: Running, path: pathlib.Path) -> None:
-        player.directive("process-ready 1")
-        player.at(3, 3)
-        point = "(() => {{ const d = document.getElementById('drawing').getBoundingClientRect(); const p = document.querySelectorAll('#drawing path.arrow.waiting')[0].getAttribute('d').match(/M([\\d.]+) ([\\d.]+)/); return [d.left + Number(p[1]) + 20, d.top + Number(p[2])]; }})()"
-        # What was done is drawn in motion first.
-        player.comes("document.querySelectorAll('#drawing path.arrow.waiting').length === 1 && document.getElementById('where').textContent", "step 3 of 3, line 12")
-        player.browser.click(*player.browser.value(point.format()))
-        player.at(4, 4)
-        same("the head", player.text("#script .chosen .head").strip(), "deliver-msgs 2 type=MsgVote")
-        player.browser.value("document.getElementById('scroll').scrollTop = 0")
-        player.browser.settle()
-        x, y = player.browser.value(point.format())
-        for kind in ("mousePressed", "mouseReleased"):
-            player.browser.call("Input.dispatchMouseEvent", type=kind, x=x, y=y, button="left", clickCount=1, modifiers=SHIFT)
-        player.at(5, 5)
-        same("the head", player.text("#script .chosen .head").strip(), "deliver-msgs drop=3 type=MsgVote")
-    on_script(browser, START + CAMPAIGN, does)
-
-
 def what_can_t_be_done_says_why(browser: Browser) -> None:
+    """Before it is clicked, and after."""
     def does(player: Player, server: Running, path: pathlib.Path) -> None:
         button = "document.querySelector('[data-key=\"process-ready 2\"]')"
         player.comes(f"{button}.getAttribute('aria-disabled')", "true")
@@ -189,11 +199,12 @@ def what_can_t_be_done_says_why(browser: Browser) -> None:
         player.click('[data-key="process-ready 2"]')
         player.comes("document.querySelector('.live-alert')?.textContent", "! That can't be done: process-ready 2: has nothing ready. ")
         same("how many directives there are", player.text("#where").split(",")[0], "step 2 of 2")
-        see(player, "why")
+        player.seen("why")
     on_script(browser, START + CAMPAIGN, does)
 
 
 def the_key_leaves_the_address(browser: Browser) -> None:
+    """It is also nowhere in the page; and a page that is loaded again needs none."""
     def does(player: Player, server: Running, path: pathlib.Path) -> None:
         same("whether the key is in the address", server.key in str(player.browser.value("location.href")), False)
         same("whether it is in the page", server.key in str(player.browser.value("document.documentElement.outerHTML")), False)
@@ -202,41 +213,15 @@ def the_key_leaves_the_address(browser: Browser) -> None:
     on_script(browser, START + CAMPAIGN, does)
 
 
-def directives_are_edited_in_place(browser: Browser) -> None:
-    def does(player: Player, server: Running, path: pathlib.Path) -> None:
-        player.browser.value("document.getElementById('directives').focus()")
-        player.key("e")
-        player.comes("document.activeElement.value", "campaign 1")
-        player.key("Home")
-        player.write("# Why not 2?")
-        player.key("Enter", modifiers=SHIFT)
-        player.key("End")
-        player.browser.value("document.activeElement.setSelectionRange(22, 23)")
-        player.write("2")
-        see(player, "edit")
-        player.key("Enter")
-        player.comes("document.querySelectorAll('#script .wrong').length", 1)
-        see(player, "mismatch")
-        player.key("a")
-        player.comes("document.querySelectorAll('#script .wrong').length", 0)
-        player.key("u")
-        player.comes("document.querySelectorAll('#script .wrong').length", 1)
-        player.key("r")
-        player.comes("document.querySelectorAll('#script .wrong').length", 0)
-        player.key("s", modifiers=2, text="")
-        player.comes("document.title", "script.txt: raftbench live")
-        same("the script", path.read_bytes(), START + b"# Why not 2?\n" + CAMPAIGN.replace(b"1", b"2", 1).replace(b"INFO 1", b"INFO 2"))
-    on_script(browser, START + CAMPAIGN, does)
-
-
 def words_are_offered(browser: Browser) -> None:
+    """The completion of the language server, and its hints."""
     def does(player: Player, server: Running, path: pathlib.Path) -> None:
         player.browser.value("document.getElementById('directives').focus()")
         player.key("i")
         player.comes("document.activeElement.id", "live-write")
         player.write("raft-s")
         player.comes("document.querySelector('.live-writing .live-offers b')?.textContent", "raft-state")
-        see(player, "offers")
+        player.seen("offers")
         player.key("ArrowDown")
         player.key("Tab")
         player.comes("document.getElementById('live-write').value", "raft-state")
@@ -245,36 +230,20 @@ def words_are_offered(browser: Browser) -> None:
         player.write("campain 1")
         player.key("Enter")
         player.comes("document.querySelector('.live-alert')?.textContent.includes('did you mean \"campaign\"?')")
-        see(player, "asks")
-    on_script(browser, START + CAMPAIGN, does)
-
-
-def branches_stand_beside_each_other(browser: Browser) -> None:
-    def does(player: Player, server: Running, path: pathlib.Path) -> None:
-        player.browser.value("document.getElementById('directives').focus()")
-        player.key("w")
-        player.comes("document.querySelectorAll('[data-key^=\"tab \"]').length", 2)
-        player.directive("campaign 2")
-        player.at(3, 3)
-        player.click('[data-key="beside 1"]')
-        inner = "document.querySelector('iframe').contentDocument"
-        player.comes(f"{inner}?.getElementById('where')?.textContent.startsWith('step 2 of 2,')")
-        see(player, "beside")
-        player.click('[data-key="tab 1"]')
-        player.at(2, 2)
-        same("whether the frame is gone", player.browser.value("document.querySelector('iframe')"), None)
+        player.seen("asks")
     on_script(browser, START + CAMPAIGN, does)
 
 
 def other_programs_and_windows_are_seen(browser: Browser) -> None:
+    """Also that the server was killed: then the script can be copied from the page."""
     def does(player: Player, server: Running, path: pathlib.Path) -> None:
-        path.write_bytes(START)
+        put(path, START)
         player.comes("document.getElementById('where').textContent.startsWith('step 1 of 1,')")
         server.enter().do("insert", place=1, text="campaign 3")
         player.comes("document.getElementById('counts').textContent", "2 directives, 0 mismatches, 3 nodes")
-        path.write_bytes(START + CAMPAIGN)
+        put(path, START + CAMPAIGN)
         player.comes("document.querySelector('.live-alert')?.textContent.startsWith('! The file was changed by somebody else.')")
-        see(player, "theirs")
+        player.seen("theirs")
         server.process.kill()
         player.comes("document.querySelector('.live-copy')?.value.includes('campaign 3')")
         player.browser.faults = [it for it in player.browser.faults if "ERR_" not in it]
@@ -294,30 +263,44 @@ def presses_count_and_the_focus_stays(browser: Browser) -> None:
         same("the head", player.text("#script .chosen .head").strip(), "tick-heartbeat 2")
         player.key("j")
         player.at(3, 3)
-        player.key("c")
-        for _ in range(3):
-            player.key("Tab")
-        player.comes("document.activeElement.dataset.key", "process-ready 1")
+        press_until(player, "c", "document.activeElement.closest('[data-node]')?.dataset.node", "1")
+        press_until(player, "Tab", "document.activeElement.dataset.key", "process-ready 1")
+        player.browser.value("""(() => {
+          window.wheres = [];
+          const where = document.getElementById('where');
+          new MutationObserver(() => window.wheres.push(where.textContent)).observe(where, { childList: true, characterData: true, subtree: true });
+        })()""")
         player.key("Enter")
         player.at(4, 4)
-        # Its last event in motion, and then all of it.
-        player.comes("document.getElementById('where').textContent.includes(', event ')")
-        player.comes("document.getElementById('where').textContent.includes(', event ')", False)
+        # Its events in motion, and then all of it.
+        player.comes("window.wheres.some((it) => it.includes(', event ')) && !window.wheres.at(-1).includes(', event ')")
         same("the focus", player.browser.value("document.activeElement.dataset.key"), "process-ready 1")
         same("whether what happened is folded still", player.browser.value("document.querySelector('#state details').open"), False)
     on_script(browser, START + CAMPAIGN, does)
 
 
 def filters_stay(browser: Browser) -> None:
+    """Also where what they keep comes so late in a script that it isn't read at once."""
     def does(player: Player, server: Running, path: pathlib.Path) -> None:
-        player.browser.value("(() => { const it = document.getElementById('filter-node'); it.value = '2'; it.dispatchEvent(new Event('change')); document.getElementById('directives').focus(); })()")
-        player.directive("stabilize")
-        player.at(3, 3)
-        same("the filter", player.browser.value("document.getElementById('filter-node').value"), "2")
-    on_script(browser, START + CAMPAIGN, does)
+        count = int(player.text("#counts").split()[0])
+        for name, value in (("node", "2"), ("type", "MsgVote")):
+            player.browser.value(f"(() => {{ const it = document.getElementById('filter-{name}'); it.value = '{value}'; it.dispatchEvent(new Event('change')); }})()")
+        player.browser.value("document.getElementById('directives').focus(), location.hash = '#1', 1")
+        player.at(1, count)
+        player.directive("raft-state")
+        player.at(2, count + 1)
+        player.comes("document.getElementById('counts').textContent.split(' ')[0]", str(count + 1))
+        same("the filters", player.browser.value("['node', 'type'].map((name) => document.getElementById(`filter-${name}`).value)"), ["2", "MsgVote"])
+        # A page with something that isn't saved isn't left without a question.
+        player.key("Escape")
+        player.key("u")
+        player.comes("document.title", "script.txt: raftbench live")
+    for between in (0, 300):
+        on_script(browser, START + b"log-level info\n----\nok\n\n" * between + CAMPAIGN + b"process-ready 1\n----\n\n", does)
 
 
 def nothing_of_a_script_acts(browser: Browser) -> None:
+    """Texts that would be elements, if they were written as they are."""
     from tests.page.scripts import HOSTILE
 
     def does(player: Player, server: Running, path: pathlib.Path) -> None:
@@ -331,24 +314,27 @@ def nothing_of_a_script_acts(browser: Browser) -> None:
 
 
 def own_nodes_stand_in_two_halves(browser: Browser) -> None:
+    """Where the user's nodes differ, what both printed is shown."""
     def does(player: Player, server: Running, path: pathlib.Path) -> None:
         player.comes("document.querySelectorAll('.live-theirs-marks button').length > 0")
         player.click(".live-theirs-marks button")
         player.comes("document.querySelectorAll('.live-halves pre').length", 2)
-        see(player, "theirs-nodes")
+        player.seen("theirs-nodes")
     on_script(browser, (TOP / "examples" / "tour" / "01-election.txt").read_bytes(), does, "--with", f"{TOP}/nodes/plain --bug votes-twice")
 
 
 TESTS = [
-    a_run_that_goes_on_is_as_a_fresh_one, a_page_that_went_on_is_as_a_fresh_one, a_long_page_goes_on_in_parts,
-    ways_take_what_they_say, election_by_mouse, election_by_keys, figure_by_mouse, repair_by_mouse, figure_and_repair_by_keys, arrows_are_clicked, what_can_t_be_done_says_why, the_key_leaves_the_address,
-    directives_are_edited_in_place, words_are_offered, branches_stand_beside_each_other, other_programs_and_windows_are_seen,
-    presses_count_and_the_focus_stays, filters_stay, nothing_of_a_script_acts,
-    own_nodes_stand_in_two_halves,
+    a_run_that_goes_on_is_as_a_fresh_one, a_run_with_skipped_messages_goes_on, a_page_that_went_on_is_as_a_fresh_one, a_long_page_goes_on_in_parts,
+    ways_take_what_they_say, each_waiting_message_is_taken_alone, the_program_takes_it_alone,
+    election_by_mouse, election_by_keys, election_by_keys_on_buttons, figure_by_mouse, repair_by_mouse, figure_and_repair_by_keys,
+    what_can_t_be_done_says_why, the_key_leaves_the_address, words_are_offered, other_programs_and_windows_are_seen,
+    presses_count_and_the_focus_stays, filters_stay, nothing_of_a_script_acts, own_nodes_stand_in_two_halves,
+    *cards.TESTS, *arrows.TESTS, *changing.TESTS, *staying.TESTS,
 ]
 
 
 def results(word: str) -> Iterator[Result]:
+    """The results of all tests, each in a browser of its own."""
     program = found()
     missing = "a browser" if program is None else "" if PROGRAM.exists() else "the program"
     if missing or program is None:

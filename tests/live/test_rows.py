@@ -2,9 +2,11 @@
 from __future__ import annotations
 
 import json
+import random
 from collections.abc import Iterator
 from typing import Any
 
+import live.rows
 from live.blocks import joined
 from live.branch import Branch
 from live.edits import EDITS
@@ -63,6 +65,37 @@ def test_a_stretch_put_in_gives_the_rows_of_the_new_script() -> Iterator[str]:
         spared += len(given["rows"]) < len(now.blocks) // 2
     if spared < 6:
         yield f"only {spared} edits send less than half of the rows"
+
+
+def test_an_edit_among_equal_directives_sends_its_own_rows() -> None:
+    """Although many rows before and after it are the same, at both ends."""
+    branch = Branch(1, Program(PROGRAM), b"log-level info\n----\nok\n\n" * 700)
+    try:
+        for place, text in ((350, "log-level debug"), (1, "log-level info")):
+            before = branch.shown
+            EDITS["insert"](branch, {"place": place, "text": text})
+            given = json.loads(stretch(before, branch.shown))
+            assert len(given["rows"]) == 1 and put(json.loads(before.rows.raw), given) == json.loads(branch.shown.rows.raw), given
+    finally:
+        branch.close()
+
+
+def test_ends_are_compared_alike_however_many_at_once() -> Iterator[str]:
+    """Of lists that differ by some items: as many are the same at both beginnings, and then at both ends, as one by one."""
+    dice = random.Random(1)
+    at_once = live.rows.AT_ONCE
+    try:
+        for case in range(2000):
+            one = dice.choices((1, 2), k=dice.randint(0, 12))
+            other = [*one[:dice.randint(0, 12)], *dice.choices((2, 3), k=dice.randint(0, 2)), *one[dice.randint(0, 12):]]
+            least = min(len(one), len(other))
+            front = next((at for at in range(least) if one[at] != other[at]), least)
+            back = next((at for at in range(least - front) if one[-1 - at] != other[-1 - at]), least - front)
+            live.rows.AT_ONCE = dice.choice((1, 2, 3, 5))
+            if live.rows.ends(one, tuple(other)) != (front, back):
+                yield f"{one} and {other}: {live.rows.ends(one, tuple(other))}, and not {front}, {back}"
+    finally:
+        live.rows.AT_ONCE = at_once
 
 
 def rows_of(steps: list[tuple[int, str]]) -> bytes:

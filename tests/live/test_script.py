@@ -13,7 +13,7 @@ from live.program import Program
 from live.scriptfile import ScriptFile, Theirs
 from plain.script import Fault, read_with_lines
 from tests.harness import PROGRAM, TOP
-from tests.live.running import CAMPAIGN, START, Running, checked
+from tests.live.running import CAMPAIGN, START, Running, checked, put
 
 TOUR = sorted((TOP / "examples" / "tour").glob("*.txt"))
 READY = b"process-ready 1\n----\n1 ready\n  hard term=1 vote=1 commit=10\n  send 1->2 MsgVote term=1 last=1/10\n  send 1->3 MsgVote term=1 last=1/10\nINFO 1 has MsgVoteResp granted from 1: pending\n\n"
@@ -205,7 +205,7 @@ def test_never_writes_over_others(room: pathlib.Path) -> None:
     path.write_bytes(START)
     with Running(path).enter() as server:
         server.do("insert", place=1, text="campaign 1")
-        path.write_bytes(START + b"# theirs\n")
+        put(path, START + b"# theirs\n")
         server.comes("isTheirs", True)
         status, told = server.do("save")
         assert status == 409 and "somebody else" in told["fault"] and path.read_bytes() == START + b"# theirs\n"
@@ -216,6 +216,7 @@ def test_never_writes_over_others(room: pathlib.Path) -> None:
 
 
 def test_a_change_on_disk_shows_at_once(room: pathlib.Path) -> None:
+    """Also one that is written into the file itself."""
     path = room / "script.txt"
     path.write_bytes(START)
     with Running(path).enter() as server:
@@ -241,7 +242,7 @@ def test_a_file_that_vanishes_is_made_again(room: pathlib.Path) -> None:
         assert server.do("save")[0] == 200 and path.read_bytes() == START and server.state["isSaved"]
         path.unlink()
         server.comes("fault", "gone")
-        path.write_bytes(START)
+        put(path, START)
         server.comes("fault", "")
         assert server.state["isSaved"] and not server.state["isTheirs"]
 
@@ -324,6 +325,21 @@ def test_what_a_node_may_do_is_in_the_words_of_the_program(room: pathlib.Path) -
         assert (one["forget-leader"], two["forget-leader"]) == ("it is no follower, but leader", "")
         before = server.post("/may", {"branch": 1, "place": 1})[1]["nodes"]["1"]
         assert (before["propose"], before["transfer-leadership"], before["compact"], before["forget-leader"]) == ("dropped a proposal", "there is no leader", "already compacted", "it has no leader")
+
+
+def test_what_a_restart_loses_is_in_the_words_of_the_program(room: pathlib.Path) -> None:
+    """docs/USING.md, "Reasons": of each node that would lose something, what that is; also where the script hides what nodes tell."""
+    heads = ["add-nodes 3 voters=(1,2,3) index=10", "campaign 1", "stabilize", "propose 1 a", "propose 1 b", "process-ready 1", "deliver-msgs 2", "campaign 2"]
+    wanted = [
+        {}, {"1": "term 1 and the vote for 1"}, {}, {"1": "entry 12"}, {"1": "entries 12..13"}, {}, {"2": "entries 12..13"},
+        {"2": "entries 12..13, term 2 and the vote for 2"},
+    ]
+    path = room / "script.txt"
+    path.write_bytes("".join(f"{head} log-level=none\n----\nok\n\n" for head in heads).rstrip("\n").encode())
+    with Running(path).enter() as server:
+        told = [server.post("/losses", {"branch": 1, "place": place}) for place in range(len(heads) + 2)]
+        assert [status for status, _ in told] == [409, *[200] * len(heads), 409], told
+        assert [it["nodes"] for _, it in told[1:-1]] == wanted, told
 
 
 def test_words_are_completed(room: pathlib.Path) -> None:

@@ -9,7 +9,7 @@ import socket
 import subprocess
 from collections.abc import Iterator
 
-from tests.live.running import CAMPAIGN, COMMAND, MOST_SECONDS, START, Running, around, checked
+from tests.live.running import CAMPAIGN, COMMAND, MOST_SECONDS, START, Running, around, checked, put
 
 
 def script(room: pathlib.Path, data: bytes = START + CAMPAIGN) -> pathlib.Path:
@@ -31,9 +31,19 @@ def test_listens_on_this_machine_alone(room: pathlib.Path) -> None:
         assert not [it for it in six if int(it.split(":")[1], 16) == server.port]
 
 
+def test_listens_on_the_port_that_is_asked_for(room: pathlib.Path) -> None:
+    with socket.socket() as free:
+        free.bind(("127.0.0.1", 0))
+        port = str(free.getsockname()[1])
+    with Running(script(room), "--port", port) as server:
+        assert server.port == int(port)
+        done = subprocess.run([COMMAND, room / "script.txt", "--port", port, "--no-browser"], capture_output=True, text=True, env=around(), timeout=MOST_SECONDS, check=False)
+        assert (done.returncode, done.stdout) == (4, "") and f"port {port} can't be had: Address already in use" in done.stderr, done
+
+
 def test_refuses_those_without_the_token(room: pathlib.Path) -> Iterator[str]:
     with Running(script(room)) as server:
-        for path in ("/state", "/do", "/may", "/ask", "/theirs"):
+        for path in ("/state", "/do", "/may", "/losses", "/ask", "/theirs"):
             for token in ("", "Bearer ", "Bearer wrong", f"Bearer {server.key}"):
                 status, told = server.post(path, {}, Authorization=token)
                 if status != 401 or "printed" not in str(told):
@@ -116,7 +126,7 @@ def test_large_and_broken_requests_end(room: pathlib.Path) -> Iterator[str]:
     with Running(script(room)).enter() as server:
         own |= {"Origin": f"http://{server.host}", "Authorization": f"Bearer {server.token}"}
         broken: list[tuple[str, int, dict[str, str], bytes | None]] = [
-            ("too large", 413, {"Content_Length": str((1 << 20) + 1)}, None), ("no length", 411, {}, None), ("a strange length", 411, {"Content_Length": "-1"}, None),
+            ("too large", 413, {"Content_Length": str((1 << 20) + 1)}, None), ("far too large", 413, {"Content_Length": "9" * 5000}, None), ("no length", 411, {}, None), ("a strange length", 411, {"Content_Length": "-1"}, None),
             ("chunks", 411, {"Transfer_Encoding": "chunked", "Content_Length": "5"}, None), ("no JSON", 400, {}, b"{"), ("no object", 400, {}, b"[]"),
             ("deep JSON", 400, {}, b"[" * 100_000),
         ]
@@ -129,9 +139,11 @@ def test_large_and_broken_requests_end(room: pathlib.Path) -> Iterator[str]:
             {"do": "nothing"}, {"do": ["save"]}, {"do": "replace", "place": 99, "text": "x"}, {"do": "undo"}, {"do": "undo", "branch": 9}, {"do": "move", "place": 1, "by": -1},
         ]
         for asked in strange:
-            found, answer = server.do(str(asked["do"]) if isinstance(asked["do"], str) else "", **{name: it for name, it in asked.items() if name != "do"})
+            found, answer = server.post("/do", dict[str, object](version=0, branch=1) | asked)
             if found != 409 or not answer["fault"]:
                 yield f"{asked}: {found} {answer}"
+        if server.post("/state", {"branch": []})[0] != 200:
+            yield "a strange branch"
         if server.look()["version"] != 0:
             yield "something has changed"
 
@@ -180,7 +192,7 @@ def test_a_refused_script_is_told_and_waited_for(room: pathlib.Path) -> None:
     path = script(room, b"campaign 1\n")
     with Running(path).enter() as server:
         assert "NoSeparator at line 1" in server.state["fault"] and server.state["rows"] == [], server.state
-        path.write_bytes(START)
+        put(path, START)
         server.comes("of", 1)
         assert (server.state["fault"], server.state["isSaved"]) == ("", True)
 
@@ -203,7 +215,7 @@ def test_what_cant_be_shown_isnt_written_over(room: pathlib.Path) -> Iterator[st
             assert server.do("load")[0] == 409 and server.do("save", isSure=True)[0] == 200
             if path.read_bytes() != b"log-level debug\n----\nok\n\n" or not server.state["isSaved"] or server.state["fault"] or server.state["isTheirs"]:
                 yield f"{path.read_bytes()!r} {server.state}"
-            path.write_bytes(data)
+            put(path, data)
             server.comes("fault", "can't be shown")
             status, told = server.do("save")
             if status != 409 or "another text" not in told["fault"] or path.read_bytes() != data or not server.look()["isTheirs"]:

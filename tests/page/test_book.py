@@ -152,6 +152,27 @@ def test_what_is_there_is_left(room: pathlib.Path) -> Iterator[str]:
             yield f"{path.name}: {done}"
 
 
+def test_without_javascript_a_page_has_a_sentence_and_the_picture(room: pathlib.Path) -> Iterator[str]:
+    program = found()
+    if program is None:
+        print("no browser is here, so no page is opened without JavaScript")
+        return
+    site = room / "site"
+    run("page", tour_in(room), "--out", site)
+    with Browser(program) as browser:
+        browser.call("Emulation.setScriptExecutionDisabled", value=True)
+        browser.load((site / f"{TOUR[1].stem}.html").as_uri())
+        seen = browser.value("""(() => {
+          const image = document.querySelector('noscript img');
+          return [document.querySelector('noscript p').textContent, image.complete && image.naturalWidth > 300 && image.getBoundingClientRect().height > 300];
+        })()""")
+        if seen != ["With JavaScript, this page goes through the script step by step. Here is its picture.", True]:
+            yield f"{seen}"
+        links = browser.value("[...document.querySelectorAll('.book a')].map((it) => it.getAttribute('href'))")
+        if links != ["index.html", f"{TOUR[0].stem}.html", f"{TOUR[2].stem}.html"]:
+            yield f"{links}"
+
+
 def test_a_browser_shows_a_site(room: pathlib.Path) -> Iterator[str]:
     program = found()
     if program is None:

@@ -5,6 +5,7 @@ import shutil
 import subprocess
 import tempfile
 
+from tests.harness import TOP
 from tests.page import assemble
 from tests.page.scripts import same
 
@@ -22,6 +23,7 @@ def modules_have_their_types() -> None:
         print("NOT TRIED, since tsc isn't here: the types of the page's modules")
         return
     same("what is wrong with the types", checked(assemble.ASSETS), "")
+    same("what is wrong with those of raftbench-live", checked(TOP / "live" / "page"), "")
     with tempfile.TemporaryDirectory() as room:
         folder = pathlib.Path(room, "assets")
         shutil.copytree(assemble.ASSETS, folder)

@@ -35,7 +35,7 @@ export class Logs {
     /** @type {Position} */
     this.chosen = { place: 1, event: 0 };
     this.most = COLUMNS;
-    this.step = /** @type {import("./types.js").Step} */ ({ events: [] });
+    this.step = /** @type {Pick<import("./types.js").Step, "events">} */ ({ events: [] });
     this.pane = byId("logs");
     this.detail = byId("log-detail");
     this.pane.addEventListener("pointerover", ({ target }) => this.tell(/** @type {Element} */ (target)));

@@ -158,7 +158,7 @@ export function eventText({ name, id, cells, message }) {
 
 /**
  * Whether a node restarts in a step.
- * @param {import("./types.js").Step} step
+ * @param {Pick<import("./types.js").Step, "events">} step
  * @param {number} id
  */
 export function hasRestarted({ events }, id) {
