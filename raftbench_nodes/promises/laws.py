@@ -51,7 +51,8 @@ WATCHED = (
     ),
     watched(
         "pre_votes_bind_nobody pre_votes_look_at_logs later_terms_are_taken_up leaders_are_known_by_their_messages campaigns_are_of_voters "
-        "proposals_are_passed_on removed_leaders_step_down leads_go_to_voters transfers_stop_proposals leaders_have_saved_their_terms",
+        "proposals_are_passed_on removed_leaders_step_down leads_go_to_voters transfers_stop_proposals refusals_are_answered "
+        "leaders_have_saved_their_terms",
         none="libraries have other rules, which comparing shows",
     ),
     watched(
@@ -61,8 +62,8 @@ WATCHED = (
     watched("entries_were_proposed", none="libraries add entries of their own"),
     watched("nodes_stay_sound calls_are_these events_are_only_added tests_mean_their_names", none="about these definitions"),
     watched(
-        "states_are_shown_by_name messages_are_shown_by_name events_are_told errors_say_what_is_wrong votes_are_refused_for_a_reason "
-        "moved_messages_are_shown what_is_done_may_be_done bytes_are_ascii", none="about what raftbench reads and prints",
+        "states_are_shown_by_name messages_are_shown_by_name events_are_told reasons_are_told errors_say_what_is_wrong "
+        "votes_are_refused_for_a_reason moved_messages_are_shown what_is_done_may_be_done bytes_are_ascii", none="about what raftbench reads and prints",
     ),
 )
 # Promises about what no law says.

@@ -18,7 +18,8 @@ from tests.bodies.edits import Edit, read_edits  # noqa: E402
 from tests.harness import TESTS, TOP  # noqa: E402
 from tests.repository.crate_map import CRATES, files_of  # noqa: E402
 
-LAWS = ("laws.rt", "rules.rt", "safety.rt", "restarts.rt")
+# Files of laws, but for each laws.rt and all of rb_laws.
+LAWS = (("rb_cluster", "directives.rt"),)
 HEAD = re.compile(r"^( *)(pub |pub\(crate\) )?fn (\w+)")
 OWNER = re.compile(r"^(?:unsafe )?(?:impl|pub trait)(?:<[^{]*?>)? (?:[\w:]+(?:<[^{]*?>)? for )?(\w+)")
 CLAUSE = re.compile(r"^ *ensures(?: (\w+))? \{")
@@ -65,7 +66,7 @@ def functions_of(crate: str) -> list[Function]:
 
 def laws_of(crate: str) -> list[Function]:
     """A crate's laws: theorems over its definitions."""
-    return [it for it in functions_of(crate) if it.file in LAWS and it.is_public]
+    return [it for it in functions_of(crate) if it.is_public and (crate == "rb_laws" or it.file == "laws.rt" or (crate, it.file) in LAWS)]
 
 
 def bodies_of(crate: str) -> dict[str, bool]:

@@ -67,7 +67,7 @@ view_holds t at new up i held =
     both_more t.config (λ id. holds t.views i id) (λ id. holds (set_value_at t.views at new) i id)
     (λ id has. holds_still i (match_of t.views id) (match_of (set_value_at t.views at new) id) (up id) has) held
 
-acked_more : (n : PlainNode) (at from i : ℕ) (view : PlainProgress) → place n.tracker.views from ≡ Some at → view_at n.tracker.views at ≡ Some view → view.matched ≤ i
+pub acked_more : (n : PlainNode) (at from i : ℕ) (view : PlainProgress) → place n.tracker.views from ≡ Some at → view_at n.tracker.views at ≡ Some view → view.matched ≤ i
     → (id : ℕ) → of n id ≤ match_of (set_value_at n.tracker.views at (acked view i)) id
 acked_more n at from i view here is up id =
     elim (place_set n.tracker.views at from id (acked view i) here) as (λ _. of n id ≤ match_of (set_value_at n.tracker.views at (acked view i)) id) [

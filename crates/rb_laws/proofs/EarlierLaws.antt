@@ -1,5 +1,5 @@
 -- Terms (Ongaro's thesis, section 3.3): a message of an earlier term changes nothing, one of a later term is taken up
-use Rattle.std.proofs.Common.{◌≡◌, ◌⊎◌, ℕ, ◌<◌, ◌≤◌, Bool, true, false, not, ◌&&◌, ◌==◌, nat_lt, [], ◌∷◌, ◌++◌, refl, sym, ap, subst, ◌∙◌, arith, inl, inr}
+use Rattle.std.proofs.Common.{◌≡◌, ◌⊎◌, ℕ, ◌<◌, ◌≤◌, Bool, true, false, not, ◌&&◌, ◌||◌, ◌==◌, nat_lt, [], ◌∷◌, ◌++◌, refl, sym, ap, subst, ◌∙◌, arith, inl, inr}
 use Rattle.std.proofs.lemmas.Bool.{false≢true, and_parts, and_left, eq-eqb, le-ltb}
 use Rattle.rb_raftlog.specs.Log.{is_up_to_date}
 use Rattle.rb_tracker.proofs.SetLaws.{if_both}
@@ -12,7 +12,7 @@ use Rattle.rb_node.specs.Step.{at_term_by, stepped}
 use Rattle.rb_node.specs.Terms.{stepped_earlier_by, stepped_later, stepped_later_by, term_revealed, answers_earlier, ignores_campaign, hears_leader}
 use Rattle.rb_node.specs.Votes.{pre_vote_request_handled, grants, can_vote_for}
 use Rattle.rb_node.specs.declared.limits.TheConstants.{ELECTION_TICKS}
-use Rattle.rb_laws.specs.Rules.{ShowsTerm, HasNoLease}
+use Rattle.rb_laws.specs.Rules.{ShowsTerm, KeepsFollowers, ShowsItsTerm, HasNoLease}
 use Rattle.rb_calls.proofs.Goes.{Core, Ways, anyone}
 use Rattle.rb_calls.proofs.LeaderLaws.{leading_same}
 use Rattle.rb_calls.proofs.Moves.{Whole, TellMove, Idle, StepMove, StepTells, Follows, Stands, Leads, Allows, over}
@@ -39,6 +39,46 @@ earlier_leaves t m has low =
     by_term (ButWaiting t.node) t m
     (λ same. (let now = same has in absurd (omega (arith, now, low))))
     (λ _. lowered_leaves m.kind t m)
+    (λ past _. absurd (omega (arith, past, low)))
+    (λ past _. absurd (omega (arith, past, low)))
+
+-- a question before the vote gets a no
+pub earlier_question_refused : (t : NodeStep) (m : Message) (last_term last_index : ℕ) → m.kind ≡ kind.PreVote last_term last_index → m.term < t.node.term → (stepped t m).node.waiting ≡ t.node.waiting ++ message t.node.id m.from t.node.term (kind.PreVoteResponse false) ∷ []
+earlier_question_refused t m last_term last_index is low =
+    let P : NodeStep → Type 0 = λ u. u.node.waiting ≡ t.node.waiting ++ message t.node.id m.from t.node.term (kind.PreVoteResponse false) ∷ [] in
+    by_term P t m
+    (λ same. (let now = same (ap has_term is) in absurd (omega (arith, now, low))))
+    (λ _. subst (λ (k : MessageKind). P (stepped_earlier_by k t m)) (sym is) refl)
+    (λ past _. absurd (omega (arith, past, low)))
+    (λ past _. absurd (omega (arith, past, low)))
+
+-- a leader is shown the term
+abbrev IsShown : PlainNode → Message → NodeStep → Type 0
+IsShown old m u = u.node.waiting ≡ old.waiting ++ message old.id m.from old.term (kind.AppendResponse 0) ∷ []
+
+shows_it : (a b : Bool) → (a ≡ true) ⊎ (b ≡ true) → (a || b) ≡ true
+shows_it true b either = refl
+shows_it false true either = refl
+shows_it false false either = elim either as (λ _. false ≡ true) [ inl e ↦ e | inr e ↦ e ]
+
+reveals : (t : NodeStep) (m : Message) → answers_earlier t.node ≡ true → IsShown t.node m (term_revealed t m)
+reveals t m shows = if_both (IsShown t.node m) (answers_earlier t.node) _ _ (λ _. refl) (λ no. absurd (false≢true (sym no ∙ shows)))
+
+reveals_by : (k : MessageKind) (t : NodeStep) (m : Message) → KeepsFollowers k → answers_earlier t.node ≡ true → IsShown t.node m (stepped_earlier_by k t m)
+reveals_by (kind.Append append) t m keeps shows = reveals t m shows
+reveals_by (kind.Heartbeat commit) t m keeps shows = reveals t m shows
+reveals_by _ t m keeps shows = absurd keeps
+
+keeps_has_term : (k : MessageKind) → KeepsFollowers k → has_term k ≡ true
+keeps_has_term (kind.Append append) keeps = refl
+keeps_has_term (kind.Heartbeat commit) keeps = refl
+keeps_has_term _ keeps = absurd keeps
+
+pub earlier_leader_shown : (t : NodeStep) (m : Message) → KeepsFollowers m.kind → ShowsItsTerm t.node.options → m.term < t.node.term → (stepped t m).node.waiting ≡ t.node.waiting ++ message t.node.id m.from t.node.term (kind.AppendResponse 0) ∷ []
+earlier_leader_shown t m keeps shows low =
+    by_term (IsShown t.node m) t m
+    (λ same. (let now = same (keeps_has_term m.kind keeps) in absurd (omega (arith, now, low))))
+    (λ _. reveals_by m.kind t m keeps (shows_it t.node.options.pre_vote t.node.options.check_quorum shows))
     (λ past _. absurd (omega (arith, past, low)))
     (λ past _. absurd (omega (arith, past, low)))
 

@@ -98,3 +98,6 @@ pub mod LoneElections
 pub mod RefusalLaws
 pub mod SendingLaws
 pub mod ScriptLaws
+pub mod BroadcastLaws
+pub mod ReasonLaws
+pub mod KeptMatches

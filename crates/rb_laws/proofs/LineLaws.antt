@@ -31,29 +31,29 @@ here : (part after : List ℕ) → Has (part ++ after) part
 here part after = record { before = []; after = after; is = refl }
 
 -- at the end
-whole : (part : List ℕ) → Has part part
+pub whole : (part : List ℕ) → Has part part
 whole part = record { before = []; after = []; is = sym (append-nil part) }
 
 -- past more of the line
-past : (more : List ℕ) {line part : List ℕ} → Has line part → Has (more ++ line) part
+pub past : (more : List ℕ) {line part : List ℕ} → Has line part → Has (more ++ line) part
 past more {line} {part} h = record { before = more ++ h.before; after = h.after; is = ap (λ (l : List ℕ). more ++ l) h.is ∙ sym (append_assoc more h.before (part ++ h.after)) }
 
 -- before more of the line
-more : {line part : List ℕ} (rest : List ℕ) → Has line part → Has (line ++ rest) part
+pub more : {line part : List ℕ} (rest : List ℕ) → Has line part → Has (line ++ rest) part
 more {line} {part} rest h = record {
   before = h.before;
   after = h.after ++ rest;
   is = ap (λ (l : List ℕ). l ++ rest) h.is ∙ append_assoc h.before (part ++ h.after) rest ∙ ap (λ (l : List ℕ). h.before ++ l) (append_assoc part h.after rest);
 }
 
-more_two : {line part : List ℕ} (first second : List ℕ) → Has line part → Has ((line ++ first) ++ second) part
+pub more_two : {line part : List ℕ} (first second : List ℕ) → Has line part → Has ((line ++ first) ++ second) part
 more_two first second h = more second (more first h)
 
-end : (line part : List ℕ) → Has (line ++ part) part
+pub end : (line part : List ℕ) → Has (line ++ part) part
 end line part = record { before = line; after = []; is = ap (λ (l : List ℕ). line ++ l) (sym (append-nil part)) }
 
 -- a name and its value at the end
-last : (line name value : List ℕ) → Has ((line ++ name) ++ value) (name ++ value)
+pub last : (line name value : List ℕ) → Has ((line ++ name) ++ value) (name ++ value)
 last line name value = record { before = line; after = []; is = append_assoc line name value ∙ ap (λ (l : List ℕ). line ++ l) (sym (append-nil (name ++ value))) }
 
 -- ---- states

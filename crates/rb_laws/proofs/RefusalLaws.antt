@@ -1,12 +1,11 @@
 -- What is refused: a vote for a reason that holds, and an append so that what is sent next begins earlier
 use Rattle.std.proofs.Common.{◌≡◌, ℕ, ◌+◌, ◌<◌, ◌≤◌, Bool, true, false, ◌&&◌, ◌||◌, ◌==◌, nat_lt, max, min, refl, sym, subst, ◌∙◌, arith, eqb-true}
-use Rattle.std.proofs.lemmas.Bool.{false≢true, eq-eqb, and_from, cases_Bool, or_parts}
+use Rattle.std.proofs.lemmas.Bool.{false≢true, eq-eqb}
 use Rattle.rb_raftlog.specs.Log.{is_up_to_date}
 use Rattle.rb_tracker.proofs.SetLaws.{if_both}
 use Rattle.rb_tracker.specs.Progresses.{PlainProgress, refused, refused_in}
 use Rattle.rb_tracker.specs.declared.progress.ProgressState.{ProgressState}
 use Rattle.rb_tracker.specs.declared.progress.ProgressState.TheVariants as state
-use Rattle.rb_message.specs.declared.event.WhyRefused.{WhyRefused}
 use Rattle.rb_message.specs.declared.event.WhyRefused.TheVariants as why_not
 use Rattle.rb_message.specs.declared.message.Message.{Message}
 use Rattle.rb_node.specs.Node.{PlainNode}
@@ -56,6 +55,9 @@ leads_to_hint p index hint probes = in_probe (λ (q : PlainProgress). q.next ≤
 
 pub leads_back : (p : PlainProgress) (index hint : ℕ) → p.state ≡ state.Probe → (refused p index hint).next ≤ max (p.matched + 1) index
 leads_back p index hint probes = in_probe (λ (q : PlainProgress). q.next ≤ max (p.matched + 1) index) p index hint probes (omega arith)
+
+pub leads_far : (p : PlainProgress) (index hint : ℕ) → p.state ≡ state.Probe → min index (hint + 1) ≤ (refused p index hint).next
+leads_far p index hint probes = in_probe (λ (q : PlainProgress). min index (hint + 1) ≤ q.next) p index hint probes (omega arith)
 
 pub leads_on : (p : PlainProgress) (index hint : ℕ) → p.state ≡ state.Probe → (refused p index hint).waiting ≡ false
 leads_on p index hint probes = in_probe (λ (q : PlainProgress). q.waiting ≡ false) p index hint probes refl

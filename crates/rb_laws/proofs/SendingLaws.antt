@@ -1,5 +1,5 @@
 -- What a leader sends to a member: the entries that it lacks, or a snapshot
-use Rattle.std.proofs.Common.{◌≡◌, ℕ, zero, suc, ◌+◌, ◌-◌, ◌<◌, ◌≤◌, Bool, false, not, ◌&&◌, ◌==◌, nat_lt, List, [], ◌∷◌, ◌++◌, take, drop, Option, Some, refl, sym, ap, subst, ◌∙◌, arith, eqb-true, inl, inr}
+use Rattle.std.proofs.Common.{◌≡◌, ℕ, zero, suc, ◌+◌, ◌-◌, ◌<◌, ◌≤◌, Bool, true, false, not, ◌&&◌, ◌==◌, nat_lt, List, [], ◌∷◌, ◌++◌, take, drop, Option, Some, refl, sym, ap, subst, ◌∙◌, arith, eqb-true, inl, inr}
 use Rattle.std.specs.Prelude.{slice_get}
 use Rattle.std.specs.Map.{keys_of}
 use Rattle.std.proofs.lemmas.Bool.{false≢true, and_parts, ltb-true, lt-ltb}
@@ -7,11 +7,12 @@ use Rattle.std.proofs.lemmas.Option.{none-some, same_Some}
 use Rattle.rb_raftlog.specs.Log.{LogValue, last, entries_after}
 use Rattle.rb_tracker.proofs.SetLaws.{if_both}
 use Rattle.rb_tracker.specs.Configs.{members}
-use Rattle.rb_tracker.specs.Progresses.{PlainProgress}
+use Rattle.rb_tracker.specs.Progresses.{PlainProgress, sent, sent_in}
 use Rattle.rb_tracker.specs.Sets.{rank}
 use Rattle.rb_tracker.specs.Trackers.{has_view}
 use Rattle.rb_tracker.specs.Windows.{is_full}
 use Rattle.rb_tracker.specs.declared.progress.ProgressState.{ProgressState}
+use Rattle.rb_tracker.specs.declared.progress.ProgressState.TheVariants as state
 use Rattle.rb_message.specs.declared.kind.MessageKind.TheVariants as kind
 use Rattle.rb_node.specs.Leading.{new_view, with_view_of, with_views, in_lead, leading}
 use Rattle.rb_node.specs.Node.{PlainNode, message}
@@ -68,6 +69,9 @@ snapshot_is_sent n to view m lacks =
     by_view P n to view m
     (subst (λ (s : Sending). P (sends_by s n m.at to)) (sym (snapshot_goes n.log view m.free lacks))
     (subst (λ (o : Option PlainProgress). P (snapshot_to o n m.at to)) (sym m.is) refl))
+
+pub probe_waits : (p : PlainProgress) (last : ℕ) → p.state ≡ state.Probe → (sent p last).waiting ≡ true
+probe_waits p last probes = subst (λ (s : ProgressState). (sent_in s p last).waiting ≡ true) (sym probes) refl
 
 -- ---- a new leader's views
 

@@ -1,9 +1,9 @@
 -- What is ready is the node's state (Ongaro's thesis, section 3.8 and figure 3.1), and what the tests of a node's rules mean
-use Rattle.std.proofs.Common.{◌≡◌, ℕ, zero, suc, ◌+◌, ◌-◌, ◌<◌, ◌≤◌, Bool, true, false, ◌&&◌, ◌||◌, ◌==◌, List, [], ◌∷◌, ◌++◌, length, Option, Some, None, Ok, refl, sym, ap, ◌∙◌, arith, eqb-true, inl, inr}
-use Rattle.std.specs.Prelude.{slice_get}
+use Rattle.std.proofs.Common.{◌≡◌, ℕ, zero, suc, ◌+◌, ◌-◌, ◌<◌, ◌≤◌, Bool, true, false, ◌&&◌, ◌||◌, ◌==◌, ◌*◌, nat_lt, List, [], ◌∷◌, ◌++◌, length, Option, Some, None, Ok, refl, sym, ap, ◌∙◌, arith, eqb-true, inl, inr}
+use Rattle.std.specs.Prelude.{slice_get, count_by}
 use Rattle.std.specs.List.{list_any}
 use Rattle.std.specs.Option.{option_map}
-use Rattle.std.proofs.lemmas.Bool.{false≢true, cases_Bool, or_left, or_right}
+use Rattle.std.proofs.lemmas.Bool.{false≢true, cases_Bool, or_left, or_right, lt-ltb}
 use Rattle.rb_raftlog.specs.Bodies.{is_change}
 use Rattle.rb_raftlog.specs.declared.entry.Entry.{Entry}
 use Rattle.rb_raftlog.specs.Log.{LogValue, entry_at, between, has_change, last_of}
@@ -12,7 +12,7 @@ use Rattle.rb_tracker.proofs.ChangeLaws.{has_union}
 use Rattle.rb_tracker.proofs.SetLaws.{if_both}
 use Rattle.rb_tracker.specs.Active.{quorum_active, is_active}
 use Rattle.rb_tracker.specs.Configs.{is_voter, voters}
-use Rattle.rb_tracker.specs.Quorum.{IsQuorum}
+use Rattle.rb_tracker.specs.Quorum.{is_majority, is_quorum, IsQuorum}
 use Rattle.rb_tracker.specs.Sets.{has}
 use Rattle.rb_tracker.specs.Trackers.{PlainTracker}
 use Rattle.rb_tracker.specs.declared.config.Config.{Config}
@@ -119,3 +119,15 @@ one_more es e = (let size = length_push es e in omega (arith, size))
 
 pub last_of_last : (es : List Entry) (e : Entry) → last_of (es ++ e ∷ []) ≡ Some e.term
 last_of_last es e = ap (λ (o : Option Entry). option_map (λ (x : Entry). x.term) o) (ap (slice_get (es ++ e ∷ [])) (one_more es e) ∙ last_got es e)
+
+-- ---- majorities
+
+pub most_decide : (voters : List ℕ) (among : ℕ → Bool) → length voters < 2 * count_by among voters → is_majority voters among ≡ true
+most_decide voters among more = or_right (length voters == 0) (nat_lt (length voters) (2 * count_by among voters)) (lt-ltb (length voters) (2 * count_by among voters) more)
+
+with_no_others : (b : Bool) → (b && true) ≡ b
+with_no_others true = refl
+with_no_others false = refl
+
+pub alone_decide : (c : Config) (among : ℕ → Bool) → c.outgoing ≡ [] → is_quorum c among ≡ is_majority c.incoming among
+alone_decide c among none = ap (λ (ids : List ℕ). is_majority c.incoming among && is_majority ids among) none ∙ with_no_others (is_majority c.incoming among)

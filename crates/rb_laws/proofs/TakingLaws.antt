@@ -1,12 +1,21 @@
 -- A follower takes what its leader sends (Ongaro's thesis, section 3.5)
-use Rattle.std.proofs.Common.{◌≡◌, ℕ, ◌+◌, ◌≤◌, Bool, true, false, if◌then◌else◌, nat_lt, max, min, List, [], ◌∷◌, ◌++◌, length, Ok, refl, sym, ap, subst, ◌∙◌, arith, inl, inr}
+use Rattle.std.proofs.Common.{◌≡◌, ℕ, ◌+◌, ◌≤◌, Bool, true, false, if◌then◌else◌, nat_lt, max, min, List, [], ◌∷◌, ◌++◌, length, Ok, Option, Some, None, refl, sym, ap, subst, ◌∙◌, arith, inl, inr}
+use Rattle.std.specs.Prelude.{Contains}
 use Rattle.std.proofs.lemmas.Bool.{false≢true, cases_Bool, ltb-true}
+use Rattle.std.proofs.lemmas.List.Elements.{Contains-push}
 use Rattle.rb_raftlog.proofs.AppendLaws.{matched-term}
 use Rattle.rb_raftlog.proofs.TermLaws.{is_term_from}
+use Rattle.rb_raftlog.proofs.VoteLaws.{hint-is}
+use Rattle.rb_raftlog.specs.Laws.{IsHint}
+use Rattle.rb_raftlog.specs.declared.entry.Entry.{Entry}
 use Rattle.rb_raftlog.specs.declared.raft_log.Appended.{Appended}
-use Rattle.rb_raftlog.specs.declared.raft_log.Appended.TheVariants.{Matched, Refused}
+use Rattle.rb_raftlog.specs.declared.raft_log.Appended.TheVariants.{Matched, Refused, BelowCommit}
 use Rattle.rb_raftlog.specs.Log.{LogValue, last, term_at, is_term, answer, answer_below, conflict, hint}
+use Rattle.rb_tracker.proofs.SetLaws.{if_both}
 use Rattle.rb_message.specs.Appends.{PlainAppend}
+use Rattle.rb_message.specs.Events.{event_at}
+use Rattle.rb_message.specs.declared.event.Event.{Event}
+use Rattle.rb_message.specs.declared.event.EventKind.TheVariants as event
 use Rattle.rb_message.specs.Messages.{has_term}
 use Rattle.rb_message.specs.declared.kind.MessageKind.{MessageKind}
 use Rattle.rb_message.specs.declared.kind.MessageKind.TheVariants as kind
@@ -103,3 +112,67 @@ append_taken t m append is may over at =
 
 pub heartbeat_taken : (t : NodeStep) (m : Message) (commit : ℕ) → m.kind ≡ kind.Heartbeat commit → MayFollow t.node m.term → (stepped t m).node.commit ≡ max t.node.commit (min commit (last t.node.log))
 heartbeat_taken t m commit is may = by_heartbeat (λ (u : NodeStep). u.node.commit ≡ max t.node.commit (min commit (last t.node.log))) t m commit is may refl refl refl
+
+-- ---- what isn't taken
+
+-- the log's answer to an append is that of another node with this log and commit
+says_as : (old n : PlainNode) (append : PlainAppend) (a : Appended) → n.log ≡ old.log → n.commit ≡ old.commit → answer old.log append.prev append.prev_term append.entries old.commit ≡ a
+    → answer n.log append.prev append.prev_term append.entries n.commit ≡ a
+says_as old n append a log commit is =
+    ap (λ (v : LogValue). answer v append.prev append.prev_term append.entries n.commit) log ∙ ap (λ (c : ℕ). answer old.log append.prev append.prev_term append.entries c) commit ∙ is
+
+-- the refusal waits, after all that waited
+abbrev IsRefused : PlainNode → ℕ → PlainAppend → ℕ → NodeStep → Type 0
+IsRefused old from append h u = u.node.waiting ≡ old.waiting ++ message old.id from u.node.term (kind.AppendRefusal append.prev h) ∷ []
+
+follower_refuses : (old : PlainNode) (t : NodeStep) (from : ℕ) (append : PlainAppend) (h : ℕ) → t.node.log ≡ old.log → t.node.commit ≡ old.commit → t.node.waiting ≡ old.waiting → t.node.id ≡ old.id
+    → answer old.log append.prev append.prev_term append.entries old.commit ≡ Refused h → IsRefused old from append h (append_entries_handled t from append)
+unfolding append_entries_handled
+follower_refuses old t from append h log commit waiting id is =
+    let n = t.node in
+    let u : NodeStep = with_node (removal_reported t append) (with_appended n from append) in
+    subst (λ (a : Appended). IsRefused old from append h (after_log a u from append)) (sym (says_as old n append (Refused h) log commit is))
+    (ap (λ (ms : List Message). ms ++ message n.id from n.term (kind.AppendRefusal append.prev h) ∷ []) waiting
+    ∙ ap (λ (i : ℕ). old.waiting ++ message i from n.term (kind.AppendRefusal append.prev h) ∷ []) id)
+
+pub append_refused : (t : NodeStep) (m : Message) (append : PlainAppend) (h : ℕ) → m.kind ≡ kind.Append append → MayFollow t.node m.term → answer t.node.log append.prev append.prev_term append.entries t.node.commit ≡ Refused h
+    → IsRefused t.node m.from append h (stepped t m)
+append_refused t m append h is may says =
+    by_append (IsRefused t.node m.from append h) t m append is may (follower_refuses t.node t m.from append h refl refl refl refl says)
+    (follower_refuses t.node (became_follower t t.node.term m.from) m.from append h refl refl refl refl says)
+    (follower_refuses t.node (became_follower t m.term m.from) m.from append h refl refl refl refl says)
+
+-- the conflict is shown, and nothing waits that didn't
+abbrev IsShown : PlainNode → ℕ → NodeStep → Type 0
+IsShown old index u = (u.node.waiting ≡ old.waiting) × Contains u.events (event_at old.id (event.Conflict index old.commit))
+
+follower_shows : (old : PlainNode) (t : NodeStep) (from : ℕ) (append : PlainAppend) (index : ℕ) → t.node.log ≡ old.log → t.node.commit ≡ old.commit → t.node.waiting ≡ old.waiting → t.node.id ≡ old.id
+    → answer old.log append.prev append.prev_term append.entries old.commit ≡ BelowCommit index → IsShown old index (append_entries_handled t from append)
+unfolding append_entries_handled
+follower_shows old t from append index log commit waiting id is =
+    let n = t.node in
+    let u : NodeStep = with_node (removal_reported t append) (with_appended n from append) in
+    let e : Event = event_at n.id (event.Conflict index n.commit) in
+    let same : e ≡ event_at old.id (event.Conflict index old.commit) = ap (λ (i : ℕ). event_at i (event.Conflict index n.commit)) id ∙ ap (λ (c : ℕ). event_at old.id (event.Conflict index c)) commit in
+    subst (λ (a : Appended). IsShown old index (after_log a u from append)) (sym (says_as old n append (BelowCommit index) log commit is))
+    (waiting, subst (λ (x : Event). Contains (u.events ++ e ∷ []) x) same (Contains-push u.events e))
+
+pub conflict_shown : (t : NodeStep) (m : Message) (append : PlainAppend) (index : ℕ) → m.kind ≡ kind.Append append → MayFollow t.node m.term → answer t.node.log append.prev append.prev_term append.entries t.node.commit ≡ BelowCommit index
+    → IsShown t.node index (stepped t m)
+conflict_shown t m append index is may says =
+    by_append (IsShown t.node index) t m append is may (follower_shows t.node t m.from append index refl refl refl refl says)
+    (follower_shows t.node (became_follower t t.node.term m.from) m.from append index refl refl refl refl says)
+    (follower_shows t.node (became_follower t m.term m.from) m.from append index refl refl refl refl says)
+
+-- what a refusal hints at
+below_hints : (o : Option ℕ) (commit h : ℕ) (P : Type 0) → answer_below o commit ≡ Refused h → P
+below_hints None commit h P is = (let no : Matched commit ≡ Refused h = is in cc)
+below_hints (Some i) commit h P is = (let no : BelowCommit i ≡ Refused h = is in cc)
+
+pub refusal_hints : (v : LogValue) (prev term commit h : ℕ) (es : List Entry) → v.base ≤ prev → answer v prev term es commit ≡ Refused h → IsHint v prev term h
+refusal_hints v prev term commit h es base =
+    let Q : Appended → Type 0 = λ a. a ≡ Refused h → IsHint v prev term h in
+    if_both Q (nat_lt prev commit) (answer_below (conflict v (prev + 1) es commit) commit) (if is_term (term_at v prev) term then Matched (prev + length es) else Refused (hint v prev term))
+    (λ _ is. below_hints (conflict v (prev + 1) es commit) commit h (IsHint v prev term h) is)
+    (λ _. if_both Q (is_term (term_at v prev) term) (Matched (prev + length es)) (Refused (hint v prev term)) (λ _ is. cc)
+    (λ _ is. (let same : hint v prev term ≡ h = cc in subst (λ (x : ℕ). IsHint v prev term x) same (hint-is v prev term base))))

@@ -15,6 +15,7 @@ pub mod Winning
 pub mod Committing
 pub mod Activity
 pub mod Lines
+pub mod Reasons
 pub mod LoneElections
 pub mod Sending
 pub mod Scripts

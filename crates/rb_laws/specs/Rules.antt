@@ -11,6 +11,7 @@ use Rattle.rb_message.specs.declared.kind.MessageKind.TheVariants as kind
 use Rattle.rb_message.specs.declared.role.Role.TheVariants.{Leader}
 use Rattle.rb_message.specs.declared.message.Message.{Message}
 use Rattle.rb_node.specs.declared.limits.TheConstants.{ELECTION_TICKS}
+use Rattle.rb_node.specs.declared.options.Options.{Options}
 use Rattle.rb_node.specs.Node.{PlainNode, message}
 use Rattle.rb_calls.specs.Learning.{IsLeaders}
 
@@ -25,6 +26,16 @@ ShowsTerm (kind.PreVoteResponse granted) = granted ≡ false
 ShowsTerm (kind.Proposal body) = ⊥
 ShowsTerm (kind.TransferLeader target) = ⊥
 ShowsTerm _ = Unit {0}
+
+-- what keeps a leader's followers: appends and heartbeats
+abbrev pub KeepsFollowers : MessageKind → Type 0
+KeepsFollowers (kind.Append append) = Unit {0}
+KeepsFollowers (kind.Heartbeat commit) = Unit {0}
+KeepsFollowers _ = ⊥
+
+-- a node that asks before votes, or checks its quorum, shows its term to leaders of earlier ones
+abbrev pub ShowsItsTerm : Options → Type 0
+ShowsItsTerm o = (o.pre_vote ≡ true) ⊎ (o.check_quorum ≡ true)
 
 -- a node holds to no lease: it doesn't check its quorum, or knows of no leader, or hasn't heard of it for an election timeout
 abbrev pub HasNoLease : PlainNode → Type 0

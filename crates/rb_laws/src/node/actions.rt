@@ -1,9 +1,10 @@
 //! What a node does: these laws ask that something happens, where the others say what never does.
-ghost use Rattle.std.specs.Prelude.{◌≡◌, ◌+◌, ◌-◌, ◌++◌, ◌<◌, ◌≤◌, ℕ, List, [], ◌∷◌, Some, slice_get};
+ghost use Rattle.std.specs.Prelude.{◌≡◌, ◌+◌, ◌-◌, ◌++◌, ◌<◌, ◌≤◌, ℕ, true, List, [], ◌∷◌, Contains, Some, slice_get};
 ghost use Rattle.rb_raftlog.specs.declared.entry.Body.{Body};
 ghost use Rattle.rb_raftlog.specs.declared.entry.Body.TheVariants.{Payload, Change};
 ghost use Rattle.rb_raftlog.specs.Log.{last, own, entries_after};
-ghost use Rattle.rb_tracker.specs.Progresses.{PlainProgress};
+ghost use Rattle.rb_tracker.specs.Progresses.{PlainProgress, sent, snapshotting};
+ghost use Rattle.rb_tracker.specs.declared.progress.ProgressState.TheVariants.{Probe, Snapshot};
 ghost use Rattle.rb_vocab.specs.declared.change.Transition.{Transition};
 ghost use Rattle.rb_vocab.specs.declared.change.Word.{Word};
 ghost use Rattle.rb_message.specs.declared.kind.MessageKind.TheVariants as kinds;
@@ -14,7 +15,7 @@ ghost use Rattle.rb_node.specs.declared.sends.SendReason.TheVariants.{Tell};
 ghost use Rattle.rb_node.specs.Leading.{leading};
 ghost use Rattle.rb_node.specs.Node.{PlainNode, NodeStep, with_node, message};
 ghost use Rattle.rb_node.specs.Readying.{ready, advanced};
-ghost use Rattle.rb_node.specs.Sends.{append_of, snapshot_of, sends};
+ghost use Rattle.rb_node.specs.Sends.{append_of, append_broadcast, snapshot_of, sends};
 ghost use Rattle.rb_node.specs.Step.{stepped};
 ghost use Rattle.rb_laws.specs.Outgoing.{to_others, to_itself};
 ghost use Rattle.rb_laws.specs.Proposals.{TakesProposals, MayChange};
@@ -42,9 +43,13 @@ pub fn messages_go_out_once()
 {}
 
 /// A leader sends another member, unless a probe or a snapshot to it is on its way or its window is full, the entries that its view lacks, or a snapshot
-/// if the log begins later. When it begins to lead it probes each other member from the end of its log on.
+/// if the log begins later; what goes to all goes to each so. A probe then waits, and a snapshot is awaited by its index. Who begins to lead probes
+/// each other member from the end of its log on.
 pub fn members_are_sent_what_they_lack()
     ensures entries { (n : PlainNode) (to : ℕ) (view : PlainProgress) → MaySendTo n to view → n.log.base ≤ view.next - 1 → (sends n to Tell).sent ≡ n.sent ++ message n.id to n.term (append_of n view.next (entries_after n.log (view.next - 1))) ∷ [] }
+    ensures all { (n : PlainNode) (to : ℕ) (view : PlainProgress) → MaySendTo n to view → n.log.base ≤ view.next - 1 → Contains (append_broadcast n).sent (message n.id to n.term (append_of n view.next (entries_after n.log (view.next - 1)))) }
     ensures snapshot { (n : PlainNode) (to : ℕ) (view : PlainProgress) → MaySendTo n to view → view.next - 1 < n.log.base → (sends n to Tell).sent ≡ n.sent ++ message n.id to n.term (kinds.Snapshot (snapshot_of n)) ∷ [] }
+    ensures waits { (p : PlainProgress) (last : ℕ) → p.state ≡ Probe → (sent p last).waiting ≡ true }
+    ensures awaits { (p : PlainProgress) (index : ℕ) → ((snapshotting p index).state ≡ Snapshot) × ((snapshotting p index).pending ≡ index) }
     ensures first { (n : PlainNode) (k : ℕ) (e : ℕ × PlainProgress) → slice_get (leading n).tracker.views k ≡ Some e → (e.0 ≡ n.id → ⊥) → IsFirstView n e.1 }
 {}

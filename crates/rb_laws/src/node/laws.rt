@@ -167,9 +167,10 @@ pub fn answers_tell_what_is_held()
 
 /// What a leader counts as held by a member rests on that member's answers: a message raises a match only where it is the sender's and its
 /// answer says so, in the leader's term and to no more than the leader's own log; a new leader's own match is what is durable, and it
-/// knows nothing of the others.
+/// knows nothing of the others. While it leads on in its term, no message lowers a match.
 pub fn matches_rest_on_answers()
-    ensures { (t : NodeStep) (m : Message) (id : ℕ) → RestsOn t.node m (stepped t m).node id }
+    ensures rests { (t : NodeStep) (m : Message) (id : ℕ) → RestsOn t.node m (stepped t m).node id }
+    ensures stays { (t : NodeStep) (m : Message) (id : ℕ) → t.node.role ≡ Leader → (stepped t m).node.role ≡ Leader → (stepped t m).node.term ≡ t.node.term → match_of t.node.tracker.views id ≤ match_of (stepped t m).node.tracker.views id }
 {}
 
 /// Whatever is called, what a leader counts as held by another member rises by that member's answers alone: one of the calls brought it an

@@ -1,5 +1,5 @@
 //! What a single call of a node does by Raft's rules, one law for each rule that the laws over any calls don't need.
-ghost use Rattle.std.specs.Prelude.{◌≡◌, ◌≤◌, ◌<◌, ◌⊎◌, ◌+◌, ◌++◌, ℕ, Bool, true, false, max, List, [], ◌∷◌, length, Contains, Ok, Some, None, slice_get};
+ghost use Rattle.std.specs.Prelude.{◌≡◌, ◌≤◌, ◌<◌, ◌⊎◌, ◌+◌, ◌*◌, ◌++◌, ℕ, Bool, true, false, max, min, List, [], ◌∷◌, length, count_by, Contains, Ok, Some, None, slice_get};
 ghost use Rattle.rb_raftlog.specs.declared.entry.Body.TheVariants.{Change};
 ghost use Rattle.rb_raftlog.specs.declared.entry.Entry.{Entry};
 ghost use Rattle.rb_raftlog.specs.declared.limits.TheConstants.{MAX_INDEX};
@@ -9,7 +9,7 @@ ghost use Rattle.rb_vocab.specs.declared.change.Transition.TheVariants.{Auto};
 ghost use Rattle.rb_tracker.specs.Active.{quorum_active, is_active};
 ghost use Rattle.rb_tracker.specs.Configs.{is_joint, is_voter, voters};
 ghost use Rattle.rb_tracker.specs.Progresses.{PlainProgress, sent, acked, freed_through, refused};
-ghost use Rattle.rb_tracker.specs.Quorum.{IsQuorum};
+ghost use Rattle.rb_tracker.specs.Quorum.{is_majority, is_quorum, IsQuorum};
 ghost use Rattle.rb_tracker.specs.Sets.{has};
 ghost use Rattle.rb_tracker.specs.Trackers.{PlainTracker, place, view_at};
 ghost use Rattle.rb_tracker.specs.Windows.{is_full};
@@ -35,7 +35,7 @@ ghost use Rattle.rb_node.specs.Votes.{grants, why_refused};
 ghost use Rattle.rb_calls.specs.Calling.{Call, Tick, after, run};
 ghost use Rattle.rb_calls.specs.Elections.{own_turn};
 ghost use Rattle.rb_calls.specs.Learning.{IsLeaders, LearnsBy, IsRestored, KeepsState};
-ghost use Rattle.rb_laws.specs.Rules.{ShowsTerm, IsReason, HasNoLease, KnowsLeader, LeadsKnowing, IsHardStateOf, SendsNoEntries, HasChangeIn};
+ghost use Rattle.rb_laws.specs.Rules.{ShowsTerm, KeepsFollowers, ShowsItsTerm, IsReason, HasNoLease, KnowsLeader, LeadsKnowing, IsHardStateOf, SendsNoEntries, HasChangeIn};
 ghost use Rattle.rb_calls.specs.Sound.{IsSound};
 
 /// A node that doesn't lead in a message's term learns of a commit by its leader's messages alone: by an append that follows an entry of its
@@ -45,9 +45,12 @@ pub fn followers_commit_what_leaders_tell()
     ensures { (t : NodeStep) (m : Message) → (t.node.role ≡ Leader → (has_term m.kind ≡ true) × (t.node.term < m.term)) → ((stepped t m).node.commit ≡ t.node.commit) ⊎ LearnsBy m.kind t.node (stepped t m).node }
 {}
 
-/// A message of an earlier term changes nothing but what waits to be answered.
+/// A message of an earlier term changes nothing but what waits to be answered: a question before the vote gets a no; and if a node asks before votes or
+/// checks its quorum, so that a leader might never hear of its term, what keeps that leader's followers is answered with the term.
 pub fn earlier_terms_change_nothing()
-    ensures { (t : NodeStep) (m : Message) → has_term m.kind ≡ true → m.term < t.node.term → (stepped t m).node ≡ record t.node { waiting = (stepped t m).node.waiting } }
+    ensures stays { (t : NodeStep) (m : Message) → has_term m.kind ≡ true → m.term < t.node.term → (stepped t m).node ≡ record t.node { waiting = (stepped t m).node.waiting } }
+    ensures asked { (t : NodeStep) (m : Message) (last_term last_index : ℕ) → m.kind ≡ PreVote last_term last_index → m.term < t.node.term → (stepped t m).node.waiting ≡ t.node.waiting ++ message t.node.id m.from t.node.term (PreVoteResponse false) ∷ [] }
+    ensures shown { (t : NodeStep) (m : Message) → KeepsFollowers m.kind → ShowsItsTerm t.node.options → m.term < t.node.term → (stepped t m).node.waiting ≡ t.node.waiting ++ message t.node.id m.from t.node.term (kinds.AppendResponse 0) ∷ [] }
 {}
 
 /// A later term is taken up from each message that shows one; from a vote request only by a node without a lease, or if the leader hands
@@ -121,12 +124,13 @@ pub fn full_windows_take_no_entries()
     ensures freed { (p : PlainProgress) (index i : ℕ) → p.state ≡ Replicate → Contains p.window.in_flight i → index < i → Contains (freed_through p index).window.in_flight i }
 {}
 
-/// A refusal leads a probe back: what is sent next begins past what the member is known to hold, and else at most one past its hint and not past what it
-/// refused. So it is sent sooner or later what its log lacks.
+/// A refusal leads a probe back: what is sent next begins past what the member is known to hold, and else one past its hint, or where it refused, if that
+/// is sooner.
 pub fn refusals_lead_back()
     ensures ahead { (p : PlainProgress) (index hint : ℕ) → p.state ≡ Probe → p.matched < (refused p index hint).next }
     ensures hint { (p : PlainProgress) (index hint : ℕ) → p.state ≡ Probe → (refused p index hint).next ≤ max (p.matched + 1) (hint + 1) }
     ensures back { (p : PlainProgress) (index hint : ℕ) → p.state ≡ Probe → (refused p index hint).next ≤ max (p.matched + 1) index }
+    ensures far { (p : PlainProgress) (index hint : ℕ) → p.state ≡ Probe → min index (hint + 1) ≤ (refused p index hint).next }
     ensures goes_on { (p : PlainProgress) (index hint : ℕ) → p.state ≡ Probe → (refused p index hint).waiting ≡ false }
 {}
 
@@ -136,7 +140,8 @@ pub fn transfers_time_out()
 {}
 
 /// The tests of the rules mean what they are named for: a quorum is active if a quorum of the configuration was heard of; an id is a voter's
-/// if it is among the voters; entries have a change if one of them is a change; their last term is that of the last of them.
+/// if it is among the voters; entries have a change if one of them is a change; their last term is that of the last of them. More than half of some
+/// voters are a majority, and a majority of all voters decides, unless the configuration is joint.
 pub fn tests_mean_their_names()
     ensures quorum { (t : PlainTracker) → 0 < length t.config.incoming → quorum_active t ≡ true → IsQuorum t.config (λ id. is_active t.views id) }
     ensures active { (t : PlainTracker) → IsQuorum t.config (λ id. is_active t.views id) → quorum_active t ≡ true }
@@ -144,6 +149,8 @@ pub fn tests_mean_their_names()
     ensures change { (v : LogValue) (after upto : ℕ) → v.base ≤ after → has_change v after upto ≡ true → HasChangeIn v after upto }
     ensures changes { (v : LogValue) (after upto : ℕ) → v.base ≤ after → HasChangeIn v after upto → has_change v after upto ≡ true }
     ensures last { (es : List Entry) (e : Entry) → last_of (es ++ e ∷ []) ≡ Some e.term }
+    ensures most { (voters : List ℕ) (among : ℕ → Bool) → length voters < 2 * count_by among voters → is_majority voters among ≡ true }
+    ensures alone { (c : Config) (among : ℕ → Bool) → c.outgoing ≡ [] → is_quorum c among ≡ is_majority c.incoming among }
 {}
 
 /// A leader knows itself as the leader, and up to which index a change of the configuration may be in its log: no entry past it is a change. So a

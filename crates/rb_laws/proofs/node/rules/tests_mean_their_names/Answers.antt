@@ -1,4 +1,4 @@
-use Rattle.rb_laws.proofs.StateLaws.{active_quorum, quorum_is_active, voter_is, change_is_there, change_is_seen, last_of_last}
+use Rattle.rb_laws.proofs.StateLaws.{active_quorum, quorum_is_active, voter_is, change_is_there, change_is_seen, last_of_last, most_decide, alone_decide}
 use Rattle.rb_laws.proofs.node.rules.tests_mean_their_names.Goals as goal
 
 pub returns-clause-quorum : goal.returns-clause-quorum
@@ -18,3 +18,9 @@ returns-clause-changes c = λ v after upto. change_is_seen v after upto
 
 pub returns-clause-last : goal.returns-clause-last
 returns-clause-last c = λ es e. last_of_last es e
+
+pub returns-clause-most : goal.returns-clause-most
+returns-clause-most c = λ voters among. most_decide voters among
+
+pub returns-clause-alone : goal.returns-clause-alone
+returns-clause-alone c = λ c among. alone_decide c among
