@@ -58,8 +58,11 @@ export class Bar {
 
   /** @param {string} text */
   async takenAs(text) {
-    if (await this.live.insert(text)) {
-      this.field.value = "";
+    const { value } = this.field;
+    // Another directive may be written before this one is done.
+    this.field.value = "";
+    if (!(await this.live.insert(text)) && !this.field.value) {
+      this.field.value = value;
     }
   }
 
@@ -134,13 +137,14 @@ export class Bar {
     const side = ids.filter((id) => this.side.has(id));
     const boxes = ids.map((id) => this.box(id));
     const isPart = side.length > 0 && side.length < ids.length;
-    const cut = isPart ? live.ways.cut(side, live.pending()) : [];
+    const ways = () => (isPart ? live.ways.cut(side, live.pending()) : [{ text: "", takes: [], why: "choose the nodes of one side, and not all" }]);
+    const cut = ways();
     const crossing = cut.reduce((sum, { takes, why }) => sum + (why ? 0 : takes.length), 0);
     return [
       button("stabilize", "stabilize", "", "stabilize all (s)", () => live.insert("stabilize")),
       element("span", "", "or a side:"), ...boxes,
       button(`stabilize ${side.join(" ")}`.trim(), "stabilize-side", side.length ? "" : "choose the nodes of a side", "", () => live.insert(`stabilize ${side.join(" ")}`)),
-      button(`cut it off (${crossing})`, "cut", isPart ? cut[0].why : "choose the nodes of one side, and not all", "drop what is on its way between the sides", () => live.takeAll(cut)),
+      button(`cut it off (${crossing})`, "cut", cut[0].why, "drop what is on its way between the sides", () => live.takeAll(ways)),
     ];
   }
 
@@ -170,8 +174,17 @@ export class Bar {
       ...(fault ? [alert(fault)] : []),
       ...notes.map((note) => alert(note)),
       ...(question ? [alert(question.text, ...(question.yes ? [button(question.yes, "yes", "", "", question.does), button("no", "no", "", "", () => live.answer())] : []))] : []),
-      ...(live.hasGone ? [alert("raftbench-live has ended. What isn't saved is only here: copy it before you close this page.", live.copied())] : []),
+      ...(live.hasGone ? [alert("raftbench-live has ended. What isn't saved is only here: copy it before you close this page.", this.copied())] : []),
     ];
+  }
+
+  /** The script as it is here, to be copied. */
+  copied() {
+    const text = this.live.page?.model.source.lines.join("\n") ?? "";
+    const field = /** @type {HTMLTextAreaElement} */ (withAttributes(element("textarea", "live-copy"), { readonly: "", "aria-label": "The script" }));
+    field.value = new TextDecoder().decode(Uint8Array.from(text, (byte) => byte.charCodeAt(0)));
+    field.addEventListener("focus", () => field.select());
+    return field;
   }
 
   /**

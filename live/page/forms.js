@@ -1,6 +1,7 @@
 // What is written over the page: the first directive of an empty script, and a directive that is edited where it stands.
 
 import { byId, element, withAttributes } from "./dom.js";
+import { linesOf } from "./meant.js";
 import { Writing } from "./writing.js";
 
 /** @typedef {import("./live.js").Live} Live */
@@ -25,7 +26,8 @@ export function begin(live, takesFocus) {
     const nodes = Math.min(Math.max(1, Math.round(Number(count.value)) || 1), MOST_NODES);
     const ids = Array.from({ length: nodes }, (_, at) => at + 1).join(",");
     const chosen = options.filter(([, box]) => box.checked).map(([name]) => ` ${name}=true`).join("");
-    live.insert(`add-nodes ${nodes} voters=(${ids}) index=10${chosen}`);
+    // What is pressed twice begins once.
+    live.inTurn(async () => !live.page && live.insertNow(`add-nodes ${nodes} voters=(${ids}) index=10${chosen}`));
   });
   byId("notice").replaceChildren(form);
   if (takesFocus) {
@@ -51,17 +53,17 @@ function textOf(bytes) {
  * @param {import("./livepage.js").LivePage} page
  */
 export function editChosen(live, page) {
-  const { script, model, chosen } = page;
-  const step = model.steps[chosen.place - 1];
-  const lines = model.source.lines.slice(step.first - 1, step.line - 1 + step.head.length + step.input.length);
-  const { text, isLatin } = textOf(lines.join("\n").replace(/^(?:[ \t]*\n)+/, ""));
+  const { script, chosen: { place } } = page;
+  const lines = linesOf(page, place);
+  const { text, isLatin } = textOf(lines.replace(/^(?:[ \t]*\n)+/, ""));
   const field = /** @type {HTMLTextAreaElement} */ (withAttributes(element("textarea", ""), { "aria-label": "Directive: Enter takes it, Shift Enter begins a line, Escape leaves it" }));
   field.value = text;
   field.rows = Math.min(12, text.split("\n").length + 1);
-  const place = chosen.place;
+  // What was written for this directive isn't put in the place of another.
+  const isThere = () => live.page && linesOf(live.page, place) === lines;
   const writing = new Writing(field, (line, character, now) => live.completions(now, line, character, false), {
     take: async (now) => {
-      if (await live.ask({ do: "replace", place, text: now, isLatin })) {
+      if (await live.inTurn(() => (isThere() ? live.askNow({ do: "replace", place, text: now, isLatin }) : live.refuse("the directive has changed meanwhile")))) {
         close();
       }
     },

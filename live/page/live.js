@@ -2,19 +2,20 @@
 
 import { Bar } from "./bar.js";
 import { Beside } from "./beside.js";
-import { byId, element, withAttributes } from "./dom.js";
+import { byId } from "./dom.js";
 import { follow } from "./following.js";
 import { begin, editChosen } from "./forms.js";
 import { makeLegend } from "./legend.js";
 import { LivePage } from "./livepage.js";
+import { directiveOf } from "./meant.js";
 import { Motion } from "./motion.js";
 import { Offers } from "./offers.js";
 import { tellCounts } from "./page.js";
-import { instantAt } from "./position.js";
 import { countPresses } from "./presses.js";
 import { Run } from "./run.js";
 import { Gone, Refusal, Talk } from "./talk.js";
 import { Theirs } from "./theirs.js";
+import { Turns } from "./turns.js";
 import { Ways } from "./ways.js";
 
 /** @typedef {import("./types.js").Message} Message */
@@ -69,6 +70,9 @@ export class Live {
     this.hasGone = false;
     this.placed = 0;
     this.isAsking = false;
+    /** Which directive was chosen when that was asked for. */
+    this.askedAt = 0;
+    this.turns = new Turns();
     /** The newest version that was heard of. */
     this.heard = 0;
     this.ways = new Ways("");
@@ -194,23 +198,45 @@ export class Live {
   }
 
   /**
-   * Asks for something. Answers whether it was done; what was refused is said, and may be asked for again.
+   * Does what is pressed in its turn, and answers whether it was done. It is left out where another directive was chosen while what was pressed before
+   * went on, as that moves what is chosen.
+   * @param {() => Promise<boolean>} does
+   */
+  inTurn(does) {
+    const hasMoved = this.isAsking && this.page !== null && this.page.chosen.place !== this.askedAt;
+    return this.turns.take(hasMoved ? () => this.refuse("another directive was chosen meanwhile") : does);
+  }
+
+  /**
+   * Asks for something in its turn. Answers whether it was done; what was refused is said, and may be asked for again.
    * @param {Record<string, unknown>} what
    * @param {string} [doubt] what is asked if it is refused
    * @param {string} [yes]
    */
-  async ask(what, doubt = "", yes = "") {
-    if (this.isAsking || !this.state) {
+  ask(what, doubt = "", yes = "") {
+    return this.inTurn(() => this.askNow(what, doubt, yes));
+  }
+
+  /**
+   * @param {Record<string, unknown>} what
+   * @param {string} [doubt]
+   * @param {string} [yes]
+   */
+  async askNow(what, doubt = "", yes = "") {
+    if (!this.state) {
       return false;
     }
+    const place = this.page?.chosen.place ?? 0;
+    const asked = { place, ...what };
     this.isAsking = true;
+    this.askedAt = place;
     this.question = null;
     try {
       const { branch, version } = this.state;
-      await this.take(await this.talk.post("do", { branch, at: this.page?.chosen.place, ...what, version, has: version }), true);
+      await this.take(await this.talk.post("do", { branch, at: place, version, ...asked, has: version }), true);
       return true;
     } catch (fault) {
-      this.failed(fault, what, doubt, yes);
+      this.failed(fault, asked, doubt, yes);
       return false;
     } finally {
       this.isAsking = false;
@@ -240,8 +266,8 @@ export class Live {
       this.hasGone = true;
     } else if (fault instanceof Refusal) {
       const asks = fault.asks ? "insert it all the same" : doubt && yes;
-      const does = () => this.ask({ ...what, isSure: true });
-      this.question = { text: doubt && !fault.asks ? doubt : fault.message, yes: asks, does };
+      const does = () => this.ask({ ...what, version: this.state?.version, isSure: true });
+      this.question = { text: this.withLeftOut(doubt && !fault.asks ? doubt : fault.message), yes: asks, does };
       this.bar.say(fault.message);
       this.refresh().catch((it) => this.lost(it));
     } else {
@@ -290,8 +316,13 @@ export class Live {
   // ---- what one does
 
   /** @param {string} text a directive */
-  async insert(text) {
-    const isDone = await this.ask({ do: "insert", place: this.page?.chosen.place ?? 0, text });
+  insert(text) {
+    return this.inTurn(() => this.insertNow(text));
+  }
+
+  /** @param {string} text a directive */
+  async insertNow(text) {
+    const isDone = await this.askNow({ do: "insert", text });
     if (isDone && this.page) {
       this.bar.say(`${text}: ${this.page.model.steps[this.page.chosen.place - 1].output.join(", ")}`);
       this.motion.start(this.page, this.page.chosen.place);
@@ -304,54 +335,53 @@ export class Live {
    * @param {Record<string, unknown>} [more]
    */
   ofChosen(kind, more = {}) {
-    return this.ask({ do: kind, place: this.page?.chosen.place ?? 0, ...more });
+    return this.ask({ do: kind, ...more });
   }
 
-  /** @param {Way} way */
-  takeWay(way) {
-    return way.why ? this.refuse(way.why) : this.insert(way.text);
+  /** @param {() => Way} find finds a way among the messages that are on their way then */
+  takeWay(find) {
+    return this.takeAll(() => [find()]);
   }
 
-  /** @param {Way[]} ways */
-  async takeAll(ways) {
-    for (const way of ways) {
-      if (!(await this.takeWay(way))) {
-        return;
+  /** @param {() => Way[]} find */
+  takeAll(find) {
+    return this.inTurn(async () => {
+      let isDone = true;
+      for (const { text, why } of find()) {
+        isDone = isDone && (await (why ? this.refuse(why) : this.insertNow(text)));
       }
-    }
+      return isDone;
+    });
   }
 
   /** @param {string} why */
   async refuse(why) {
-    this.question = { text: `That can't be done: ${why}.`, yes: "", does: () => {} };
+    this.question = { text: this.withLeftOut(`That can't be done: ${why}.`), yes: "", does: () => {} };
     this.bar.draw();
     return false;
   }
 
   /**
+   * What is said of something that isn't done. What was pressed after it was meant for another page, so it is left out.
+   * @param {string} text
+   */
+  withLeftOut(text) {
+    return this.turns.leaveOut() > 0 ? `${text.replace(/\.?$/, ".")} What was pressed after that isn't done.` : text;
+  }
+
+  /**
    * @param {string} name
    * @param {number} id
-   * @param {string} why
    */
-  ofNode(name, id, why) {
-    const { page } = this;
-    if (why || !page) {
-      return this.refuse(`${name} ${id}: ${why}`);
-    }
-    const instant = instantAt(page.model, { place: page.chosen.place, event: 0 });
-    const node = page.model.nodes[id - 1];
-    if (name === "propose" || name === "propose-conf-change") {
-      return this.bar.writeOf(name, id);
-    }
-    if (name === "compact") {
-      return this.insert(`compact ${id} ${node.numbersAt(instant.moment).applied}`);
-    }
-    if (name === "transfer-leadership") {
-      const leaders = page.model.nodes.filter((it) => it.isThereAt(instant.moment) && it.numbersAt(instant.moment).role === "leader");
-      const [leader] = leaders.sort((one, other) => other.numbersAt(instant.moment).term - one.numbersAt(instant.moment).term);
-      return this.insert(`transfer-leadership from=${leader.id} to=${id}`);
-    }
-    return this.insert(`${name} ${id}`);
+  ofNode(name, id) {
+    return this.inTurn(async () => {
+      const why = this.offers.may[id]?.[name];
+      const { page } = this;
+      if (why || !page) {
+        return this.refuse(`${name} ${id}: ${why}`);
+      }
+      return name === "propose" || name === "propose-conf-change" ? this.bar.writeOf(name, id) : this.insertNow(directiveOf(page, name, id));
+    });
   }
 
   edit() {
@@ -361,7 +391,7 @@ export class Live {
   }
 
   fork() {
-    return this.ask({ do: "fork", place: this.page?.chosen.place ?? 0 });
+    return this.ask({ do: "fork" });
   }
 
   save() {
@@ -369,15 +399,22 @@ export class Live {
   }
 
   /** @param {number} number */
-  async show(number) {
+  show(number) {
+    return this.inTurn(() => this.showNow(number));
+  }
+
+  /** @param {number} number */
+  async showNow(number) {
     try {
       const told = await this.talk.post("state", { branch: number });
       if (this.beside.number === number) {
         this.beside.toggle(number);
       }
       await this.take(told, true);
+      return true;
     } catch (fault) {
       this.failed(fault, {}, "", "");
+      return false;
     }
   }
 
@@ -434,15 +471,6 @@ export class Live {
       const same = /** @type {HTMLElement | null} */ (document.querySelector(`[data-key="${CSS.escape(key)}"]`));
       (same ?? byId("directives")).focus({ preventScroll: true });
     }
-  }
-
-  /** The script as it is here, to be copied. */
-  copied() {
-    const text = this.page?.model.source.lines.join("\n") ?? "";
-    const field = /** @type {HTMLTextAreaElement} */ (withAttributes(element("textarea", "live-copy"), { readonly: "", "aria-label": "The script" }));
-    field.value = new TextDecoder().decode(Uint8Array.from(text, (byte) => byte.charCodeAt(0)));
-    field.addEventListener("focus", () => field.select());
-    return field;
   }
 }
 

@@ -2,6 +2,7 @@
 
 import { element, withAttributes } from "./dom.js";
 import { measureFrom, placeFrom } from "./further.js";
+import { wayOf } from "./meant.js";
 import { Page } from "./page.js";
 import { instantAt } from "./position.js";
 import { State } from "./state.js";
@@ -99,17 +100,18 @@ class LiveState extends State {
     const { live } = this;
     const why = live.offers.may[id] ?? {};
     const there = live.state?.directives ?? {};
-    const pending = live.pending();
     const lost = live.offers.losses[id] ?? "";
     const own = OF_NODE.filter(([name]) => name in there).map(([name, text]) => {
       const says = `${name} ${id}${name === "restart" && lost ? `, which loses ${lost}` : ""}`;
-      return button(text, `${name} ${id}`, why[name] ?? "", says, () => live.ofNode(name, id, why[name] ?? ""));
+      return button(text, `${name} ${id}`, why[name] ?? "", says, () => live.ofNode(name, id));
     });
-    const [to, from] = [live.ways.allTo(id, pending), live.ways.allFrom(id, pending, this.model.nodes.map((node) => node.id))];
+    const allTo = () => live.ways.allTo(id, live.pending());
+    const allFrom = () => live.ways.allFrom(id, live.pending(), this.model.nodes.map((node) => node.id));
+    const [to, from] = [allTo(), allFrom()];
     return [
       ...own,
-      button(`all to it (${to.takes.length})`, `all-to ${id}`, to.why, to.text, () => live.takeWay(to)),
-      button(`all from it (${from.takes.length})`, `all-from ${id}`, from.why, from.text, () => live.takeWay(from)),
+      button(`all to it (${to.takes.length})`, `all-to ${id}`, to.why, to.text, () => live.takeWay(allTo)),
+      button(`all from it (${from.takes.length})`, `all-from ${id}`, from.why, from.text, () => live.takeWay(allFrom)),
       withAttributes(element("span", "live-lost", lost ? `restart loses ${lost}` : ""), { title: lost }),
     ];
   }
@@ -125,15 +127,14 @@ class LiveState extends State {
   message(message) {
     const { live } = this;
     const pending = live.pending();
-    const [deliver, drop] = [live.ways.one(message, pending, false), live.ways.one(message, pending, true)];
-    const why = this.model.nodes[message.to - 1] ? "" : `there is no node ${message.to}`;
+    const [deliver, drop] = [wayOf(live, message, false), wayOf(live, message, true)];
     /** @type {(word: string, count: number) => string} */
     const words = (word, count) => (count > 1 ? `${word} ${count}` : word);
     const key = `${message.from} ${message.to} ${message.type} ${pending.filter((it) => it.from === message.from && it.to === message.to && it.type === message.type).indexOf(message)}`;
     return element(
       "li", "live-message", element("span", "", messageText(message)),
-      button(words("deliver", deliver.takes.length), `deliver ${key}`, why, deliver.text, () => live.takeWay({ ...deliver, why })),
-      button(words("drop", drop.takes.length), `drop ${key}`, "", drop.text, () => live.takeWay(drop)),
+      button(words("deliver", deliver.takes.length), `deliver ${key}`, deliver.why, deliver.text, () => live.takeWay(() => wayOf(live, message, false))),
+      button(words("drop", drop.takes.length), `drop ${key}`, "", drop.text, () => live.takeWay(() => wayOf(live, message, true))),
     );
   }
 }
@@ -270,8 +271,8 @@ export class LivePage extends Page {
     const message = this.messageAt(event);
     if (message) {
       event.stopPropagation();
-      const why = event.shiftKey || this.model.nodes[message.to - 1] ? "" : `there is no node ${message.to}`;
-      this.live.takeWay({ ...this.live.ways.one(message, this.live.pending(), event.shiftKey), why });
+      const { shiftKey } = event;
+      this.live.takeWay(() => wayOf(this.live, message, shiftKey));
     }
   }
 
