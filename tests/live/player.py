@@ -11,7 +11,7 @@ from tests.page.browser import Browser
 from tests.page.scripts import same
 
 MOST_SECONDS = 120
-MOST_CLICKS = 3
+MOST_AIMS = 5
 SHIFT = 8
 # Where what is seen is written to, to look at.
 SEEN = pathlib.Path(os.environ["SEEN"]) if "SEEN" in os.environ else None
@@ -60,8 +60,18 @@ class Player:
         return list(found)
 
     def click(self, selector: str) -> None:
-        """Clicks the middle of an element."""
-        self.browser.click(*self.box(selector))
+        """Clicks the middle of an element that stands still. Where it has moved before it is pressed all the same, aims again."""
+        hit = f"({{ target }}) => (window.hit = target.closest({json.dumps(selector)}) !== null)"
+        for _ in range(MOST_AIMS):
+            before = None
+            while (point := self.box(selector)) != before:
+                before = point
+                self.browser.settle()
+            self.browser.value(f"addEventListener('pointerdown', {hit}, {{ capture: true, once: true }})")
+            self.browser.click(*point)
+            if self.browser.value("window.hit"):
+                return
+        same(f"whether {selector} was hit", False, True)
 
     def click_at(self, selector: str, across: float, down: float) -> None:
         """Clicks inside an element: `across` pixels from its left edge, or from its right edge if negative; `down` is a fraction of its height."""
@@ -73,16 +83,9 @@ class Player:
             self.browser.call("Input.dispatchMouseEvent", type=kind, button="none" if kind == "mouseMoved" else "left", clickCount=0 if kind == "mouseMoved" else 1, **point)
 
     def click_to(self, selector: str, step: int, count: int) -> None:
-        """Clicks until directive `step` of `count` is chosen. A click is lost if the page replaces the button between press and release."""
-        where = f"document.getElementById('where').textContent.startsWith('step {step} of {count},')"
-        for _ in range(MOST_CLICKS):
-            self.click(selector)
-            until = time.monotonic() + MOST_SECONDS / MOST_CLICKS
-            while not (is_there := self.browser.value(where)) and time.monotonic() < until:
-                self.browser.settle()
-            if is_there:
-                return
-        same(where, False, True)
+        """Clicks, and waits until directive `step` of `count` is chosen."""
+        self.click(selector)
+        self.at(step, count)
 
     def at(self, step: int, count: int) -> None:
         """Waits until directive `step` of `count` is chosen."""
