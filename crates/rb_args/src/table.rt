@@ -97,10 +97,11 @@ const REWRITE: [ArgumentRow; 3] = [
 ];
 
 #[rattlefmt::skip]
-const FILE_AND_LINES: [ArgumentRow; 3] = [
+const CHART: [ArgumentRow; 4] = [
     FILE,
     ArgumentRow { form: ArgumentForm::Value("LINE"), name: "from", help: "Shows the directives from the one at this line on" },
     ArgumentRow { form: ArgumentForm::Value("LINE"), name: "until", help: "Shows the directives up to the one at this line" },
+    ArgumentRow { form: ArgumentForm::Value("FORMAT"), name: "format", help: "Writes it as svg, or as mermaid, a sequence diagram [default: svg]" },
 ];
 
 #[rattlefmt::skip]
@@ -154,10 +155,10 @@ pub(crate) static LINES: [Line; 10] = [
     },
     Line {
         name: "chart",
-        about: "Runs a script and writes a picture of what it does, as SVG",
+        about: "Runs a script and writes a picture of what it does",
         usage: "raftbench chart [OPTIONS] <FILE>",
         after: FILE_OR_INPUT,
-        rows: &FILE_AND_LINES,
+        rows: &CHART,
     },
     Line {
         name: "trace",
