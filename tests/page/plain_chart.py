@@ -17,7 +17,7 @@ import sys
 from collections import defaultdict
 from collections.abc import Callable, Iterator, Sequence
 from dataclasses import dataclass, field
-from typing import Any, TypeVar
+from typing import Any
 from xml.sax.saxutils import escape
 
 sys.dont_write_bytecode = True
@@ -44,7 +44,7 @@ MOST_HEAD, MOST_NOTE, MOST_LABEL, MOST_MARK = 32, 36, 30, 29
 NARROW, NARROW_WIDTH = " !'(),./:;I[]fijlrt|", 6
 BROAD, BROAD_WIDTH = "#%&+<=>@ABCDEFGHJKLMNOPQRSTUVWXYZmw~", 12
 WIDTH = 8
-# What the messages of each type are about, which tells their colour.
+# The types of messages, in the order in which those on their way to a node are told.
 KINDS = {
     "MsgVote": "vote", "MsgPreVote": "vote", "MsgVoteResp": "vote", "MsgPreVoteResp": "vote", "MsgApp": "append", "MsgAppResp": "append",
     "MsgHeartbeat": "heartbeat", "MsgHeartbeatResp": "heartbeat", "MsgSnap": "snapshot", "MsgProp": "proposal",
@@ -134,11 +134,13 @@ NOTES: dict[str, Callable[..., Mark]] = {
 
 @dataclass
 class Arrow:
-    """A message on its way: who sent it, where its line begins, which of the lines is its own and which of the texts, and the cells of its row."""
+    """A message on its way: who sent it, where its line begins, which of the lines is its own and which of the texts, its label, and the cells of
+    its row."""
     sender: int
     start: int
     place: int
     text: int
+    label: str
     cells: tuple[Any, ...]
 
 
@@ -327,7 +329,7 @@ class Drafter:
 
     def send(self, sender: int, to: int, kind: str, term: int, *cells: Any) -> None:
         label, is_left = label_of(kind, term, cells), to < sender
-        arrow = Arrow(sender, self.slot(), len(self.chart.over), len(self.chart.texts), (sender, to, kind, term, *cells))
+        arrow = Arrow(sender, self.slot(), len(self.chart.over), len(self.chart.texts), label, (sender, to, kind, term, *cells))
         self.chart.over += line(sender, to, kind, arrow.start, "waiting")
         self.chart.reach(x_of(sender) + (HALF_BAND + 1 + OUT if to == sender else 0 if is_left else LEAD + WAITING))
         x = x_of(sender) + (-HALF_BAND - 5 if is_left else HALF_BAND + 5)
@@ -369,17 +371,14 @@ class Drafter:
 
     # The end
 
-    def done(self) -> None:
-        """Tells what is on its way, and ends the nodes' bands."""
+    def done(self) -> Chart:
         self.end_row()
-        waiting = (arrow for queue in self.mail.values() for arrow in queue)
-        for sender, to, kind, term, *cells in (arrow.cells for arrow in sorted(waiting, key=lambda arrow: (arrow.cells[1], arrow.text))):
-            self.tell_end("on its way", sender, to, message_words(kind, term, cells))
+        for to, kind in sorted(self.mail, key=lambda queue: (queue[0], [*KINDS].index(queue[1]))):
+            for arrow in self.mail[to, kind]:
+                self.tell_end("on its way", arrow.sender, to, arrow.label)
         self.chart.under += [self.end_band(id, self.chart.height) for id in sorted(self.bands)]
         self.chart.reach(x_of(max([*self.bands, 1])) + LEAST)
-
-
-Drafted = TypeVar("Drafted", bound=Drafter)
+        return self.chart
 
 
 def choice_of(directive: Directive) -> Choice:
@@ -397,12 +396,12 @@ def title_of(name: str, until: int | None, start: int | None) -> str:
     return title + (f", from line {start}" if start is not None else "") + (f", up to line {until}" if until is not None else "")
 
 
-def drawn(kind: Callable[[str], Drafted], data: bytes, name: str, until: int | None, start: int | None) -> Drafted:
-    """A drafter that has gone over a script; over the directives up to the one at a line, and from one at a line on, where there are these."""
+def chart_of(data: bytes, name: str, until: int | None = None, start: int | None = None) -> Chart:
+    """All that a script's picture has; of the directives up to the one at a line, and from one at a line on, where there are these."""
     title = title_of(name, until, start)
-    above, drafter = None, kind(title)
+    above, drafter = None, Drafter(title)
     if start is not None:
-        above, drafter = drafter, kind(title)
+        above, drafter = drafter, Drafter(title)
     script = read_script(data)
     blocks = iter(script.blocks)
     for row in rows_of(data, name, DIRECTIVES):
@@ -413,23 +412,17 @@ def drawn(kind: Callable[[str], Drafted], data: bytes, name: str, until: int | N
             drafter.begin_after(above, row[1])
             above = None
         if row[0] == "step":
-            block, drawing = next(blocks), above or drafter
-            drawing.end_saves()
-            drawing.choice = choice_of(block.directive())
-            drawing.tell_notes(row[1] - len(block.lead), block.lead)
-            drawing.begin_row(row[1], shown(block.head[0]))
+            block, drawn = next(blocks), above or drafter
+            drawn.end_saves()
+            drawn.choice = choice_of(block.directive())
+            drawn.tell_notes(row[1] - len(block.lead), block.lead)
+            drawn.begin_row(row[1], shown(block.head[0]))
         elif row[0] == "end":
             drafter.end_saves()
             drafter.tell_notes(1 + len(lines_of(data)) - len(script.tail), script.tail)
         elif row[0] not in ("raftbench", "text", "output", "expected", "mismatch"):
             (above or drafter).read(*row)
-    drafter.done()
-    return drafter
-
-
-def chart_of(data: bytes, name: str, until: int | None = None, start: int | None = None) -> Chart:
-    """All that a script's picture has, or that of a part of it."""
-    return drawn(Drafter, data, name, until, start).chart
+    return drafter.done()
 
 
 # Drawing

@@ -97,11 +97,10 @@ const REWRITE: [ArgumentRow; 3] = [
 ];
 
 #[rattlefmt::skip]
-const CHART: [ArgumentRow; 4] = [
+const FILE_AND_LINES: [ArgumentRow; 3] = [
     FILE,
     ArgumentRow { form: ArgumentForm::Value("LINE"), name: "from", help: "Shows the directives from the one at this line on" },
     ArgumentRow { form: ArgumentForm::Value("LINE"), name: "until", help: "Shows the directives up to the one at this line" },
-    ArgumentRow { form: ArgumentForm::Value("FORMAT"), name: "format", help: "Writes it as svg, or as mermaid, a sequence diagram [default: svg]" },
 ];
 
 #[rattlefmt::skip]
@@ -155,10 +154,10 @@ pub(crate) static LINES: [Line; 10] = [
     },
     Line {
         name: "chart",
-        about: "Runs a script and writes a picture of what it does",
+        about: "Runs a script and writes a picture of what it does, as SVG",
         usage: "raftbench chart [OPTIONS] <FILE>",
         after: FILE_OR_INPUT,
-        rows: &CHART,
+        rows: &FILE_AND_LINES,
     },
     Line {
         name: "trace",

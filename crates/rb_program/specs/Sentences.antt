@@ -45,7 +45,6 @@ misused_word (misuses.Format text) = string_bytes text
 misused_word misuses.NoTerminal = []
 misused_word misuses.Unseen = []
 misused_word (misuses.From text) = string_bytes text
-misused_word (misuses.ChartFormat text) = string_bytes text
 misused_word (misuses.Until text) = string_bytes text
 misused_word (misuses.Place text) = string_bytes text
 misused_word (misuses.Directive name meant) = string_bytes name
@@ -82,7 +81,6 @@ usage_line misuses.NoTerminal word = Some (codes "--review: it asks on a termina
 usage_line misuses.Unseen word = Some (codes "--review: it shows what it asks about, so it goes with neither --quiet nor --format\n")
 usage_line (misuses.From text) word = Some (codes "--from " ++ (word ++ codes ": the line of a directive\n"))
 usage_line (misuses.Until text) word = Some (codes "--until " ++ (word ++ codes ": the line of a directive\n"))
-usage_line (misuses.ChartFormat text) word = Some (codes "--format " ++ (word ++ codes ": svg or mermaid\n"))
 usage_line (misuses.Place text) word = Some (word ++ codes ": FILE:LINE, where a directive stands at the line or above it\n")
 usage_line (misuses.Directive name meant) word = Some (unknown_line word (option_map (λ m. m.now) meant))
 

@@ -6,8 +6,7 @@ ghost use Rattle.rb_program.specs.Documents.{DocumentsOver};
 ghost use Rattle.rb_program.specs.Done.{IsDocumented, IsPaged, unless_refused};
 ghost use Rattle.rb_program.specs.Scripts.{sources_of};
 
-use crate::chart_format::ChartFormat;
-use crate::chart_over::{ChartAsked, chart_over};
+use crate::chart_over::chart_over;
 use crate::job::{Job, run_job};
 use crate::page_over::page_over;
 use crate::program_error::ProgramError;
@@ -27,8 +26,8 @@ use std::rt::Files;
 pub(crate) enum DocumentKind {
     Page,
     Trace,
-    /// The picture of a part of it, in a format.
-    Chart(ChartPart, ChartFormat),
+    /// The picture of a part of it.
+    Chart(ChartPart),
 }
 
 /// Writes the page of the script in the file, or on standard input.
@@ -96,14 +95,7 @@ impl<'a> Job for Documenting<'a> {
                 page_over(alloc, source, writer, frame, self.name)
             }
             DocumentKind::Trace => trace_over(alloc, source, writer, self.name),
-            DocumentKind::Chart(part, format) => {
-                let picture = ChartAsked {
-                    name: self.name,
-                    part,
-                    format,
-                };
-                chart_over(alloc, source, writer, picture)
-            }
+            DocumentKind::Chart(part) => chart_over(alloc, source, writer, self.name, part),
         }
     }
 }

@@ -9,10 +9,10 @@
 
 mod arguments;
 mod chart;
-mod chart_format;
 mod chart_over;
 mod checking;
 mod clap_text;
+mod clusters;
 mod colors;
 mod console;
 mod directives;

@@ -132,7 +132,7 @@ fn done<R: Files + Input + Print + AllocGlobal, E: Write + Drop, P: RunProgress>
     progress: &P,
 ) -> Result<Status, ProgramError>
     ensures right { IfOk result (λ _. has_interval work ≡ true) }
-    ensures done { IsDone (sources_of R.Reader R.File R.Reader.remaining R.File.remaining) file.now choice.now work result }
+    ensures done { IsDone (sources_of R.Reader R.File R.Reader.remaining R.File.remaining) file.now (option_map string_bytes choice.now.from) (option_map string_bytes choice.now.until) work result }
 {
     match work {
         Work::Report(every) => run(rt, file, Mode::Run, every, progress),
@@ -141,16 +141,7 @@ fn done<R: Files + Input + Print + AllocGlobal, E: Write + Drop, P: RunProgress>
         Work::Session(every) => session(rt, file, every),
         Work::Look => look_at(rt, file),
         Work::Page => page(rt, file),
-        Work::Chart => {
-            let format = choice.check.format.as_deref();
-            chart(
-                rt,
-                file,
-                choice.from.as_deref(),
-                choice.until.as_deref(),
-                format,
-            )
-        }
+        Work::Chart => chart(rt, file, choice.from.as_deref(), choice.until.as_deref()),
         Work::Trace => write_document(rt, file, DocumentKind::Trace),
     }
 }

@@ -37,8 +37,6 @@ pub enum UsageError {
     From(String),
     /// The value of `--until` is not a line.
     Until(String),
-    /// The value of a picture's `--format` is not one of its values.
-    ChartFormat(String),
     /// The argument of `look` doesn't name a directive of a file.
     Place(String),
     /// No directive has the name; and the one that is near it.
@@ -61,7 +59,6 @@ impl Drop for UsageError {
             | UsageError::Format(_)
             | UsageError::From(_)
             | UsageError::Until(_)
-            | UsageError::ChartFormat(_)
             | UsageError::Place(_)
             | UsageError::Directive(_, _) => {}
         }
@@ -86,7 +83,6 @@ impl UsageError {
             UsageError::Format(text) => text.as_str(),
             UsageError::From(text) => text.as_str(),
             UsageError::Until(text) => text.as_str(),
-            UsageError::ChartFormat(text) => text.as_str(),
             UsageError::Place(text) => text.as_str(),
             UsageError::Directive(name, _) => name.as_str(),
         }
@@ -124,7 +120,6 @@ impl Display for UsageLine<'_> {
             ),
             UsageError::From(_) => write!(f, "--from {word}: the line of a directive\n"),
             UsageError::Until(_) => write!(f, "--until {word}: the line of a directive\n"),
-            UsageError::ChartFormat(_) => write!(f, "--format {word}: svg or mermaid\n"),
             UsageError::Place(_) => write!(
                 f,
                 "{word}: FILE:LINE, where a directive stands at the line or above it\n"

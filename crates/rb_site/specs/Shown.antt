@@ -13,10 +13,7 @@ use Rattle.rb_view.specs.declared.chart.style.TheConstants.{STYLE}
 use Rattle.rb_view.specs.Charts.{PlainChart, chart_text}
 use Rattle.rb_view.specs.Drawn.{drawn_arrows, without_places}
 use Rattle.rb_view.specs.Pages.{rows_joined}
-use Rattle.rb_view.specs.Pictures.{picture}
-use Rattle.rb_view.specs.Readable.{shown}
 use Rattle.rb_view.specs.Steps.{steps_texts}
-use Rattle.rb_view.specs.Titles.{title_text}
 use Rattle.rb_book.specs.Titles.{IsTitle}
 use Rattle.rb_book.specs.declared.chapter.Chapter.{Chapter}
 
@@ -44,17 +41,16 @@ IsPage bytes name front back text = (rows : List Line) × AreRowsOf bytes rows �
 abbrev pub whole : ChartPart
 whole = record { from = None; until = None }
 
--- the picture of the script that the bytes are, under this name; its arrows are the script's
-pub record IsChart (bytes name : List ℕ) (chart : PlainChart) : Type 0 where
+-- a picture of the script that the bytes are: its arrows are the script's
+pub record IsChart (bytes : List ℕ) (chart : PlainChart) : Type 0 where
   pub script : PlainScript
   pub heads : List ℕ
   pub reads : Reads bytes script
   pub heads_are : AreHeadLines 1 (lines bytes) script.blocks heads
-  pub picture_is : chart ≡ picture (title_text (shown name) None None) whole (lines bytes) heads script
   pub arrows_are : without_places chart.arrows ≡ drawn_arrows whole heads script
 
-abbrev pub IsPicture : List ℕ → List ℕ → List ℕ → Type 0
-IsPicture bytes name text = (chart : PlainChart) × IsChart bytes name chart × (text ≡ chart_text STYLE.now chart)
+abbrev pub IsPicture : List ℕ → List ℕ → Type 0
+IsPicture bytes text = (chart : PlainChart) × IsChart bytes chart × (text ≡ chart_text STYLE.now chart)
 
 -- a chapter's title is its script's, and it differs if its script does
 abbrev pub IsRunOf : Chapter → Type 0

@@ -12,9 +12,6 @@ pub mod PendingArrows
 pub mod PicturesEnd
 pub mod ViewLaws
 pub mod PathLaws
-pub mod MeasureLaws
-pub mod NoteLaws
-pub mod FewLaws
 pub mod LookLaws
 pub mod InertLaws
 pub mod PlainLaws
@@ -41,7 +38,5 @@ pub mod PageRoomLaws
 pub mod WatchLaws
 pub mod StepRoomLaws
 pub mod ValueLaws
-pub mod SomeLaws
-pub mod StayLaws
 pub mod MailLaws
 pub mod TraceLaws

@@ -33,6 +33,5 @@ complete -c raftbench -n '__fish_seen_subcommand_from check' -l pages -r -d 'Wri
 complete -c raftbench -n '__fish_seen_subcommand_from page' -l out -r -d 'Write a page for each script of a folder, with contents, into a new folder'
 complete -c raftbench -n '__fish_seen_subcommand_from chart' -l from -x -d 'Show the directives from the one at this line on'
 complete -c raftbench -n '__fish_seen_subcommand_from chart' -l until -x -d 'Show the directives up to the one at this line'
-complete -c raftbench -n '__fish_seen_subcommand_from chart' -l format -x -a 'svg mermaid' -d 'Write it as SVG or as a sequence diagram'
 complete -c raftbench -n '__fish_seen_subcommand_from directives' -a 'add-nodes campaign propose propose-conf-change process-ready deliver-msgs stabilize tick-election tick-heartbeat set-randomized-election-timeout'
 complete -c raftbench -n '__fish_seen_subcommand_from directives' -a 'transfer-leadership forget-leader report-unreachable send-snapshot compact restart log-level raft-log status raft-state'
