@@ -13,7 +13,6 @@ pub mod Endings
 pub mod Listed
 pub mod Lost
 pub mod Place
-pub mod Reasons
 pub mod Reported
 pub mod Reviews
 pub mod ScriptTexts
