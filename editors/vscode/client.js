@@ -4,11 +4,6 @@
 
 const { spawn } = require("child_process");
 
-// What the editor takes, and which commands of lenses it runs.
-const CAPABILITIES = {
-  textDocument: { completion: { completionItem: { snippetSupport: true } }, publishDiagnostics: { relatedInformation: true } },
-  experimental: { commands: { commands: ["raftbench.accept", "raftbench.openPage"] } },
-};
 // How long a server may take to end.
 const MOST_MS_TO_END = 5_000;
 
@@ -140,7 +135,7 @@ class Client {
    * @param {Record<string, unknown>} [options]
    */
   begin(options = {}) {
-    const answer = this.request("initialize", { processId: process.pid, rootUri: null, initializationOptions: options, capabilities: CAPABILITIES });
+    const answer = this.request("initialize", { processId: process.pid, rootUri: null, initializationOptions: options, capabilities: { textDocument: { completion: { completionItem: { snippetSupport: true } }, publishDiagnostics: { relatedInformation: true } } } });
     this.notify("initialized", {});
     return answer;
   }

@@ -9,6 +9,7 @@ pub mod LostLaws
 pub mod NamedLaws
 pub mod PlaceLaws
 pub mod QuietLaws
+pub mod ReasonLaws
 pub mod ReportLaws
 pub mod ReviewLaws
 pub mod ShownLaws

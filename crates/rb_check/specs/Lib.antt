@@ -13,6 +13,7 @@ pub mod Endings
 pub mod Listed
 pub mod Lost
 pub mod Place
+pub mod Reasons
 pub mod Reported
 pub mod Reviews
 pub mod ScriptTexts

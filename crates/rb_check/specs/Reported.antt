@@ -20,7 +20,6 @@ use Rattle.rb_report.specs.declared.check.totals.Totals.{Totals}
 use Rattle.rb_report.specs.Counts.{nothing, of_outcome, status_of, together}
 use Rattle.rb_script_report.specs.declared.layout.Layout.{Layout}
 use Rattle.rb_script_report.specs.Layouts.{IsLayout}
-use Rattle.rb_bench.specs.Reasons.{asked_reasons}
 use Rattle.rb_check.specs.declared.answer.HeardAnswer.{HeardAnswer}
 use Rattle.rb_check.specs.declared.check_request.CheckRequest.{CheckRequest}
 use Rattle.rb_check.specs.declared.differing.Differing.{Differing}
@@ -34,6 +33,7 @@ use Rattle.rb_check.specs.Counts.{ran_as, counts_after}
 use Rattle.rb_check.specs.Endings.{IsAnswered}
 use Rattle.rb_check.specs.Listed.{ListedScript, Lists}
 use Rattle.rb_check.specs.Lost.{counted_failures, lost_failures, lost_text}
+use Rattle.rb_check.specs.Reasons.{asked_reasons}
 use Rattle.rb_check.specs.Reviews.{review_end}
 use Rattle.rb_check.specs.ScriptTexts.{PlainChecked}
 use Rattle.rb_check.specs.Shown.{GoesOut, begun_text, colors_in, lacks_memory, last_text, noticed_text, own_after, remark_text, shown_in, started}

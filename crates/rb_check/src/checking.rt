@@ -20,12 +20,13 @@ use crate::ending::{CheckEnding, ending_of};
 use crate::person::Person;
 use crate::picking::{named_heads, picked_of};
 use crate::ran::{Ran, ScriptEnd};
+use crate::reasons::run_script;
 use crate::report::Report;
 use crate::report_sink::ReportSink;
 use crate::review::{Reviewer, reviewed};
+use crate::runner::Runner;
 use crate::showing::tell;
 use crate::system::{System, Text};
-use rb_bench::{RunProgress, Runner};
 use rb_files::PathError;
 use rb_machine::Machine;
 use rb_replay::{Session, StartFault};
@@ -37,9 +38,9 @@ use rb_script_report::{AcceptFilter, AcceptOptions, Layout, Warning, summary_of,
 /// # Errors
 ///
 /// What failed, where the script could not be read or run, or memory was refused for what there is to show.
-pub(crate) fn check_script<T: RunProgress, S: System, P: Person, W: ReportSink, E: ReportSink>(
+pub(crate) fn check_script<T: Runner, S: System, P: Person, W: ReportSink, E: ReportSink>(
     system: &S,
-    runner: &mut Runner<'_, T>,
+    runner: &mut T,
     asked: &CheckRequest<'_>,
     path: &str,
     reviewer: &mut Reviewer<P>,
@@ -58,7 +59,7 @@ pub(crate) fn check_script<T: RunProgress, S: System, P: Person, W: ReportSink, 
 {
     report.heed(path.as_bytes(), None);
     let text = system.read(path)?;
-    let run = match runner.run_script(&text.bytes, asked.explains) {
+    let run = match run_script(system.alloc(), runner, asked.explains, &text.bytes) {
         Ok(run) => run,
         Err(StartFault::Script(fault)) => {
             report.refused(path, fault);

@@ -18,8 +18,8 @@ use crate::progress::ProgressClock;
 use crate::report::Report;
 use crate::report_sink::{ReportSink, stream_over};
 use crate::review::{Review, Reviewer};
+use crate::runner::Runner;
 use crate::system::{RuntimeSystem, System};
-use rb_bench::{RunProgress, Runner};
 use rb_files::{FailedPath, Found, PathError, find};
 use rb_report::check::{Failure, Status};
 use rb_script::Through;
@@ -35,9 +35,9 @@ use std::time::Clock;
 /// # Errors
 ///
 /// If memory was refused at the beginning. Later failures are reported, and are in the status.
-pub fn check<T: RunProgress, R: Files + Input + Print + Clock + AllocGlobal, E: Write + Drop>(
+pub fn check<T: Runner, R: Files + Input + Print + Clock + AllocGlobal, E: Write + Drop>(
     rt: &R,
-    runner: &mut Runner<'_, T>,
+    runner: &mut T,
     asked: CheckRequest<'_>,
     errors: E,
 ) -> io::Result<Status>
@@ -54,9 +54,9 @@ pub fn check<T: RunProgress, R: Files + Input + Print + Clock + AllocGlobal, E: 
 }
 
 // Reports on the scripts of the paths, on these streams.
-fn report_on<T: RunProgress, R: Files + Input + Clock + AllocGlobal, W: ReportSink, E: ReportSink>(
+fn report_on<T: Runner, R: Files + Input + Clock + AllocGlobal, W: ReportSink, E: ReportSink>(
     rt: &R,
-    runner: &mut Runner<'_, T>,
+    runner: &mut T,
     asked: &CheckRequest<'_>,
     output: W,
     errors: ErrorStream<E>,
@@ -76,9 +76,9 @@ fn report_on<T: RunProgress, R: Files + Input + Clock + AllocGlobal, W: ReportSi
 }
 
 // Checks the scripts one after another, until a review ends.
-fn check_each<T: RunProgress, R: Files + Input + Clock + AllocGlobal, W: ReportSink, E: ReportSink>(
+fn check_each<T: Runner, R: Files + Input + Clock + AllocGlobal, W: ReportSink, E: ReportSink>(
     rt: &R,
-    runner: &mut Runner<'_, T>,
+    runner: &mut T,
     asked: &CheckRequest<'_>,
     scripts: &[String],
     progress: &mut ProgressClock,
@@ -142,9 +142,9 @@ fn end_review<W: ReportSink, E: ReportSink>(review: Review, left: usize, report:
 }
 
 // Checks a script, and reports why if that fails.
-fn check_one<T: RunProgress, S: System, P: Person, W: ReportSink, E: ReportSink>(
+fn check_one<T: Runner, S: System, P: Person, W: ReportSink, E: ReportSink>(
     system: &S,
-    runner: &mut Runner<'_, T>,
+    runner: &mut T,
     asked: &CheckRequest<'_>,
     path: &str,
     reviewer: &mut Reviewer<P>,

@@ -33,7 +33,6 @@ pub mod Changes
 pub mod Steps
 pub mod StepSizes
 pub mod Values
-pub mod SomeSteps
 pub mod Pages
 pub mod Mail
 pub mod Objects

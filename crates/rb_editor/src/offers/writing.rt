@@ -8,9 +8,8 @@ use rb_lsp::document::{Encoding, LineTable, Position};
 use rb_text::{Piece, add_pieces};
 use std::alloc::AllocError;
 
-/// Adds a position.
 #[tactic(auto, unfolding(crate::specs::Texts::position_text))]
-pub(crate) fn add_position(out: &mut Vec<u8>, position: Position) -> Result<(), AllocError>
+fn add_position(out: &mut Vec<u8>, position: Position) -> Result<(), AllocError>
     ensures { OnOk result (out.new.items ≡ out.old.items ++ position_text position) }
 {
     add_pieces(

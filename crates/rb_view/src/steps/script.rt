@@ -11,8 +11,7 @@ use rb_report::check::{Table, show_diff};
 use rb_script::Lines;
 use std::alloc::{AllocError, Global};
 
-/// Whether both have the same lines.
-pub(crate) fn is_same(lines: &Lines, other: &Lines) -> bool
+fn is_same(lines: &Lines, other: &Lines) -> bool
     ensures { result ≡ same_lines lines.now other.now }
 {
     lines.same(other)

@@ -1,6 +1,0 @@
-use Rattle.std.proofs.Common.{◌∙◌, ap, sym}
-use Rattle.rb_editor.proofs.HintLaws.{with_all, with_more}
-use Rattle.rb_editor.proofs.actions.leadership.with_nodes.Goals as goal
-
-pub returns : goal.returns
-returns g c = sym (with_all c.loop-shared.known c.args.nodes.now c.loop-shared.shared-index c.loop-shared-test.false) ∙ c.loop-shared.invariant
