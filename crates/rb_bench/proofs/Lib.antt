@@ -2,6 +2,7 @@ pub mod HearLaws
 pub mod MakeLaws
 pub mod NameLaws
 pub mod OneLaws
+pub mod ReasonLaws
 pub mod RunLaws
 pub mod ServeLaws
 pub mod SpellingLaws

@@ -6,6 +6,7 @@ pub mod Hearing
 pub mod Known
 pub mod Made
 pub mod Names
+pub mod Reasons
 pub mod Replies
 pub mod Responses
 pub mod Runs

@@ -9,11 +9,11 @@ ghost use Rattle.rb_replay.specs.Start.{is_checkpoint_interval};
 ghost use Rattle.rb_bench.specs.Handed.{IsHandedOn};
 ghost use Rattle.rb_bench.specs.Runs.{Answers, RunsOver, IsWritten, text_for, status_for, most_read};
 
-use crate::directives::{ClusterRunner, RunContext};
 use crate::fault::BenchFault;
 use crate::outlet::Outlet;
-use crate::progress::{NoProgress, RunProgress};
-use crate::starting::{BenchSession, run_once};
+use crate::progress::RunProgress;
+use crate::runner::Runner;
+use crate::starting::BenchSession;
 use rb_replay::is_checkpoint_interval;
 use rb_report::check::Status;
 use rb_script::{MAX_SCRIPT, Sink, WriteFault};
@@ -39,7 +39,7 @@ pub enum Mode {
 /// # Errors
 ///
 /// `Spacing` before anything is read. `Io` if a call of the source or the writer fails; the writer is called only for a script.
-/// `OutOfMemory`, and `Script` if the bytes are not a script, as [`run_bytes`] reports.
+/// `OutOfMemory`, and `Script` if the bytes are not a script.
 pub fn run_over<S: Source, W: Outlet, P: RunProgress>(
     alloc: Global,
     source: &mut S,
@@ -54,9 +54,9 @@ pub fn run_over<S: Source, W: Outlet, P: RunProgress>(
     // At most one byte more than a script may have is read, by at most as many calls.
     ensures consumed { (taken : List ℕ) × (length taken ≤ most_read) × Consumes (S.left source.old) (S.left source.new) taken }
     ensures asked { IsErrOf result BenchFault.Spacing ⊎ AsksFor (S.left source.old) (S.asked source.old) (S.asked source.new) most_read }
-    // Where the source's bytes are known.
     // A call of the source that failed is a failure of the whole.
     ensures unfailed { OnOk result (Fails (S.asked source.old) (S.asked source.new) 0) }
+    // Where the source's bytes are known.
     ensures answered { is_checkpoint_interval every ≡ true → IfSome (S.left source.old) (λ all. RunsOver mode all (S.left source.new) result (W.held writer.old) (W.held writer.new)) }
     // The text is flushed.
     ensures handed { OnOk result (IsHandedOn (W.handed writer.new) (W.held writer.new)) }
@@ -68,33 +68,6 @@ pub fn run_over<S: Source, W: Outlet, P: RunProgress>(
     }
     let bytes = read_up_to(alloc, source, MAX_SCRIPT + 1)?;
     run_read(alloc, bytes, writer, mode, progress)
-}
-
-/// Runs the script of the bytes and writes the text of `mode`, as [`run_over`] does after reading. Its memory isn't freed either.
-///
-/// # Errors
-///
-/// `Spacing`, then `Script` if the bytes are not a script, `Io` if the writer fails, and `OutOfMemory`.
-pub fn run_bytes<W: Outlet>(
-    alloc: Global,
-    bytes: Vec<u8>,
-    writer: &mut W,
-    mode: Mode,
-    every: u64,
-) -> Result<Status, BenchFault>
-    // Found before anything else.
-    ensures checkpoint_interval { IsErrOf result BenchFault.Spacing ↔ (is_checkpoint_interval every ≡ false) }
-    ensures answered { is_checkpoint_interval every ≡ true → Answers mode bytes.items result (W.held writer.old) (W.held writer.new) }
-    // Faults of length are found whether or not there is memory.
-    ensures early { is_checkpoint_interval every ≡ true → IfSome (early_fault bytes.items) (λ fault. result ≡ Err (BenchFault.Script fault)) }
-    ensures unwritten { IsErrOf result BenchFault.Spacing → (writer.new ≡ writer.old) }
-    ensures handed { OnOk result (IsHandedOn (W.handed writer.new) (W.held writer.new)) }
-    ensures io { W.takes_all writer.old → result ≢ Err BenchFault.Io }
-{
-    if !is_checkpoint_interval(every) {
-        return Err(BenchFault::Spacing);
-    }
-    run_read(alloc, bytes, writer, mode, &NoProgress)
 }
 
 // Runs the script of the bytes and writes the text of `mode`.
@@ -113,13 +86,12 @@ fn run_read<W: Outlet, P: RunProgress>(
     ensures io { W.takes_all writer.old → result ≢ Err BenchFault.Io }
 {
     // No edit follows, and no text depends on checkpoints.
-    let context = RunContext::new(alloc, progress);
-    let mut clusters = ClusterRunner { context };
-    let session = run_once(alloc, &bytes, &mut clusters)?;
+    let mut runner = Runner::new(alloc, progress);
+    let run = runner.run_script(&bytes, false)?;
     drop(bytes);
-    let status = write_run(&session, writer, mode);
+    let status = write_run(&run.session, writer, mode);
     // To give it back piece by piece would take a short run a tenth of its time.
-    forget(session);
+    forget(run);
     status
 }
 

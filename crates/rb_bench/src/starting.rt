@@ -1,20 +1,17 @@
 //! Sessions on the script of some bytes.
 
-ghost use Rattle.std.specs.Prelude.{◌≡◌, ◌≢◌, ◌↔◌, ◌+◌, ◌≤◌, ◌^◌, Err, true, false, IfOk, IfErr, IfSome, length};
+ghost use Rattle.std.specs.Prelude.{◌≡◌, ◌≢◌, ◌↔◌, Err, true, false, IfOk, IfErr, IfSome};
 ghost use Rattle.rb_script.specs.Script.{PlainScript};
 ghost use Rattle.rb_script.specs.Reads.{Reads};
 ghost use Rattle.rb_script.specs.Reading.{read_of, early_fault};
-ghost use Rattle.rb_replay.specs.Holding.{IsOneRun};
-ghost use Rattle.rb_replay.specs.Start.{TellsStartFault, is_checkpoint_interval};
+ghost use Rattle.rb_replay.specs.Start.{is_checkpoint_interval};
 ghost use Rattle.rb_bench.specs.Faults.{TellsFault};
 ghost use Rattle.rb_bench.specs.Serves.{IsStarted};
 
-use crate::directives::{DirectiveRunner, run_directives};
 use crate::fault::BenchFault;
 use rb_cluster::{Cluster, Meter};
 use rb_raftlog::SplitLog;
-use rb_replay::{Session, StartFault};
-use rb_script::Script;
+use rb_replay::Session;
 use std::alloc::Global;
 
 /// The sessions that the program holds: over the cluster of scripts.
@@ -35,26 +32,4 @@ pub(crate) fn started(alloc: Global, bytes: &[u8], every: u64) -> Result<BenchSe
 {
     let mut meter = Meter::new();
     Ok(Session::start(alloc, bytes, every, &mut meter)?)
-}
-
-/// Starts a session of the script without checkpoints, for a script that isn't edited. Each directive is run once.
-pub(crate) fn run_once<T: DirectiveRunner>(
-    alloc: Global,
-    bytes: &[u8],
-    runner: &mut T,
-) -> Result<Session<T::Machine>, StartFault>
-    ensures script { IfOk result (λ s. Reads bytes.now s.script) }
-    ensures run { IfOk result IsOneRun }
-    // A script is refused only if there is no memory.
-    ensures only { (s : PlainScript) → Reads bytes.now s → IfErr result (λ fault. fault ≡ StartFault.OutOfMemory) }
-    ensures refused { IfErr result (λ fault. TellsStartFault fault (read_of bytes.now)) }
-    // Faults of length are found whether or not there is memory.
-    ensures early { IfSome (early_fault bytes.now) (λ fault. result ≡ Err (StartFault.Script fault)) }
-    // There is no checkpoint interval to check.
-    ensures spaced { result ≢ Err StartFault.BadSpacing }
-    ensures counted { T.ran runner.old ≤ 2 ^ 62 → IfOk result (λ s. T.ran runner.new ≡ T.ran runner.old + length s.script.blocks) }
-{
-    let script = Script::read(alloc, bytes)?;
-    let outputs = run_directives(alloc, runner, &script)?;
-    Ok(Session::from_outputs(alloc, script, outputs)?)
 }

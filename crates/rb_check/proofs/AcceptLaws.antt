@@ -1,9 +1,10 @@
 -- What is said as outputs are accepted.
-use Rattle.std.proofs.Common.{◌≡◌, ◌∙◌, ℕ, ◌-◌, Bool, true, false, List, [], ◌∷◌, ◌++◌, Option, None, Some, refl, ap, sym, append_assoc, append-nil}
-use Rattle.std.specs.Prelude.{◌==◌, ◌&&◌, if◌then◌else◌, nat_lt, MatchOption}
+use Rattle.std.proofs.Common.{◌≡◌, ◌∙◌, ℕ, ◌-◌, Bool, true, false, List, [], ◌∷◌, ◌++◌, Option, None, Some, length, refl, ap, sym, append_assoc, append-nil, arith}
+use Rattle.std.specs.Prelude.{◌==◌, ◌&&◌, if◌then◌else◌, nat_lt, slice_get}
 use Rattle.std.specs.List.{list_any}
 use Rattle.rb_script.specs.Lines.{Line}
-use Rattle.rb_script.specs.Script.{PlainBlock, PlainScript}
+use Rattle.rb_script.specs.Script.{PlainBlock}
+use Rattle.rb_replay.specs.Report.{mismatches}
 use Rattle.rb_replay.specs.Run.{outputs}
 use Rattle.rb_files.specs.declared.path_error.PathError.{PathError}
 use Rattle.rb_report.specs.declared.check.failure.Failure.{Failure}
@@ -12,17 +13,18 @@ use Rattle.rb_report.specs.Notices.{left_text as left_note}
 use Rattle.rb_script_report.specs.declared.accept_options.AcceptFilter.{AcceptFilter}
 use Rattle.rb_script_report.specs.declared.accept_options.AcceptFilter.TheVariants as picks
 use Rattle.rb_script_report.specs.declared.accept_options.AcceptOptions.{AcceptOptions}
-use Rattle.rb_script_report.specs.declared.layout.Layout.{Layout}
 use Rattle.rb_script_report.specs.declared.written.AcceptFault.{AcceptFault}
 use Rattle.rb_script_report.specs.Accepting.{all_left, is_left, is_picked, left_heads}
 use Rattle.rb_script_report.specs.Checked.{head_of}
 use Rattle.rb_script_report.specs.Errors.{first_line}
 use Rattle.rb_check.specs.declared.format.Format.{Format}
-use Rattle.rb_check.specs.declared.ran.ScriptEnd.{ScriptEnd}
 use Rattle.rb_check.specs.declared.remark.Remark.TheVariants as remarks
 use Rattle.rb_check.specs.declared.report_state.ReportForm.{ReportForm}
+use Rattle.rb_check.specs.declared.script_result.ScriptResult.{ScriptResult}
 use Rattle.rb_check.specs.AcceptTexts.{echoes_text, ended_text, leaving_text, left_in, left_shown, refusal_failure, refusal_note, refusal_says, refusal_text}
-use Rattle.rb_check.specs.Shown.{cause_text, cleared, failure_lines, in_form, left_text, noticed_text, remark_text, says_cause}
+use Rattle.rb_check.specs.Results.{after_accepting}
+use Rattle.rb_check.specs.Shown.{cause_text, cleared, failure_lines, in_form, left_text, remark_text, says_cause}
+use Rattle.rb_check.specs.Subjects.{PlainChecked, result_of}
 
 -- ---- if no output is left
 
@@ -48,11 +50,11 @@ no_echoes form path picks.All = refl
 no_echoes form path (picks.Heads heads) = refl
 no_echoes form path (picks.UpTo line) = refl
 
-pub leaves_none : (form : ReportForm) (wanted : AcceptOptions) (path : List ℕ) (l : Layout) (s : PlainScript) → left_in wanted l s ≡ [] → leaving_text form wanted path l s ≡ []
-leaves_none form wanted path l s none =
-    ap (λ (left : List ℕ). left_text form path wanted.picked left ++ (left_shown form wanted path l s ++ echoes_text form path wanted.picked left)) none
-    ∙ ap (λ (t : List ℕ). t ++ echoes_text form path wanted.picked []) (ap (λ (t : List ℕ). in_form form.format t (λ _. [])) (none_shown wanted l.text path l.heads.items s.blocks (outputs s) none) ∙ in_form_none form.format)
-    ∙ no_echoes form path wanted.picked
+pub leaves_none : (form : ReportForm) (wanted : AcceptOptions) (c : PlainChecked) → left_in wanted c ≡ [] → leaving_text form wanted c ≡ []
+leaves_none form wanted c none =
+    ap (λ (left : List ℕ). left_text form c.path wanted.picked left ++ (left_shown form wanted c ++ echoes_text form c.path wanted.picked left)) none
+    ∙ ap (λ (t : List ℕ). t ++ echoes_text form c.path wanted.picked []) (ap (λ (t : List ℕ). in_form form.format t (λ _. [])) (none_shown wanted c.layout.text c.path c.layout.heads.items c.script.blocks (outputs c.script) none) ∙ in_form_none form.format)
+    ∙ no_echoes form c.path wanted.picked
 
 -- ---- below a new error
 
@@ -62,17 +64,32 @@ echoes_if form path picked line left below is same = ap (λ (p : AcceptFilter). 
 
 -- ---- what became of the others
 
-pub ended_some : (form : ReportForm) (path : List ℕ) (n left : ℕ) (end : ScriptEnd) → end ≡ record { left = left; failure = None } → (left == n) ≡ false → ended_text form path n end.left end.failure ≡ remark_text form path (remarks.Accepted (n - left))
-ended_some form path n left end is some =
-    ap (λ (e : ScriptEnd). ended_text form path n e.left e.failure) is ∙ ap (λ (b : Bool). if b then [] else remark_text form path (remarks.Accepted (n - left))) some
+same_number : (n : ℕ) → (n == n) ≡ true
+same_number n = grind arith
 
-pub ended_failed : (form : ReportForm) (path : List ℕ) (n left : ℕ) (failure : Option Failure) (why : Failure) → failure ≡ Some why → ended_text form path n left failure ≡ noticed_text form path (remarks.Failed why)
-ended_failed form path n left failure why is = ap (ended_text form path n left) is
+-- none was accepted
+pub ended_none : (form : ReportForm) (c : PlainChecked) (r : ScriptResult) → r ≡ result_of c → ended_text form c r ≡ []
+ended_none form c r is = ap (ended_text form c) is ∙ ap (λ (b : Bool). if b then [] else remark_text form c.path (remarks.Accepted 0)) (same_number (length (mismatches c.script)))
 
--- all are left, if something failed
-pub failed_left : (o : Option Failure) (left a b c : ℕ) (why : Failure) → o ≡ Some why → left ≡ b → b ≡ c → MatchOption o (left ≡ a) (λ _. left ≡ c)
-failed_left None left a b c why is all same = absurd cc
-failed_left (Some failure) left a b c why is all same = all ∙ same
+pub after_all : (r : ScriptResult) (left : List ℕ) → length left ≡ r.left → r ≡ after_accepting r left
+after_all r left all = sym (ap (λ (b : Bool). if b then r else record r { left = length left; accepted = r.left - length left; first = slice_get left 0 }) (ap (λ (n : ℕ). n == r.left) all ∙ same_number r.left))
+
+failure_by : (b : Bool) (r s : ScriptResult) → s.failure ≡ r.failure → (if b then r else s).failure ≡ r.failure
+failure_by true r s same = refl
+failure_by false r s same = same
+
+pub after_failure : (r : ScriptResult) (left : List ℕ) → (after_accepting r left).failure ≡ r.failure
+after_failure r left = failure_by (length left == r.left) r (record r { left = length left; accepted = r.left - length left; first = slice_get left 0 }) refl
+
+-- some was
+pub ended_some : (form : ReportForm) (c : PlainChecked) (r : ScriptResult) (left : List ℕ) → r ≡ result_of c → (length left == r.left) ≡ false → ended_text form c (after_accepting r left) ≡ remark_text form c.path (remarks.Accepted (after_accepting r left).accepted)
+ended_some form c r left is some =
+    let n = length (mismatches c.script) in
+    let whole = result_of c in
+    let made = record whole { left = length left; accepted = n - length left; first = slice_get left 0 } in
+    let other : (length left == n) ≡ false = sym (ap (λ (s : ScriptResult). length left == s.left) is) ∙ some in
+    let after : after_accepting r left ≡ made = ap (λ (s : ScriptResult). after_accepting s left) is ∙ ap (λ (b : Bool). if b then whole else made) other in
+    ap (ended_text form c) after ∙ ap (λ (b : Bool). if b then [] else remark_text form c.path (remarks.Accepted made.accepted)) other ∙ sym (ap (λ (s : ScriptResult). remark_text form c.path (remarks.Accepted s.accepted)) after)
 
 -- ---- a script that can't be written
 

@@ -1,7 +1,9 @@
 -- A report: scripts, one after another, and the whole of it.
-use Rattle.std.proofs.Common.{◌≡◌, ◌∙◌, ℕ, ◌+◌, ◌-◌, ◌≤◌, false, List, [], ◌∷◌, ◌++◌, length, Option, Some, String, Global, refl, ap, sym, subst, take, append_assoc, append-nil, arith}
+use Rattle.std.proofs.Common.{◌≡◌, ◌∙◌, ℕ, ◌+◌, ◌-◌, ◌≤◌, true, false, List, [], ◌∷◌, ◌++◌, length, Option, Some, String, Global, refl, ap, sym, subst, take, append_assoc, append-nil, arith}
 use Rattle.std.specs.Io.KnownBytes.{Keeps}
 use Rattle.std.specs.Prelude.{◌≢◌, ⊤, slice_get, string_bytes}
+use Rattle.std.proofs.lemmas.Grind.{flat_map-append}
+use Rattle.std.proofs.lemmas.List.Sums.{fold-append}
 use Rattle.rb_files.specs.declared.finding.Found.{Found}
 use Rattle.rb_report.specs.declared.check.totals.Totals.{Totals}
 use Rattle.rb_report.specs.Counts.{nothing, together}
@@ -10,22 +12,36 @@ use Rattle.rb_check.specs.declared.check_request.CheckRequest.{CheckRequest}
 use Rattle.rb_check.specs.declared.differing.Differing.{Differing}
 use Rattle.rb_check.specs.declared.report_state.ReportForm.{ReportForm}
 use Rattle.rb_check.specs.declared.report_state.ReportState.{ReportState}
+use Rattle.rb_check.specs.declared.results.Results.{Results}
+use Rattle.rb_check.specs.declared.review.Review.{Review}
 use Rattle.rb_check.specs.declared.review.Review.TheVariants as reviews
-use Rattle.rb_check.specs.Listed.{ListedScript, Lists, listing}
-use Rattle.rb_check.specs.Lost.{lost_text}
-use Rattle.rb_check.specs.Reported.{AreChecked, AreCounted, CheckPoint, IsCounted, IsFoundOf, IsNext, IsReport, Reports, check_point, lost_counts}
+use Rattle.rb_check.specs.declared.running_check.RunningCheck.{RunningCheck}
+use Rattle.rb_check.specs.declared.script_result.PathResult.{PathResult}
+use Rattle.rb_check.specs.Lost.{lost_results, lost_text}
+use Rattle.rb_check.specs.Reported.{AreChecked, AreInTurn, IsChecked, IsFoundOf, IsNext, IsReport, Reports}
+use Rattle.rb_check.specs.Results.{CheckedPath, ListedScript, checked_path, counts_of, counts_with, listed_in, listed_of, listing}
 use Rattle.rb_check.specs.Reviews.{review_end}
-use Rattle.rb_check.specs.Shown.{GoesOut, GoesOutInPart, begun_text, last_text, started}
-use Rattle.rb_check.proofs.ShownLaws.{goes_heeded, goes_nothing, goes_on, goes_then, part_nothing, part_whole}
+use Rattle.rb_check.specs.Shown.{GoesOut, GoesOutInPart, Lists, Prints, begun_text, lacking, lacks_memory, last_text, started}
+use Rattle.rb_check.proofs.ShownLaws.{goes_heeded, goes_nothing, goes_on, goes_then, one_lacks, part_nothing, part_whole}
 
--- ---- what is listed
+-- ---- what is counted and listed
 
 pub lists_none : (s : ReportState) (had has : List Differing) → has ≡ had → Lists s had has []
 lists_none s had has same = λ memory. ap listing same ∙ sym (append-nil (listing had))
 
+pub lists_lacking : (s t : ReportState) (had has : List Differing) (scripts : List ListedScript) → t ≡ lacking s → Lists t had has scripts
+lists_lacking s t had has scripts is = λ memory. let no : true ≡ false = sym (ap lacks_memory is ∙ one_lacks s.own.without_memory) ∙ memory in absurd cc
+
 pub lists_then : {one two : ReportState} {before after : Option (List ℕ)} {text : List ℕ} (a b c : List Differing) (some more : List ListedScript) → Lists one a b some → GoesOut one two before after text → Lists two b c more
     → Lists two a c (some ++ more)
 lists_then a b c some more first out second = λ memory. second memory ∙ ap (λ (l : List ListedScript). l ++ more) (first (out.out memory).memory) ∙ append_assoc (listing a) some more
+
+pub counts_then : (t : Totals) (some more : List CheckedPath) → counts_of (counts_of t some) more ≡ counts_of t (some ++ more)
+counts_then t some more = sym (fold-append (λ (u : Totals) (checked : CheckedPath). counts_with u checked.found) t some more)
+
+one_listed : (results : List CheckedPath) (path : List ℕ) (found : PathResult) → listed_in results ++ listed_of path found ≡ listed_in (results ++ checked_path path found ∷ [])
+one_listed results path found =
+    sym (flat_map-append (λ (checked : CheckedPath). listed_of checked.path checked.found) results (checked_path path found ∷ []) ∙ ap (λ (l : List ListedScript). listed_in results ++ l) (append-nil (listed_of path found)))
 
 -- ---- after how bytes go out has changed
 
@@ -38,100 +54,119 @@ nothing_heeded {u = u} {b = b} same kept = part_heeded same kept (part_nothing u
 
 -- ---- scripts, one after another
 
-none_counted : (asked : CheckRequest) (form : ReportForm) (now : CheckPoint) → AreCounted asked form [] now now [] []
-unfolding AreCounted
-none_counted asked form now = (refl, refl, refl)
+none_in_turn : (asked : CheckRequest) (form : ReportForm) (now : Review) → AreInTurn asked form [] now now [] []
+unfolding AreInTurn
+none_in_turn asked form now = (refl, refl, refl)
 
-counted_on : (asked : CheckRequest) (form : ReportForm) (scripts : List (String Global)) (script : String Global) (before between after : CheckPoint) (some one : List ListedScript) (text next : List ℕ)
-    → AreCounted asked form scripts before between some text → IsNext asked form (string_bytes script) between after one next → AreCounted asked form (scripts ++ script ∷ []) before after (some ++ one) (text ++ next)
-unfolding AreCounted
-counted_on asked form [] script before between after some one text next had is = (
+in_turn_on : (asked : CheckRequest) (form : ReportForm) (scripts : List (String Global)) (script : String Global) (before between after : Review) (results : List CheckedPath) (found : PathResult) (text next : List ℕ)
+    → AreInTurn asked form scripts before between results text → IsNext asked form (string_bytes script) between after found next
+    → AreInTurn asked form (scripts ++ script ∷ []) before after (results ++ checked_path (string_bytes script) found ∷ []) (text ++ next)
+unfolding AreInTurn
+in_turn_on asked form [] script before between after results found text next had is = (
   after,
-  one,
+  found,
   [],
   next,
   [],
-  subst (λ (p : CheckPoint). IsNext asked form (string_bytes script) p after one next) had.0 is,
-  none_counted asked form after,
-  ap (λ (l : List ListedScript). l ++ one) had.1 ∙ sym (append-nil one),
+  subst (λ (p : Review). IsNext asked form (string_bytes script) p after found next) had.0 is,
+  none_in_turn asked form after,
+  ap (λ (l : List CheckedPath). l ++ checked_path (string_bytes script) found ∷ []) had.1,
   ap (λ (l : List ℕ). l ++ next) had.2 ∙ sym (append-nil next),
 )
-counted_on asked form (first ∷ scripts) script before between after some one text next had is = (
+in_turn_on asked form (first ∷ scripts) script before between after results found text next had is = (
   had.0,
   had.1,
-  had.2 ++ one,
+  had.2 ++ checked_path (string_bytes script) found ∷ [],
   had.3,
   had.4 ++ next,
   had.5,
-  counted_on asked form scripts script had.0 between after had.2 one had.4 next had.6 is,
-  ap (λ (l : List ListedScript). l ++ one) had.7 ∙ append_assoc had.1 had.2 one,
+  in_turn_on asked form scripts script had.0 between after had.2 found had.4 next had.6 is,
+  ap (λ (l : List CheckedPath). l ++ checked_path (string_bytes script) found ∷ []) had.7,
   ap (λ (l : List ℕ). l ++ next) had.8 ∙ append_assoc had.3 had.4 next,
 )
 
-module _ (asked : CheckRequest) (scripts : List (String Global)) (start : CheckPoint) (old : ReportState) (had : List Differing) (before : Option (List ℕ)) where
-  -- the first of them are counted
-  abbrev pub AreDone : ℕ → CheckPoint → ReportState → List Differing → Option (List ℕ) → Type 0
-  AreDone done now new has after = Reports (AreCounted asked old.form (take done scripts) start now) old new had has before after
+module _ {W E : Type 0} (held : W → Option (List ℕ)) (asked : CheckRequest) (scripts : List (String Global)) (start : RunningCheck W E) where
+  -- the first of them are checked
+  abbrev pub AreDone : ℕ → Review → RunningCheck W E → Type 0
+  AreDone done now check = Reports held start check (AreInTurn asked start.report.state.form (take done scripts) reviews.Each now)
 
-  pub none_done : AreDone 0 start old had before
-  none_done = record { listed = []; text = []; said = none_counted asked old.form start; lists = lists_none old had had refl; out = goes_nothing old before }
-
-  pub one_done : (done : ℕ) (script : String Global) (now next : CheckPoint) {two three : ReportState} {has have : List Differing} {between after : Option (List ℕ)} → AreDone done now two has between → slice_get scripts done ≡ Some script
-      → now.review ≢ reviews.Over → (asked.reviews ≡ false → next.review ≡ now.review)
-      → Reports (IsCounted (λ path bytes. ⊤) (λ path other is. ⊤) asked ⊥ [] two.form (string_bytes script) now next) two three has have between after → AreDone (done + 1) next three have after
-  one_done done script now next {has = has} {have = have} done_before got ongoing unasked one = record {
-    listed = done_before.listed ++ one.listed;
-    text = done_before.text ++ one.text;
-    said = subst (λ (l : List (String Global)). AreCounted asked old.form l start next (done_before.listed ++ one.listed) (done_before.text ++ one.text)) (sym (take_there scripts done script got))
-        (counted_on asked old.form (take done scripts) script start now next done_before.listed one.listed done_before.text one.text done_before.said
-        (record { ongoing = ongoing; unasked = unasked; counted = subst (λ (f : ReportForm). IsCounted (λ path bytes. ⊤) (λ path other is. ⊤) asked ⊥ [] f (string_bytes script) now next one.listed one.text) done_before.out.form one.said }));
-    lists = lists_then had has have done_before.listed one.listed done_before.lists one.out one.lists;
-    out = goes_on (λ (f : ReportForm). one.text) done_before.out one.out;
+  pub none_done : AreDone 0 reviews.Each start
+  none_done = record {
+    results = [];
+    text = [];
+    said = none_in_turn asked start.report.state.form reviews.Each;
+    counted = refl;
+    lists = lists_none start.report.state start.results.differing.items start.results.differing.items refl;
+    out = goes_nothing start.report.state (held start.report.output);
   }
+
+  pub one_done : (done : ℕ) (script : String Global) (now next : Review) (two three : RunningCheck W E) → AreDone done now two → slice_get scripts done ≡ Some script → now ≢ reviews.Over → (asked.reviews ≡ false → next ≡ now)
+      → (found : PathResult) → (text : List ℕ) → IsChecked (λ path bytes. ⊤) (λ path other is. ⊤) asked ⊥ [] two.report.state.form (string_bytes script) now next found text → three.results.counts ≡ counts_with two.results.counts found
+      → Lists three.report.state two.results.differing.items three.results.differing.items (listed_of (string_bytes script) found) → Prints held two.report three.report text → AreDone (done + 1) next three
+  one_done done script now next two three had got ongoing unasked found text is counts lists out =
+      let form = start.report.state.form in
+      let path = string_bytes script in
+      let one : IsNext asked form path now next found text = record { ongoing = ongoing; unasked = unasked; checked = subst (λ (f : ReportForm). IsChecked (λ p bytes. ⊤) (λ p other is. ⊤) asked ⊥ [] f path now next found text) had.out.form is } in
+      record {
+        results = had.results ++ checked_path path found ∷ [];
+        text = had.text ++ text;
+        said = subst (λ (l : List (String Global)). AreInTurn asked form l reviews.Each next (had.results ++ checked_path path found ∷ []) (had.text ++ text)) (sym (take_there scripts done script got))
+            (in_turn_on asked form (take done scripts) script reviews.Each now next had.results found had.text text had.said one);
+        counted = counts ∙ ap (λ (t : Totals). counts_with t found) had.counted ∙ counts_then start.results.counts had.results (checked_path path found ∷ []);
+        lists = subst (λ (l : List ListedScript). Lists three.report.state start.results.differing.items three.results.differing.items l) (one_listed had.results path found)
+            (lists_then start.results.differing.items two.results.differing.items three.results.differing.items (listed_in had.results) (listed_of path found) had.lists out lists);
+        out = goes_on (λ (f : ReportForm). text) had.out out;
+      }
 
   -- all that are to be
-  pub all_done : (done : ℕ) (now : CheckPoint) {two three : ReportState} {has have : List Differing} {between after : Option (List ℕ)} → start.review ≡ reviews.Each → AreDone done now two has between → done ≤ length scripts
-      → (now.review ≢ reviews.Over → length scripts ≤ done) → have ≡ has → GoesOut two three between after (review_end now.review now.counts.accepted (length scripts - done))
-      → Reports (AreChecked asked old.form scripts start.counts now.counts) old three had have before after
-  all_done done now {two} {three} {has} {have} each done_before within all same ended = record {
-    listed = done_before.listed;
-    text = done_before.text ++ review_end now.review now.counts.accepted (length scripts - done);
-    said = record {
-      done = done;
-      review = now.review;
-      shown = done_before.text;
-      within = within;
-      counted = subst (λ (p : CheckPoint). AreCounted asked old.form (take done scripts) p now done_before.listed done_before.text) (ap (check_point start.counts) each) done_before.said;
-      all = λ ongoing. omega (arith, within, all ongoing);
-      text_is = refl;
-    };
-    lists = λ memory. ap listing same ∙ done_before.lists (ended.out memory).memory;
-    out = goes_on (λ (f : ReportForm). review_end now.review now.counts.accepted (length scripts - done)) done_before.out ended;
-  }
+  pub all_done : (done : ℕ) (now : Review) (two three : RunningCheck W E) → AreDone done now two → done ≤ length scripts → (now ≢ reviews.Over → length scripts ≤ done) → three.results ≡ two.results
+      → Prints held two.report three.report (review_end now two.results.counts.accepted (length scripts - done)) → Reports held start three (AreChecked asked start.report.state.form scripts three.results.counts)
+  all_done done now two three had within all same ended =
+      let counts : three.results.counts ≡ two.results.counts = ap (λ (r : Results). r.counts) same in
+      record {
+        results = had.results;
+        text = had.text ++ review_end now two.results.counts.accepted (length scripts - done);
+        said = record {
+          done = done;
+          review = now;
+          shown = had.text;
+          within = within;
+          in_turn = had.said;
+          all = λ ongoing. omega (arith, within, all ongoing);
+          text_is = ap (λ (t : Totals). had.text ++ review_end now t.accepted (length scripts - done)) (sym counts);
+        };
+        counted = counts ∙ had.counted;
+        lists = λ memory. ap (λ (r : Results). listing r.differing.items) same ∙ had.lists (ended.out memory).memory;
+        out = goes_on (λ (f : ReportForm). review_end now two.results.counts.accepted (length scripts - done)) had.out ended;
+      }
 
 -- ---- the whole report
 
-module _ (asked : CheckRequest) (found : Found) (counts : Totals) (milliseconds : ℕ) {two three four five : ReportState} {has : List Differing} {a b c d e : Option (List ℕ)} where
-  pub whole_report : (has_before : List Differing) → IsFoundOf asked found → has_before ≡ [] → GoesOut (started asked) two a b (begun_text (started asked).form) → GoesOut two three b c (lost_text two.form found)
-      → Reports (AreChecked asked three.form found.scripts.items (lost_counts found) counts) three four has_before has c d
-      → GoesOut four five d e (last_text asked (length found.scripts.items) four.form has (together counts four.own) milliseconds)
-      → (text : List ℕ) × IsReport asked five counts text × GoesOut (started asked) five a e text
-  whole_report has_before found_is none begun lost checked ended =
+module _ {W E : Type 0} (held : W → Option (List ℕ)) (asked : CheckRequest) (found : Found) (milliseconds : ℕ) (three four five : RunningCheck W E) {two : ReportState} {a b : Option (List ℕ)} where
+  pub whole_report : IsFoundOf asked found → GoesOut (started asked) two a b (begun_text (started asked).form) → three.results.counts ≡ counts_of nothing (lost_results found) → three.results.differing.items ≡ []
+      → GoesOut two three.report.state b (held three.report.output) (lost_text two.form found)
+      → Reports held three four (AreChecked asked three.report.state.form found.scripts.items four.results.counts) → five.results ≡ four.results
+      → Prints held four.report five.report (last_text asked (length found.scripts.items) four.report.state.form four.results.differing.items (together four.results.counts four.report.state.own) milliseconds)
+      → (text : List ℕ) × IsReport asked five.report.state five.results.counts text × GoesOut (started asked) five.report.state a (held five.report.output) text
+  whole_report found_is begun counts none lost checked same ended =
       let form = (started asked).form in
       let n = length found.scripts.items in
-      let last = λ (f : ReportForm) (own : Totals). last_text asked n f has (together counts own) milliseconds in
-      let same : three.form ≡ form = lost.form ∙ begun.form in (
+      let last = λ (f : ReportForm) (own : Totals). last_text asked n f four.results.differing.items (together four.results.counts own) milliseconds in
+      let formed : three.report.state.form ≡ form = lost.form ∙ begun.form in
+      let counted : five.results.counts ≡ four.results.counts = ap (λ (r : Results). r.counts) same in (
         begun_text form ++ (lost_text form found ++ (checked.text ++ last form nothing)),
         record {
           found = found;
           found_is = found_is;
-          listed = checked.listed;
+          results = checked.results;
           shown = checked.text;
-          checked = subst (λ (f : ReportForm). AreChecked asked f found.scripts.items (lost_counts found) counts checked.listed checked.text) same checked.said;
-          differing = has;
-          differing_are = λ memory. checked.lists (ended.out memory).memory ∙ ap (λ (l : List Differing). listing l ++ checked.listed) none;
+          checked = subst (λ (t : Totals). AreChecked asked form found.scripts.items t checked.results checked.text) (sym counted)
+              (subst (λ (f : ReportForm). AreChecked asked f found.scripts.items four.results.counts checked.results checked.text) formed checked.said);
+          counts_are = counted ∙ checked.counted ∙ ap (λ (t : Totals). counts_of t checked.results) counts ∙ counts_then nothing (lost_results found) checked.results;
+          differing = four.results.differing.items;
+          differing_are = λ memory. checked.lists (ended.out memory).memory ∙ ap (λ (l : List Differing). listing l ++ listed_in checked.results) none;
           milliseconds = milliseconds;
-          text_is = refl;
+          text_is = ap (λ (t : Totals). begun_text form ++ (lost_text form found ++ (checked.text ++ last_text asked n form four.results.differing.items (together t nothing) milliseconds))) (sym counted);
         },
         goes_then (λ (f : ReportForm) (own : Totals). lost_text f found ++ (checked.text ++ last f own)) begun
             (goes_then (λ (f : ReportForm) (own : Totals). checked.text ++ last f own) lost (goes_then last checked.out ended)),

@@ -1,12 +1,12 @@
 -- Reviews: what comes, one thing after another, and questions, one after another.
-use Rattle.std.proofs.Common.{◌≡◌, ◌∙◌, ◌+◌, ◌≤◌, List, [], ◌∷◌, ◌++◌, length, Option, Some, None, refl, ap, sym, arith}
-use Rattle.rb_check.specs.declared.answer.Answer.{Answer}
-use Rattle.rb_check.specs.declared.answer.Answer.TheVariants as answers
+use Rattle.std.proofs.Common.{◌≡◌, ◌∙◌, ℕ, ◌+◌, List, [], ◌∷◌, length, take, Some, Result, Ok, Err, refl, ap, sym, arith}
+use Rattle.std.specs.Prelude.{IfOk, IsErr, slice_get}
+use Rattle.std.proofs.lemmas.List.Sums.{fold-append}
+use Rattle.rb_script.proofs.ListLaws.{take_there}
 use Rattle.rb_check.specs.declared.answer.HeardAnswer.{HeardAnswer}
 use Rattle.rb_check.specs.declared.answer.HeardAnswer.TheVariants as heard
 use Rattle.rb_check.specs.declared.question.ReviewQuestion.{ReviewQuestion}
-use Rattle.rb_check.specs.declared.review.Review.TheVariants as reviews
-use Rattle.rb_check.specs.Reviews.{Reviewing, as_list, answered, after_answer, first_heard, rest_heard, reviewed_all}
+use Rattle.rb_check.specs.Reviews.{Hears, Reviewing, answered, after_answer, first_heard, rest_heard, reviewed_all, reviewed_one}
 
 -- ---- what comes
 
@@ -29,30 +29,26 @@ else_length (heard.Answer a ∷ more) h = absurd cc
 else_length (heard.Else ∷ more) h = omega arith
 else_length (heard.End ∷ more) h = absurd cc
 
-pub none_after : (ls : List HeardAnswer) → length ls ≡ 0 → ls ≡ after_answer ls
-none_after [] h = refl
-none_after (next ∷ more) h = absurd (omega arith)
+-- ---- a person
 
-pub after_few : (ls : List HeardAnswer) → length (after_answer ls) ≤ length ls
-after_few [] = omega arith
-after_few (heard.Answer a ∷ more) = omega arith
-after_few (heard.Else ∷ more) = omega (arith, after_few more)
-after_few (heard.End ∷ more) = omega arith
+module _ {P : Type 0} (is_known : P → Type 0) (left : P → List HeardAnswer) where
+  pub hears_on : (one two three : P) (first second both : Type 0) → Hears is_known left one two first → Hears is_known left two three second → (first → second → both) → Hears is_known left one three both
+  hears_on one two three first second both here then so = record {
+    known = λ k. then.known (here.known k);
+    few = λ k f. omega (arith, here.few k f, then.few (here.known k) (omega (arith, f, here.few k f)));
+    so = λ k f. so (here.so k f) (then.so (here.known k) (omega (arith, f, here.few k f)));
+  }
+
+-- nothing is said of what fails
+pub never_ok : {X E : Type 0} (P : X → Type 0) (r : Result X E) → IsErr r → IfOk r P
+never_ok P (Ok x) is = absurd cc
+never_ok P (Err e) is = tt
 
 -- ---- questions
 
-pub all_of_both : (r : Reviewing) (q : Option ReviewQuestion) (rest : List ReviewQuestion) → reviewed_all (reviewed_all r (as_list q)) rest ≡ reviewed_all r (as_list q ++ rest)
-all_of_both r None rest = refl
-all_of_both r (Some q) rest = refl
-
--- one question more, where the rest was still to come
-pub goes_on : (r now : Reviewing) (q : Option ReviewQuestion) (left rest : List ReviewQuestion) (end : Reviewing) → now ≡ reviewed_all r (as_list q) → left ≡ as_list q ++ rest → reviewed_all r left ≡ end → reviewed_all now rest ≡ end
-goes_on r now q left rest end one next so_far =
-    ap (λ (x : Reviewing). reviewed_all x rest) one ∙ all_of_both r q rest ∙ sym (ap (λ (qs : List ReviewQuestion). reviewed_all r qs) next) ∙ so_far
-
-pub gone : (now : Reviewing) (left : List ReviewQuestion) (end : Reviewing) → left ≡ [] → reviewed_all now left ≡ end → now ≡ end
-gone now left end none so_far = sym (ap (λ (qs : List ReviewQuestion). reviewed_all now qs) none) ∙ so_far
-
-pub length_both : (q : Option ReviewQuestion) (rest : List ReviewQuestion) → length (as_list q ++ rest) ≡ length (as_list q) + length rest
-length_both None rest = omega arith
-length_both (Some q) rest = omega arith
+-- one question more
+pub reviewed_more : (r now next : Reviewing) (questions : List ReviewQuestion) (i : ℕ) (question : ReviewQuestion) → slice_get questions i ≡ Some question → now ≡ reviewed_all r (take i questions) → next ≡ reviewed_one now question
+    → next ≡ reviewed_all r (take (i + 1) questions)
+reviewed_more r now next questions i question got so_far one =
+    one ∙ ap (λ (s : Reviewing). reviewed_one s question) so_far
+    ∙ sym (ap (reviewed_all r) (take_there questions i question got) ∙ fold-append reviewed_one r (take i questions) (question ∷ []))

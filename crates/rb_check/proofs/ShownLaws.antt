@@ -1,24 +1,21 @@
 -- What goes out on a report's streams, one text after another.
 use Rattle.std.proofs.Common.{◌≡◌, ◌∙◌, ℕ, suc, ◌+◌, ◌-◌, ◌^◌, Bool, true, false, List, [], ◌∷◌, ◌++◌, length, Option, Some, None, Result, Ok, Err, refl, ap, sym, subst, append_assoc, append-nil, arith}
 use Rattle.std.specs.Io.KnownBytes.{Appends, Keeps}
-use Rattle.std.specs.Prelude.{◌≢◌, IfErr, IfOk, IsOk, min, not, ◌==◌, if◌then◌else◌, is_some, codes}
+use Rattle.std.specs.Prelude.{◌≢◌, IfErr, IfOk, IsOk, min, not, ◌==◌, is_some}
 use Rattle.std.proofs.KnownBytes.{Appends-nil, Appends-trans, Appends-kept}
 use Rattle.rb_report.specs.declared.check.failure.Failure.TheVariants.{NotShown}
 use Rattle.rb_report.specs.declared.check.outcome.Outcome.TheVariants as outcomes
 use Rattle.rb_report.specs.declared.check.totals.Totals.{Totals}
-use Rattle.rb_report.specs.Counts.{of_outcome, together, totals_text}
+use Rattle.rb_report.specs.Counts.{of_outcome, together}
 use Rattle.rb_script.specs.declared.sink.WriteFault.{WriteFault}
 use Rattle.rb_script.specs.Writes.{AppendsFront, Writes}
-use Rattle.rb_text.proofs.SentLaws.{Sent}
 use Rattle.rb_check.specs.declared.format.Format.{Format}
 use Rattle.rb_script_report.specs.declared.fault.ShowFault.{ShowFault}
 use Rattle.rb_script_report.specs.declared.fault.ShowFault.TheVariants as faults
 use Rattle.rb_script_report.specs.Shows.{Shows}
-use Rattle.rb_check.specs.declared.differing.Differing.{Differing}
-use Rattle.rb_check.specs.declared.remark.Remark.{Remark}
 use Rattle.rb_check.specs.declared.report_state.ReportForm.{ReportForm}
 use Rattle.rb_check.specs.declared.report_state.ReportState.{ReportState}
-use Rattle.rb_check.specs.Shown.{HeldAfter, GoesOut, GoesOutIf, GoesOutInPart, LosesNothing, Told, beginning, begun_text, cleared, clearing, closed, closing_text, differing_text, ending, in_form, lacking, lacks_memory, list_text, listed_text, noticed_text, own_after, people_text, programs_text, remark_text}
+use Rattle.rb_check.specs.Shown.{HeldAfter, GoesOut, GoesOutIf, GoesOutInPart, Told, cleared, clearing, closed, in_form, lacking, lacks_memory, own_after}
 
 -- ---- held bytes
 
@@ -108,24 +105,6 @@ module _ {one two three : ReportState} {a b c : Option (List ℕ)} {t : List ℕ
   pub goes_on : (text : ReportForm → List ℕ) → GoesOut one two a b t → GoesOut two three b c (text two.form) → GoesOut one three a c (t ++ text one.form)
   goes_on text first second = goes_then (λ f own. text f) first second
 
--- ---- nothing of the report fails
-
-closed_same : (x y z : Bool) (a b c : Option (List ℕ)) (t u : List ℕ) → HeldAfter x y a b t → HeldAfter y z b c u → z ≡ x → y ≡ x
-closed_same false false z a b c t u h k e = refl
-closed_same false true false a b c t u h k e = absurd k
-closed_same false true true a b c t u h k e = absurd cc
-closed_same true false z a b c t u h k e = absurd h
-closed_same true true z a b c t u h k e = refl
-
-module _ {one two three : ReportState} {a b c : Option (List ℕ)} {t u : List ℕ} where
-  pub loses_first : GoesOut one two a b t → GoesOut two three b c u → LosesNothing one three → LosesNothing one two
-  loses_first first second none =
-      let later = second.out none.memory in
-      record { memory = later.memory; output = closed_same one.is_closed two.is_closed three.is_closed a b c t u (first.out later.memory).held later.held none.output }
-
-  pub loses_second : GoesOut one two a b t → GoesOut two three b c u → LosesNothing one three → LosesNothing two three
-  loses_second first second none = record { memory = none.memory; output = none.output ∙ sym (loses_first first second none).output }
-
 -- ---- nothing
 
 held_none : (x : Bool) (a : Option (List ℕ)) → HeldAfter x x a a []
@@ -147,7 +126,7 @@ held_closed true a t is = Appends-nil a
 pub goes_nowhere : (s : ReportState) (a : Option (List ℕ)) (t : List ℕ) → s.is_closed ≡ true → GoesOut s s a a t
 goes_nowhere s a t is = record { form = refl; out = λ memory. record { memory = memory; held = held_closed s.is_closed a t is; own = own_none s.is_closed s.own } }
 
-one_lacks : (w : ℕ) → not (min (w + 1) (2 ^ 64 - 1) == 0) ≡ true
+pub one_lacks : (w : ℕ) → not (min (w + 1) (2 ^ 64 - 1) == 0) ≡ true
 one_lacks w = grind arith
 
 none_lacks : (w : ℕ) → not (min (w + 0) (2 ^ 64 - 1) == 0) ≡ false → not (w == 0) ≡ false
@@ -216,9 +195,6 @@ goes_before {s} {u} {b} {c} {v} a t unclosed h out = record {
 pub goes_from : {s u n : ReportState} {a b : Option (List ℕ)} {t : List ℕ} → u ≡ s → GoesOut u n a b t → GoesOut s n a b t
 goes_from {n = n} {a = a} {b = b} {t = t} e h = subst (λ (v : ReportState). GoesOut v n a b t) e h
 
-pub goes_nothing_at : (s u : ReportState) (a b : Option (List ℕ)) → u ≡ s → b ≡ a → GoesOut s u a b []
-goes_nothing_at s u a b e f = subst (λ (v : ReportState). GoesOut s v a b []) (sym e) (subst (λ (h : Option (List ℕ)). GoesOut s s a h []) (sym f) (goes_nothing s a))
-
 not_closed_false : (x : Bool) → not x ≡ false → x ≡ true
 not_closed_false false h = absurd cc
 not_closed_false true h = refl
@@ -252,9 +228,6 @@ part_whole t out = record { text = t; out = out }
 
 pub part_then : {one two three : ReportState} {a b c : Option (List ℕ)} {t : List ℕ} → GoesOut one two a b t → GoesOutInPart two three b c → GoesOutInPart one three a c
 part_then {t = t} first part = record { text = t ++ part.text; out = goes_on (λ (f : ReportForm). part.text) first part.out }
-
-pub parts_then : {one two three : ReportState} {a b c : Option (List ℕ)} → GoesOutInPart one two a b → GoesOutInPart two three b c → GoesOutInPart one three a c
-parts_then first second = part_then first.out second
 
 pub if_along : {X E : Type 0} (r : Result X E) (s u : ReportState) (a b : Option (List ℕ)) (t v : List ℕ) → t ≡ v → GoesOutIf r s u a b t → GoesOutIf r s u a b v
 if_along r s u a b t v e h = subst (λ (l : List ℕ). GoesOutIf r s u a b l) e h
@@ -316,35 +289,14 @@ module _ {Y E : Type 0} (s u n : ReportState) (a b c d : Option (List ℕ)) (t v
       let unclosed : u.is_closed ≡ false = ap (λ (x : ReportState). x.is_closed) same ∙ not_closed_true s.is_closed (sym is ∙ open_is) in
       if_from done s u n a d (t ++ v) same (shows a (t ++ v) unclosed (front_more v (written_front r (subst (λ (h : Option (List ℕ)). Writes r h c t) held put))))
 
--- ---- what is said of a script
+-- ---- to people, or to programs
 
-module _ {s u : ReportState} {a b : Option (List ℕ)} (path : List ℕ) (remark : Remark) (form : ReportForm) where
-  pub noticed_programs : (format : Format) → form.format ≡ Some format → GoesOut s u a b (programs_text format form.is_strict path remark) → GoesOut s u a b (noticed_text form path remark)
-  noticed_programs format e h = subst (λ (f : Option Format). GoesOut s u a b (in_form f [] (λ g. programs_text g form.is_strict path remark))) (sym e) h
+module _ {s u : ReportState} {a b : Option (List ℕ)} {form : Option Format} (people : List ℕ) (programs : Format → List ℕ) where
+  pub to_programs : (format : Format) → form ≡ Some format → GoesOut s u a b (programs format) → GoesOut s u a b (in_form form people programs)
+  to_programs format e h = subst (λ (f : Option Format). GoesOut s u a b (in_form f people programs)) (sym e) h
 
-  pub noticed_nothing : form.format ≡ None → GoesOut s u a b [] → GoesOut s u a b (noticed_text form path remark)
-  noticed_nothing e h = subst (λ (f : Option Format). GoesOut s u a b (in_form f [] (λ g. programs_text g form.is_strict path remark))) (sym e) h
-
-  pub remarked_programs : (format : Format) → form.format ≡ Some format → GoesOut s u a b (programs_text format form.is_strict path remark) → GoesOut s u a b (remark_text form path remark)
-  remarked_programs format e h = subst (λ (f : Option Format). GoesOut s u a b (in_form f (people_text path remark) (λ g. programs_text g form.is_strict path remark))) (sym e) h
-
-  pub remarked_people : form.format ≡ None → GoesOut s u a b (people_text path remark) → GoesOut s u a b (remark_text form path remark)
-  remarked_people e h = subst (λ (f : Option Format). GoesOut s u a b (in_form f (people_text path remark) (λ g. programs_text g form.is_strict path remark))) (sym e) h
-
--- ---- the beginning and the end
-
-module _ {s u : ReportState} {a b : Option (List ℕ)} (form : ReportForm) where
-  pub begun_programs : (format : Format) → form.format ≡ Some format → GoesOut s u a b (beginning format) → GoesOut s u a b (begun_text form)
-  begun_programs format e h = subst (λ (f : Option Format). GoesOut s u a b (in_form f [] beginning)) (sym e) h
-
-  pub begun_people : form.format ≡ None → GoesOut s u a b [] → GoesOut s u a b (begun_text form)
-  begun_people e h = subst (λ (f : Option Format). GoesOut s u a b (in_form f [] beginning)) (sym e) h
-
-  pub closed_programs : (t : Totals) (ms : ℕ) (format : Format) → form.format ≡ Some format → GoesOut s u a b (ending t format) → GoesOut s u a b (closing_text form t ms)
-  closed_programs t ms format e h = subst (λ (f : Option Format). GoesOut s u a b (in_form f (totals_text t ms) (ending t))) (sym e) h
-
-  pub closed_people : (t : Totals) (ms : ℕ) → form.format ≡ None → GoesOut s u a b (totals_text t ms) → GoesOut s u a b (closing_text form t ms)
-  closed_people t ms e h = subst (λ (f : Option Format). GoesOut s u a b (in_form f (totals_text t ms) (ending t))) (sym e) h
+  pub to_people : form ≡ None → GoesOut s u a b people → GoesOut s u a b (in_form form people programs)
+  to_people e h = subst (λ (f : Option Format). GoesOut s u a b (in_form f people programs)) (sym e) h
 
 pub none_listed : (o : Option Format) (t : List ℕ) → is_some o ≡ true → in_form o t (λ _. []) ≡ []
 none_listed None t is = absurd cc
@@ -353,24 +305,6 @@ none_listed (Some f) t is = refl
 pub all_listed : (o : Option Format) (t : List ℕ) → is_some o ≡ false → in_form o t (λ _. []) ≡ t
 all_listed None t is = refl
 all_listed (Some f) t is = absurd cc
-
-pub unlisted : (lists : Bool) (form : ReportForm) (ds : List Differing) → lists ≡ false → listed_text lists form ds ≡ []
-unlisted false form ds is = refl
-unlisted true form ds is = absurd cc
-
-pub unlisted_programs : (lists : Bool) (form : ReportForm) (ds : List Differing) → lists ≡ true → is_some form.format ≡ true → listed_text lists form ds ≡ []
-unlisted_programs false form ds is programs = absurd cc
-unlisted_programs true form ds is programs = none_listed form.format (list_text ds) programs
-
-pub listed_people : (lists : Bool) (form : ReportForm) (ds : List Differing) → lists ≡ true → is_some form.format ≡ false → listed_text lists form ds ≡ list_text ds
-listed_people false form ds is people = absurd cc
-listed_people true form ds is people = all_listed form.format (list_text ds) people
-
-pub list_none : (ds : List Differing) → (length ds == 0) ≡ true → list_text ds ≡ []
-list_none ds is = ap (λ (b : Bool). if b then [] else differing_text ds ++ codes "\n") is
-
-pub list_some : (ds : List Differing) → (length ds == 0) ≡ false → list_text ds ≡ differing_text ds ++ codes "\n"
-list_some ds is = ap (λ (b : Bool). if b then [] else differing_text ds ++ codes "\n") is
 
 pub none_there : {X : Type 0} (xs : List X) → (length xs == 0) ≡ true → xs ≡ []
 none_there [] is = refl
@@ -432,8 +366,3 @@ told_uncleared a true is = absurd cc
 pub told_cleared : {P R : Type 0} (a c : Option (List ℕ)) (shows : Bool) → shows ≡ true → Told P R a c clearing → Told P R a c (cleared shows)
 told_cleared a c false is h = absurd cc
 told_cleared a c true is h = h
-
--- ---- changing how a sink shows bytes
-
-pub sent_kept : {old mid new : Option (List ℕ)} {text rest : List ℕ} → Sent old mid text rest → Keeps mid new → Sent old new text rest
-sent_kept {old} {mid} {new} s k = record { front = s.front; parts = s.parts; appended = Appends-kept old mid new s.front s.appended k }

@@ -1,28 +1,25 @@
 -- The report of scripts as JUnit's XML, as GitLab and Jenkins read it: for each script a suite with one case. (This project's.)
 use Rattle.std.specs.Prelude.{ℕ, ◌==◌, Bool, if◌then◌else◌, List, [], ◌++◌, Option, codes, decimal, length}
 use Rattle.std.specs.List.{flat_map}
-use Rattle.rb_script.specs.Lines.{Line}
-use Rattle.rb_script.specs.Script.{PlainScript}
-use Rattle.rb_replay.specs.Run.{outputs}
-use Rattle.rb_replay.specs.Report.{mismatches}
 use Rattle.rb_report.specs.declared.check.colors.Colors.TheVariants.{Off}
 use Rattle.rb_report.specs.declared.check.status.Status.{Status}
 use Rattle.rb_report.specs.declared.check.status.Status.TheVariants.{Matched}
-use Rattle.rb_report.specs.Counts.{nothing, of_outcome, status_of, together}
+use Rattle.rb_report.specs.Counts.{nothing, status_of}
 use Rattle.rb_report.specs.Names.{shown_name}
 use Rattle.rb_report.specs.Notices.{warning_text}
 use Rattle.rb_report.specs.Refusals.{at_line}
 use Rattle.rb_script_report.specs.declared.view.Detail.TheVariants.{Differing}
 use Rattle.rb_script_report.specs.declared.warning.Warning.{Warning}
-use Rattle.rb_script_report.specs.Checked.{first_head}
-use Rattle.rb_script_report.specs.Errors.{error_count}
 use Rattle.rb_script_report.specs.Whys.{told_text}
 use Rattle.rb_check.specs.declared.junit.CaseVerdict.{CaseVerdict}
 use Rattle.rb_check.specs.declared.junit.CaseVerdict.TheVariants.{Passes, Fails, Errs}
 use Rattle.rb_check.specs.declared.kind.NoticeKind.{NoticeKind}
 use Rattle.rb_check.specs.declared.kind.NoticeKind.TheVariants as kinds
+use Rattle.rb_check.specs.declared.script_result.PathResult.TheVariants as paths
+use Rattle.rb_check.specs.declared.script_result.ScriptResult.{ScriptResult}
 use Rattle.rb_check.specs.Commands.{without_front}
-use Rattle.rb_check.specs.Counts.{ran_as, warnings_in}
+use Rattle.rb_check.specs.Results.{counts_with}
+use Rattle.rb_check.specs.Subjects.{PlainChecked, result_of, warnings_in}
 use Rattle.rb_check.specs.Xml.{in_text, in_value, line_end}
 
 -- ---- a suite
@@ -48,32 +45,32 @@ suite_front path line verdict =
 abbrev pub suite_text : List ℕ → Option ℕ → CaseVerdict → List ℕ → List ℕ → List ℕ
 suite_text path line verdict message details = suite_front path line verdict ++ (body_of verdict message details ++ codes "</testcase></testsuite>\n")
 
--- ---- a script that ran, with these lines, whose heads begin on these lines
+-- ---- a script that ran
 
 -- it passes, where its status alone would be 0
 abbrev pub verdict_by : Status → CaseVerdict
 verdict_by Matched = Passes
 verdict_by other = Fails
 
-abbrev pub verdict_of : Bool → List Line → List ℕ → PlainScript → CaseVerdict
-verdict_of strict ls heads s = verdict_by (status_of strict (together nothing (of_outcome (ran_as ls heads s (length (mismatches s))))))
+abbrev pub verdict_of : Bool → ScriptResult → CaseVerdict
+verdict_of strict r = verdict_by (status_of strict (counts_with nothing (paths.Ran r)))
 
 abbrev pub message_with : ℕ → ℕ → ℕ → List ℕ
 message_with mismatches errors warnings = codes "mismatches: " ++ (decimal mismatches ++ (codes ", errors: " ++ (decimal errors ++ (codes ", warnings: " ++ decimal warnings))))
 
-abbrev pub message_of : List Line → List ℕ → PlainScript → List ℕ
-message_of ls heads s = message_with (length (mismatches s)) (error_count ls heads (outputs s)) (length (warnings_in ls heads s))
+abbrev pub message_of : ScriptResult → List ℕ
+message_of r = message_with r.left r.errors r.warnings
 
 abbrev pub warnings_text : List ℕ → List Warning → List ℕ
 warnings_text path ws = flat_map (λ w. warning_text path w.line w.doubt) ws
 
 -- the script's report for people: its warnings, its mismatches and its new errors
-abbrev pub details_of : List Line → List ℕ → List (List Line) → List ℕ → PlainScript → List ℕ
-details_of ls path whys heads s = warnings_text path (warnings_in ls heads s) ++ told_text Differing Off ls path whys heads s
+abbrev pub details_of : PlainChecked → List ℕ
+details_of c = warnings_text c.path (warnings_in c) ++ told_text Differing Off c.layout.text c.path c.whys c.layout.heads.items c.script
 
 -- its case is on the line of the first mismatch
-abbrev pub script_suite : Bool → List Line → List ℕ → List (List Line) → List ℕ → PlainScript → List ℕ
-script_suite strict ls path whys heads s = suite_text path (first_head heads (mismatches s)) (verdict_of strict ls heads s) (message_of ls heads s) (details_of ls path whys heads s)
+abbrev pub script_suite : Bool → PlainChecked → List ℕ
+script_suite strict c = suite_text c.path (result_of c).first (verdict_of strict (result_of c)) (message_of (result_of c)) (details_of c)
 
 -- ---- notices about a script
 

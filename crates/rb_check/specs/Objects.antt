@@ -5,8 +5,10 @@ use Rattle.rb_text.specs.Json.{ascii}
 use Rattle.rb_script.specs.Lines.{Line}
 use Rattle.rb_report.specs.Heads.{listed}
 use Rattle.rb_report.specs.declared.check.totals.Totals.{Totals}
+use Rattle.rb_script_report.specs.Checked.{head_of}
 use Rattle.rb_check.specs.declared.totals_object.TotalsPiece.{TotalsPiece}
 use Rattle.rb_check.specs.declared.totals_object.TotalsPiece.TheVariants as pieces
+use Rattle.rb_check.specs.Subjects.{PlainRan}
 
 -- a line between quotes
 abbrev pub quoted : Line → List ℕ
@@ -34,8 +36,8 @@ abbrev pub object_end : List Line → List ℕ
 object_end why = reasons_member why ++ codes "]}\n"
 
 -- the same, with the reasons of what it gave
-abbrev pub object_text : List ℕ → ℕ → List ℕ → List ℕ → List Line → List Line → List Line → List ℕ
-object_text path line head status expected output why = lines_members path line head status expected output ++ object_end why
+abbrev pub object_text : List ℕ → List ℕ → PlainRan → List ℕ
+object_text path status d = lines_members path d.line (head_of d.block) status d.block.expected d.output ++ object_end d.why
 
 -- the line that a notice is about, if there is one, after the script's path
 abbrev pub line_member : Option ℕ → List ℕ

@@ -1,38 +1,39 @@
 -- A review: what is asked about, what answers mean, and what is accepted by the lines that are read. (This project's.)
-use Rattle.std.specs.Prelude.{ℕ, zero, suc, ◌==◌, ◌||◌, ◌&&◌, ◌-◌, Bool, not, if◌then◌else◌, List, [], ◌∷◌, ◌++◌, Option, Some, None, codes, decimal, drop, length, min, nat_lt, slice_index_or, take}
+use Rattle.std.specs.Prelude.{◌≡◌, ℕ, zero, suc, ◌<◌, ◌≤◌, ◌^◌, ◌==◌, ◌||◌, ◌&&◌, ◌-◌, Bool, not, if◌then◌else◌, List, [], ◌∷◌, ◌++◌, Option, Some, None, codes, decimal, drop, length, min, nat_lt, slice_get, slice_index_or, take}
 use Rattle.std.specs.List.{flat_map, fold}
 use Rattle.std.specs.Str.{trim}
 use Rattle.rb_script.specs.Lines.{Line}
 use Rattle.rb_script.specs.Marks.{is_comment}
-use Rattle.rb_script.specs.Script.{PlainBlock}
 use Rattle.rb_replay.specs.Report.{same_lines}
 use Rattle.rb_script_report.specs.declared.accept_options.AcceptFilter.{AcceptFilter}
 use Rattle.rb_script_report.specs.Accepting.{is_picked}
-use Rattle.rb_script_report.specs.Checked.{of_each}
 use Rattle.rb_script_report.specs.Errors.{is_unexpected}
 use Rattle.rb_check.specs.declared.answer.Answer.{Answer}
 use Rattle.rb_check.specs.declared.answer.Answer.TheVariants as answers
 use Rattle.rb_check.specs.declared.answer.HeardAnswer.{HeardAnswer}
 use Rattle.rb_check.specs.declared.answer.HeardAnswer.TheVariants as heard
+use Rattle.rb_check.specs.declared.check_request.CheckRequest.{CheckRequest}
 use Rattle.rb_check.specs.declared.question.ReviewQuestion.{ReviewQuestion}
 use Rattle.rb_check.specs.declared.review.Review.{Review}
 use Rattle.rb_check.specs.declared.review.Review.TheVariants as reviews
+use Rattle.rb_check.specs.declared.review.Reviewer.{Reviewer}
+use Rattle.rb_check.specs.Subjects.{PlainChecked, PlainRan, runs_of}
 
 -- ---- what is asked about
 
 -- a directive whose output is not the expected one, and that is picked
-abbrev pub question_of : Bool → AcceptFilter → List Line → ℕ → PlainBlock → List Line → Option ReviewQuestion
-question_of errors picked ls line b output =
-    if same_lines b.expected output || not (is_picked picked line) then None
-    else Some (record { head = line; is_taken = errors || not (is_unexpected ls line output) })
+abbrev pub question_of : Bool → AcceptFilter → List Line → PlainRan → List ReviewQuestion
+question_of errors picked ls d =
+    if same_lines d.block.expected d.output || not (is_picked picked d.line) then []
+    else record { index = d.index; head = d.line; is_taken = errors || not (is_unexpected ls d.line d.output) } ∷ []
 
-abbrev pub as_list : Option ReviewQuestion → List ReviewQuestion
-as_list None = []
-as_list (Some question) = question ∷ []
+-- the questions of a script, where these of its directives are picked
+abbrev pub questions_of : CheckRequest → AcceptFilter → PlainChecked → List ReviewQuestion
+questions_of asked picked c = flat_map (question_of asked.accepts_errors picked c.layout.text) (runs_of c)
 
--- those of a script with these lines, whose heads begin on these lines
-abbrev pub questions_of : Bool → AcceptFilter → List Line → List ℕ → List PlainBlock → List (List Line) → List ReviewQuestion
-questions_of errors picked ls heads bs os = of_each (λ line b output. as_list (question_of errors picked ls line b output)) heads bs os
+-- they are about the first n directives
+abbrev pub AreWithin : List ReviewQuestion → ℕ → Type 0
+AreWithin questions n = (i : ℕ) → (question : ReviewQuestion) → slice_get questions i ≡ Some question → question.index < n
 
 -- which of how many it is
 abbrev pub question_text : ℕ → ℕ → List ℕ
@@ -155,6 +156,16 @@ pub record Reviewing : Type 0 where
 
 abbrev pub reviewing : List ℕ → Review → List HeardAnswer → Reviewing
 reviewing said review left = record { said = said; review = review; left = left }
+
+-- a reviewer's review, by the lines that are left
+abbrev pub review_so_far : {P : Type 0} → (P → List HeardAnswer) → Reviewer P → Reviewing
+review_so_far left r = reviewing r.said.items r.review (left r.person)
+
+-- if it is known what is still to be read, and that is few lines, then so it is afterwards; no line comes back, and this holds
+pub record Hears {P : Type 0} (is_known : P → Type 0) (left : P → List HeardAnswer) (old new : P) (holds : Type 0) : Type 0 where
+  pub known : is_known old → is_known new
+  pub few : is_known old → length (left old) < 2 ^ 64 → length (left new) ≤ length (left old)
+  pub so : is_known old → length (left old) < 2 ^ 64 → holds
 
 abbrev pub answered_one : Reviewing → ReviewQuestion → Reviewing
 answered_one r question = reviewing (r.said ++ said_by (answered r.left) question.head) (next_review (answered r.left)) (after_answer r.left)

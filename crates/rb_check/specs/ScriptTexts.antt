@@ -2,12 +2,9 @@
 use Rattle.std.specs.Prelude.{◌≡◌, ℕ, ◌≤◌, ◌==◌, ◌&&◌, ◌||◌, Bool, true, false, not, if◌then◌else◌, List, [], ◌∷◌, ◌++◌, Option, Some, None, length, map}
 use Rattle.std.specs.List.{flat_map, list_any}
 use Rattle.std.specs.List.Sorted.{IsNonDecreasing}
-use Rattle.rb_script.specs.Lines.{Line}
 use Rattle.rb_script.specs.Script.{PlainScript}
 use Rattle.rb_replay.specs.Report.{mismatches}
-use Rattle.rb_report.specs.declared.check.colors.Colors.{Colors}
 use Rattle.rb_report.specs.declared.check.table.TheConstants.{MAX_SCRIPT_CELLS}
-use Rattle.rb_script_report.specs.declared.layout.Layout.{Layout}
 use Rattle.rb_script_report.specs.declared.view.Detail.{Detail}
 use Rattle.rb_script_report.specs.declared.view.Detail.TheVariants as details
 use Rattle.rb_script_report.specs.Checked.{head_line}
@@ -18,22 +15,11 @@ use Rattle.rb_check.specs.declared.format.Format.TheVariants.{Json, Github, Juni
 use Rattle.rb_check.specs.declared.remark.Remark.TheVariants as remarks
 use Rattle.rb_check.specs.declared.report_state.ReportForm.{ReportForm}
 use Rattle.rb_check.specs.declared.report_state.ReportState.{ReportState}
-use Rattle.rb_check.specs.Counts.{warnings_in}
 use Rattle.rb_check.specs.Formats.{script_text}
 use Rattle.rb_check.specs.Place.{ArePartedAt}
 use Rattle.rb_check.specs.Shown.{GoesOut, in_form, remark_text, warnings_text}
+use Rattle.rb_check.specs.Subjects.{PlainChecked, warnings_in}
 use Rattle.rb_check.specs.Targets.{AreNamedLines}
-
--- a script that ran, with the reasons and the colours of what is shown of it
-pub record PlainChecked : Type 0 where
-  pub path : List ℕ
-  pub layout : Layout
-  pub whys : List (List Line)
-  pub script : PlainScript
-  pub colors : Colors
-
-abbrev pub checked : List ℕ → Layout → List (List Line) → PlainScript → Colors → PlainChecked
-checked path layout whys s colors = record { path = path; layout = layout; whys = whys; script = s; colors = colors }
 
 -- ---- its warnings and its report
 
@@ -47,13 +33,15 @@ shows_warnings details.Brief = false
 abbrev pub warns : CheckRequest → PlainScript → Bool
 warns asked s = (asked.accepts && not (length (mismatches s) == 0)) || (asked.is_strict || shows_warnings asked.shown)
 
-abbrev pub shown_warnings : CheckRequest → ReportForm → List ℕ → Layout → PlainScript → List ℕ
-shown_warnings asked form path l s = if warns asked s then warnings_text form path (warnings_in l.text l.heads.items s) else []
+abbrev pub shown_warnings : CheckRequest → ReportForm → PlainChecked → List ℕ
+shown_warnings asked form c = if warns asked c.script then warnings_text form c.path (warnings_in c) else []
 
 -- to people, or in the format for programs
-abbrev pub report_text : CheckRequest → Colors → List ℕ → Layout → List (List Line) → PlainScript → List ℕ
-report_text asked colors path l whys s =
-    in_form asked.format (told_text asked.shown colors l.text path whys l.heads.items s) (λ format. script_text format asked.is_strict l.text path whys l.heads.items s)
+abbrev pub people_report : Detail → PlainChecked → List ℕ
+people_report shown c = told_text shown c.colors c.layout.text c.path c.whys c.layout.heads.items c.script
+
+abbrev pub report_text : CheckRequest → PlainChecked → List ℕ
+report_text asked c = in_form asked.format (people_report asked.shown c) (λ format. script_text format asked.is_strict c)
 
 -- in JUnit's XML each script has its case
 abbrev pub may_be_empty : Option Format → Bool
@@ -77,15 +65,15 @@ AreNamed heads (line ∷ lines) [] = ⊥
 AreNamed heads (line ∷ lines) (place ∷ places) = IsNamed heads line place × AreNamed heads lines places
 
 -- a directive alone: what differs, or its output
-abbrev pub alone_text : Colors → List ℕ → Layout → List (List Line) → PlainScript → ℕ → List ℕ
-alone_text colors path l whys s place = told_alone MAX_SCRIPT_CELLS true colors l.text path whys l.heads.items s place
+abbrev pub alone_text : PlainChecked → ℕ → List ℕ
+alone_text c place = told_alone MAX_SCRIPT_CELLS true c.colors c.layout.text c.path c.whys c.layout.heads.items c.script place
 
 -- a directive that was to be accepted, and whose output is the expected one
-abbrev pub matched_at : ReportForm → List ℕ → PlainScript → ℕ → ℕ → List ℕ
-matched_at form path s head place = if list_any (λ k. k == place) (mismatches s) then [] else remark_text form path (remarks.Matches head)
+abbrev pub matched_at : ReportForm → PlainChecked → ℕ → ℕ → List ℕ
+matched_at form c head place = if list_any (λ k. k == place) (mismatches c.script) then [] else remark_text form c.path (remarks.Matches head)
 
-abbrev pub matched_text : ReportForm → List ℕ → List ℕ → PlainScript → ℕ → List ℕ
-matched_text form path heads s place = matched_at form path s (head_line heads place) place
+abbrev pub matched_text : ReportForm → PlainChecked → ℕ → List ℕ
+matched_text form c place = matched_at form c (head_line c.layout.heads.items place) place
 
 -- the directives that the lines name are shown, one after another
 pub record AreShown (text : ℕ → List ℕ) (heads lines : List ℕ) (old new : ReportState) (before after : Option (List ℕ)) : Type 0 where
@@ -103,13 +91,13 @@ pub record ArePicked (text : ℕ → List ℕ) (heads lines picked : List ℕ) (
 -- what is shown of a script: the directives that are named, alone; or its warnings and its report, if none is named, outputs are accepted, or programs read it
 pub data IsTold (tells : List ℕ → List ℕ → Bool → Type 0) (asked : CheckRequest) (form : ReportForm) (c : PlainChecked) (text : List ℕ) : Type 0 where
   alone : (lines places : List ℕ) → asked.accepts ≡ false → asked.format ≡ None → AreNamedLines tells c.path asked.targets.now (Some lines) → AreNamed c.layout.heads.items lines places
-      → text ≡ flat_map (alone_text c.colors c.path c.layout c.whys c.script) places → IsTold tells asked form c text
+      → text ≡ flat_map (alone_text c) places → IsTold tells asked form c text
   whole : (asked.accepts ≡ false → asked.format ≡ None → AreNamedLines tells c.path asked.targets.now None)
-      → text ≡ shown_warnings asked form c.path c.layout c.script ++ report_text asked c.colors c.path c.layout c.whys c.script → IsTold tells asked form c text
+      → text ≡ shown_warnings asked form c ++ report_text asked c → IsTold tells asked form c text
 
 -- the heads of the directives that are named to be accepted: none if nothing is accepted, or no line is named; of those that match it is said
 pub data AreNamedHeads (tells : List ℕ → List ℕ → Bool → Type 0) (asked : CheckRequest) (form : ReportForm) (c : PlainChecked) (heads : Option (List ℕ)) (text : List ℕ) : Type 0 where
   unasked : asked.accepts ≡ false → heads ≡ None → text ≡ [] → AreNamedHeads tells asked form c heads text
   by_none : asked.accepts ≡ true → AreNamedLines tells c.path asked.targets.now None → heads ≡ None → text ≡ [] → AreNamedHeads tells asked form c heads text
   by_lines : (lines places : List ℕ) → asked.accepts ≡ true → AreNamedLines tells c.path asked.targets.now (Some lines) → AreNamed c.layout.heads.items lines places
-      → heads ≡ Some (map (head_line c.layout.heads.items) places) → text ≡ flat_map (matched_text form c.path c.layout.heads.items c.script) places → AreNamedHeads tells asked form c heads text
+      → heads ≡ Some (map (head_line c.layout.heads.items) places) → text ≡ flat_map (matched_text form c) places → AreNamedHeads tells asked form c heads text

@@ -37,12 +37,14 @@ use Rattle.rb_check.specs.declared.notes.Note.{Note}
 use Rattle.rb_check.specs.declared.notes.Note.TheVariants as notes
 use Rattle.rb_check.specs.declared.remark.Remark.{Remark}
 use Rattle.rb_check.specs.declared.remark.Remark.TheVariants as remarks
+use Rattle.rb_check.specs.declared.report.Report.{Report}
 use Rattle.rb_check.specs.declared.report_state.ReportForm.{ReportForm}
 use Rattle.rb_check.specs.declared.report_state.ReportState.{ReportState}
 use Rattle.rb_check.specs.declared.visible.Showing.{Showing}
 use Rattle.rb_check.specs.declared.visible.Showing.TheVariants as showings
 use Rattle.rb_check.specs.Formats.{notice_text}
 use Rattle.rb_check.specs.Objects.{totals_object}
+use Rattle.rb_check.specs.Results.{ListedScript, listing}
 use Rattle.rb_check.specs.Reviews.{quit_text}
 
 -- ---- the state of a report
@@ -106,6 +108,24 @@ GoesOutIf (Err e) old new before after text = GoesOutInPart old new before after
 -- the text was written, if the stream takes all
 abbrev pub Told : Type 0 → Type 0 → Option (List ℕ) → Option (List ℕ) → List ℕ → Type 0
 Told takes_before takes_after before after text = takes_before → takes_after × Appends before after text
+
+-- the same of a report's standard output
+abbrev pub Prints : {W E : Type 0} → (W → Option (List ℕ)) → Report W E → Report W E → List ℕ → Type 0
+Prints held old new text = GoesOut old.state new.state (held old.output) (held new.output) text
+
+abbrev pub PrintsPart : {W E : Type 0} → (W → Option (List ℕ)) → Report W E → Report W E → Type 0
+PrintsPart held old new = GoesOutInPart old.state new.state (held old.output) (held new.output)
+
+abbrev pub PrintsIf : {X F W E : Type 0} → Result X F → (W → Option (List ℕ)) → Report W E → Report W E → List ℕ → Type 0
+PrintsIf r held old new text = GoesOutIf r old.state new.state (held old.output) (held new.output) text
+
+-- of its stream of errors
+abbrev pub Tells : {W E : Type 0} → (E → Type 0) → (E → Option (List ℕ)) → Report W E → Report W E → List ℕ → Type 0
+Tells takes held old new text = Told (takes old.errors.sink) (takes new.errors.sink) (held old.errors.sink) (held new.errors.sink) text
+
+-- the list of the scripts that differ grows by these, unless memory was refused for it
+abbrev pub Lists : ReportState → List Differing → List Differing → List ListedScript → Type 0
+Lists state before after scripts = lacks_memory state ≡ false → listing after ≡ listing before ++ scripts
 
 -- neither memory nor standard output failed
 pub record LosesNothing (old new : ReportState) : Type 0 where
@@ -187,17 +207,13 @@ in_form (Some format) people programs = programs format
 abbrev pub remark_text : ReportForm → List ℕ → Remark → List ℕ
 remark_text form path remark = in_form form.format (people_text path remark) (λ format. programs_text format form.is_strict path remark)
 
--- to programs alone
-abbrev pub noticed_text : ReportForm → List ℕ → Remark → List ℕ
-noticed_text form path remark = in_form form.format [] (λ format. programs_text format form.is_strict path remark)
-
 -- its lines that look like a slip
 abbrev pub warnings_text : ReportForm → List ℕ → List Warning → List ℕ
 warnings_text form path ws = flat_map (λ w. remark_text form path (remarks.Warning w)) ws
 
 -- a new error that is left, if its head is picked
 abbrev pub left_one : ReportForm → List ℕ → AcceptFilter → ℕ → List ℕ
-left_one form path picked line = if is_picked picked line then noticed_text form path (remarks.Left line) else []
+left_one form path picked line = if is_picked picked line then remark_text form path (remarks.Left line) else []
 
 abbrev pub left_text : ReportForm → List ℕ → AcceptFilter → List ℕ → List ℕ
 left_text form path picked left = flat_map (λ line. left_one form path picked line) left
@@ -219,21 +235,18 @@ differing_text ds = flat_map (λ d. brief_text (string_bytes d.path) d.mismatche
 abbrev pub list_text : List Differing → List ℕ
 list_text ds = if length ds == 0 then [] else differing_text ds ++ codes "\n"
 
--- to people, if they are to be listed
-abbrev pub listed_text : Bool → ReportForm → List Differing → List ℕ
-listed_text lists form ds = if lists then in_form form.format (list_text ds) (λ _. []) else []
+-- if they are to be listed
+abbrev pub listed_text : Bool → List Differing → List ℕ
+listed_text lists ds = if lists then list_text ds else []
 
 abbrev pub ending : Totals → Format → List ℕ
 ending t Json = totals_object t
 ending t Github = []
 ending t Junit = codes "</testsuites>\n"
 
--- the last line
-abbrev pub closing_text : ReportForm → Totals → ℕ → List ℕ
-closing_text form t ms = in_form form.format (totals_text t ms) (ending t)
-
+-- to people the list and the last line
 abbrev pub end_text : Bool → ReportForm → List Differing → Totals → ℕ → List ℕ
-end_text lists form ds t ms = listed_text lists form ds ++ closing_text form t ms
+end_text lists form ds t ms = in_form form.format (listed_text lists ds ++ totals_text t ms) (ending t)
 
 -- the scripts that differ are listed, where there are several scripts and not each has its line already
 abbrev pub lists : Detail → ℕ → Bool

@@ -1,52 +1,45 @@
 //! Accepting the outputs of one script.
 
-ghost use Rattle.std.specs.Prelude.{◌≡◌, ◌++◌, ℕ, false, List, MatchOption, Some, length, nat_lt};
+ghost use Rattle.std.specs.Prelude.{◌≡◌, ℕ, List, Some, nat_lt};
 ghost use Rattle.std.specs.List.{list_any};
 ghost use Rattle.rb_script.specs.Reads.{Reads};
-ghost use Rattle.rb_replay.specs.Report.{mismatches};
 ghost use Rattle.rb_script_report.specs.Accepting.{accepted};
-ghost use Rattle.rb_script_report.specs.Layouts.{IsLayout};
 ghost use Rattle.rb_files.specs.Places.{WasPut};
 ghost use Rattle.rb_check.specs.declared.remark.Remark.TheVariants as remarks;
-ghost use Rattle.rb_check.specs.AcceptTexts.{SaysAccepted, TellsRefusal, WritesAccepted, echoes_text, ended_text, leaving_text, left_in, left_shown, refusal_failure, refusal_says};
-ghost use Rattle.rb_check.specs.Counts.{counted_as, counts_after};
-ghost use Rattle.rb_check.specs.Endings.{IsLeft};
-ghost use Rattle.rb_check.specs.Listed.{Lists, listed_after, listed_whole};
-ghost use Rattle.rb_check.specs.Shown.{GoesOut, LosesNothing, Told, cleared, failure_lines, noticed_text, says_cause};
+ghost use Rattle.rb_check.specs.AcceptTexts.{Accepts, TellsRefusal, WritesAccepted, echoes_text, ended_text, leaving_text, left_in, left_shown, refusal_failure, refusal_says};
+ghost use Rattle.rb_check.specs.Results.{result_after};
+ghost use Rattle.rb_check.specs.Shown.{Prints, left_one, left_text, remark_text, says_cause};
+ghost use Rattle.rb_check.specs.Subjects.{AreFindings, plain_of};
 
 use crate::checked_script::CheckedScript;
-use crate::ran::{Ran, ScriptEnd};
+use crate::notes::Note;
+use crate::remark::Remark;
 use crate::report::Report;
 use crate::report_sink::ReportSink;
+use crate::script_result::ScriptResult;
 use crate::system::System;
 use rb_files::PathError;
 use rb_machine::Machine;
 use rb_report::check::Failure;
 use rb_script_report::{
-    AcceptFault, AcceptFilter, AcceptOptions, Accepted, accept as accepted, put_left_errors,
+    AcceptFault, AcceptFilter, AcceptOptions, Accepted, accept as accepted, is_picked, number_at,
+    put_left_errors,
 };
-use std::alloc::Global;
 use std::io;
 
-/// Writes the outputs into the script's file: those that are accepted. The others are named.
+/// Writes those outputs into the script's file that are accepted, and says which are not.
 pub(crate) fn accept<M: Machine, S: System, W: ReportSink, E: ReportSink>(
     system: &S,
     wanted: AcceptOptions<'_>,
     subject: &CheckedScript<'_, M>,
     report: &mut Report<W, E>,
-) -> ScriptEnd
-    requires { IsLayout subject.now.text.now.bytes.items subject.now.session.now.script subject.now.layout.now }
-    ensures counts { report.new.counts ≡ counts_after report.old.counts (counted_as subject.now.ran result.left) result.failure }
-    ensures left { subject.now.ran.mismatches ≡ length (mismatches subject.now.session.now.script) → IsLeft wanted.entry subject.now.layout.now subject.now.session.now.script result }
-    ensures listed { Lists report.new.state report.old.differing.items report.new.differing.items (listed_after subject.now.ran (left_in wanted.entry subject.now.layout.now subject.now.session.now.script) result.failure) }
-    ensures said { (text : List ℕ)
-        × SaysAccepted (TellsRefusal report.old.state report.new.state (E.takes_all report.old.errors.sink) (E.takes_all report.new.errors.sink) (E.held report.old.errors.sink) (E.held report.new.errors.sink) report.old.errors.shows_progress subject.now.ran.path.now) report.old.state.form wanted.entry subject.now.ran.path.now subject.now.layout.now subject.now.session.now.script subject.now.ran.mismatches result text
-        × GoesOut report.old.state report.new.state (W.held report.old.output) (W.held report.new.output) text }
-    ensures written { WritesAccepted (λ bytes. S.has_written system.now subject.now.path.now bytes × WasPut S.Place.contents S.Place.is_unchanged S.Place.is_settled bytes) wanted.entry subject.now.layout.now subject.now.session.now.script subject.now.ran.mismatches result }
+) -> ScriptResult
+    requires { AreFindings subject.now }
+    ensures said { (text : List ℕ) × Accepts (TellsRefusal E.takes_all E.held report.old report.new subject.now.path.now) report.old.state.form wanted.entry (plain_of subject.now) result text × Prints W.held report.old report.new text }
+    ensures written { WritesAccepted (λ bytes. S.has_written system.now subject.now.path.now bytes × WasPut S.Place.contents S.Place.is_unchanged S.Place.is_settled bytes) wanted.entry (plain_of subject.now) result }
 {
-    let alloc = system.alloc();
     match accepted(
-        alloc,
+        system.alloc(),
         subject.session,
         &subject.text.bytes,
         subject.layout,
@@ -56,30 +49,55 @@ pub(crate) fn accept<M: Machine, S: System, W: ReportSink, E: ReportSink>(
             leave(subject, wanted, &made.left, report);
             keep(system, wanted, &made, subject, report)
         }
-        Err(fault) => fail(alloc, subject.ran, fault, report),
+        Err(fault) => fail(subject, fault, report),
     }
 }
 
-// Names the outputs of these heads, which are not accepted.
+// Says of the outputs of these heads that they are not accepted.
 fn leave<M: Machine, W: ReportSink, E: ReportSink>(
     subject: &CheckedScript<'_, M>,
     wanted: AcceptOptions<'_>,
     left: &[usize],
     report: &mut Report<W, E>,
 )
-    requires layout { IsLayout subject.now.text.now.bytes.items subject.now.session.now.script subject.now.layout.now }
-    requires left { left.now ≡ left_in wanted subject.now.layout.now subject.now.session.now.script }
-    ensures counts { report.new.counts ≡ report.old.counts }
-    ensures listed { report.new.differing.items ≡ report.old.differing.items }
-    ensures shown { GoesOut report.old.state report.new.state (W.held report.old.output) (W.held report.new.output) (leaving_text report.old.state.form wanted.entry subject.now.ran.path.now subject.now.layout.now subject.now.session.now.script) }
+    requires findings { AreFindings subject.now }
+    requires left { left.now ≡ left_in wanted (plain_of subject.now) }
+    ensures { Prints W.held report.old report.new (leaving_text report.old.state.form wanted.entry (plain_of subject.now)) }
 {
     if left.is_empty() {
         return;
     }
-    let path = subject.ran.path;
-    report.leave(path, wanted.picked, left);
+    let path = subject.path.as_bytes();
+    leave_each(path, wanted.picked, left, report);
     tell_left(subject, wanted, report);
     tell_echoes(path, wanted.picked, left, report);
+}
+
+// Says to programs, of each of these heads that is picked, that its output is not accepted.
+fn leave_each<W: ReportSink, E: ReportSink>(
+    path: &[u8],
+    picked: AcceptFilter<'_>,
+    left: &[usize],
+    report: &mut Report<W, E>,
+)
+    ensures { Prints W.held report.old report.new (left_text report.old.state.form path.now picked.entry left.now) }
+{
+    for i in 0..left.len() {
+        leave_one(path, picked, number_at(left, i), report);
+    }
+}
+
+fn leave_one<W: ReportSink, E: ReportSink>(
+    path: &[u8],
+    picked: AcceptFilter<'_>,
+    line: usize,
+    report: &mut Report<W, E>,
+)
+    ensures { Prints W.held report.old report.new (left_one report.old.state.form path.now picked.entry line) }
+{
+    if is_picked(picked, line) {
+        report.remark(path, Remark::Left(line));
+    }
 }
 
 // Shows people the outputs that are not accepted.
@@ -88,10 +106,8 @@ fn tell_left<M: Machine, W: ReportSink, E: ReportSink>(
     wanted: AcceptOptions<'_>,
     report: &mut Report<W, E>,
 )
-    requires { IsLayout subject.now.text.now.bytes.items subject.now.session.now.script subject.now.layout.now }
-    ensures counts { report.new.counts ≡ report.old.counts }
-    ensures listed { report.new.differing.items ≡ report.old.differing.items }
-    ensures shown { GoesOut report.old.state report.new.state (W.held report.old.output) (W.held report.new.output) (left_shown report.old.state.form wanted.entry subject.now.ran.path.now subject.now.layout.now subject.now.session.now.script) }
+    requires { AreFindings subject.now }
+    ensures { Prints W.held report.old report.new (left_shown report.old.state.form wanted.entry (plain_of subject.now)) }
 {
     if report.is_for_programs() {
         return;
@@ -99,7 +115,7 @@ fn tell_left<M: Machine, W: ReportSink, E: ReportSink>(
     if !report.is_open() {
         return;
     }
-    let path = subject.ran.path.as_bytes();
+    let path = subject.path.as_bytes();
     let sink = &mut report.output;
     let written = put_left_errors(sink, subject.session, subject.layout, path, wanted);
     report.wrote(written);
@@ -107,19 +123,17 @@ fn tell_left<M: Machine, W: ReportSink, E: ReportSink>(
 
 // Says that nothing below the first new error is accepted, if an output differs there.
 fn tell_echoes<W: ReportSink, E: ReportSink>(
-    path: &str,
+    path: &[u8],
     picked: AcceptFilter<'_>,
     left: &[usize],
     report: &mut Report<W, E>,
 )
-    ensures counts { report.new.counts ≡ report.old.counts }
-    ensures listed { report.new.differing.items ≡ report.old.differing.items }
-    ensures shown { GoesOut report.old.state report.new.state (W.held report.old.output) (W.held report.new.output) (echoes_text report.old.state.form path.now picked.entry left.now) }
+    ensures { Prints W.held report.old report.new (echoes_text report.old.state.form path.now picked.entry left.now) }
 {
     match picked {
         AcceptFilter::UpTo(line) => {
             if has_below(left, line) {
-                report.tell_echoes(path, line);
+                report.remark(path, Remark::Echoes(line));
             }
         }
         AcceptFilter::All | AcceptFilter::Heads(_) => {}
@@ -140,73 +154,50 @@ fn keep<M: Machine, S: System, W: ReportSink, E: ReportSink>(
     made: &Accepted,
     subject: &CheckedScript<'_, M>,
     report: &mut Report<W, E>,
-) -> ScriptEnd
+) -> ScriptResult
     requires reads { Reads made.now.text.items (accepted wanted subject.now.layout.now.text subject.now.layout.now.heads.items subject.now.session.now.script) }
-    requires left { made.now.left.items ≡ left_in wanted subject.now.layout.now subject.now.session.now.script }
-    ensures counts { report.new.counts ≡ counts_after report.old.counts (counted_as subject.now.ran result.left) result.failure }
-    ensures left { MatchOption result.failure (result.left ≡ length made.now.left.items) (λ _. result.left ≡ subject.now.ran.mismatches) }
-    ensures listed { Lists report.new.state report.old.differing.items report.new.differing.items (listed_after subject.now.ran made.now.left.items result.failure) }
-    ensures shown { GoesOut report.old.state report.new.state (W.held report.old.output) (W.held report.new.output) (ended_text report.old.state.form subject.now.ran.path.now subject.now.ran.mismatches result.left result.failure) }
-    ensures written { WritesAccepted (λ bytes. S.has_written system.now subject.now.path.now bytes × WasPut S.Place.contents S.Place.is_unchanged S.Place.is_settled bytes) wanted.entry subject.now.layout.now subject.now.session.now.script subject.now.ran.mismatches result }
+    requires left { made.now.left.items ≡ left_in wanted (plain_of subject.now) }
+    requires findings { AreFindings subject.now }
+    ensures found { result ≡ result_after subject.now.ran made.now.left.items result.failure }
+    ensures shown { Prints W.held report.old report.new (ended_text report.old.state.form (plain_of subject.now) result) }
+    ensures written { WritesAccepted (λ bytes. S.has_written system.now subject.now.path.now bytes × WasPut S.Place.contents S.Place.is_unchanged S.Place.is_settled bytes) wanted.entry (plain_of subject.now) result }
 {
     let ran = subject.ran;
-    if made.left.len() == ran.mismatches {
-        report.ran(system.alloc(), ran);
-        return ScriptEnd::of_left(ran.mismatches);
+    if made.left.len() == ran.left {
+        return ran;
     }
     match system.write(subject, wanted, &made.text, report) {
         Ok(()) => {
-            report.accepted(system.alloc(), ran, &made.left);
-            ScriptEnd::of_left(made.left.len())
+            let found = ran.accepting(&made.left);
+            report.remark(subject.path.as_bytes(), Remark::Accepted(found.accepted));
+            found
         }
-        Err(error) => fail_with(system.alloc(), ran, error, report),
-    }
-}
-
-// Reports that it failed to accept: all outputs are left.
-fn fail_with<W: ReportSink, E: ReportSink>(
-    alloc: Global,
-    ran: Ran<'_>,
-    error: PathError,
-    report: &mut Report<W, E>,
-) -> ScriptEnd
-    ensures counts { report.new.counts ≡ counts_after report.old.counts (counted_as ran.entry result.left) result.failure }
-    ensures left { result.left ≡ ran.entry.mismatches }
-    ensures failed { result.failure ≡ Some error.failure }
-    ensures listed { Lists report.new.state report.old.differing.items report.new.differing.items (listed_whole ran.entry) }
-    ensures shown { GoesOut report.old.state report.new.state (W.held report.old.output) (W.held report.new.output) (noticed_text report.old.state.form ran.entry.path.now (remarks.Failed error.failure)) }
-    ensures told { LosesNothing report.old.state report.new.state → (words : List ℕ) × Told (E.takes_all report.old.errors.sink) (E.takes_all report.new.errors.sink) (E.held report.old.errors.sink) (E.held report.new.errors.sink) (cleared report.old.errors.shows_progress ++ failure_lines ran.entry.path.now error words) }
-    ensures progress { LosesNothing report.old.state report.new.state → report.new.errors.shows_progress ≡ false }
-{
-    report.ran(alloc, ran);
-    report.fail(ran.path.as_bytes(), error);
-    ScriptEnd {
-        left: ran.mismatches,
-        failure: Some(error.failure),
+        Err(error) => {
+            report.fail(subject.path.as_bytes(), error);
+            ran.failing(error.failure)
+        }
     }
 }
 
 // Reports why nothing of the script is accepted.
-fn fail<W: ReportSink, E: ReportSink>(
-    alloc: Global,
-    ran: Ran<'_>,
+fn fail<M: Machine, W: ReportSink, E: ReportSink>(
+    subject: &CheckedScript<'_, M>,
     fault: AcceptFault,
     report: &mut Report<W, E>,
-) -> ScriptEnd
-    ensures counts { report.new.counts ≡ counts_after report.old.counts (counted_as ran.entry result.left) result.failure }
-    ensures left { result.left ≡ ran.entry.mismatches }
-    ensures failed { result.failure ≡ Some (refusal_failure fault) }
-    ensures listed { Lists report.new.state report.old.differing.items report.new.differing.items (listed_whole ran.entry) }
-    ensures shown { GoesOut report.old.state report.new.state (W.held report.old.output) (W.held report.new.output) (noticed_text report.old.state.form ran.entry.path.now (remarks.Failed (refusal_failure fault))) }
-    ensures told { TellsRefusal report.old.state report.new.state (E.takes_all report.old.errors.sink) (E.takes_all report.new.errors.sink) (E.held report.old.errors.sink) (E.held report.new.errors.sink) report.old.errors.shows_progress ran.entry.path.now fault }
+) -> ScriptResult
+    ensures found { result ≡ record subject.now.ran { failure = Some (refusal_failure fault) } }
+    ensures shown { Prints W.held report.old report.new (remark_text report.old.state.form subject.now.path.now (remarks.Failed (refusal_failure fault))) }
+    ensures told { TellsRefusal E.takes_all E.held report.old report.new subject.now.path.now fault }
 {
-    let end = fail_with(alloc, ran, error_of(fault), report);
+    let path = subject.path.as_bytes();
+    let error = error_of(fault);
+    report.fail(path, error);
     match fault {
-        AcceptFault::BadOutput(line) => report.tell_bad_output(ran.path, line),
+        AcceptFault::BadOutput(line) => report.errors.tell(&Note::LongLine(path, line)),
         AcceptFault::TooLong => {}
         AcceptFault::OutOfMemory => {}
     }
-    end
+    subject.ran.failing(error.failure)
 }
 
 // What is reported of a script that can't be written with what is accepted.

@@ -2,9 +2,9 @@
 
 ghost use Rattle.std.specs.Prelude.{◌≡◌, ◌+◌, ◌<◌, IfErr, IfOk, length};
 ghost use Rattle.rb_report.specs.declared.check.failure.Failure.TheVariants.{NoDirective, OutOfMemory};
-ghost use Rattle.rb_script_report.specs.Layouts.{IsLayout};
 ghost use Rattle.rb_check.specs.ScriptTexts.{AreShown, alone_text};
-ghost use Rattle.rb_check.specs.Shown.{GoesOutIf, GoesOutInPart};
+ghost use Rattle.rb_check.specs.Shown.{PrintsIf, PrintsPart};
+ghost use Rattle.rb_check.specs.Subjects.{AreFindings, plain_of};
 ghost use Rattle.rb_check.specs.Targets.{AreNotFound};
 
 use crate::checked_script::CheckedScript;
@@ -28,12 +28,10 @@ pub(crate) fn show_alone<M: Machine, W: ReportSink, E: ReportSink>(
     lines: &[usize],
     report: &mut Report<W, E>,
 ) -> Result<(), PathError>
-    requires { IsLayout subject.now.text.now.bytes.items subject.now.session.now.script subject.now.layout.now }
-    ensures counts { report.new.counts ≡ report.old.counts }
-    ensures listed { report.new.differing.items ≡ report.old.differing.items }
+    requires { AreFindings subject.now }
     ensures failed { IfErr result (λ error. AreNotFound (λ these. these ≡ lines.now) subject.now.layout.now.heads.items NoDirective error) }
-    ensures shown { IfOk result (λ _. AreShown (alone_text subject.now.colors subject.now.path.now subject.now.layout.now subject.now.whys.now subject.now.session.now.script) subject.now.layout.now.heads.items lines.now report.old.state report.new.state (W.held report.old.output) (W.held report.new.output)) }
-    ensures part { IfErr result (λ _. GoesOutInPart report.old.state report.new.state (W.held report.old.output) (W.held report.new.output)) }
+    ensures shown { IfOk result (λ _. AreShown (alone_text (plain_of subject.now)) subject.now.layout.now.heads.items lines.now report.old.state report.new.state (W.held report.old.output) (W.held report.new.output)) }
+    ensures part { IfErr result (λ _. PrintsPart W.held report.old report.new) }
 {
     for i in 0..lines.len() {
         let line = number_at(lines, i);
@@ -52,12 +50,10 @@ fn show_directive<M: Machine, W: ReportSink, E: ReportSink>(
     index: usize,
     report: &mut Report<W, E>,
 ) -> Result<(), PathError>
-    requires layout { IsLayout subject.now.text.now.bytes.items subject.now.session.now.script subject.now.layout.now }
+    requires findings { AreFindings subject.now }
     requires within { index < length subject.now.layout.now.heads.items }
-    ensures counts { report.new.counts ≡ report.old.counts }
-    ensures listed { report.new.differing.items ≡ report.old.differing.items }
     ensures memory { IfErr result (λ error. error.failure ≡ OutOfMemory) }
-    ensures shown { GoesOutIf result report.old.state report.new.state (W.held report.old.output) (W.held report.new.output) (alone_text subject.now.colors subject.now.path.now subject.now.layout.now subject.now.whys.now subject.now.session.now.script (index + 1)) }
+    ensures shown { PrintsIf result W.held report.old report.new (alone_text (plain_of subject.now) (index + 1)) }
 {
     if !report.is_open() {
         return Ok(());

@@ -82,6 +82,7 @@ pub(crate) fn visible_key(keys: &[u8]) -> &[u8]
     }
 }
 
+// An answer, or something else.
 fn heard_as(answer: Option<Answer>) -> HeardAnswer
     ensures { result ≡ heard_as answer }
 {

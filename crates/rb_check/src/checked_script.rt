@@ -1,6 +1,6 @@
 //! A script that is being checked.
 
-use crate::ran::Ran;
+use crate::script_result::ScriptResult;
 use crate::system::Text;
 use rb_machine::Machine;
 use rb_replay::Session;
@@ -8,7 +8,7 @@ use rb_report::check::Colors;
 use rb_script::Lines;
 use rb_script_report::{Layout, Warning};
 
-/// A script that ran, with its outcome, its warnings, and the reasons of its outputs if they were asked for.
+/// A script that ran, with its warnings, the reasons of its outputs if they were asked for, and its result before outputs are accepted.
 #[derive(Drop)]
 pub(crate) struct CheckedScript<'a, M: Machine> {
     pub(crate) path: &'a str,
@@ -19,5 +19,5 @@ pub(crate) struct CheckedScript<'a, M: Machine> {
     /// The colours that it is shown in.
     pub(crate) colors: Colors,
     pub(crate) warnings: &'a [Warning],
-    pub(crate) ran: Ran<'a>,
+    pub(crate) ran: ScriptResult,
 }

@@ -1,16 +1,11 @@
 //! Checking one script. Nothing is held longer than its script.
 
-ghost use Rattle.std.specs.Prelude.{◌≡◌, ◌≢◌, ℕ, List, [], false, IfOk, IfErr, Some};
-ghost use Rattle.rb_replay.specs.Report.{mismatches};
+ghost use Rattle.std.specs.Prelude.{◌≡◌, ℕ, List, false, IfOk, IfErr, Some, length};
 ghost use Rattle.rb_report.specs.declared.check.failure.Failure.TheVariants.{OutOfMemory};
-ghost use Rattle.rb_script_report.specs.Layouts.{IsLayout};
-ghost use Rattle.rb_check.specs.Findings.{AreFindings, IsOutcome};
-ghost use Rattle.rb_check.specs.Counts.{counted_as, ran_as, counts_after, warnings_in};
-ghost use Rattle.rb_check.specs.Reported.{Fails, Reported, Reports, check_point};
-ghost use Rattle.rb_check.specs.Endings.{AcceptsSaid, AreWanted, IsAnswered, ending_at, has_warnings};
-ghost use Rattle.rb_check.specs.Listed.{ListedScript, Lists};
-ghost use Rattle.rb_check.specs.ScriptTexts.{checked};
-ghost use Rattle.rb_check.specs.Shown.{GoesOut, GoesOutInPart};
+ghost use Rattle.rb_check.specs.Endings.{AcceptsSaid, AreWanted, IsAnswered};
+ghost use Rattle.rb_check.specs.Reported.{Fails, Reported};
+ghost use Rattle.rb_check.specs.Shown.{Prints, PrintsPart};
+ghost use Rattle.rb_check.specs.Subjects.{AreFindings, numbers_of, plain_of};
 ghost use Rattle.rb_check.specs.Targets.{AreNamedLines, AreNotFound, no_directive_failure};
 
 use crate::accepting::accept;
@@ -19,51 +14,48 @@ use crate::checked_script::CheckedScript;
 use crate::ending::{CheckEnding, ending_of};
 use crate::person::Person;
 use crate::picking::{named_heads, picked_of};
-use crate::ran::{Ran, ScriptEnd};
-use crate::reasons::run_script;
+use crate::remark::Remark;
 use crate::report::Report;
 use crate::report_sink::ReportSink;
 use crate::review::{Reviewer, reviewed};
-use crate::runner::Runner;
+use crate::script_result::{PathResult, ScriptResult};
 use crate::showing::tell;
-use crate::system::{System, Text};
+use crate::system::System;
+use rb_bench::{RunProgress, Runner};
 use rb_files::PathError;
 use rb_machine::Machine;
 use rb_replay::{Session, StartFault};
 use rb_report::check::Failure;
-use rb_script_report::{AcceptFilter, AcceptOptions, Layout, Warning, summary_of, warnings};
+use rb_script_report::{AcceptFilter, AcceptOptions, Layout, summary_of, warnings};
 
 /// Checks the script at the path: shows its mismatches, and accepts them if that was asked for.
 ///
 /// # Errors
 ///
 /// What failed, where the script could not be read or run, or memory was refused for what there is to show.
-pub(crate) fn check_script<T: Runner, S: System, P: Person, W: ReportSink, E: ReportSink>(
+pub(crate) fn check_script<T: RunProgress, S: System, P: Person, W: ReportSink, E: ReportSink>(
     system: &S,
-    runner: &mut T,
+    runner: &mut Runner<'_, T>,
     asked: &CheckRequest<'_>,
     path: &str,
     reviewer: &mut Reviewer<P>,
     report: &mut Report<W, E>,
-) -> Result<(), PathError>
-    // The report shows and counts the script's run, or why the bytes are not a script.
-    ensures reported { IfOk result (λ _.
-        Reports (Reported (S.has_read system.now) (S.tells_one system.now) asked.now (P.is_known reviewer.old.person) (P.left reviewer.old.person) report.old.state.form path.now (check_point report.old.counts reviewer.old.review) (check_point report.new.counts reviewer.new.review))
-        report.old.state report.new.state report.old.differing.items report.new.differing.items (W.held report.old.output) (W.held report.new.output)) }
-    // A failure is not counted yet.
-    ensures failed { IfErr result (λ _. report.new.counts ≡ report.old.counts) }
-    ensures unlisted { IfErr result (λ _. report.new.differing.items ≡ report.old.differing.items) }
+) -> Result<PathResult, PathError>
+    // The report shows the script's run, or why the bytes are not a script.
+    ensures reported { IfOk result (λ found. (text : List ℕ)
+        × Reported (S.has_read system.now) (S.tells_one system.now) asked.now (P.is_known reviewer.old.person) (P.left reviewer.old.person) report.old.state.form path.now reviewer.old.review reviewer.new.review found text
+        × Prints W.held report.old report.new text) }
     ensures fails { IfErr result (λ error. Fails (S.has_read system.now) (S.tells_one system.now) asked.now path.now error) }
-    ensures part { IfErr result (λ _. GoesOutInPart report.old.state report.new.state (W.held report.old.output) (W.held report.new.output)) }
+    ensures part { IfErr result (λ _. PrintsPart W.held report.old report.new) }
     ensures unasked { asked.now.reviews ≡ false → reviewer.new.review ≡ reviewer.old.review }
 {
     report.heed(path.as_bytes(), None);
     let text = system.read(path)?;
-    let run = match run_script(system.alloc(), runner, asked.explains, &text.bytes) {
+    let run = match runner.run_script(&text.bytes, asked.explains) {
         Ok(run) => run,
         Err(StartFault::Script(fault)) => {
-            report.refused(path, fault);
-            return Ok(());
+            report.remark(path.as_bytes(), Remark::Refused(fault));
+            return Ok(PathResult::Refused(fault));
         }
         Err(_) => return Err(PathError::alone(Failure::OutOfMemory)),
     };
@@ -78,70 +70,55 @@ pub(crate) fn check_script<T: Runner, S: System, P: Person, W: ReportSink, E: Re
         whys: &run.whys,
         colors: report.colors(asked.colors),
         warnings,
-        ran: ran_of(path, &text, &run.session, &run.layout, warnings),
+        ran: ran_of(&run.session, &run.layout, warnings.len()),
     };
-    answer(system, asked, &subject, reviewer, report)?;
-    Ok(())
+    let ran = answer(system, asked, &subject, reviewer, report)?;
+    Ok(PathResult::Ran(ran))
 }
 
-// The outcome of a script that ran.
-fn ran_of<'a, M: Machine>(
-    path: &'a str,
-    text: &Text,
-    session: &Session<M>,
-    layout: &Layout,
-    warnings: &[Warning],
-) -> Ran<'a>
-    requires layout { IsLayout text.now.bytes.items session.now.script layout.now }
-    requires warnings { warnings.now ≡ warnings_in layout.now.text layout.now.heads.items session.now.script }
-    ensures counts { (left : ℕ) → counted_as result left ≡ ran_as layout.now.text layout.now.heads.items session.now.script left }
-    ensures outcome { IsOutcome path.now session.now.script layout.now result }
-    ensures findings { AreFindings text.now.bytes.items session.now.script layout.now warnings.now result }
+// The result of a script that ran and has n warnings, if nothing of it is accepted.
+fn ran_of<M: Machine>(session: &Session<M>, layout: &Layout, n: usize) -> ScriptResult
+    requires { length layout.now.heads.items ≡ length session.now.script.blocks }
+    ensures { result ≡ numbers_of layout.now session.now.script n }
 {
-    Ran {
-        path,
+    let summary = summary_of(session, layout);
+    ScriptResult {
         directives: session.len(),
-        mismatches: session.mismatches().len(),
-        summary: summary_of(session, layout),
-        warnings: warnings.len(),
+        left: session.mismatches().len(),
+        accepted: 0,
+        errors: summary.errors,
+        warnings: n,
+        first: summary.first,
+        failure: None,
     }
 }
 
-// Shows what there is to show, and does with the outputs what is to be done.
+// Shows the run, and accepts outputs, asks about them or leaves them.
 fn answer<M: Machine, S: System, P: Person, W: ReportSink, E: ReportSink>(
     system: &S,
     asked: &CheckRequest<'_>,
     subject: &CheckedScript<'_, M>,
     reviewer: &mut Reviewer<P>,
     report: &mut Report<W, E>,
-) -> Result<ScriptEnd, PathError>
-    requires findings { AreFindings subject.now.text.now.bytes.items subject.now.session.now.script subject.now.layout.now subject.now.warnings.now subject.now.ran }
-    requires outcome { IsOutcome subject.now.path.now subject.now.session.now.script subject.now.layout.now subject.now.ran }
-    ensures counts { IfOk result (λ end. report.new.counts ≡ counts_after report.old.counts (counted_as subject.now.ran end.left) end.failure) }
-    ensures answered { IfOk result (λ end. (text : List ℕ) × (listed : List ListedScript)
-        × IsAnswered (S.tells_one system.now) asked.now (P.is_known reviewer.old.person) (P.left reviewer.old.person) report.old.state.form (checked subject.now.path.now subject.now.layout.now subject.now.whys.now subject.now.session.now.script subject.now.colors) reviewer.old.review reviewer.new.review end listed text
-        × Lists report.new.state report.old.differing.items report.new.differing.items listed
-        × GoesOut report.old.state report.new.state (W.held report.old.output) (W.held report.new.output) text) }
-    ensures part { IfErr result (λ _. GoesOutInPart report.old.state report.new.state (W.held report.old.output) (W.held report.new.output)) }
-    ensures listed { IfErr result (λ _. report.new.differing.items ≡ report.old.differing.items) }
-    ensures failed { IfErr result (λ _. report.new.counts ≡ report.old.counts) }
+) -> Result<ScriptResult, PathError>
+    requires { AreFindings subject.now }
+    ensures answered { IfOk result (λ found. (text : List ℕ)
+        × IsAnswered (S.tells_one system.now) asked.now (P.is_known reviewer.old.person) (P.left reviewer.old.person) report.old.state.form (plain_of subject.now) reviewer.old.review reviewer.new.review found text
+        × Prints W.held report.old report.new text) }
+    ensures part { IfErr result (λ _. PrintsPart W.held report.old report.new) }
     // It fails only if memory was refused, or a line is named with no directive at it or above it.
     ensures missed { IfErr result (λ error. AreNotFound (λ lines. AreNamedLines (S.tells_one system.now) subject.now.path.now asked.now.targets.now (Some lines)) subject.now.layout.now.heads.items (no_directive_failure asked.now.accepts) error) }
     // Without a review nothing is asked.
     ensures unasked { asked.now.reviews ≡ false → reviewer.new.review ≡ reviewer.old.review }
 {
-    let alloc = system.alloc();
     tell(system, asked, subject, report)?;
     let heads = named_heads(system, asked, subject, report)?;
-    let picked = picked_of(alloc, asked, subject, &heads)?;
-    match ending_at(asked, !subject.warnings.is_empty(), subject) {
-        CheckEnding::Kept => {
-            report.ran(alloc, subject.ran);
-            Ok(ScriptEnd::of_left(subject.ran.mismatches))
-        }
+    let picked = picked_of(system.alloc(), asked, subject, &heads)?;
+    match ending_of(asked, !subject.warnings.is_empty(), subject.ran.left) {
+        CheckEnding::Kept => Ok(subject.ran),
         CheckEnding::Refused => {
-            report.refuse_to_accept(alloc, subject.ran);
-            Ok(ScriptEnd::of_left(subject.ran.mismatches))
+            report.remark(subject.path.as_bytes(), Remark::Unaccepted);
+            Ok(subject.ran)
         }
         CheckEnding::Accepted => {
             let errors = asked.accepts_errors;
@@ -152,18 +129,6 @@ fn answer<M: Machine, S: System, P: Person, W: ReportSink, E: ReportSink>(
     }
 }
 
-// What is done with the outputs. Where none differs, it isn't looked at whether there are warnings.
-fn ending_at<M: Machine>(
-    asked: &CheckRequest<'_>,
-    is_warned: bool,
-    subject: &CheckedScript<'_, M>,
-) -> CheckEnding
-    requires { mismatches subject.now.session.now.script ≢ [] → is_warned ≡ has_warnings subject.now.layout.now subject.now.session.now.script }
-    ensures { result ≡ ending_at asked.now subject.now.layout.now subject.now.session.now.script }
-{
-    ending_of(asked, is_warned, subject.session.mismatches().len())
-}
-
 // Accepts the outputs that are said yes to.
 fn accept_reviewed<M: Machine, S: System, P: Person, W: ReportSink, E: ReportSink>(
     system: &S,
@@ -172,18 +137,13 @@ fn accept_reviewed<M: Machine, S: System, P: Person, W: ReportSink, E: ReportSin
     subject: &CheckedScript<'_, M>,
     reviewer: &mut Reviewer<P>,
     report: &mut Report<W, E>,
-) -> Result<ScriptEnd, PathError>
-    requires { IsLayout subject.now.text.now.bytes.items subject.now.session.now.script subject.now.layout.now }
-    ensures counts { IfOk result (λ end. report.new.counts ≡ counts_after report.old.counts (counted_as subject.now.ran end.left) end.failure) }
-    ensures accepted { IsOutcome subject.now.path.now subject.now.session.now.script subject.now.layout.now subject.now.ran
-        → IfOk result (λ end. (text : List ℕ) × (listed : List ListedScript)
-        × AcceptsSaid asked.now (P.is_known reviewer.old.person) (P.left reviewer.old.person) report.old.state.form (checked subject.now.path.now subject.now.layout.now subject.now.whys.now subject.now.session.now.script subject.now.colors) picked.entry reviewer.old.review reviewer.new.review end listed text
-        × Lists report.new.state report.old.differing.items report.new.differing.items listed
-        × GoesOut report.old.state report.new.state (W.held report.old.output) (W.held report.new.output) text) }
-    ensures part { IfErr result (λ _. GoesOutInPart report.old.state report.new.state (W.held report.old.output) (W.held report.new.output)) }
-    ensures listed { IfErr result (λ _. report.new.differing.items ≡ report.old.differing.items) }
+) -> Result<ScriptResult, PathError>
+    requires { AreFindings subject.now }
+    ensures accepted { IfOk result (λ found. (text : List ℕ)
+        × AcceptsSaid asked.now (P.is_known reviewer.old.person) (P.left reviewer.old.person) report.old.state.form (plain_of subject.now) picked.entry reviewer.old.review reviewer.new.review found text
+        × Prints W.held report.old report.new text) }
+    ensures part { IfErr result (λ _. PrintsPart W.held report.old report.new) }
     ensures memory { IfErr result (λ error. error.failure ≡ OutOfMemory) }
-    ensures failed { IfErr result (λ _. report.new.counts ≡ report.old.counts) }
 {
     let said = reviewed(asked, subject, picked, reviewer, report)?;
     Ok(accept(system, wanted_of(said.as_slice()), subject, report))

@@ -68,6 +68,7 @@ fn legend(alloc: Global, others: usize) -> Result<Vec<u8>, AllocError>
     Ok(text)
 }
 
+// Adds how many other directives differ, if any does.
 fn add_others(text: &mut Vec<u8>, others: usize) -> Result<(), AllocError>
     ensures { OnOk result (text.new.items ≡ text.old.items ++ others_text others) }
 {

@@ -38,6 +38,7 @@ pub(crate) fn put_comment<S: Sink>(
     put_lines(sink, text, from, count)
 }
 
+// Writes the lines between these indices.
 fn put_lines<S: Sink>(sink: &mut S, text: &Lines, from: usize, to: usize) -> Result<(), WriteFault>
     requires order { from ≤ to }
     requires within { to ≤ length text.now }

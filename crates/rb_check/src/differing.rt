@@ -1,13 +1,12 @@
 //! The list of the scripts that differ.
 
-ghost use Rattle.std.specs.Prelude.{◌≡◌, IsOk};
+ghost use Rattle.std.specs.Prelude.{IsOk};
 ghost use Rattle.rb_script.specs.Writes.{Writes};
-ghost use Rattle.rb_check.specs.Shown.{differing_text};
+ghost use Rattle.rb_check.specs.Shown.{differing_text, list_text};
 
-use crate::report_sink::ReportSink;
-use crate::visible::Showing;
 use rb_report::check::put_brief;
-use rb_script::WriteFault;
+use rb_script::{Sink, WriteFault};
+use rb_text::WrittenPiece;
 
 /// A script that differs.
 #[derive(Drop)]
@@ -19,19 +18,31 @@ pub(crate) struct Differing {
     pub(crate) line: usize,
 }
 
-/// Writes a line for each script that differs.
-pub(crate) fn put_each_differing<W: ReportSink>(
-    output: &mut W,
-    scripts: &[Differing],
-) -> Result<(), WriteFault>
-    ensures wrote { Writes result (W.held output.old) (W.held output.new) (differing_text scripts.now) }
-    ensures all { W.takes_all output.old → IsOk result × W.takes_all output.new }
+/// The scripts that differ, a line each, and an empty line; nothing if there are none.
+#[derive(Clone, Copy)]
+pub(crate) struct DifferingList<'a>(pub(crate) &'a [Differing]);
+
+impl WrittenPiece for DifferingList<'_> {
+    ghost text = { λ list. list_text list.0.now };
+
+    fn put<S: Sink>(&self, sink: &mut S) -> Result<(), WriteFault> {
+        if self.0.is_empty() {
+            return Ok(());
+        }
+        put_each_differing(sink, self.0)?;
+        sink.put(b"\n")
+    }
+}
+
+// Writes a line for each script.
+fn put_each_differing<S: Sink>(sink: &mut S, scripts: &[Differing]) -> Result<(), WriteFault>
+    ensures wrote { Writes result (S.held sink.old) (S.held sink.new) (differing_text scripts.now) }
+    ensures all { S.takes_all sink.old → IsOk result × S.takes_all sink.new }
 {
     for script in scripts {
         let path = script.path.as_bytes();
-        output.show_as(Showing::AsIs);
         put_brief(
-            output,
+            sink,
             path,
             script.mismatches,
             script.directives,

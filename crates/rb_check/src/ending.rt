@@ -1,4 +1,4 @@
-//! What happens to the outputs of a script.
+//! Whether the outputs of a script are accepted, asked about, or left.
 
 ghost use Rattle.std.specs.Prelude.{◌≡◌};
 ghost use Rattle.rb_check.specs.Endings.{ending_of};

@@ -1,12 +1,10 @@
-//! Objects and commands for programs about a script that ran.
+//! What programs get of a script that ran: JSON objects, workflow commands, or a suite of JUnit's.
 
 ghost use Rattle.std.specs.Prelude.{◌≡◌, ◌++◌, ◌+◌, ◌-◌, ◌<◌, IfOk, length};
-ghost use Rattle.rb_replay.specs.Run.{outputs};
 ghost use Rattle.rb_replay.specs.Report.{mismatches};
-ghost use Rattle.rb_report.specs.Whys.{reasons_in};
 ghost use Rattle.rb_script_report.specs.Checked.{of_first};
-ghost use Rattle.rb_check.specs.Findings.{AreFindings};
-ghost use Rattle.rb_check.specs.Formats.{differing_command, directive_object, error_command, error_commands, mismatch_command, objects_from, script_text};
+ghost use Rattle.rb_check.specs.Formats.{differing_command, directive_object, error_command, errors_of, mismatch_command, objects_of, script_text};
+ghost use Rattle.rb_check.specs.Subjects.{AreFindings, plain_of, plain_ran};
 
 use crate::checked_script::CheckedScript;
 use crate::command::{add_command, add_difference};
@@ -30,7 +28,7 @@ fn add_directive(
     lines: &Lines,
     ran: RanDirective<'_>,
 ) -> Result<(), AllocError>
-    ensures { IfOk result (λ _. text.new.items ≡ text.old.items ++ directive_object lines.now ran.entry.place.path.now ran.entry.place.line ran.entry.block.now ran.entry.output.now (reasons_in ran.entry.why)) }
+    ensures { IfOk result (λ _. text.new.items ≡ text.old.items ++ directive_object lines.now ran.entry.place.path.now (plain_ran ran.entry)) }
 {
     if !is_same(ran.block.expected(), ran.output) {
         return add_object(alloc, text, ran, b"mismatch");
@@ -48,7 +46,7 @@ fn add_objects<M: Machine>(
     subject: &CheckedScript<'_, M>,
 ) -> Result<(), AllocError>
     requires { length subject.now.layout.now.heads.items ≡ length subject.now.session.now.script.blocks }
-    ensures { IfOk result (λ _. text.new.items ≡ text.old.items ++ objects_from subject.now.layout.now.text subject.now.path.now subject.now.whys.now 0 subject.now.layout.now.heads.items subject.now.session.now.script.blocks (outputs subject.now.session.now.script)) }
+    ensures { IfOk result (λ _. text.new.items ≡ text.old.items ++ objects_of (plain_of subject.now)) }
 {
     for i in 0..subject.session.len() {
         add_directive(alloc, text, &subject.layout.text, directive_at(subject, i))?;
@@ -64,7 +62,7 @@ fn add_error(
     lines: &Lines,
     ran: RanDirective<'_>,
 ) -> Result<(), AllocError>
-    ensures { IfOk result (λ _. text.new.items ≡ text.old.items ++ error_command is_strict lines.now ran.entry.place.path.now ran.entry.place.line ran.entry.block.now ran.entry.output.now) }
+    ensures { IfOk result (λ _. text.new.items ≡ text.old.items ++ error_command is_strict lines.now ran.entry.place.path.now (plain_ran ran.entry)) }
 {
     let place = ran.place;
     if !is_same(ran.block.expected(), ran.output) || !is_unexpected(lines, place.line, ran.output) {
@@ -89,7 +87,7 @@ fn add_errors<M: Machine>(
     subject: &CheckedScript<'_, M>,
 ) -> Result<(), AllocError>
     requires { length subject.now.layout.now.heads.items ≡ length subject.now.session.now.script.blocks }
-    ensures { IfOk result (λ _. text.new.items ≡ text.old.items ++ error_commands is_strict subject.now.layout.now.text subject.now.path.now subject.now.layout.now.heads.items subject.now.session.now.script.blocks (outputs subject.now.session.now.script)) }
+    ensures { IfOk result (λ _. text.new.items ≡ text.old.items ++ errors_of is_strict (plain_of subject.now)) }
 {
     let lines = &subject.layout.text;
     for i in 0..subject.session.len() {
@@ -112,7 +110,7 @@ fn add_differing(
     ran: RanDirective<'_>,
     others: usize,
 ) -> Result<(), AllocError>
-    ensures { IfOk result (λ _. text.new.items ≡ text.old.items ++ differing_command ran.entry.place.path.now ran.entry.place.line ran.entry.block.now ran.entry.output.now (reasons_in ran.entry.why) others) }
+    ensures { IfOk result (λ _. text.new.items ≡ text.old.items ++ differing_command ran.entry.place.path.now others (plain_ran ran.entry)) }
 {
     let mut table = Table::new(alloc)?;
     add_difference(alloc, text, ran, others, &mut table)?;
@@ -128,7 +126,7 @@ fn add_mismatch<M: Machine>(
 ) -> Result<(), AllocError>
     requires count { length subject.now.layout.now.heads.items ≡ length subject.now.session.now.script.blocks }
     requires within { index < length subject.now.session.now.script.blocks }
-    ensures { IfOk result (λ _. text.new.items ≡ text.old.items ++ mismatch_command subject.now.path.now subject.now.whys.now subject.now.layout.now.heads.items subject.now.session.now.script (index + 1)) }
+    ensures { IfOk result (λ _. text.new.items ≡ text.old.items ++ mismatch_command (plain_of subject.now) (index + 1)) }
 {
     let others = others_of(subject.session);
     add_differing(alloc, text, directive_at(subject, index), others)
@@ -141,7 +139,7 @@ fn add_first<M: Machine>(
     subject: &CheckedScript<'_, M>,
 ) -> Result<(), AllocError>
     requires { length subject.now.layout.now.heads.items ≡ length subject.now.session.now.script.blocks }
-    ensures { IfOk result (λ _. text.new.items ≡ text.old.items ++ of_first (mismatch_command subject.now.path.now subject.now.whys.now subject.now.layout.now.heads.items subject.now.session.now.script) (mismatches subject.now.session.now.script)) }
+    ensures { IfOk result (λ _. text.new.items ≡ text.old.items ++ of_first (mismatch_command (plain_of subject.now)) (mismatches subject.now.session.now.script)) }
 {
     match first_index(subject.session) {
         Some(index) => add_mismatch(alloc, text, subject, index),
@@ -160,8 +158,8 @@ pub(crate) fn formatted<M: Machine>(
     is_strict: bool,
     subject: &CheckedScript<'_, M>,
 ) -> Result<Vec<u8>, AllocError>
-    requires { AreFindings subject.now.text.now.bytes.items subject.now.session.now.script subject.now.layout.now subject.now.warnings.now subject.now.ran }
-    ensures { IfOk result (λ made. made.items ≡ script_text format is_strict subject.now.layout.now.text subject.now.path.now subject.now.whys.now subject.now.layout.now.heads.items subject.now.session.now.script) }
+    requires { AreFindings subject.now }
+    ensures { IfOk result (λ made. made.items ≡ script_text format is_strict (plain_of subject.now)) }
 {
     let mut text = Vec::new(alloc);
     match format {

@@ -2,22 +2,17 @@
 
 ghost use Rattle.std.specs.Prelude.{◌≡◌, ◌++◌, [], IfOk, OnOk, length};
 ghost use Rattle.rb_report.specs.Notices.{warning_text};
-ghost use Rattle.rb_report.specs.Counts.{nothing, of_outcome, status_of, together};
-ghost use Rattle.rb_replay.specs.Report.{mismatches};
-ghost use Rattle.rb_script_report.specs.Checked.{first_head};
-ghost use Rattle.rb_script_report.specs.Layouts.{IsLayout};
-ghost use Rattle.rb_check.specs.Findings.{AreFindings};
-ghost use Rattle.rb_check.specs.Counts.{counted_as, warnings_in};
-ghost use Rattle.rb_check.specs.Junit.{body_of, counts_of, message_with, notice_suite, placed, script_suite, suite_front, suite_text, details_of, verdict_by, warnings_text};
+ghost use Rattle.rb_check.specs.Junit.{body_of, counts_of, details_of, message_with, notice_suite, placed, script_suite, suite_front, suite_text, verdict_by, verdict_of, warnings_text};
+ghost use Rattle.rb_check.specs.Subjects.{AreFindings, plain_of};
 
 use crate::checked_script::CheckedScript;
 use crate::kind::{NoticeKind, ScriptNotice};
-use crate::ran::{Ran, counted_as};
+use crate::script_result::{PathResult, ScriptResult};
 use crate::xml::XmlPiece;
 use rb_machine::Machine;
 use rb_report::check::{Colors, Status, Totals, put_warning};
 use rb_script::Through;
-use rb_script_report::{Detail, View, Warning, first_index, number_at, put_checked};
+use rb_script_report::{Detail, View, Warning, put_checked};
 use rb_text::add_pieces;
 use std::alloc::{AllocError, Global};
 use std::mem;
@@ -42,6 +37,7 @@ fn counts_of(verdict: CaseVerdict) -> &'static [u8]
     }
 }
 
+// Adds the suite up to what is in its case.
 fn add_front(
     text: &mut Vec<u8>,
     path: &[u8],
@@ -65,6 +61,7 @@ fn add_front(
     )
 }
 
+// Adds what is in its case.
 fn add_body<'a>(
     text: &mut Vec<u8>,
     verdict: CaseVerdict,
@@ -142,14 +139,15 @@ fn verdict_by(status: Status) -> CaseVerdict
 }
 
 // The verdict of a script by itself.
-fn verdict_of(ran: Ran<'_>, is_strict: bool) -> CaseVerdict
-    ensures { result ≡ verdict_by (status_of is_strict (together nothing (of_outcome (counted_as ran.entry ran.entry.mismatches)))) }
+fn verdict_of(ran: ScriptResult, is_strict: bool) -> CaseVerdict
+    ensures { result ≡ verdict_of is_strict ran }
 {
     let mut totals = Totals::new();
-    totals.add(counted_as(ran, ran.mismatches));
+    PathResult::Ran(ran).count_in(&mut totals);
     verdict_by(totals.status(is_strict))
 }
 
+// What a case that fails says in a line.
 fn message(
     alloc: Global,
     mismatches: usize,
@@ -200,9 +198,8 @@ fn details_of<M: Machine>(
     alloc: Global,
     subject: &CheckedScript<'_, M>,
 ) -> Result<Vec<u8>, AllocError>
-    requires layout { IsLayout subject.now.text.now.bytes.items subject.now.session.now.script subject.now.layout.now }
-    requires warnings { subject.now.warnings.now ≡ warnings_in subject.now.layout.now.text subject.now.layout.now.heads.items subject.now.session.now.script }
-    ensures { IfOk result (λ made. made.items ≡ details_of subject.now.layout.now.text subject.now.path.now subject.now.whys.now subject.now.layout.now.heads.items subject.now.session.now.script) }
+    requires { AreFindings subject.now }
+    ensures { IfOk result (λ made. made.items ≡ details_of (plain_of subject.now)) }
 {
     let path = subject.path.as_bytes();
     let mut text = Vec::new(alloc);
@@ -227,38 +224,26 @@ fn details_of<M: Machine>(
     }
 }
 
-// The line of the first mismatch.
-fn first_head<M: Machine>(subject: &CheckedScript<'_, M>) -> Option<usize>
-    requires { length subject.now.layout.now.heads.items ≡ length subject.now.session.now.script.blocks }
-    ensures { result ≡ first_head subject.now.layout.now.heads.items (mismatches subject.now.session.now.script) }
-{
-    match first_index(subject.session) {
-        Some(index) => Some(number_at(subject.layout.heads.as_slice(), index)),
-        None => None,
-    }
-}
-
 /// The suite of a script that ran: its case fails where the script alone would end the check with another status than 0.
 pub(crate) fn script_suite<M: Machine>(
     alloc: Global,
     subject: &CheckedScript<'_, M>,
     is_strict: bool,
 ) -> Result<Vec<u8>, AllocError>
-    requires { AreFindings subject.now.text.now.bytes.items subject.now.session.now.script subject.now.layout.now subject.now.warnings.now subject.now.ran }
-    ensures { IfOk result (λ made. made.items ≡ script_suite is_strict subject.now.layout.now.text subject.now.path.now subject.now.whys.now subject.now.layout.now.heads.items subject.now.session.now.script) }
+    requires { AreFindings subject.now }
+    ensures { IfOk result (λ made. made.items ≡ script_suite is_strict (plain_of subject.now)) }
 {
     let ran = subject.ran;
     let details = details_of(alloc, subject)?;
-    let message = message(alloc, ran.mismatches, ran.summary.errors, ran.warnings)?;
+    let message = message(alloc, ran.left, ran.errors, ran.warnings)?;
     let mut text = Vec::new(alloc);
     let path = subject.path.as_bytes();
     let verdict = verdict_of(ran, is_strict);
-    let line = first_head(subject);
-    add_suite(&mut text, path, line, verdict, &message, &details)?;
+    add_suite(&mut text, path, ran.first, verdict, &message, &details)?;
     Ok(text)
 }
 
-// The message with its line.
+// The message after its path and its line.
 fn placed<'a>(
     alloc: Global,
     path: &'a [u8],

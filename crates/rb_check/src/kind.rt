@@ -1,4 +1,4 @@
-//! Notices to programs about a script as a whole, or about one of its lines.
+//! The kinds of notices to programs: what each is called in JSON and as a workflow command.
 
 ghost use Rattle.std.specs.Prelude.{◌≡◌};
 ghost use Rattle.rb_check.specs.Formats.{command_of, severity, status_of};

@@ -1,6 +1,6 @@
 //! A check of scripts and folders of scripts: they are found, run one after another, shown and accepted.
 //!
-//! [`check`] does a [`CheckRequest`] over the files, the terminal and the clock of a runtime, and a [`Runner`] runs the scripts. What is found out about scripts goes to standard output, failures and how far the work
+//! [`check`] does a [`CheckRequest`] over the files, the terminal and the clock of a runtime, and rb_bench's [`Runner`](rb_bench::Runner) runs the scripts. What is found out about scripts goes to standard output, failures and how far the work
 //! goes to a stream of errors. The texts of a report are in rb_report and rb_script_report, accepting in rb_script_report.
 //!
 //! Programs read a [`Format`]: JSON, with an object on each line; workflow commands, which GitHub shows next to the lines of a file; or JUnit's XML.
@@ -36,18 +36,16 @@ mod piece;
 mod place;
 mod progress;
 mod question;
-mod ran;
 mod ran_directive;
-mod reasons;
 mod remark;
 mod replaced;
 mod report;
-mod report_end;
-mod report_outcomes;
 mod report_sink;
 mod report_state;
+mod results;
 mod review;
-mod runner;
+mod running_check;
+mod script_result;
 mod showing;
 mod system;
 mod target;
@@ -64,7 +62,5 @@ pub use limits::limits_are;
 pub use paths::check;
 pub use place::place_at;
 pub use progress::ProgressClock;
-pub use reasons::{ScriptRun, run_script};
-pub use runner::{ExplainedOutput, Runner};
 pub use target::Target;
 pub use visible::{Showing, VisibleSink, shown_of_script};

@@ -1,4 +1,4 @@
-//! Notes of a report in a line each.
+//! Lines to people that are not about a run: failures and their causes, the end of a review, the totals.
 
 ghost use Rattle.std.specs.Prelude.{IsOk};
 ghost use Rattle.rb_script.specs.Writes.{Writes};

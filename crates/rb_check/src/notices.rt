@@ -1,4 +1,4 @@
-//! The texts of notices to programs.
+//! A notice to programs about a script, or about a line of it, in each format.
 
 ghost use Rattle.std.specs.Prelude.{◌≡◌, ◌++◌, OnOk, IfOk};
 ghost use Rattle.rb_check.specs.Formats.{notice_text};

@@ -3,8 +3,8 @@
 ghost use Rattle.std.specs.Prelude.{◌≡◌, ◌++◌, IfOk, OnOk};
 ghost use Rattle.rb_report.specs.Heads.{before_value};
 ghost use Rattle.rb_report.specs.Whys.{reasons_in};
-ghost use Rattle.rb_script_report.specs.Checked.{head_of};
 ghost use Rattle.rb_check.specs.Objects.{lines_members, object_end, object_front, object_text, quoted, reasons_member, strings_from};
+ghost use Rattle.rb_check.specs.Subjects.{plain_ran};
 
 use crate::ran_directive::{RanDirective, head_of};
 use rb_report::check::{FileLine, Why};
@@ -74,7 +74,7 @@ pub(crate) fn add_object(
     ran: RanDirective<'_>,
     status: &[u8],
 ) -> Result<(), AllocError>
-    ensures { IfOk result (λ _. text.new.items ≡ text.old.items ++ object_text ran.entry.place.path.now ran.entry.place.line (head_of ran.entry.block.now) status.now ran.entry.block.now.expected ran.entry.output.now (reasons_in ran.entry.why)) }
+    ensures { IfOk result (λ _. text.new.items ≡ text.old.items ++ object_text ran.entry.place.path.now status.now (plain_ran ran.entry)) }
 {
     let head = head_of(alloc, ran.block)?;
     let expected = ran.block.expected();

@@ -1,9 +1,9 @@
 //! Who answers the questions of a review.
 
-ghost use Rattle.std.specs.Prelude.{◌≡◌, ◌<◌, ◌≤◌, ◌^◌, ◌++◌, ℕ, [], Bool, List, Option, ⊤, true, length, option_map, string_bytes};
+ghost use Rattle.std.specs.Prelude.{◌≡◌, ◌++◌, ℕ, [], Bool, List, Option, ⊤, true, option_map, string_bytes};
 ghost use Rattle.rb_check.specs.Asking.{IsAsked, echo_of, help_text};
-ghost use Rattle.rb_check.specs.Reviews.{after_answer, answered, first_heard, heard_by_line, heard_by_read, rest_heard};
-ghost use Rattle.rb_check.specs.Shown.{GoesOut};
+ghost use Rattle.rb_check.specs.Reviews.{Hears, after_answer, answered, first_heard, heard_by_line, heard_by_read, rest_heard};
+ghost use Rattle.rb_check.specs.Shown.{Prints};
 
 use crate::answer::{Answer, HeardAnswer, heard_by_line, heard_by_read, visible_key};
 use crate::report::Report;
@@ -32,10 +32,8 @@ pub(crate) trait Person: Drop {
         question: &[u8],
         report: &mut Report<W, E>,
     ) -> HeardAnswer
-        ensures counts { report.new.counts ≡ report.old.counts }
-        ensures listed { report.new.differing.items ≡ report.old.differing.items }
         // The question goes out, and of the answer what the terminal doesn't show itself.
-        ensures shown { (keys : Option (List ℕ)) × GoesOut report.old.state report.new.state (W.held report.old.output) (W.held report.new.output) (question.now ++ echo_of keys) }
+        ensures shown { (keys : Option (List ℕ)) × Prints W.held report.old report.new (question.now ++ echo_of keys) }
         // If standard output is closed, no question is shown, and the input counts as ended.
         ensures unasked { report.old.state.is_closed ≡ true → result ≡ HeardAnswer.End }
         ensures known { is_known self.old → is_known self.new }
@@ -66,9 +64,7 @@ impl<'a, R> TerminalPerson<'a, R> {
 impl<'a, R: KeyInput + Clock> TerminalPerson<'a, R> {
     // Reads what is there, at least a byte. Such a terminal shows nothing of it. A read that fails ends the review.
     fn hear_key<W: ReportSink, E: ReportSink>(&mut self, report: &mut Report<W, E>) -> HeardAnswer
-        ensures counts { report.new.counts ≡ report.old.counts }
-        ensures listed { report.new.differing.items ≡ report.old.differing.items }
-        ensures shown { (keys : Option (List ℕ)) × GoesOut report.old.state report.new.state (W.held report.old.output) (W.held report.new.output) (echo_of keys) }
+        ensures shown { (keys : Option (List ℕ)) × Prints W.held report.old report.new (echo_of keys) }
         ensures heard { (keys : Option (List ℕ)) × (is_soon : Bool) × R.gives self.old.rt.now keys × (result ≡ heard_by_read is_soon keys) }
     {
         let mut room = [0u8; MOST_KEYS];
@@ -147,9 +143,7 @@ fn hear_line<I: LineInput>(input: &I) -> HeardAnswer
 
 // Writes what was keyed, and the end of its line.
 fn echo<W: ReportSink, E: ReportSink>(keys: &[u8], report: &mut Report<W, E>)
-    ensures counts { report.new.counts ≡ report.old.counts }
-    ensures listed { report.new.differing.items ≡ report.old.differing.items }
-    ensures shown { (keyed : Option (List ℕ)) × GoesOut report.old.state report.new.state (W.held report.old.output) (W.held report.new.output) (echo_of keyed) }
+    ensures { (keyed : Option (List ℕ)) × Prints W.held report.old report.new (echo_of keyed) }
 {
     if keys.is_empty() {
         return;
@@ -186,13 +180,8 @@ pub(crate) fn ask<P: Person, W: ReportSink, E: ReportSink>(
     question: &[u8],
     report: &mut Report<W, E>,
 ) -> Answer
-    ensures counts { report.new.counts ≡ report.old.counts }
-    ensures listed { report.new.differing.items ≡ report.old.differing.items }
-    ensures shown { (text : List ℕ) × IsAsked question.now text × GoesOut report.old.state report.new.state (W.held report.old.output) (W.held report.new.output) text }
-    ensures known { P.is_known person.old → P.is_known person.new }
-    ensures few { P.is_known person.old → length (P.left person.old) < 2 ^ 64 → length (P.left person.new) ≤ length (P.left person.old) }
-    ensures answered { P.is_known person.old → length (P.left person.old) < 2 ^ 64 → result ≡ answered (P.left person.old) }
-    ensures rest { P.is_known person.old → length (P.left person.old) < 2 ^ 64 → P.left person.new ≡ after_answer (P.left person.old) }
+    ensures shown { (text : List ℕ) × IsAsked question.now text × Prints W.held report.old report.new text }
+    ensures heard { Hears P.is_known P.left person.old person.new ((result ≡ answered (P.left person.old)) × (P.left person.new ≡ after_answer (P.left person.old))) }
 {
     let mut turns = 0u64;
     while turns < u64::MAX {

@@ -2,15 +2,16 @@
 
 ghost use Rattle.std.specs.Prelude.{◌≡◌, ◌++◌, ◌∷◌, [], ℕ, List, false, IfErr, IfOk, IfSome, None, Some, option_map};
 ghost use Rattle.rb_report.specs.declared.check.failure.Failure.TheVariants.{NotWritten};
-ghost use Rattle.rb_script_report.specs.Layouts.{IsLayout};
 ghost use Rattle.rb_check.specs.Endings.{IsPicked, unnamed};
-ghost use Rattle.rb_check.specs.ScriptTexts.{AreNamedHeads, ArePicked, checked, matched_at, matched_text};
-ghost use Rattle.rb_check.specs.Shown.{GoesOut, GoesOutInPart};
+ghost use Rattle.rb_check.specs.ScriptTexts.{AreNamedHeads, ArePicked, matched_at, matched_text};
+ghost use Rattle.rb_check.specs.Shown.{Prints, PrintsPart};
+ghost use Rattle.rb_check.specs.Subjects.{AreFindings, plain_of};
 ghost use Rattle.rb_check.specs.Targets.{AreNamedLines, AreNotFound, IsOfScript, no_directive_failure};
 
 use crate::check_request::CheckRequest;
 use crate::checked_script::CheckedScript;
 use crate::place::place_at;
+use crate::remark::Remark;
 use crate::report::Report;
 use crate::report_sink::ReportSink;
 use crate::system::System;
@@ -29,10 +30,8 @@ pub(crate) fn named_heads<M: Machine, S: System, W: ReportSink, E: ReportSink>(
     subject: &CheckedScript<'_, M>,
     report: &mut Report<W, E>,
 ) -> Result<Option<Vec<usize>>, PathError>
-    ensures counts { report.new.counts ≡ report.old.counts }
-    ensures listed { report.new.differing.items ≡ report.old.differing.items }
-    ensures named { IfOk result (λ heads. (text : List ℕ) × AreNamedHeads (S.tells_one system.now) asked.now report.old.state.form (checked subject.now.path.now subject.now.layout.now subject.now.whys.now subject.now.session.now.script subject.now.colors) (option_map (λ some. some.items) heads) text × GoesOut report.old.state report.new.state (W.held report.old.output) (W.held report.new.output) text) }
-    ensures part { IfErr result (λ _. GoesOutInPart report.old.state report.new.state (W.held report.old.output) (W.held report.new.output)) }
+    ensures named { IfOk result (λ heads. (text : List ℕ) × AreNamedHeads (S.tells_one system.now) asked.now report.old.state.form (plain_of subject.now) (option_map (λ some. some.items) heads) text × Prints W.held report.old report.new text) }
+    ensures part { IfErr result (λ _. PrintsPart W.held report.old report.new) }
     ensures failed { IfErr result (λ error. AreNotFound (λ lines. AreNamedLines (S.tells_one system.now) subject.now.path.now asked.now.targets.now (Some lines)) subject.now.layout.now.heads.items (no_directive_failure asked.now.accepts) error) }
 {
     if !asked.accepts {
@@ -55,8 +54,8 @@ pub(crate) fn picked_of<'a, M: Machine>(
     subject: &CheckedScript<'_, M>,
     heads: &'a Option<Vec<usize>>,
 ) -> Result<AcceptFilter<'a>, AllocError>
-    requires { IsLayout subject.now.text.now.bytes.items subject.now.session.now.script subject.now.layout.now }
-    ensures { IfOk result (λ picked. IsPicked asked.now (checked subject.now.path.now subject.now.layout.now subject.now.whys.now subject.now.session.now.script subject.now.colors) (option_map (λ some. some.items) heads.now) picked) }
+    requires { AreFindings subject.now }
+    ensures { IfOk result (λ picked. IsPicked asked.now (plain_of subject.now) (option_map (λ some. some.items) heads.now) picked) }
 {
     match heads {
         Some(heads) => Ok(AcceptFilter::Heads(heads.as_slice())),
@@ -70,8 +69,8 @@ fn unnamed<'a, M: Machine>(
     asked: &CheckRequest<'_>,
     subject: &CheckedScript<'_, M>,
 ) -> Result<AcceptFilter<'a>, AllocError>
-    requires { IsLayout subject.now.text.now.bytes.items subject.now.session.now.script subject.now.layout.now }
-    ensures { IfOk result (λ picked. picked ≡ unnamed asked.now subject.now.layout.now.text subject.now.layout.now.heads.items subject.now.session.now.script) }
+    requires { AreFindings subject.now }
+    ensures { IfOk result (λ picked. picked ≡ unnamed asked.now (plain_of subject.now)) }
 {
     if asked.accepts && !asked.reviews {
         picked_unnamed(alloc, subject.session, subject.layout, asked.accepts_errors)
@@ -138,10 +137,8 @@ fn heads_at<M: Machine, W: ReportSink, E: ReportSink>(
     subject: &CheckedScript<'_, M>,
     report: &mut Report<W, E>,
 ) -> Result<Vec<usize>, PathError>
-    ensures counts { report.new.counts ≡ report.old.counts }
-    ensures listed { report.new.differing.items ≡ report.old.differing.items }
-    ensures picked { IfOk result (λ picked. ArePicked (matched_text report.old.state.form subject.now.path.now subject.now.layout.now.heads.items subject.now.session.now.script) subject.now.layout.now.heads.items lines.now picked.items report.old.state report.new.state (W.held report.old.output) (W.held report.new.output)) }
-    ensures part { IfErr result (λ _. GoesOutInPart report.old.state report.new.state (W.held report.old.output) (W.held report.new.output)) }
+    ensures picked { IfOk result (λ picked. ArePicked (matched_text report.old.state.form (plain_of subject.now)) subject.now.layout.now.heads.items lines.now picked.items report.old.state report.new.state (W.held report.old.output) (W.held report.new.output)) }
+    ensures part { IfErr result (λ _. PrintsPart W.held report.old report.new) }
     ensures failed { IfErr result (λ error. AreNotFound (λ these. these ≡ lines.now) subject.now.layout.now.heads.items NotWritten error) }
 {
     let mut picked = Vec::new(alloc);
@@ -163,12 +160,10 @@ fn tell_matched<M: Machine, W: ReportSink, E: ReportSink>(
     head: usize,
     report: &mut Report<W, E>,
 )
-    ensures counts { report.new.counts ≡ report.old.counts }
-    ensures listed { report.new.differing.items ≡ report.old.differing.items }
-    ensures shown { GoesOut report.old.state report.new.state (W.held report.old.output) (W.held report.new.output) (matched_at report.old.state.form subject.now.path.now subject.now.session.now.script head place) }
+    ensures { Prints W.held report.old report.new (matched_at report.old.state.form (plain_of subject.now) head place) }
 {
     if !subject.session.mismatches().contains(&place) {
-        report.tell_expected(subject.path, head);
+        report.remark(subject.path.as_bytes(), Remark::Matches(head));
     }
 }
 

@@ -1,10 +1,8 @@
 //! A directive of a script that ran.
 
 ghost use Rattle.std.specs.Prelude.{◌≡◌, ◌<◌, IfOk, Some, length, slice_get};
-ghost use Rattle.rb_replay.specs.Run.{outputs};
-ghost use Rattle.rb_report.specs.Whys.{reasons_in};
 ghost use Rattle.rb_script_report.specs.Checked.{head_of};
-ghost use Rattle.rb_script_report.specs.Whys.{why_at};
+ghost use Rattle.rb_check.specs.Subjects.{plain_of, plain_ran, runs_of};
 
 use crate::checked_script::CheckedScript;
 use rb_machine::Machine;
@@ -13,9 +11,10 @@ use rb_script::{Block, Lines, Through};
 use rb_script_report::{block_at, number_at, output_at, why_at};
 use std::alloc::{AllocError, Global};
 
-/// A directive that ran: its place, its block, its output and the reasons of that.
+/// A directive that ran: its index, its place, its block, its output and the reasons of that.
 #[derive(Clone, Copy)]
 pub(crate) struct RanDirective<'a> {
+    pub(crate) index: usize,
     pub(crate) place: FileLine<'a>,
     pub(crate) block: &'a Block,
     pub(crate) output: &'a Lines,
@@ -30,12 +29,10 @@ pub(crate) fn directive_at<'a, M: Machine>(
     requires count { length subject.now.layout.now.heads.items ≡ length subject.now.session.now.script.blocks }
     requires within { index < length subject.now.session.now.script.blocks }
     ensures path { result.place.path.now ≡ subject.now.path.now }
-    ensures line { slice_get subject.now.layout.now.heads.items index ≡ Some result.place.line }
-    ensures block { slice_get subject.now.session.now.script.blocks index ≡ Some result.block.now }
-    ensures output { slice_get (outputs subject.now.session.now.script) index ≡ Some result.output.now }
-    ensures why { reasons_in result.why ≡ why_at subject.now.whys.now index }
+    ensures run { slice_get (runs_of (plain_of subject.now)) index ≡ Some (plain_ran result) }
 {
     RanDirective {
+        index,
         place: FileLine {
             path: subject.path.as_bytes(),
             line: number_at(subject.layout.heads.as_slice(), index),

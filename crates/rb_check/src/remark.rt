@@ -1,4 +1,4 @@
-//! What a report says of a script: a line to people, or a notice to programs.
+//! What a report says of a script beside its run: a line to people, or a notice to programs.
 
 ghost use Rattle.std.specs.Prelude.{◌≡◌, IfOk, codes};
 ghost use Rattle.rb_report.specs.Pieces.{noun};

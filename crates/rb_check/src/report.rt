@@ -1,37 +1,35 @@
 //! The report of a check.
 //!
-//! Results go to standard output, failures and the progress line to standard error. If standard output fails,
-//! that is reported once, and the check continues without it. `GoesOut` says what each call writes on standard output.
+//! What is found goes to standard output, failures and the progress line to standard error. If standard output fails,
+//! that is reported once, and the check continues without it. `Prints` says what each call writes on standard output.
 
-ghost use Rattle.std.specs.Prelude.{◌≡◌, ◌≢◌, ℕ, true, false, not, List, [], Option, MatchOption, is_some, ◌++◌, IfErr, IfOk};
+ghost use Rattle.std.specs.Prelude.{◌≡◌, ◌<◌, ◌++◌, ℕ, true, false, not, List, Option, MatchOption, Some, is_some, IfErr, IfOk, length, slice_get};
 ghost use Rattle.std.specs.Io.KnownBytes.{Keeps};
 ghost use Rattle.rb_script.specs.Writes.{AppendsFront, Writes};
 ghost use Rattle.rb_report.specs.declared.check.failure.Failure.TheVariants.{OutOfMemory};
 ghost use Rattle.rb_report.specs.Failures.{failure_text};
-ghost use Rattle.rb_report.specs.Counts.{nothing, status_of, together};
 ghost use Rattle.rb_script_report.specs.Shows.{Shows};
-ghost use Rattle.rb_check.specs.Shown.{GoesOut, GoesOutIf, closed, colors_in, lacking, lacks_memory, noticed_text, programs_text, remark_text, shown_in, started, LosesNothing, Told, cleared, is_broken_pipe, is_reader_gone, lost_output_text};
+ghost use Rattle.rb_check.specs.declared.remark.Remark.TheVariants as remarks;
+ghost use Rattle.rb_check.specs.Shown.{GoesOut, GoesOutIf, LosesNothing, Prints, Tells, begun_text, beginning, cleared, closed, colors_in, failure_lines, is_broken_pipe, is_reader_gone, lacking, lost_output_text, programs_text, remark_text, shown_in, started, warnings_text};
 ghost use Rattle.rb_check.specs.Visible.{showing_of_lines};
 
 use crate::check_request::CheckRequest;
-use crate::differing::Differing;
 use crate::error_stream::ErrorStream;
 use crate::format::Format;
 use crate::notes::Note;
-use crate::ran::together;
 use crate::remark::{Remark, RemarkLine, programs_text};
 use crate::report_sink::ReportSink;
 use crate::report_state::ReportState;
 use crate::visible::{Showing, showing_of_lines};
 use rb_files::PathError;
-use rb_report::check::{Colors, Failure, Status, Totals, acts_in_line};
+use rb_report::check::{Colors, Failure, acts_in_line};
 use rb_script::{Lines, WriteFault};
-use rb_script_report::ShowFault;
+use rb_script_report::{ShowFault, Warning};
 use rb_text::WrittenPiece;
 use std::alloc::Global;
 use std::io;
 
-/// The report of a check: its streams, and the outcomes so far.
+/// The report of a check: its streams, and what it has lost.
 #[derive(Drop)]
 pub(crate) struct Report<W: ReportSink, E: ReportSink> {
     pub(crate) alloc: Global,
@@ -40,24 +38,19 @@ pub(crate) struct Report<W: ReportSink, E: ReportSink> {
     // how bytes go out on standard output
     pub(crate) showing: Showing,
     pub(crate) state: ReportState,
-    // the counts of the paths so far
-    pub(crate) counts: Totals,
-    pub(crate) differing: Vec<Differing>,
 }
 
 impl<W: ReportSink, E: ReportSink> Report<W, E> {
-    /// It has no outcomes yet.
+    /// Nothing is written yet.
     pub(crate) fn new(
         alloc: Global,
         output: W,
         errors: ErrorStream<E>,
         asked: &CheckRequest<'_>,
     ) -> Report<W, E>
-        ensures empty { result.counts ≡ nothing }
         ensures state { result.state ≡ started asked.now }
         ensures output { result.output ≡ output }
         ensures errors { result.errors ≡ errors }
-        ensures listed { result.differing.items ≡ [] }
     {
         Report {
             alloc,
@@ -65,15 +58,11 @@ impl<W: ReportSink, E: ReportSink> Report<W, E> {
             errors,
             showing: Showing::AsIs,
             state: ReportState::new(asked),
-            counts: Totals::new(),
-            differing: Vec::new(alloc),
         }
     }
 
     /// From here on the report is about the script at the path, with these lines if they are known. None of it acts in a terminal.
     pub(crate) fn heed(&mut self, path: &[u8], lines: Option<&Lines>)
-        ensures counts { self.new.counts ≡ self.old.counts }
-        ensures listed { self.new.differing.items ≡ self.old.differing.items }
         ensures state { self.new.state ≡ self.old.state }
         ensures held { Keeps (W.held self.old.output) (W.held self.new.output) }
         ensures output { W.shown_as self.new.output ≡ self.new.showing }
@@ -97,24 +86,6 @@ impl<W: ReportSink, E: ReportSink> Report<W, E> {
         }
     }
 
-    // The totals of all paths, and of the report's own failures.
-    pub(crate) fn totals(&self) -> Totals
-        ensures { result ≡ together self.now.counts self.now.state.own }
-    {
-        together(self.counts, self.state.own)
-    }
-
-    /// The program's status, strict or not.
-    pub(crate) fn status(&self, is_strict: bool) -> Status
-        ensures right { result ≢ Status.BadUsage }
-        // It is the status of all counts.
-        ensures counts { result ≡ status_of is_strict (together self.now.counts self.now.state.own) }
-        // If memory was refused for a text, the status says so.
-        ensures memory { lacks_memory self.now.state ≡ true → result ≡ Status.OutOfMemory }
-    {
-        self.totals().status(is_strict)
-    }
-
     /// Whether it is for programs.
     pub(crate) fn is_for_programs(&self) -> bool
         ensures { result ≡ is_some self.now.state.form.format }
@@ -122,17 +93,15 @@ impl<W: ReportSink, E: ReportSink> Report<W, E> {
         self.state.form.format.is_some()
     }
 
-    /// Whether something can be written on standard output. How far the work is is there no more then.
+    /// Whether something can be written on standard output. If so, the progress line is removed.
     pub(crate) fn is_open(&mut self) -> bool
         ensures value { result ≡ not self.old.state.is_closed }
-        ensures counts { self.new.counts ≡ self.old.counts }
         ensures state { self.new.state ≡ self.old.state }
         ensures output { self.new.output ≡ self.old.output }
         ensures showing { self.new.showing ≡ self.old.showing }
-        ensures listed { self.new.differing.items ≡ self.old.differing.items }
         ensures errors { self.old.errors.shows_progress ≡ false → self.new.errors ≡ self.old.errors }
         ensures progress { self.old.state.is_closed ≡ false → self.new.errors.shows_progress ≡ false }
-        ensures cleared { self.old.state.is_closed ≡ false → Told (E.takes_all self.old.errors.sink) (E.takes_all self.new.errors.sink) (E.held self.old.errors.sink) (E.held self.new.errors.sink) (cleared self.old.errors.shows_progress) }
+        ensures cleared { self.old.state.is_closed ≡ false → Tells E.takes_all E.held self.old self.new (cleared self.old.errors.shows_progress) }
     {
         if self.state.is_closed {
             return false;
@@ -143,8 +112,6 @@ impl<W: ReportSink, E: ReportSink> Report<W, E> {
 
     /// Flushes what was written, and records whether that failed.
     pub(crate) fn wrote(&mut self, written: Result<(), WriteFault>)
-        ensures counts { self.new.counts ≡ self.old.counts }
-        ensures listed { self.new.differing.items ≡ self.old.differing.items }
         ensures showing { self.new.showing ≡ self.old.showing }
         ensures errors { LosesNothing self.old.state self.new.state → self.new.errors ≡ self.old.errors }
         // What was written is handed on, unless that failed.
@@ -159,14 +126,12 @@ impl<W: ReportSink, E: ReportSink> Report<W, E> {
         self.lose_output(&handed_on);
     }
 
-    /// The same, for the report of a script.
+    /// The same, where a script was shown: memory may have been refused for that.
     ///
     /// # Errors
     ///
     /// If memory was refused for it.
     pub(crate) fn showed(&mut self, shown: Result<(), ShowFault>) -> Result<(), PathError>
-        ensures counts { self.new.counts ≡ self.old.counts }
-        ensures listed { self.new.differing.items ≡ self.old.differing.items }
         ensures memory { IfErr result (λ error. error.failure ≡ OutOfMemory) }
         ensures flushed { IfOk result (λ _. self.new.state.is_closed ≡ false → W.is_flushed self.new.output) }
         ensures shown { (before : Option (List ℕ)) (text : List ℕ) → self.old.state.is_closed ≡ false → Shows shown before (W.held self.old.output) text
@@ -183,8 +148,6 @@ impl<W: ReportSink, E: ReportSink> Report<W, E> {
 
     // What was shown is cut off; or nothing was shown, since memory was refused.
     fn showed_in_part(&mut self, fault: ShowFault) -> Result<(), PathError>
-        ensures counts { self.new.counts ≡ self.old.counts }
-        ensures listed { self.new.differing.items ≡ self.old.differing.items }
         ensures memory { IfErr result (λ error. error.failure ≡ OutOfMemory) }
         ensures flushed { IfOk result (λ _. self.new.state.is_closed ≡ false → W.is_flushed self.new.output) }
         ensures shown { (before : Option (List ℕ)) (text : List ℕ) → self.old.state.is_closed ≡ false → AppendsFront before (W.held self.old.output) text
@@ -201,13 +164,11 @@ impl<W: ReportSink, E: ReportSink> Report<W, E> {
 
     // Nothing more goes to standard output.
     fn lose_output(&mut self, handed_on: &io::Result<()>)
-        ensures counts { self.new.counts ≡ self.old.counts }
-        ensures listed { self.new.differing.items ≡ self.old.differing.items }
         ensures showing { self.new.showing ≡ self.old.showing }
         ensures output { self.new.output ≡ self.old.output }
         ensures closed { self.new.state.is_closed ≡ true }
         ensures kept { self.old.state.is_closed ≡ true → self.new ≡ self.old }
-        ensures told { self.old.state.is_closed ≡ false → Told (E.takes_all self.old.errors.sink) (E.takes_all self.new.errors.sink) (E.held self.old.errors.sink) (E.held self.new.errors.sink) (lost_output_text self.old.errors.shows_progress handed_on.now) }
+        ensures told { self.old.state.is_closed ≡ false → Tells E.takes_all E.held self.old self.new (lost_output_text self.old.errors.shows_progress handed_on.now) }
         ensures state { self.old.state.is_closed ≡ false → self.new.state ≡ closed self.old.state }
     {
         if self.state.is_closed {
@@ -222,11 +183,9 @@ impl<W: ReportSink, E: ReportSink> Report<W, E> {
 
     // Records that memory was refused for the report.
     pub(crate) fn fail_for_memory(&mut self, path: &[u8])
-        ensures counts { self.new.counts ≡ self.old.counts }
-        ensures listed { self.new.differing.items ≡ self.old.differing.items }
         ensures showing { self.new.showing ≡ self.old.showing }
         ensures output { self.new.output ≡ self.old.output }
-        ensures told { Told (E.takes_all self.old.errors.sink) (E.takes_all self.new.errors.sink) (E.held self.old.errors.sink) (E.held self.new.errors.sink) (cleared self.old.errors.shows_progress ++ failure_text path.now OutOfMemory) }
+        ensures told { Tells E.takes_all E.held self.old self.new (cleared self.old.errors.shows_progress ++ failure_text path.now OutOfMemory) }
         ensures state { self.new.state ≡ lacking self.old.state }
     {
         self.state.lack_memory();
@@ -235,12 +194,10 @@ impl<W: ReportSink, E: ReportSink> Report<W, E> {
 
     /// Writes the text on standard output.
     pub(crate) fn show<T: WrittenPiece>(&mut self, text: &T)
-        ensures counts { self.new.counts ≡ self.old.counts }
-        ensures listed { self.new.differing.items ≡ self.old.differing.items }
         ensures showing { self.new.showing ≡ self.old.showing }
         ensures errors { self.old.errors.shows_progress ≡ false → LosesNothing self.old.state self.new.state → self.new.errors ≡ self.old.errors }
         ensures flushed { self.new.state.is_closed ≡ false → W.is_flushed self.new.output }
-        ensures shown { GoesOut self.old.state self.new.state (W.held self.old.output) (W.held self.new.output) (T.text text.now) }
+        ensures shown { Prints W.held self.old self.new (T.text text.now) }
         ensures closed { self.old.state.is_closed ≡ true → self.new.state.is_closed ≡ true }
     {
         if !self.is_open() {
@@ -252,10 +209,8 @@ impl<W: ReportSink, E: ReportSink> Report<W, E> {
 
     /// Writes the bytes on standard output; returns whether that worked.
     pub(crate) fn say(&mut self, text: &[u8]) -> bool
-        ensures counts { self.new.counts ≡ self.old.counts }
-        ensures listed { self.new.differing.items ≡ self.old.differing.items }
         ensures flushed { self.new.state.is_closed ≡ false → W.is_flushed self.new.output }
-        ensures shown { GoesOut self.old.state self.new.state (W.held self.old.output) (W.held self.new.output) text.now }
+        ensures shown { Prints W.held self.old self.new text.now }
         ensures said { result ≡ not self.new.state.is_closed }
         ensures closed { self.old.state.is_closed ≡ true → result ≡ false }
     {
@@ -265,23 +220,19 @@ impl<W: ReportSink, E: ReportSink> Report<W, E> {
 
     /// Writes the bytes on standard output.
     pub(crate) fn put(&mut self, text: &[u8])
-        ensures counts { self.new.counts ≡ self.old.counts }
-        ensures listed { self.new.differing.items ≡ self.old.differing.items }
         ensures showing { self.new.showing ≡ self.old.showing }
         ensures errors { self.old.errors.shows_progress ≡ false → LosesNothing self.old.state self.new.state → self.new.errors ≡ self.old.errors }
         ensures flushed { self.new.state.is_closed ≡ false → W.is_flushed self.new.output }
-        ensures shown { GoesOut self.old.state self.new.state (W.held self.old.output) (W.held self.new.output) text.now }
+        ensures shown { Prints W.held self.old self.new text.now }
     {
         self.show(&text);
     }
 
     // Writes a notice to programs.
-    fn notify_in(&mut self, format: Format, path: &[u8], remark: Remark)
-        ensures counts { self.new.counts ≡ self.old.counts }
-        ensures listed { self.new.differing.items ≡ self.old.differing.items }
+    fn notify(&mut self, format: Format, path: &[u8], remark: Remark)
         ensures showing { self.new.showing ≡ self.old.showing }
         ensures errors { self.old.errors.shows_progress ≡ false → LosesNothing self.old.state self.new.state → self.new.errors ≡ self.old.errors }
-        ensures shown { GoesOut self.old.state self.new.state (W.held self.old.output) (W.held self.new.output) (programs_text format self.old.state.form.is_strict path.now remark) }
+        ensures shown { Prints W.held self.old self.new (programs_text format self.old.state.form.is_strict path.now remark) }
     {
         match programs_text(self.alloc, format, self.state.form.is_strict, path, remark) {
             Ok(text) => self.put(&text),
@@ -289,30 +240,67 @@ impl<W: ReportSink, E: ReportSink> Report<W, E> {
         }
     }
 
-    /// Writes a notice, if it is for programs.
-    pub(crate) fn notify(&mut self, path: &[u8], remark: Remark)
-        ensures counts { self.new.counts ≡ self.old.counts }
-        ensures listed { self.new.differing.items ≡ self.old.differing.items }
+    /// Says something of the script: a line to people, or a notice to programs.
+    pub(crate) fn remark(&mut self, path: &[u8], remark: Remark)
         ensures showing { self.new.showing ≡ self.old.showing }
         ensures errors { self.old.errors.shows_progress ≡ false → LosesNothing self.old.state self.new.state → self.new.errors ≡ self.old.errors }
-        ensures shown { GoesOut self.old.state self.new.state (W.held self.old.output) (W.held self.new.output) (noticed_text self.old.state.form path.now remark) }
+        ensures shown { Prints W.held self.old self.new (remark_text self.old.state.form path.now remark) }
     {
         match self.state.form.format {
-            Some(format) => self.notify_in(format, path, remark),
-            None => {}
+            Some(format) => self.notify(format, path, remark),
+            None => self.show(&RemarkLine { path, remark }),
         }
     }
 
-    /// Says something of the script: a line to people, or a notice to programs.
-    pub(crate) fn remark(&mut self, path: &[u8], remark: Remark)
-        ensures counts { self.new.counts ≡ self.old.counts }
-        ensures listed { self.new.differing.items ≡ self.old.differing.items }
-        ensures shown { GoesOut self.old.state self.new.state (W.held self.old.output) (W.held self.new.output) (remark_text self.old.state.form path.now remark) }
+    /// Says of each of the lines that it looks like a slip.
+    pub(crate) fn warn(&mut self, path: &[u8], warnings: &[Warning])
+        ensures { Prints W.held self.old self.new (warnings_text self.old.state.form path.now warnings.now) }
+    {
+        for i in 0..warnings.len() {
+            self.remark(path, Remark::Warning(warning_at(warnings, i)));
+        }
+    }
+
+    /// Reports that a path failed. If standard error fails too, that can't be reported; the status has the path's failure.
+    pub(crate) fn fail(&mut self, path: &[u8], error: PathError)
+        ensures showing { self.new.showing ≡ self.old.showing }
+        // If nothing of the report itself fails, this is all that the stream of errors has.
+        ensures told { LosesNothing self.old.state self.new.state → (words : List ℕ) × Tells E.takes_all E.held self.old self.new (cleared self.old.errors.shows_progress ++ failure_lines path.now error words) }
+        ensures progress { LosesNothing self.old.state self.new.state → self.new.errors.shows_progress ≡ false }
+        ensures shown { Prints W.held self.old self.new (remark_text self.old.state.form path.now (remarks.Failed error.failure)) }
+    {
+        self.errors.tell_failure(path, error);
+        self.remark(path, Remark::Failed(error.failure));
+    }
+
+    /// Writes the beginning of a report for programs.
+    pub(crate) fn begin(&mut self)
+        ensures { Prints W.held self.old self.new (begun_text self.old.state.form) }
     {
         match self.state.form.format {
-            Some(format) => self.notify_in(format, path, remark),
-            None => self.show(&RemarkLine { path, remark }),
+            Some(format) => self.put(beginning(format)),
+            None => {}
         }
+    }
+}
+
+// The warning at an index, which counts from 0.
+fn warning_at(warnings: &[Warning], index: usize) -> Warning
+    requires { index < length warnings.now }
+    ensures { slice_get warnings.now index ≡ Some result }
+{
+    warnings[index]
+}
+
+// The beginning of a report for programs.
+fn beginning(format: Format) -> &'static [u8]
+    ensures { result.now ≡ beginning format }
+{
+    match format {
+        Format::Json => b"",
+        Format::Github => b"",
+        Format::Junit =>
+            b"<?xml version=\"1.0\" encoding=\"UTF-8\"?>\n<testsuites name=\"raftbench\">\n",
     }
 }
 

@@ -3,24 +3,19 @@
 //! A review of a script is one definition, `Reviews.review_of`, of what was asked before, of its questions and of the lines that are read: it says what is
 //! accepted and what is still to be asked. Each function here does a part of it.
 
-ghost use Rattle.std.specs.Prelude.{◌≡◌, ◌++◌, ◌∷◌, [], ◌<◌, ◌≤◌, ◌^◌, ◌+◌, ◌-◌, ℕ, List, IfErr, IfOk, IfSome, drop, length, min};
-ghost use Rattle.rb_replay.specs.Report.{differing, mismatches};
-ghost use Rattle.rb_replay.specs.Run.{outputs};
+ghost use Rattle.std.specs.Prelude.{◌≡◌, ◌++◌, ◌∷◌, [], ◌<◌, ℕ, List, IfErr, IfOk, Some, length, slice_get};
 ghost use Rattle.rb_report.specs.declared.check.failure.Failure.TheVariants.{OutOfMemory};
-ghost use Rattle.rb_script_report.specs.Checked.{head_line};
-ghost use Rattle.rb_script_report.specs.Layouts.{IsLayout};
-ghost use Rattle.rb_check.specs.Asking.{AreAsked, AreReviewed, IsAsked, IsAskedAt, asked_places, place_if, places_of, subject_text};
-ghost use Rattle.rb_check.specs.Reviews.{answered_one, as_list, next_review, question_text, questions_of, review_behind, review_of, reviewed_all, reviewing, said_by, said_unasked};
-ghost use Rattle.rb_check.specs.ScriptTexts.{checked};
-ghost use Rattle.rb_check.specs.Shown.{GoesOut, GoesOutIf, GoesOutInPart};
+ghost use Rattle.rb_check.specs.Asking.{AreAsked, AreReviewed, IsAsked, IsAskedAt, asked_of, subject_text};
+ghost use Rattle.rb_check.specs.Reviews.{AreWithin, Hears, answered_one, next_review, question_text, questions_of, review_behind, review_of, review_so_far, reviewed_all, reviewed_one, reviewing, said_by, said_unasked};
+ghost use Rattle.rb_check.specs.Shown.{Prints, PrintsIf, PrintsPart};
+ghost use Rattle.rb_check.specs.Subjects.{AreFindings, plain_of};
 
 use crate::answer::Answer;
 use crate::check_request::CheckRequest;
 use crate::checked_script::CheckedScript;
 use crate::comment::put_comment;
 use crate::person::{Person, ask};
-use crate::question::{ReviewQuestion, question_of, question_text};
-use crate::ran_directive::directive_at;
+use crate::question::{ReviewQuestion, question_text, questions_of};
 use crate::report::Report;
 use crate::report_sink::ReportSink;
 use rb_files::PathError;
@@ -51,9 +46,6 @@ pub(crate) struct Reviewer<P: Person> {
     pub(crate) review: Review,
     // the lines of the heads whose outputs are accepted, in this script
     said: Vec<usize>,
-    // how many questions were asked in this script, and how many it has
-    number: usize,
-    count: usize,
 }
 
 impl<P: Person> Reviewer<P> {
@@ -66,57 +58,32 @@ impl<P: Person> Reviewer<P> {
             person,
             review: Review::Each,
             said: Vec::new(alloc),
-            number: 0,
-            count: 0,
         }
     }
 
-    // Begins a script with n questions.
-    fn begin(&mut self, n: usize)
+    // Begins a script.
+    fn begin(&mut self)
         ensures said { self.new.said.items ≡ [] }
         ensures review { self.new.review ≡ review_behind self.old.review }
         ensures person { self.new.person ≡ self.old.person }
-        ensures number { self.new.number ≡ 0 }
-        ensures count { self.new.count ≡ n }
     {
         self.said = Vec::new(self.alloc);
         self.review = review_behind(self.review);
-        self.number = 0;
-        self.count = n;
     }
 
-    // The question, in words.
-    fn next_question(&mut self) -> Result<Vec<u8>, AllocError>
-        ensures text { IfOk result (λ text. text.items ≡ question_text self.new.number self.old.count) }
-        ensures number { self.new.number ≡ min (self.old.number + 1) (2 ^ 64 - 1) }
-        ensures count { self.new.count ≡ self.old.count }
-        ensures said { self.new.said ≡ self.old.said }
-        ensures review { self.new.review ≡ self.old.review }
-        ensures person { self.new.person ≡ self.old.person }
-    {
-        self.number = self.number.saturating_add(1);
-        question_text(self.alloc, self.number, self.count)
-    }
-
-    // Asks, and does what is answered.
+    // Asks the question, and does what is answered.
     fn ask<W: ReportSink, E: ReportSink>(
         &mut self,
         question: ReviewQuestion,
+        number: usize,
+        count: usize,
         report: &mut Report<W, E>,
     ) -> Result<(), AllocError>
-        ensures counts { report.new.counts ≡ report.old.counts }
-        ensures listed { report.new.differing.items ≡ report.old.differing.items }
-        // It has the next number.
-        ensures number { IfOk result (λ _. self.new.number ≡ min (self.old.number + 1) (2 ^ 64 - 1)) }
-        ensures count { self.new.count ≡ self.old.count }
-        ensures shown { IfOk result (λ _. (text : List ℕ) × IsAsked (question_text self.new.number self.old.count) text × GoesOut report.old.state report.new.state (W.held report.old.output) (W.held report.new.output) text) }
-        ensures part { IfErr result (λ _. GoesOutInPart report.old.state report.new.state (W.held report.old.output) (W.held report.new.output)) }
-        ensures known { P.is_known self.old.person → P.is_known self.new.person }
-        ensures few { P.is_known self.old.person → length (P.left self.old.person) < 2 ^ 64 → length (P.left self.new.person) ≤ length (P.left self.old.person) }
-        ensures asked { P.is_known self.old.person → length (P.left self.old.person) < 2 ^ 64
-            → IfOk result (λ _. reviewing self.new.said.items self.new.review (P.left self.new.person) ≡ answered_one (reviewing self.old.said.items self.old.review (P.left self.old.person)) question) }
+        ensures shown { IfOk result (λ _. (text : List ℕ) × IsAsked (question_text number count) text × Prints W.held report.old report.new text) }
+        ensures part { IfErr result (λ _. PrintsPart W.held report.old report.new) }
+        ensures heard { Hears P.is_known P.left self.old.person self.new.person (IfOk result (λ _. review_so_far P.left self.new ≡ answered_one (review_so_far P.left self.old) question)) }
     {
-        let text = self.next_question()?;
+        let text = question_text(self.alloc, number, count)?;
         let answer = ask(&mut self.person, &text, report);
         self.review = take(&mut self.said, question.head, answer)?;
         Ok(())
@@ -127,8 +94,6 @@ impl<P: Person> Reviewer<P> {
         ensures said { IfOk result (λ _. self.new.said.items ≡ self.old.said.items ++ said_unasked question) }
         ensures review { self.new.review ≡ self.old.review }
         ensures person { self.new.person ≡ self.old.person }
-        ensures number { self.new.number ≡ self.old.number }
-        ensures count { self.new.count ≡ self.old.count }
     {
         if question.is_taken {
             push(&mut self.said, question.head)?;
@@ -155,174 +120,96 @@ pub(crate) fn reviewed<M: Machine, P: Person, W: ReportSink, E: ReportSink>(
     reviewer: &mut Reviewer<P>,
     report: &mut Report<W, E>,
 ) -> Result<Vec<usize>, PathError>
-    requires { IsLayout subject.now.text.now.bytes.items subject.now.session.now.script subject.now.layout.now }
-    ensures counts { report.new.counts ≡ report.old.counts }
-    ensures listed { report.new.differing.items ≡ report.old.differing.items }
+    requires { AreFindings subject.now }
     ensures memory { IfErr result (λ error. error.failure ≡ OutOfMemory) }
-    ensures known { P.is_known reviewer.old.person → P.is_known reviewer.new.person }
-    ensures few { P.is_known reviewer.old.person → length (P.left reviewer.old.person) < 2 ^ 64 → length (P.left reviewer.new.person) ≤ length (P.left reviewer.old.person) }
     // What goes out are the questions, one after another, as far as they are asked.
-    ensures shown { IfOk result (λ _. (text : List ℕ) × AreReviewed (checked subject.now.path.now subject.now.layout.now subject.now.whys.now subject.now.session.now.script subject.now.colors) picked.entry reviewer.old.review reviewer.new.review text × GoesOut report.old.state report.new.state (W.held report.old.output) (W.held report.new.output) text) }
-    ensures part { IfErr result (λ _. GoesOutInPart report.old.state report.new.state (W.held report.old.output) (W.held report.new.output)) }
+    ensures shown { IfOk result (λ _. (text : List ℕ) × AreReviewed (plain_of subject.now) (questions_of asked.now picked.entry (plain_of subject.now)) reviewer.old.review reviewer.new.review text × Prints W.held report.old report.new text) }
+    ensures part { IfErr result (λ _. PrintsPart W.held report.old report.new) }
     // If the person's lines are known, what is accepted is the review of the questions by them.
-    ensures reviewed { P.is_known reviewer.old.person → length (P.left reviewer.old.person) < 2 ^ 64
-        → IfOk result (λ said. reviewing said.items reviewer.new.review (P.left reviewer.new.person)
-        ≡ review_of reviewer.old.review (P.left reviewer.old.person) (questions_of asked.now.accepts_errors picked.entry subject.now.layout.now.text subject.now.layout.now.heads.items subject.now.session.now.script.blocks (outputs subject.now.session.now.script))) }
+    ensures heard { Hears P.is_known P.left reviewer.old.person reviewer.new.person (IfOk result (λ said. reviewing said.items reviewer.new.review (P.left reviewer.new.person)
+        ≡ review_of reviewer.old.review (P.left reviewer.old.person) (questions_of asked.now picked.entry (plain_of subject.now)))) }
 {
-    reviewer.begin(count_questions(asked, subject, picked));
-    go_over(asked, subject, picked, reviewer, report)?;
+    let questions = questions_of(reviewer.alloc, asked, picked, subject)?;
+    reviewer.begin();
+    go_over(subject, &questions, reviewer, report)?;
     let none = Vec::new(reviewer.alloc);
     Ok(mem::replace(&mut reviewer.said, none))
 }
 
-// How many questions there are.
-fn count_questions<M: Machine>(
-    asked: &CheckRequest<'_>,
-    subject: &CheckedScript<'_, M>,
-    picked: AcceptFilter<'_>,
-) -> usize
-    requires { IsLayout subject.now.text.now.bytes.items subject.now.session.now.script subject.now.layout.now }
-    ensures questions { result ≡ length (questions_of asked.now.accepts_errors picked.entry subject.now.layout.now.text subject.now.layout.now.heads.items subject.now.session.now.script.blocks (outputs subject.now.session.now.script)) }
-    ensures places { result ≡ length (places_of picked.entry subject.now.layout.now.heads.items (mismatches subject.now.session.now.script)) }
-{
-    let mut count = 0;
-    for index in 0..subject.session.len() {
-        count += one_if(question_at(asked, subject, picked, index));
-    }
-    count
-}
-
-fn one_if(question: Option<ReviewQuestion>) -> usize
-    ensures value { result ≡ length (as_list question) }
-    ensures most { result ≤ 1 }
-{
-    match question {
-        Some(_) => 1,
-        None => 0,
-    }
-}
-
-// What is asked about the directive at an index, which counts from 0.
-fn question_at<M: Machine>(
-    asked: &CheckRequest<'_>,
-    subject: &CheckedScript<'_, M>,
-    picked: AcceptFilter<'_>,
-    index: usize,
-) -> Option<ReviewQuestion>
-    requires layout { IsLayout subject.now.text.now.bytes.items subject.now.session.now.script subject.now.layout.now }
-    requires within { index < length subject.now.session.now.script.blocks }
-    // It is about the directive's head.
-    ensures head { IfSome result (λ question. question.head ≡ head_line subject.now.layout.now.heads.items (index + 1)) }
-    // Its place is the next of those that are left.
-    ensures place { let left = λ (n : ℕ). places_of picked.entry subject.now.layout.now.heads.items (differing (n + 1) (drop n subject.now.session.now.script.blocks) (drop n (outputs subject.now.session.now.script))) in
-        left index ≡ place_if result (index + 1) ++ left (index + 1) }
-    // So is it itself.
-    ensures question { let left = λ (n : ℕ). questions_of asked.now.accepts_errors picked.entry subject.now.layout.now.text (drop n subject.now.layout.now.heads.items) (drop n subject.now.session.now.script.blocks) (drop n (outputs subject.now.session.now.script)) in
-        left index ≡ as_list result ++ left (index + 1) }
-{
-    let ran = directive_at(subject, index);
-    question_of(
-        asked.accepts_errors,
-        picked,
-        &subject.layout.text,
-        ran.place.line,
-        ran.block,
-        ran.output,
-    )
-}
-
-// Asks about each directive whose output differs and that is picked, as far as it is still to be asked.
+// Asks the questions, as far as they are still to be asked.
 fn go_over<M: Machine, P: Person, W: ReportSink, E: ReportSink>(
-    asked: &CheckRequest<'_>,
     subject: &CheckedScript<'_, M>,
-    picked: AcceptFilter<'_>,
+    questions: &[ReviewQuestion],
     reviewer: &mut Reviewer<P>,
     report: &mut Report<W, E>,
 ) -> Result<(), PathError>
-    requires { IsLayout subject.now.text.now.bytes.items subject.now.session.now.script subject.now.layout.now }
-    ensures counts { report.new.counts ≡ report.old.counts }
-    ensures listed { report.new.differing.items ≡ report.old.differing.items }
+    requires findings { AreFindings subject.now }
+    requires within { AreWithin questions.now (length subject.now.session.now.script.blocks) }
     ensures memory { IfErr result (λ error. error.failure ≡ OutOfMemory) }
-    ensures shown { reviewer.old.number ≡ 0 → reviewer.old.count ≡ length (places_of picked.entry subject.now.layout.now.heads.items (mismatches subject.now.session.now.script))
-        → IfOk result (λ _. (text : List ℕ) × AreReviewed (checked subject.now.path.now subject.now.layout.now subject.now.whys.now subject.now.session.now.script subject.now.colors) picked.entry reviewer.old.review reviewer.new.review text × GoesOut report.old.state report.new.state (W.held report.old.output) (W.held report.new.output) text) }
-    ensures part { IfErr result (λ _. GoesOutInPart report.old.state report.new.state (W.held report.old.output) (W.held report.new.output)) }
-    ensures known { P.is_known reviewer.old.person → P.is_known reviewer.new.person }
-    ensures few { P.is_known reviewer.old.person → length (P.left reviewer.old.person) < 2 ^ 64 → length (P.left reviewer.new.person) ≤ length (P.left reviewer.old.person) }
-    ensures reviewed { P.is_known reviewer.old.person → length (P.left reviewer.old.person) < 2 ^ 64
-        → IfOk result (λ _. reviewing reviewer.new.said.items reviewer.new.review (P.left reviewer.new.person)
-        ≡ reviewed_all (reviewing reviewer.old.said.items reviewer.old.review (P.left reviewer.old.person)) (questions_of asked.now.accepts_errors picked.entry subject.now.layout.now.text subject.now.layout.now.heads.items subject.now.session.now.script.blocks (outputs subject.now.session.now.script))) }
+    ensures shown { IfOk result (λ _. (text : List ℕ) × AreReviewed (plain_of subject.now) questions.now reviewer.old.review reviewer.new.review text × Prints W.held report.old report.new text) }
+    ensures part { IfErr result (λ _. PrintsPart W.held report.old report.new) }
+    ensures heard { Hears P.is_known P.left reviewer.old.person reviewer.new.person (IfOk result (λ _. review_so_far P.left reviewer.new ≡ reviewed_all (review_so_far P.left reviewer.old) questions.now)) }
 {
-    for index in 0..subject.session.len() {
-        let question = question_at(asked, subject, picked, index);
-        review_one(subject, index, question, reviewer, report)?;
+    for i in 0..questions.len() {
+        let question = question_at(questions, i);
+        review_one(subject, question, i + 1, questions.len(), reviewer, report)?;
     }
     Ok(())
 }
 
-// Asks about the directive at an index, where there is something to ask and it is still to be asked.
+// The question at an index, which counts from 0.
+fn question_at(questions: &[ReviewQuestion], index: usize) -> ReviewQuestion
+    requires { index < length questions.now }
+    ensures { slice_get questions.now index ≡ Some result }
+{
+    questions[index]
+}
+
+// Asks the question, if it is still to be asked.
 fn review_one<M: Machine, P: Person, W: ReportSink, E: ReportSink>(
     subject: &CheckedScript<'_, M>,
-    index: usize,
-    question: Option<ReviewQuestion>,
+    question: ReviewQuestion,
+    number: usize,
+    count: usize,
     reviewer: &mut Reviewer<P>,
     report: &mut Report<W, E>,
 ) -> Result<(), PathError>
-    requires layout { IsLayout subject.now.text.now.bytes.items subject.now.session.now.script subject.now.layout.now }
-    requires within { index < length subject.now.session.now.script.blocks }
-    ensures counts { report.new.counts ≡ report.old.counts }
-    ensures listed { report.new.differing.items ≡ report.old.differing.items }
+    requires findings { AreFindings subject.now }
+    requires within { question.index < length subject.now.session.now.script.blocks }
     ensures memory { IfErr result (λ error. error.failure ≡ OutOfMemory) }
-    // It goes out as its next question, if it has one that is still to be asked.
-    ensures shown { reviewer.old.number < 2 ^ 64 - 1 → IfSome question (λ asks. asks.head ≡ head_line subject.now.layout.now.heads.items (index + 1))
-        → IfOk result (λ _. (text : List ℕ) × AreAsked (checked subject.now.path.now subject.now.layout.now subject.now.whys.now subject.now.session.now.script subject.now.colors) reviewer.old.count (reviewer.old.number + 1) (asked_places reviewer.old.review question (index + 1)) text × GoesOut report.old.state report.new.state (W.held report.old.output) (W.held report.new.output) text) }
-    ensures part { GoesOutInPart report.old.state report.new.state (W.held report.old.output) (W.held report.new.output) }
-    ensures number { reviewer.old.number < 2 ^ 64 - 1 → IfOk result (λ _. reviewer.new.number ≡ reviewer.old.number + length (asked_places reviewer.old.review question (index + 1))) }
-    ensures count { reviewer.new.count ≡ reviewer.old.count }
+    ensures shown { IfOk result (λ _. (text : List ℕ) × AreAsked (plain_of subject.now) count number (asked_of reviewer.old.review question) text × Prints W.held report.old report.new text) }
+    ensures part { IfErr result (λ _. PrintsPart W.held report.old report.new) }
     // Nothing begins a review again.
     ensures each { reviewer.new.review ≡ Review.Each → reviewer.old.review ≡ Review.Each }
     ensures over { reviewer.old.review ≡ Review.Over → reviewer.new.review ≡ Review.Over }
-    ensures known { P.is_known reviewer.old.person → P.is_known reviewer.new.person }
-    ensures few { P.is_known reviewer.old.person → length (P.left reviewer.old.person) < 2 ^ 64 → length (P.left reviewer.new.person) ≤ length (P.left reviewer.old.person) }
-    ensures reviewed { P.is_known reviewer.old.person → length (P.left reviewer.old.person) < 2 ^ 64
-        → IfOk result (λ _. reviewing reviewer.new.said.items reviewer.new.review (P.left reviewer.new.person)
-        ≡ reviewed_all (reviewing reviewer.old.said.items reviewer.old.review (P.left reviewer.old.person)) (as_list question)) }
+    ensures heard { Hears P.is_known P.left reviewer.old.person reviewer.new.person (IfOk result (λ _. review_so_far P.left reviewer.new ≡ reviewed_one (review_so_far P.left reviewer.old) question)) }
 {
-    match question {
-        Some(question) => match reviewer.review {
-            Review::Each => ask_about(subject, index, question, reviewer, report),
-            Review::Rest => Ok(reviewer.take_rest(question)?),
-            Review::Skipped => Ok(()),
-            Review::Over => Ok(()),
-        },
-        None => Ok(()),
+    match reviewer.review {
+        Review::Each => ask_about(subject, question, number, count, reviewer, report),
+        Review::Rest => Ok(reviewer.take_rest(question)?),
+        Review::Skipped => Ok(()),
+        Review::Over => Ok(()),
     }
 }
 
 // Shows what the question is about, and asks it.
 fn ask_about<M: Machine, P: Person, W: ReportSink, E: ReportSink>(
     subject: &CheckedScript<'_, M>,
-    index: usize,
     question: ReviewQuestion,
+    number: usize,
+    count: usize,
     reviewer: &mut Reviewer<P>,
     report: &mut Report<W, E>,
 ) -> Result<(), PathError>
-    requires layout { IsLayout subject.now.text.now.bytes.items subject.now.session.now.script subject.now.layout.now }
-    requires within { index < length subject.now.session.now.script.blocks }
-    ensures counts { report.new.counts ≡ report.old.counts }
-    ensures listed { report.new.differing.items ≡ report.old.differing.items }
+    requires findings { AreFindings subject.now }
+    requires within { question.index < length subject.now.session.now.script.blocks }
     ensures memory { IfErr result (λ error. error.failure ≡ OutOfMemory) }
-    ensures shown { reviewer.old.number < 2 ^ 64 - 1 → question.head ≡ head_line subject.now.layout.now.heads.items (index + 1)
-        → IfOk result (λ _. (text : List ℕ) × IsAskedAt (checked subject.now.path.now subject.now.layout.now subject.now.whys.now subject.now.session.now.script subject.now.colors) reviewer.old.count (reviewer.old.number + 1) (index + 1) text × GoesOut report.old.state report.new.state (W.held report.old.output) (W.held report.new.output) text) }
-    ensures part { GoesOutInPart report.old.state report.new.state (W.held report.old.output) (W.held report.new.output) }
-    ensures number { IfOk result (λ _. reviewer.new.number ≡ min (reviewer.old.number + 1) (2 ^ 64 - 1)) }
-    ensures count { reviewer.new.count ≡ reviewer.old.count }
-    ensures known { P.is_known reviewer.old.person → P.is_known reviewer.new.person }
-    ensures few { P.is_known reviewer.old.person → length (P.left reviewer.old.person) < 2 ^ 64 → length (P.left reviewer.new.person) ≤ length (P.left reviewer.old.person) }
-    ensures asked { P.is_known reviewer.old.person → length (P.left reviewer.old.person) < 2 ^ 64
-        → IfOk result (λ _. reviewing reviewer.new.said.items reviewer.new.review (P.left reviewer.new.person) ≡ answered_one (reviewing reviewer.old.said.items reviewer.old.review (P.left reviewer.old.person)) question) }
+    ensures shown { IfOk result (λ _. (text : List ℕ) × IsAskedAt (plain_of subject.now) count number question text × Prints W.held report.old report.new text) }
+    ensures part { IfErr result (λ _. PrintsPart W.held report.old report.new) }
+    ensures heard { Hears P.is_known P.left reviewer.old.person reviewer.new.person (IfOk result (λ _. review_so_far P.left reviewer.new ≡ answered_one (review_so_far P.left reviewer.old) question)) }
 {
-    show(reviewer.alloc, subject, index, question, report)?;
-    Ok(reviewer.ask(question, report)?)
+    show(reviewer.alloc, subject, question, report)?;
+    Ok(reviewer.ask(question, number, count, report)?)
 }
 
 fn push(said: &mut Vec<usize>, head: usize) -> Result<(), AllocError>
@@ -356,16 +243,13 @@ fn take(said: &mut Vec<usize>, head: usize, answer: Answer) -> Result<Review, Al
 fn show<M: Machine, W: ReportSink, E: ReportSink>(
     alloc: Global,
     subject: &CheckedScript<'_, M>,
-    index: usize,
     question: ReviewQuestion,
     report: &mut Report<W, E>,
 ) -> Result<(), PathError>
-    requires layout { IsLayout subject.now.text.now.bytes.items subject.now.session.now.script subject.now.layout.now }
-    requires within { index < length subject.now.session.now.script.blocks }
-    ensures counts { report.new.counts ≡ report.old.counts }
-    ensures listed { report.new.differing.items ≡ report.old.differing.items }
+    requires findings { AreFindings subject.now }
+    requires within { question.index < length subject.now.session.now.script.blocks }
     ensures memory { IfErr result (λ error. error.failure ≡ OutOfMemory) }
-    ensures shown { GoesOutIf result report.old.state report.new.state (W.held report.old.output) (W.held report.new.output) (subject_text (checked subject.now.path.now subject.now.layout.now subject.now.whys.now subject.now.session.now.script subject.now.colors) question.head (index + 1)) }
+    ensures shown { PrintsIf result W.held report.old report.new (subject_text (plain_of subject.now) question) }
 {
     if !report.is_open() {
         return Ok(());
@@ -384,6 +268,6 @@ fn show<M: Machine, W: ReportSink, E: ReportSink>(
         layout: subject.layout,
         whys: subject.whys,
     };
-    let shown = put_alone(alloc, sink, &run, view, index);
+    let shown = put_alone(alloc, sink, &run, view, question.index);
     report.showed(shown)
 }

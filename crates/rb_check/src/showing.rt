@@ -2,12 +2,10 @@
 
 ghost use Rattle.std.specs.Prelude.{◌≡◌, ℕ, List, IfErr, IfOk, Some};
 ghost use Rattle.rb_report.specs.declared.check.failure.Failure.TheVariants.{OutOfMemory};
-ghost use Rattle.rb_script_report.specs.Layouts.{IsLayout};
-ghost use Rattle.rb_script_report.specs.Whys.{told_text};
-ghost use Rattle.rb_check.specs.Findings.{AreFindings};
 ghost use Rattle.rb_check.specs.Formats.{script_text};
-ghost use Rattle.rb_check.specs.ScriptTexts.{IsTold, checked, may_be_empty, report_text, shown_warnings, shows_warnings, warns};
-ghost use Rattle.rb_check.specs.Shown.{GoesOut, GoesOutIf, GoesOutInPart};
+ghost use Rattle.rb_check.specs.ScriptTexts.{IsTold, may_be_empty, people_report, report_text, shown_warnings, shows_warnings, warns};
+ghost use Rattle.rb_check.specs.Shown.{Prints, PrintsIf, PrintsPart};
+ghost use Rattle.rb_check.specs.Subjects.{AreFindings, plain_of};
 ghost use Rattle.rb_check.specs.Targets.{AreNamedLines, AreNotFound, no_directive_failure};
 
 use crate::alone::show_alone;
@@ -36,13 +34,11 @@ pub(crate) fn tell<M: Machine, S: System, W: ReportSink, E: ReportSink>(
     subject: &CheckedScript<'_, M>,
     report: &mut Report<W, E>,
 ) -> Result<(), PathError>
-    requires { AreFindings subject.now.text.now.bytes.items subject.now.session.now.script subject.now.layout.now subject.now.warnings.now subject.now.ran }
-    ensures counts { report.new.counts ≡ report.old.counts }
-    ensures listed { report.new.differing.items ≡ report.old.differing.items }
+    requires { AreFindings subject.now }
     ensures failed { IfErr result (λ error. AreNotFound (λ lines. AreNamedLines (S.tells_one system.now) subject.now.path.now asked.now.targets.now (Some lines)) subject.now.layout.now.heads.items (no_directive_failure asked.now.accepts) error) }
-    ensures shown { IfOk result (λ _. (text : List ℕ) × IsTold (S.tells_one system.now) asked.now report.old.state.form (checked subject.now.path.now subject.now.layout.now subject.now.whys.now subject.now.session.now.script subject.now.colors) text
-        × GoesOut report.old.state report.new.state (W.held report.old.output) (W.held report.new.output) text) }
-    ensures part { IfErr result (λ _. GoesOutInPart report.old.state report.new.state (W.held report.old.output) (W.held report.new.output)) }
+    ensures shown { IfOk result (λ _. (text : List ℕ) × IsTold (S.tells_one system.now) asked.now report.old.state.form (plain_of subject.now) text
+        × Prints W.held report.old report.new text) }
+    ensures part { IfErr result (λ _. PrintsPart W.held report.old report.new) }
 {
     let alloc = system.alloc();
     if let Some(lines) = lines_alone(system, asked, subject.path)? {
@@ -58,13 +54,11 @@ fn warn<M: Machine, W: ReportSink, E: ReportSink>(
     subject: &CheckedScript<'_, M>,
     report: &mut Report<W, E>,
 )
-    requires { AreFindings subject.now.text.now.bytes.items subject.now.session.now.script subject.now.layout.now subject.now.warnings.now subject.now.ran }
-    ensures counts { report.new.counts ≡ report.old.counts }
-    ensures listed { report.new.differing.items ≡ report.old.differing.items }
-    ensures shown { GoesOut report.old.state report.new.state (W.held report.old.output) (W.held report.new.output) (shown_warnings asked.now report.old.state.form subject.now.path.now subject.now.layout.now subject.now.session.now.script) }
+    requires { AreFindings subject.now }
+    ensures { Prints W.held report.old report.new (shown_warnings asked.now report.old.state.form (plain_of subject.now)) }
 {
     if warns(asked, subject.session) {
-        report.warn(subject.path, subject.warnings);
+        report.warn(subject.path.as_bytes(), subject.warnings);
     }
 }
 
@@ -93,11 +87,9 @@ fn show<M: Machine, W: ReportSink, E: ReportSink>(
     subject: &CheckedScript<'_, M>,
     report: &mut Report<W, E>,
 ) -> Result<(), PathError>
-    requires { AreFindings subject.now.text.now.bytes.items subject.now.session.now.script subject.now.layout.now subject.now.warnings.now subject.now.ran }
-    ensures counts { report.new.counts ≡ report.old.counts }
-    ensures listed { report.new.differing.items ≡ report.old.differing.items }
+    requires { AreFindings subject.now }
     ensures memory { IfErr result (λ error. error.failure ≡ OutOfMemory) }
-    ensures shown { GoesOutIf result report.old.state report.new.state (W.held report.old.output) (W.held report.new.output) (report_text asked.now subject.now.colors subject.now.path.now subject.now.layout.now subject.now.whys.now subject.now.session.now.script) }
+    ensures shown { PrintsIf result W.held report.old report.new (report_text asked.now (plain_of subject.now)) }
 {
     if may_be_empty(asked.format) && is_quiet(subject.session, asked.shown) {
         return Ok(());
@@ -127,12 +119,9 @@ fn show_people<M: Machine, W: ReportSink, E: ReportSink>(
     subject: &CheckedScript<'_, M>,
     report: &mut Report<W, E>,
 ) -> Result<(), PathError>
-    requires { IsLayout subject.now.text.now.bytes.items subject.now.session.now.script subject.now.layout.now }
-    ensures counts { report.new.counts ≡ report.old.counts }
-    ensures listed { report.new.differing.items ≡ report.old.differing.items }
+    requires { AreFindings subject.now }
     ensures memory { IfErr result (λ error. error.failure ≡ OutOfMemory) }
-    ensures shown { GoesOutIf result report.old.state report.new.state (W.held report.old.output) (W.held report.new.output)
-        (told_text shown subject.now.colors subject.now.layout.now.text subject.now.path.now subject.now.whys.now subject.now.layout.now.heads.items subject.now.session.now.script) }
+    ensures shown { PrintsIf result W.held report.old report.new (people_report shown (plain_of subject.now)) }
 {
     if !report.is_open() {
         return Ok(());
@@ -162,12 +151,9 @@ fn show_programs<M: Machine, W: ReportSink, E: ReportSink>(
     subject: &CheckedScript<'_, M>,
     report: &mut Report<W, E>,
 ) -> Result<(), PathError>
-    requires { AreFindings subject.now.text.now.bytes.items subject.now.session.now.script subject.now.layout.now subject.now.warnings.now subject.now.ran }
-    ensures counts { report.new.counts ≡ report.old.counts }
-    ensures listed { report.new.differing.items ≡ report.old.differing.items }
+    requires { AreFindings subject.now }
     ensures memory { IfErr result (λ error. error.failure ≡ OutOfMemory) }
-    ensures shown { GoesOutIf result report.old.state report.new.state (W.held report.old.output) (W.held report.new.output)
-        (script_text format is_strict subject.now.layout.now.text subject.now.path.now subject.now.whys.now subject.now.layout.now.heads.items subject.now.session.now.script) }
+    ensures shown { PrintsIf result W.held report.old report.new (script_text format is_strict (plain_of subject.now)) }
 {
     let text = formatted(alloc, format, is_strict, subject)?;
     report.put(&text);

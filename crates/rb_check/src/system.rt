@@ -5,12 +5,14 @@ ghost use Rattle.rb_script.specs.Reads.{Reads};
 ghost use Rattle.rb_script_report.specs.Accepting.{accepted};
 ghost use Rattle.rb_check.specs.AcceptTexts.{left_in};
 ghost use Rattle.rb_check.specs.Reported.{IsUnread};
-ghost use Rattle.rb_check.specs.Shown.{GoesOut, Told, cleared, left_file_text};
+ghost use Rattle.rb_check.specs.Shown.{Prints, Tells, cleared, left_file_text};
+ghost use Rattle.rb_check.specs.Subjects.{plain_of};
 ghost use Rattle.rb_report.specs.declared.check.failure.Failure.TheVariants.{NotRead, OutOfMemory};
 ghost use Rattle.rb_files.specs.PathErrors.{without_cause};
 ghost use Rattle.rb_files.specs.Places.{WasPut};
 
 use crate::checked_script::CheckedScript;
+use crate::notes::Note;
 use crate::report::Report;
 use crate::report_sink::ReportSink;
 use rb_files::{AtomicReplace, FilePlace, PathError, Unreplaced, file_at, opened, replace};
@@ -64,10 +66,8 @@ pub(crate) trait System {
     ) -> Result<(), PathError>
         requires reads { Reads text.now (accepted wanted subject.now.layout.now.text subject.now.layout.now.heads.items subject.now.session.now.script) }
         // Some output is accepted.
-        requires changes { length (left_in wanted subject.now.layout.now subject.now.session.now.script) ≢ subject.now.ran.mismatches }
-        ensures counts { report.new.counts ≡ report.old.counts }
-        ensures listed { report.new.differing.items ≡ report.old.differing.items }
-        ensures shown { GoesOut report.old.state report.new.state (W.held report.old.output) (W.held report.new.output) [] }
+        requires changes { length (left_in wanted (plain_of subject.now)) ≢ subject.now.ran.left }
+        ensures shown { Prints W.held report.old report.new [] }
         ensures written { IfOk result (λ _. has_written self.now subject.now.path.now text.now × WasPut Self.Place.contents Self.Place.is_unchanged Self.Place.is_settled text.now) };
 
     /// Whether both paths lead to one script.
@@ -167,17 +167,15 @@ fn told<R: Files + AllocGlobal, W: ReportSink, E: ReportSink>(
     place: &AtomicReplace<'_, R>,
     report: &mut Report<W, E>,
 ) -> Result<(), PathError>
-    ensures counts { report.new.counts ≡ report.old.counts }
-    ensures listed { report.new.differing.items ≡ report.old.differing.items }
-    ensures shown { GoesOut report.old.state report.new.state (W.held report.old.output) (W.held report.new.output) [] }
+    ensures shown { Prints W.held report.old report.new [] }
     ensures outcome { MatchResult outcome (λ _. IsOk result) (λ why. result ≡ Err why.error) }
-    ensures left { IsErr outcome → IfSome place.now.new (λ new. Told (E.takes_all report.old.errors.sink) (E.takes_all report.new.errors.sink) (E.held report.old.errors.sink) (E.held report.new.errors.sink) (cleared report.old.errors.shows_progress ++ left_file_text (string_bytes new.path))) }
+    ensures left { IsErr outcome → IfSome place.now.new (λ new. Tells E.takes_all E.held report.old report.new (cleared report.old.errors.shows_progress ++ left_file_text (string_bytes new.path))) }
 {
     match outcome {
         Ok(()) => Ok(()),
         Err(why) => {
             if let Some(left) = place.left() {
-                report.tell_left(left);
+                report.errors.tell(&Note::LeftFile(left.as_bytes()));
             }
             Err(why.error)
         }

@@ -4,7 +4,6 @@ ghost use Rattle.std.specs.Prelude.{◌≡◌, ◌≢◌, IfOk, IsOk, MatchOptio
 ghost use Rattle.rb_program.specs.Checks.{IsAskedBy, IsCheckOf, wants_progress};
 ghost use Rattle.rb_program.specs.Choices.{accepts, color_choice_of, review_fault, shown_of, style_of};
 
-use crate::clusters::Clusters;
 use crate::colors::{ColorChoice, color_choice_of, colors};
 use crate::environment::{Environment, gives_keys};
 use crate::path_kind::PathKinds;
@@ -14,7 +13,7 @@ use crate::style::{Style, style_of};
 use crate::target::targets;
 use crate::usage_error::{UsageError, misused};
 use rb_args::CheckChoice;
-use rb_bench::RunContext;
+use rb_bench::Runner;
 use rb_check::{CheckRequest, Target, check};
 use rb_report::check::{Colors, Status};
 use rb_script_report::Detail;
@@ -55,9 +54,8 @@ pub fn check_all<
     let keys = gives_keys(rt);
     let is_told = progress.is_wanted();
     let asked = request(choice, named, style, colors, is_told, keys);
-    let context = RunContext::new(rt.alloc(), &progress);
-    let mut clusters = Clusters { context };
-    Ok(check(rt, &mut clusters, asked, errors)?)
+    let mut runner = Runner::new(rt.alloc(), &progress);
+    Ok(check(rt, &mut runner, asked, errors)?)
 }
 
 // What the command line asks for.

@@ -12,7 +12,6 @@ mod chart;
 mod chart_over;
 mod checking;
 mod clap_text;
-mod clusters;
 mod colors;
 mod console;
 mod directives;

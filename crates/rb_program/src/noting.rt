@@ -6,7 +6,8 @@ ghost use Rattle.rb_replay.specs.Run.{outputs};
 ghost use Rattle.rb_script_report.specs.Layouts.{IsLayout};
 ghost use Rattle.rb_program.specs.Notes.{error_noted, errors_noted, notes_shown, warnings_noted};
 
-use rb_check::{ScriptRun, shown_of_script};
+use rb_bench::ScriptRun;
+use rb_check::shown_of_script;
 use rb_machine::Machine;
 use rb_replay::Session;
 use rb_report::check::{FileLine, put_note, put_warning};
@@ -18,12 +19,7 @@ use rb_script_report::{
 use std::alloc::Global;
 
 /// The notes on the script of the bytes, which ran, as a terminal gets them; none, if memory was refused.
-pub(crate) fn notes_of<M: Machine>(
-    alloc: Global,
-    path: &[u8],
-    bytes: &[u8],
-    run: &ScriptRun<M>,
-) -> Option<Vec<u8>>
+pub(crate) fn notes_of(alloc: Global, path: &[u8], bytes: &[u8], run: &ScriptRun) -> Option<Vec<u8>>
     requires { IsLayout bytes.now run.now.session.script run.now.layout }
     ensures { IfSome result (λ notes. notes.items ≡ notes_shown path.now run.now.layout run.now.session.script) }
 {

@@ -1,11 +1,7 @@
 //! `raftbench rewrite FILE` with notes for a reader.
 
 ghost use Rattle.std.specs.Prelude.{◌≡◌, ◌≢◌, ℕ, Err, IfErr, IfOk, IfSome, OnOk};
-ghost use Rattle.rb_script.specs.Script.{PlainScript};
-ghost use Rattle.rb_script.specs.Reads.{Reads};
-ghost use Rattle.rb_script.specs.Reading.{read_of};
 ghost use Rattle.rb_bench.specs.declared.running.Mode.TheVariants as modes;
-ghost use Rattle.rb_bench.specs.Faults.{TellsFault};
 ghost use Rattle.rb_bench.specs.Handed.{IsHandedOn};
 ghost use Rattle.rb_bench.specs.Runs.{Answers};
 ghost use Rattle.rb_text.specs.declared.reading.ReadFault.{ReadFault};
@@ -13,16 +9,11 @@ ghost use Rattle.rb_program.specs.Done.{IsNoted};
 ghost use Rattle.rb_program.specs.Notes.{AreNotes, status_of_rewriting};
 ghost use Rattle.rb_program.specs.Refusals.{EndsAs, of_reading};
 ghost use Rattle.rb_program.specs.Scripts.{AreRead, IsOfBytes, IsOfInput, sources_of};
-ghost use Rattle.rb_script_report.specs.Layouts.{IsLayout};
 
-use crate::clusters::Clusters;
 use crate::noting::notes_of;
 use crate::program_error::ProgramError;
 use crate::running::{ended, script};
-use rb_bench::{BenchFault, Mode, Outlet, RunContext, RunProgress, write_run};
-use rb_check::{ScriptRun, run_script};
-use rb_cluster::Cluster;
-use rb_raftlog::SplitLog;
+use rb_bench::{BenchFault, Mode, Outlet, RunProgress, Runner, write_run};
 use rb_report::check::Status;
 use rb_script::{MAX_SCRIPT, Through};
 use rb_text::{FailFast, ReadSource, read_up_to};
@@ -125,27 +116,11 @@ fn rewrite_bytes<W: Outlet, P: RunProgress>(
     ensures handed { OnOk result (IsHandedOn (W.handed writer.new) (W.held writer.new)) }
     ensures io { W.takes_all writer.old → result ≢ Err BenchFault.Io }
 {
-    let run = run_once(alloc, bytes, progress)?;
+    let mut runner = Runner::new(alloc, progress);
+    let run = runner.run_script(bytes, false)?;
     let status = write_run(&run.session, writer, Mode::Rewrite)?;
     let notes = notes_of(alloc, path, bytes, &run);
     Ok(Rewritten { status, notes })
-}
-
-// The run of the script of the bytes.
-fn run_once<P: RunProgress>(
-    alloc: Global,
-    bytes: &[u8],
-    progress: &P,
-) -> Result<ScriptRun<Cluster<SplitLog>>, BenchFault>
-    ensures script { IfOk result (λ run. IsLayout bytes.now run.session.script run.layout) }
-    ensures only { (s : PlainScript) → Reads bytes.now s → IfErr result (λ fault. fault ≡ BenchFault.OutOfMemory) }
-    ensures refused { IfErr result (λ fault. TellsFault fault (read_of bytes.now)) }
-    ensures own { IfErr result (λ fault. (fault ≢ BenchFault.Io) × (fault ≢ BenchFault.Spacing)) }
-{
-    let context = RunContext::new(alloc, progress);
-    let mut clusters = Clusters { context };
-    let run = run_script(alloc, &mut clusters, false, bytes)?;
-    Ok(run)
 }
 
 fn input<R: Input + AllocGlobal>(rt: &R) -> Result<Vec<u8>, ProgramError>

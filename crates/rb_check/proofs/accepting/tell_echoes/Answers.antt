@@ -6,15 +6,15 @@ use Rattle.rb_check.proofs.AcceptLaws.{echoes_if}
 use Rattle.rb_check.proofs.ShownLaws.{along, goes_nothing}
 use Rattle.rb_check.proofs.accepting.tell_echoes.Goals as goal
 
-pub returns-then-has_below-clause-shown : goal.returns-then-has_below-clause-shown
-returns-then-has_below-clause-shown g c =
+pub returns-then-has_below : goal.returns-then-has_below
+returns-then-has_below g c =
     let form = c.args.report.now.state.form in
     let path = c.args.path.now in
     let text = remark_text form path (remarks.Echoes c.in-UpTo.line) in
-    along (sym (echoes_if form path c.args.picked c.in-UpTo.line c.args.left.now c.has_below.result c.in-UpTo.is c.has_below.ensures ∙ ap (λ (b : Bool). if b then text else []) c.if-has_below.true)) c.tell_echoes.ensures.shown
+    along (sym (echoes_if form path c.args.picked c.in-UpTo.line c.args.left.now c.has_below.result c.in-UpTo.is c.has_below.ensures ∙ ap (λ (b : Bool). if b then text else []) c.if-has_below.true)) c.remark.ensures.shown
 
-pub returns-else-has_below-clause-shown : goal.returns-else-has_below-clause-shown
-returns-else-has_below-clause-shown g c =
+pub returns-else-has_below : goal.returns-else-has_below
+returns-else-has_below g c =
     let form = c.args.report.now.state.form in
     let path = c.args.path.now in
     let text = remark_text form path (remarks.Echoes c.in-UpTo.line) in

@@ -5,7 +5,6 @@ use Rattle.rb_report.specs.Briefs.{brief_text}
 use Rattle.rb_text.proofs.SentLaws.{sent_piece, sent_along, sent_all, piece_exit}
 use Rattle.rb_check.specs.declared.differing.Differing.{Differing}
 use Rattle.rb_check.specs.Shown.{differing_text}
-use Rattle.rb_check.proofs.ShownLaws.{sent_kept}
 use Rattle.rb_check.proofs.differing.put_each_differing.Goals as goal
 
 -- the script at a place, and those after it
@@ -17,8 +16,8 @@ returns-in_err-put_brief-clause-wrote g c =
     let i = c.loop-script.script-index in
     let d = c.script-item.result in
     let next = ap differing_text (drop_next c.args.scripts.now i d c.loop-script-test.true c.script-item.is) in
-    piece_exit c.from_residual.result (g.W.Sink.held c.put_brief.new.sink) (brief_text (string_bytes d.path) d.mismatches d.directives d.line) (differing_text (drop (i + 1) c.args.scripts.now))
-    c.from_residual.ensures.0 (sent_along next (sent_kept c.loop-script.invariant.sent c.show_as.ensures.held)) (rw c.as_bytes-path.ensures.value at c.in_err-put_brief.ensures.wrote)
+    piece_exit c.from_residual.result (g.S.Sink.held c.put_brief.new.sink) (brief_text (string_bytes d.path) d.mismatches d.directives d.line) (differing_text (drop (i + 1) c.args.scripts.now))
+    c.from_residual.ensures.0 (sent_along next c.loop-script.invariant.sent) (rw c.as_bytes-path.ensures.value at c.in_err-put_brief.ensures.wrote)
 
 pub loop-script-preserved : goal.loop-script-preserved
 loop-script-preserved g c =
@@ -26,9 +25,9 @@ loop-script-preserved g c =
     let d = c.script-item.result in
     let next = ap differing_text (drop_next c.args.scripts.now i d c.loop-script-test.true c.script-item.is) in
     record {
-      sent = sent_piece (g.W.Sink.held c.put_brief.new.sink) (brief_text (string_bytes d.path) d.mismatches d.directives d.line) (differing_text (drop (i + 1) c.args.scripts.now))
-          (sent_along next (sent_kept c.loop-script.invariant.sent c.show_as.ensures.held)) (rw c.as_bytes-path.ensures.value at c.in_ok-put_brief.ensures.wrote);
-      takes = λ t. (c.in_ok-put_brief.ensures.all (c.show_as.ensures.all (c.loop-script.invariant.takes t))).1;
+      sent = sent_piece (g.S.Sink.held c.put_brief.new.sink) (brief_text (string_bytes d.path) d.mismatches d.directives d.line) (differing_text (drop (i + 1) c.args.scripts.now))
+          (sent_along next c.loop-script.invariant.sent) (rw c.as_bytes-path.ensures.value at c.in_ok-put_brief.ensures.wrote);
+      takes = λ t. (c.in_ok-put_brief.ensures.all (c.loop-script.invariant.takes t)).1;
     }
 
 pub returns-clause-wrote : goal.returns-clause-wrote

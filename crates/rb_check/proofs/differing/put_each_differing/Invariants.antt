@@ -6,8 +6,8 @@ use Rattle.rb_check.proofs.differing.put_each_differing.Given as goal
 
 abbrev pub invariant-loop-script : goal.invariant-loop-script
 invariant-loop-script g l =
-    let held = g.W.Sink.held in
+    let held = g.S.Sink.held in
     record {
-      sent : Sent (held l.initial.output) (held l.output) (differing_text l.scripts) (differing_text (drop l.script-index l.scripts));
-      takes : g.W.Sink.takes_all l.initial.output → g.W.Sink.takes_all l.output;
+      sent : Sent (held l.initial.sink) (held l.sink) (differing_text l.scripts) (differing_text (drop l.script-index l.scripts));
+      takes : g.S.Sink.takes_all l.initial.sink → g.S.Sink.takes_all l.sink;
     }

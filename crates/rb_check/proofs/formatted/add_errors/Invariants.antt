@@ -1,13 +1,11 @@
 -- What is added so far, and what is still to come.
 use Rattle.std.proofs.Common.{◌≡◌, ◌++◌, drop}
-use Rattle.rb_replay.specs.Run.{outputs}
-use Rattle.rb_check.specs.Formats.{error_commands}
+use Rattle.std.specs.List.{flat_map}
+use Rattle.rb_check.specs.Formats.{error_command, errors_of}
+use Rattle.rb_check.specs.Subjects.{plain_of, runs_of}
 use Rattle.rb_check.proofs.formatted.add_errors.Given as goal
 
 abbrev pub invariant-loop-i : goal.invariant-loop-i
 invariant-loop-i g l =
-    let s = l.subject.session.now.script in
-    let layout = l.subject.layout.now in
-    let heads = layout.heads.items in
-    l.text.items ++ error_commands l.is_strict layout.text l.subject.path.now (drop l.i heads) (drop l.i s.blocks) (drop l.i (outputs s))
-    ≡ l.initial.text.items ++ error_commands l.is_strict layout.text l.subject.path.now heads s.blocks (outputs s)
+    let c = plain_of l.subject in
+    l.text.items ++ flat_map (error_command l.is_strict c.layout.text c.path) (drop l.i (runs_of c)) ≡ l.initial.text.items ++ errors_of l.is_strict c

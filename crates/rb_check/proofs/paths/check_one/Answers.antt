@@ -1,30 +1,27 @@
-use Rattle.std.proofs.Common.{◌∙◌, ℕ, List, [], ◌++◌, refl, ap}
-use Rattle.rb_report.specs.declared.check.outcome.Outcome.TheVariants as outcomes
-use Rattle.rb_report.specs.declared.check.totals.Totals.{Totals}
-use Rattle.rb_report.specs.Counts.{of_outcome, together}
+use Rattle.std.proofs.Common.{ℕ, List, [], ◌++◌, refl, ap, append-nil}
 use Rattle.rb_check.specs.declared.remark.Remark.TheVariants as remarks
 use Rattle.rb_check.specs.declared.report_state.ReportForm.{ReportForm}
+use Rattle.rb_check.specs.declared.script_result.PathResult.TheVariants as paths
 use Rattle.rb_check.specs.Reported.{reported, failed}
-use Rattle.rb_check.specs.Shown.{noticed_text}
+use Rattle.rb_check.specs.Shown.{remark_text}
 use Rattle.rb_check.proofs.ReportLaws.{lists_none}
 use Rattle.rb_check.proofs.ShownLaws.{along, goes_on}
 use Rattle.rb_check.proofs.paths.check_one.Goals as goal
 
-pub returns-in-Err-clause-counted : goal.returns-in-Err-clause-counted
-returns-in-Err-clause-counted g c =
-    let error = c.in-Err.error in
-    let failure = error.failure in
-    let part = c.in-Err.ensures.part in
-    let notice = λ (f : ReportForm). noticed_text f c.args.path.now (remarks.Failed failure) in
-    record {
-      listed = [];
-      text = part.text ++ notice c.args.report.now.state.form;
-      said = failed error part.text c.in-Err.ensures.fails (c.fail.ensures.counts ∙ ap (λ (t : Totals). together t (of_outcome (outcomes.Failed failure))) c.in-Err.ensures.failed) refl refl;
-      lists = lists_none c.fail.new.self.state c.args.report.now.differing.items c.fail.new.self.differing.items (c.fail.ensures.listed ∙ c.in-Err.ensures.unlisted);
-      out = goes_on notice part.out (along (ap (λ (p : List ℕ). noticed_text c.check_script.new.report.state.form p (remarks.Failed failure)) c.as_bytes.ensures.value) c.fail.ensures.shown);
-    }
+pub returns-in-Ok-clause-checked : goal.returns-in-Ok-clause-checked
+returns-in-Ok-clause-checked g c =
+    let said = c.in-Ok.ensures.reported in
+    (c.in-Ok.found, said.0, reported said.1, c.add.ensures.counts, c.add.ensures.listed, along (append-nil said.0) (goes_on (λ (f : ReportForm). []) said.2 c.add.ensures.shown))
 
-pub returns-in_default-clause-counted : goal.returns-in_default-clause-counted
-returns-in_default-clause-counted g c =
-    let done = c.in_default.ensures.reported in
-    record { listed = done.listed; text = done.text; said = reported done.said; lists = done.lists; out = done.out }
+pub returns-in-Err-clause-checked : goal.returns-in-Err-clause-checked
+returns-in-Err-clause-checked g c =
+    let failure = c.in-Err.error.failure in
+    let part = c.in-Err.ensures.part in
+    let notice = λ (f : ReportForm). remark_text f c.args.path.now (remarks.Failed failure) in (
+      paths.Failed failure,
+      part.text ++ notice c.args.check.now.report.state.form,
+      failed c.in-Err.error part.text c.in-Err.ensures.fails refl refl,
+      c.fail.ensures.counts,
+      lists_none c.fail.new.self.report.state c.args.check.now.results.differing.items c.fail.new.self.results.differing.items c.fail.ensures.listed,
+      goes_on notice part.out (along (ap (λ (p : List ℕ). remark_text c.check_script.new.report.state.form p (remarks.Failed failure)) c.as_bytes.ensures.value) c.fail.ensures.shown),
+    )

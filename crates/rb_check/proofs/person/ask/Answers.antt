@@ -11,7 +11,7 @@ use Rattle.rb_check.proofs.ShownLaws.{along, goes_nothing, goes_on}
 use Rattle.rb_check.proofs.person.ask.Goals as goal
 
 pub loop-turns-init : goal.loop-turns-init
-loop-turns-init g c = record { counts = refl; listed = refl; known = λ k. k; same = λ k. refl; rest = λ k. refl; few = λ k. omega arith; most = omega arith; asked = ([], refl, goes_nothing _ _) }
+loop-turns-init g c = record { known = λ k. k; same = λ k. refl; rest = λ k. refl; few = λ k. omega arith; most = omega arith; asked = ([], refl, goes_nothing _ _) }
 
 pub loop-turns-preserved : goal.loop-turns-preserved
 loop-turns-preserved g c =
@@ -21,8 +21,6 @@ loop-turns-preserved g c =
     let question = c.args.question.now in
     let keys = c.ask.ensures.shown.0 in
     record {
-      counts = c.put.ensures.counts ∙ c.ask.ensures.counts ∙ c.loop-turns.invariant.counts;
-      listed = c.put.ensures.listed ∙ c.ask.ensures.listed ∙ c.loop-turns.invariant.listed;
       known = λ k. c.ask.ensures.known (here k);
       same = λ k. ap (λ (xs : List HeardAnswer). answered xs) (c.ask.ensures.rest (here k)) ∙ else_answered ls (sym (c.ask.ensures.next (here k)) ∙ c.in-Else.is) ∙ c.loop-turns.invariant.same k;
       rest = λ k. ap (λ (xs : List HeardAnswer). after_answer xs) (c.ask.ensures.rest (here k)) ∙ else_after ls (sym (c.ask.ensures.next (here k)) ∙ c.in-Else.is) ∙ c.loop-turns.invariant.rest k;

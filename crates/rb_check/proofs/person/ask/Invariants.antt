@@ -12,8 +12,6 @@ invariant-loop-turns g l =
     let left = g.P.Person.left in
     let held = g.W.Sink.held in
     record {
-      counts : l.report.counts ≡ l.fn.report.counts;
-      listed : l.report.differing.items ≡ l.fn.report.differing.items;
       known : is_known l.fn.person → is_known l.person;
       same : is_known l.fn.person → answered (left l.person) ≡ answered (left l.fn.person);
       rest : is_known l.fn.person → after_answer (left l.person) ≡ after_answer (left l.fn.person);

@@ -2,6 +2,7 @@ use Rattle.std.proofs.Common.{[], List, ℕ, Some, refl, ap, sym}
 use Rattle.std.specs.List.{flat_map}
 use Rattle.rb_check.specs.ScriptTexts.{by_lines, by_none, matched_text, unasked}
 use Rattle.rb_report.specs.declared.check.failure.Failure.TheVariants.{NotWritten}
+use Rattle.rb_check.specs.Subjects.{plain_of}
 use Rattle.rb_check.specs.Targets.{AreNamedLines, no_directive_failure}
 use Rattle.rb_check.proofs.ShownLaws.{goes_nothing}
 use Rattle.rb_check.proofs.TargetLaws.{not_found}
@@ -17,7 +18,7 @@ pub returns-in-Ok-clause-named : goal.returns-in-Ok-clause-named
 returns-in-Ok-clause-named g c =
     let subject = c.args.subject.now in
     let picked = rw c.deref.ensures.value at c.in-Ok.ensures.picked in (
-      flat_map (matched_text c.args.report.now.state.form subject.path.now subject.layout.now.heads.items subject.session.now.script) picked.places,
+      flat_map (matched_text c.args.report.now.state.form (plain_of subject)) picked.places,
       by_lines c.in-Some.lines.items picked.places c.if-not-asked.false (rw c.in-Some.is at c.in_ok-lines.ensures) picked.named (ap (λ (heads : List ℕ). Some heads) picked.picked_are) refl,
       picked.out,
     )

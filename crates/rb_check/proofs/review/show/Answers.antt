@@ -1,7 +1,6 @@
-use Rattle.std.proofs.Common.{◌+◌, ◌++◌, ℕ, List, false, ap}
-use Rattle.rb_report.specs.declared.check.table.TheConstants.{MAX_SCRIPT_CELLS}
-use Rattle.rb_script_report.specs.Whys.{told_alone}
-use Rattle.rb_check.specs.Reviews.{comment_text}
+use Rattle.std.proofs.Common.{ℕ, List, ap}
+use Rattle.rb_check.specs.Asking.{subject_text}
+use Rattle.rb_check.specs.Subjects.{plain_of}
 use Rattle.rb_check.proofs.ShownLaws.{goes_both, goes_cut, goes_nowhere_at, if_along}
 use Rattle.rb_check.proofs.review.show.Goals as goal
 
@@ -15,10 +14,7 @@ returns-in_default-clause-shown g c =
 
 pub returns-clause-shown : goal.returns-clause-shown
 returns-clause-shown g c =
-    let subject = c.args.subject.now in
-    let l = subject.layout.now in
-    let s = subject.session.now.script in
-    let comment = comment_text l.text c.args.question.head in
-    if_along c.showed-2.result _ _ _ _ _ _ (ap (λ (p : List ℕ). comment ++ told_alone MAX_SCRIPT_CELLS false subject.colors l.text p subject.whys.now l.heads.items s (c.args.index + 1)) c.as_bytes.ensures.value)
+    let about = plain_of c.args.subject.now in
+    if_along c.showed-2.result _ _ _ _ _ _ (ap (λ (p : List ℕ). subject_text (record about { path = p }) c.args.question) c.as_bytes.ensures.value)
     (goes_both _ _ _ _ _ _ _ _ _ c.showed-2.result c.is_open.result _ c.put_alone-shown.result c.is_open.ensures.state (ap g.W.Sink.held c.is_open.ensures.output) c.is_open.ensures.value c.if-not-is_open.false
     c.in-Ok.ensures.wrote c.put_alone-shown.ensures.wrote c.showed-2.ensures.shown)

@@ -1,5 +1,5 @@
--- The report has the same outcomes and list, and says the warnings so far.
-use Rattle.std.proofs.Common.{◌≡◌, drop}
+-- The report says the warnings so far.
+use Rattle.std.proofs.Common.{drop}
 use Rattle.rb_check.specs.Shown.{warnings_text}
 use Rattle.rb_check.proofs.ShownLaws.{Gone}
 use Rattle.rb_check.proofs.report.Report.warn.Given as goal
@@ -8,8 +8,4 @@ abbrev pub invariant-loop-i : goal.invariant-loop-i
 invariant-loop-i g l =
     let held = g.W.Sink.held in
     let text = warnings_text l.fn.self.state.form l.path in
-    record {
-      counts : l.self.counts ≡ l.fn.self.counts;
-      listed : l.self.differing.items ≡ l.fn.self.differing.items;
-      gone : Gone l.fn.self.state l.self.state (held l.fn.self.output) (held l.self.output) (text l.warnings) (text (drop l.i l.warnings));
-    }
+    Gone l.fn.self.state l.self.state (held l.fn.self.output) (held l.self.output) (text l.warnings) (text (drop l.i l.warnings))
