@@ -19,7 +19,7 @@ use Rattle.rb_directive.specs.declared.requests.Request.{Request}
 use Rattle.rb_directive.specs.declared.requests.Request.TheVariants as requests
 use Rattle.rb_directive.specs.declared.build.Asked.{Asked}
 use Rattle.rb_directive.specs.declared.limits.TheConstants.{MAX_NODES}
-use Rattle.rb_directive.specs.Requests.{request, nodes_of, IsWithin}
+use Rattle.rb_directive.specs.Requests.{request, IsWithin}
 use Rattle.rb_raftlog.specs.declared.limits.TheConstants.{MAX_INDEX}
 use Rattle.rb_raftlog.specs.declared.snapshot.Snapshot.{Snapshot}
 use Rattle.rb_node.specs.declared.options.Options.{Options}
@@ -43,7 +43,7 @@ else_none (Some e) second h = absurd (cc)
 
 pub own_none : (r : Request) (c : Cluster) → fault r c ≡ None → own_fault r c ≡ None
 unfolding fault
-own_none r c h = else_none (missing_node c.nodes (nodes_of r)) _ h
+own_none r c h = else_none (missing_node c.nodes r) _ h
 
 not_too_many : (many low : Bool) → (if many then Some errors.TooManyNodes else (if low then Some errors.IndexTooLow else None)) ≡ None → many ≡ false
 not_too_many true low h = absurd (cc)

@@ -15,7 +15,7 @@ use crate::add_nodes::add_nodes_fault;
 use crate::cluster::Cluster;
 use crate::meter::Meter;
 use crate::shared_node::SharedNode;
-use rb_directive::{Named, NodeCommandWithArg, Request, request};
+use rb_directive::{NodeCommandWithArg, Request, request};
 use rb_machine::{Observer, PrintedLines};
 use rb_raftlog::RaftLog;
 use rb_script::{DirectiveRef, Lines};
@@ -51,17 +51,25 @@ fn first_absent<'d, L: RaftLog>(nodes: &[SharedNode<L>], ids: &[u8]) -> Option<D
     None
 }
 
-// The first named node that doesn't exist.
+// The first node that a request names and that doesn't exist.
 fn missing_node<'d, L: RaftLog>(
     nodes: &[SharedNode<L>],
-    named: &Named,
+    wanted: &Request<'_>,
 ) -> Option<DirectiveError<'d>>
-    ensures { result ≡ missing_node nodes.now named.now }
+    ensures { result ≡ missing_node nodes.now wanted.now }
 {
-    match named {
-        Named::None => None,
-        Named::One(id) => absent(nodes, *id),
-        Named::Many(ids) => first_absent(nodes, ids.as_slice()),
+    match wanted {
+        Request::AddNodes(_) | Request::LogLevel(_) | Request::RaftState => None,
+        Request::ProposeConfChange(asked) => absent(nodes, asked.id),
+        Request::DeliverMsgs(asked) => first_absent(nodes, asked.nodes.as_slice()),
+        Request::ProcessReady(ids) | Request::Restart(ids) | Request::Stabilize(ids, _) => {
+            first_absent(nodes, ids.as_slice())
+        }
+        Request::NodeCommand(_, id)
+        | Request::Propose(id, _)
+        | Request::NodeCommandWithArg(_, id, _)
+        | Request::RaftLog(id)
+        | Request::Status(id) => absent(nodes, *id),
     }
 }
 
@@ -83,7 +91,7 @@ impl<L: RaftLog> Cluster<L> {
     fn fault<'d>(&self, wanted: &Request<'d>) -> Option<DirectiveError<'d>>
         ensures { result ≡ fault wanted.now self.now }
     {
-        let missing = missing_node(&self.nodes, &wanted.nodes());
+        let missing = missing_node(&self.nodes, wanted);
         if missing.is_some() {
             return missing;
         }

@@ -21,8 +21,6 @@ use Rattle.rb_directive.specs.declared.requests.AddNodes.{AddNodes}
 use Rattle.rb_directive.specs.declared.requests.MailChoice.{MailChoice}
 use Rattle.rb_directive.specs.declared.requests.Request.{Request}
 use Rattle.rb_directive.specs.declared.requests.Request.TheVariants as requests
-use Rattle.rb_directive.specs.declared.requests.Named.{Named}
-use Rattle.rb_directive.specs.declared.requests.Named.TheVariants as named
 use Rattle.rb_directive.specs.declared.build.Asked.{Asked}
 use Rattle.rb_directive.specs.declared.limits.TheConstants.{MAX_ID, MAX_NODES, MAX_FIRST_INDEX, MAX_COMPACTED, MAX_BYTES, MAX_WINDOW, MAX_ROUNDS, MAX_TIMEOUT, MAX_MESSAGES, MAX_IDS, WINDOW, ROUNDS}
 use Rattle.rb_directive.specs.Forms.{Word}
@@ -139,23 +137,6 @@ request_of (Some row) d = asked_of row d
 -- the request of a directive, or its first fault: of the name, of the arguments from left to right, or a missing argument
 unfoldable pub request : PlainDirective → Result Asked DirectiveError
 request d = request_of (row_in directives d.name) d
-
--- ---- the nodes that must exist
-
-abbrev pub nodes_of : Request → Named
-nodes_of (requests.AddNodes r) = named.None
-nodes_of (requests.NodeCommand node_command id) = named.One id
-nodes_of (requests.Propose id payload) = named.One id
-nodes_of (requests.ProposeConfChange r) = named.One r.id
-nodes_of (requests.ProcessReady ids) = named.Many ids
-nodes_of (requests.DeliverMsgs r) = named.Many r.nodes
-nodes_of (requests.Stabilize ids rounds) = named.Many ids
-nodes_of (requests.NodeCommandWithArg node_command id number) = named.One id
-nodes_of (requests.Restart ids) = named.Many ids
-nodes_of (requests.LogLevel level) = named.None
-nodes_of (requests.RaftLog id) = named.One id
-nodes_of (requests.Status id) = named.One id
-nodes_of requests.RaftState = named.None
 
 -- ---- the limits of requests
 

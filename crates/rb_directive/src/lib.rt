@@ -37,6 +37,6 @@ pub use limits::{MAX_ID, MAX_MESSAGES, MAX_NODES, limits_are};
 pub use name::Name;
 pub use node_command::NodeCommand;
 pub use node_command_with_arg::NodeCommandWithArg;
-pub use requests::{AddNodes, DeliverMsgs, MailChoice, Named, ProposeConfChange, Request};
+pub use requests::{AddNodes, DeliverMsgs, MailChoice, ProposeConfChange, Request};
 pub use table::{OptionRow, Row, argument_of, is_name};
 pub use type_set::TypeSet;

@@ -4,7 +4,7 @@
 //! `Option`s.
 
 ghost use Rattle.std.specs.Prelude.{◌≡◌};
-ghost use Rattle.rb_directive.specs.Requests.{all_mail, nodes_of};
+ghost use Rattle.rb_directive.specs.Requests.{all_mail};
 
 use crate::change::Inputs;
 use crate::id_list::IdList;
@@ -110,33 +110,4 @@ pub enum Request<'d> {
     RaftLog(u64),
     Status(u64),
     RaftState,
-}
-
-/// The nodes that must exist for a directive, in the order in which it names them.
-#[derive(Drop)]
-pub enum Named {
-    None,
-    One(u64),
-    Many(IdList),
-}
-
-impl<'d> Request<'d> {
-    /// The nodes that must exist.
-    pub fn nodes(&self) -> Named
-        ensures { result ≡ nodes_of self.now }
-    {
-        match self {
-            Request::AddNodes(_) | Request::LogLevel(_) | Request::RaftState => Named::None,
-            Request::ProposeConfChange(change) => Named::One(change.id),
-            Request::DeliverMsgs(deliver) => Named::Many(deliver.nodes.copy()),
-            Request::ProcessReady(ids) | Request::Restart(ids) | Request::Stabilize(ids, _) => {
-                Named::Many(ids.copy())
-            }
-            Request::NodeCommand(_, id)
-            | Request::Propose(id, _)
-            | Request::NodeCommandWithArg(_, id, _)
-            | Request::RaftLog(id)
-            | Request::Status(id) => Named::One(*id),
-        }
-    }
 }

@@ -20,7 +20,7 @@ use Rattle.rb_directive.specs.declared.requests.Request.{Request}
 use Rattle.rb_directive.specs.declared.requests.Request.TheVariants as requests
 use Rattle.rb_directive.specs.declared.build.Asked.{Asked}
 use Rattle.rb_directive.specs.Changes.{input_words}
-use Rattle.rb_directive.specs.Requests.{all_mail, request, nodes_of}
+use Rattle.rb_directive.specs.Requests.{all_mail, request}
 use Rattle.rb_raftlog.specs.Bodies.{is_change}
 use Rattle.rb_raftlog.specs.declared.entry.Body.TheVariants.{Payload, Change}
 use Rattle.rb_raftlog.specs.declared.raft_log.CompactFault.{CompactFault}
@@ -360,7 +360,7 @@ module _ {steady lasting : Bool} {P : List PlainNode → List Message → Type 0
 
   -- ---- each request, and each directive
 
-  pub has_effect : (r : Request) (x : Cluster) (ms : List Message) → (steady ≡ true → IsQuietRequest r) → (lasting ≡ true → IsLastingRequest r) → (missing_node x.nodes (nodes_of r) ≡ None) × (own_fault r x ≡ None) → Covers P ms x → IsCovered P (effect r x).cluster
+  pub has_effect : (r : Request) (x : Cluster) (ms : List Message) → (steady ≡ true → IsQuietRequest r) → (lasting ≡ true → IsLastingRequest r) → (missing_node x.nodes r ≡ None) × (own_fault r x ≡ None) → Covers P ms x → IsCovered P (effect r x).cluster
   unfolding nodes_added compact_error
   has_effect (requests.AddNodes asked) x ms asks stays may h = (ms, adds ms (start asked) (options asked) x (range_with_len (length x.nodes + 1) asked.count) asks h)
   has_effect (requests.ProposeConfChange asked) x ms asks stays may h =
@@ -385,4 +385,4 @@ module _ {steady lasting : Bool} {P : List PlainNode → List Message → Type 0
   unfolding fault
   by_directive c d asks stays h =
       outcome_has (IsCovered P) c d
-      (λ a is none. has_effect a.request c h.0 (λ so. subst IsQuietBy is (asks so)) (λ so. subst IsLastingBy is (stays so)) (neither (missing_node c.nodes (nodes_of a.request)) (own_fault a.request c) none) h.1) h
+      (λ a is none. has_effect a.request c h.0 (λ so. subst IsQuietBy is (asks so)) (λ so. subst IsLastingBy is (stays so)) (neither (missing_node c.nodes a.request) (own_fault a.request c) none) h.1) h

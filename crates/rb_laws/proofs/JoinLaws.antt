@@ -13,7 +13,7 @@ use Rattle.rb_directive.specs.declared.requests.AddNodes.{AddNodes}
 use Rattle.rb_directive.specs.declared.requests.Request.{Request}
 use Rattle.rb_directive.specs.declared.requests.Request.TheVariants as requests
 use Rattle.rb_directive.specs.declared.build.Asked.{Asked}
-use Rattle.rb_directive.specs.Requests.{request, nodes_of}
+use Rattle.rb_directive.specs.Requests.{request}
 use Rattle.rb_raftlog.specs.declared.snapshot.Snapshot.{Snapshot}
 use Rattle.rb_message.specs.declared.message.Message.{Message}
 use Rattle.rb_node.specs.declared.options.Options.{Options}
@@ -70,7 +70,7 @@ module _ {P : List PlainNode → List PlainNode → List Message → Type 0} (w 
         ),
       )
 
-  by_effect : (starts : Snapshot → Type 0) (r : Request) (c : Cluster) (rest : List PlainNode) → (missing_node c.nodes (nodes_of r) ≡ None) × (own_fault r c ≡ None) → IsSteadyRequest starts r → IsCovered (P (come_with None r c ++ rest)) c → IsCovered (P rest) (effect r c).cluster
+  by_effect : (starts : Snapshot → Type 0) (r : Request) (c : Cluster) (rest : List PlainNode) → (missing_node c.nodes r ≡ None) × (own_fault r c ≡ None) → IsSteadyRequest starts r → IsCovered (P (come_with None r c ++ rest)) c → IsCovered (P rest) (effect r c).cluster
   by_effect starts (requests.AddNodes asked) c rest may steady h = adds asked c rest h
   by_effect starts (requests.ProposeConfChange asked) c rest may steady h = absurd steady
   by_effect starts (requests.NodeCommand what id) c rest may steady h = has_effect (w.lasts rest) (requests.NodeCommand what id) c h.0 (λ _. tt) (λ no. absurd (false≢true no)) may h.1
@@ -88,7 +88,7 @@ module _ {P : List PlainNode → List PlainNode → List Message → Type 0} (w 
   by_fault : (starts : Snapshot → Type 0) (o : Option DirectiveError) (a : Asked) (c : Cluster) (rest : List PlainNode) → fault a.request c ≡ o → IsSteadyRequest starts a.request → IsCovered (P (come_with o a.request c ++ rest)) c → IsCovered (P rest) (unless_refused o a c).cluster
   unfolding fault
   by_fault starts (Some e) a c rest is steady h = h
-  by_fault starts None a c rest is steady h = by_effect starts a.request c rest (neither (missing_node c.nodes (nodes_of a.request)) (own_fault a.request c) is) steady h
+  by_fault starts None a c rest is steady h = by_effect starts a.request c rest (neither (missing_node c.nodes a.request) (own_fault a.request c) is) steady h
 
   by_request : (starts : Snapshot → Type 0) (r : Result Asked DirectiveError) (c : Cluster) (rest : List PlainNode) → IsSteadyBy starts r → IsCovered (P (come_by r c ++ rest)) c → IsCovered (P rest) (execution_of r c).cluster
   by_request starts (Err e) c rest steady h = h

@@ -12,10 +12,8 @@ use Rattle.rb_directive.specs.declared.node_command_with_arg.NodeCommandWithArg.
 use Rattle.rb_directive.specs.declared.node_command_with_arg.NodeCommandWithArg.TheVariants as withs
 use Rattle.rb_directive.specs.declared.requests.Request.{Request}
 use Rattle.rb_directive.specs.declared.requests.Request.TheVariants as requests
-use Rattle.rb_directive.specs.declared.requests.Named.{Named}
-use Rattle.rb_directive.specs.declared.requests.Named.TheVariants as named
 use Rattle.rb_directive.specs.declared.build.Asked.{Asked}
-use Rattle.rb_directive.specs.Requests.{request, nodes_of}
+use Rattle.rb_directive.specs.Requests.{request}
 use Rattle.rb_node.specs.Node.{PlainNode}
 use Rattle.rb_texts.specs.Items.{PlainItem, nothing_else, error}
 use Rattle.rb_texts.specs.Shapes.{is_solid}
@@ -47,11 +45,21 @@ abbrev pub first_absent : List PlainNode → List ℕ → Option DirectiveError
 first_absent nodes [] = None
 first_absent nodes (id ∷ ids) = option_or (absent nodes id) (first_absent nodes ids)
 
--- the first named node that doesn't exist
-abbrev pub missing_node : List PlainNode → Named → Option DirectiveError
-missing_node nodes named.None = None
-missing_node nodes (named.One id) = absent nodes id
-missing_node nodes (named.Many ids) = first_absent nodes ids
+-- the first node that a request names and that doesn't exist
+abbrev pub missing_node : List PlainNode → Request → Option DirectiveError
+missing_node nodes (requests.AddNodes asked) = None
+missing_node nodes (requests.NodeCommand what id) = absent nodes id
+missing_node nodes (requests.Propose id payload) = absent nodes id
+missing_node nodes (requests.ProposeConfChange asked) = absent nodes asked.id
+missing_node nodes (requests.ProcessReady ids) = first_absent nodes ids
+missing_node nodes (requests.DeliverMsgs asked) = first_absent nodes asked.nodes
+missing_node nodes (requests.Stabilize ids rounds) = first_absent nodes ids
+missing_node nodes (requests.NodeCommandWithArg what id number) = absent nodes id
+missing_node nodes (requests.Restart ids) = first_absent nodes ids
+missing_node nodes (requests.LogLevel level) = None
+missing_node nodes (requests.RaftLog id) = absent nodes id
+missing_node nodes (requests.Status id) = absent nodes id
+missing_node nodes requests.RaftState = None
 
 -- why a node can't do something with a number
 abbrev pub with_fault : NodeCommandWithArg → ℕ → ℕ → Cluster → Option DirectiveError
@@ -66,7 +74,7 @@ own_fault (requests.NodeCommandWithArg what id number) c = with_fault what id nu
 own_fault r c = None
 
 unfoldable pub fault : Request → Cluster → Option DirectiveError
-fault r c = option_or (missing_node c.nodes (nodes_of r)) (own_fault r c)
+fault r c = option_or (missing_node c.nodes r) (own_fault r c)
 
 abbrev pub refusal_of : Result Asked DirectiveError → Cluster → Option DirectiveError
 refusal_of (Err e) c = Some e

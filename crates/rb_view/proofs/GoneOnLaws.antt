@@ -18,7 +18,7 @@ use Rattle.rb_directive.specs.declared.requests.Request.{Request}
 use Rattle.rb_directive.specs.declared.requests.Request.TheVariants as requests
 use Rattle.rb_directive.specs.declared.build.Asked.{Asked}
 use Rattle.rb_directive.specs.Changes.{input_words}
-use Rattle.rb_directive.specs.Requests.{all_mail, request, nodes_of}
+use Rattle.rb_directive.specs.Requests.{all_mail, request}
 use Rattle.rb_raftlog.specs.declared.entry.Body.TheVariants.{Payload, Change}
 use Rattle.rb_raftlog.specs.declared.raft_log.CompactFault.{CompactFault}
 use Rattle.rb_raftlog.specs.declared.snapshot.Snapshot.{Snapshot}
@@ -320,7 +320,7 @@ request_lives : (r : Result Asked DirectiveError) (c : Cluster) (nodes : List Pl
 unfolding fault
 request_lives (Err e) c nodes steady h = record { observed = tt; after = h; all = h }
 request_lives (Ok a) c nodes steady h =
-    unless_lives (fault a.request c) a c (λ none. has_effect a.request c (second_none (missing_node c.nodes (nodes_of a.request)) (own_fault a.request c) none) steady) nodes h
+    unless_lives (fault a.request c) a c (λ none. has_effect a.request c (second_none (missing_node c.nodes a.request) (own_fault a.request c) none) steady) nodes h
 
 begin : (nodes : List PlainNode) → AreSound nodes → HaveGoneOn nodes nodes
 begin nodes sound = record {
