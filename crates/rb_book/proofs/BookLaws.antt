@@ -1,5 +1,5 @@
 -- Files that are written one chapter after another.
-use Rattle.std.proofs.Common.{◌≡◌, ◌∙◌, ℕ, List, [], ◌∷◌, ◌++◌, Option, Some, None, refl, ap, sym, subst, append_assoc, append-nil}
+use Rattle.std.proofs.Common.{◌≡◌, ◌∙◌, ℕ, List, [], ◌∷◌, ◌++◌, Option, Some, None, slice_get, refl, ap, sym, subst, append_assoc, append-nil}
 use Rattle.rb_book.specs.declared.chapter.Chapter.{Chapter}
 use Rattle.rb_book.specs.Books.{AreChaptersOf}
 use Rattle.rb_book.specs.Sites.{AddsFiles, SiteFile}
@@ -14,28 +14,32 @@ adds_more (Some a) None c xs ys first then = absurd first
 adds_more (Some a) (Some b) None xs ys first then = absurd then
 adds_more (Some a) (Some b) (Some c) xs ys first then = then ∙ ap (λ (files : List SiteFile). files ++ ys) first ∙ append_assoc a xs ys
 
--- the files of all chapters but the rest were written: with whichever files are those of the rest, they are those of all
-pub record WrittenSoFar (is_chapter : Chapter → List SiteFile → Type 0) (old now : Option (List SiteFile)) (all rest : List Chapter) : Type 0 where
+-- what the files of a chapter are, between the one before it and the one after it
+abbrev pub ChapterFiles : Type 1
+ChapterFiles = Option Chapter → Chapter → Option Chapter → List SiteFile → Type 0
+
+-- the files of all chapters but the rest were written, of which `last` was the last one: with whichever files are those of the rest, they are those of all
+pub record WrittenSoFar (is_chapter : ChapterFiles) (old now : Option (List SiteFile)) (all : List Chapter) (last : Option Chapter) (rest : List Chapter) : Type 0 where
   pub done : List SiteFile
   pub added : AddsFiles old now done
-  pub goes_on : (files : List SiteFile) → AreChaptersOf is_chapter rest files → AreChaptersOf is_chapter all (done ++ files)
+  pub goes_on : (files : List SiteFile) → AreChaptersOf is_chapter last rest files → AreChaptersOf is_chapter None all (done ++ files)
 
-pub none_yet : (is_chapter : Chapter → List SiteFile → Type 0) (old : Option (List SiteFile)) (all : List Chapter) → WrittenSoFar is_chapter old old all all
+pub none_yet : (is_chapter : ChapterFiles) (old : Option (List SiteFile)) (all : List Chapter) → WrittenSoFar is_chapter old old all None all
 none_yet is_chapter old all = record { done = []; added = adds_none old; goes_on = λ files are. are }
 
-pub one_more : (is_chapter : Chapter → List SiteFile → Type 0) (old before now : Option (List SiteFile)) (all : List Chapter) (chapter : Chapter) (rest : List Chapter)
-    → (own : List SiteFile) → WrittenSoFar is_chapter old before all (chapter ∷ rest) → is_chapter chapter own → AddsFiles before now own
-    → WrittenSoFar is_chapter old now all rest
-one_more is_chapter old before now all chapter rest own so_far is added = record {
+pub one_more : (is_chapter : ChapterFiles) (old before now : Option (List SiteFile)) (all : List Chapter) (last : Option Chapter) (chapter : Chapter) (rest : List Chapter)
+    → (own : List SiteFile) → WrittenSoFar is_chapter old before all last (chapter ∷ rest) → is_chapter last chapter (slice_get rest 0) own → AddsFiles before now own
+    → WrittenSoFar is_chapter old now all (Some chapter) rest
+one_more is_chapter old before now all last chapter rest own so_far is added = record {
   done = so_far.done ++ own;
   added = adds_more old before now so_far.done own so_far.added added;
   goes_on = λ files are.
-      subst (λ (fs : List SiteFile). AreChaptersOf is_chapter all fs) (sym (append_assoc so_far.done own files)) (so_far.goes_on (own ++ files) (own, files, is, are, refl));
+      subst (λ (fs : List SiteFile). AreChaptersOf is_chapter None all fs) (sym (append_assoc so_far.done own files)) (so_far.goes_on (own ++ files) (own, files, is, are, refl));
 }
 
-pub all_written : (is_chapter : Chapter → List SiteFile → Type 0) (old now : Option (List SiteFile)) (all : List Chapter) → WrittenSoFar is_chapter old now all []
-    → (files : List SiteFile) × AreChaptersOf is_chapter all files × AddsFiles old now files
-all_written is_chapter old now all so_far =
+pub all_written : (is_chapter : ChapterFiles) (old now : Option (List SiteFile)) (all : List Chapter) (last : Option Chapter) → WrittenSoFar is_chapter old now all last []
+    → (files : List SiteFile) × AreChaptersOf is_chapter None all files × AddsFiles old now files
+all_written is_chapter old now all last so_far =
     (so_far.done ++ [], so_far.goes_on [] refl, subst (λ (fs : List SiteFile). AddsFiles old now fs) (sym (append-nil so_far.done)) so_far.added)
 
 -- a text that grows by four parts

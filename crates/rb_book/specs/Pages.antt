@@ -26,11 +26,14 @@ link_text place neighbour (Some other) =
 abbrev pub first_link_text : List ℕ → List ℕ
 first_link_text place = codes "<nav class=\"book\" aria-label=\"Book\"><a href=\"" ++ (up_from place ++ codes "index.html\">Contents</a>")
 
--- the links of the page at a place to the contents, and to the pages before and after it
-abbrev pub links_text : List ℕ → Chapter → List ℕ
-links_text place chapter =
-    first_link_text place
-    ++ (link_text place Last (option_map string_bytes chapter.last) ++ (link_text place Following (option_map string_bytes chapter.following) ++ codes "</nav>\n"))
+-- where the page of a chapter is, if there is one
+abbrev pub place_of : Option Chapter → Option (List ℕ)
+place_of chapter = option_map (λ (c : Chapter). string_bytes c.place) chapter
+
+-- the links of the page at a place to the contents, and to the pages of the chapters before and after it
+abbrev pub links_text : List ℕ → Option Chapter → Option Chapter → List ℕ
+links_text place last following =
+    first_link_text place ++ (link_text place Last (place_of last) ++ (link_text place Following (place_of following) ++ codes "</nav>\n"))
 
 -- what is shown where scripts don't run: a sentence, and the picture
 abbrev pub without_text : List ℕ → List ℕ
@@ -42,12 +45,12 @@ without_text place =
 abbrev pub head_text : List ℕ → List ℕ
 head_text place = HEAD.now ++ (up_from place ++ LINKED.now)
 
--- what is before the rows of the page at a place
-abbrev pub front_at : List ℕ → Chapter → List ℕ
-front_at place chapter = head_text place ++ (links_text place chapter ++ (without_text place ++ ELEMENTS.now))
+-- what is before the rows of the page at a place, between two chapters
+abbrev pub front_at : List ℕ → Option Chapter → Option Chapter → List ℕ
+front_at place last following = head_text place ++ (links_text place last following ++ (without_text place ++ ELEMENTS.now))
 
-abbrev pub front_text : Chapter → List ℕ
-front_text chapter = front_at (string_bytes chapter.place) chapter
+abbrev pub front_text : Option Chapter → Chapter → Option Chapter → List ℕ
+front_text last chapter following = front_at (string_bytes chapter.place) last following
 
 -- what is after them: the code is the site's
 abbrev pub back_text : Chapter → List ℕ

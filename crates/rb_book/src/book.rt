@@ -1,6 +1,6 @@
 //! Writing a book.
 
-ghost use Rattle.std.specs.Prelude.{◌≡◌, ◌++◌, ◌∷◌, [], List, IfOk, OnOk, string_bytes};
+ghost use Rattle.std.specs.Prelude.{◌≡◌, ◌++◌, ◌∷◌, [], List, None, IfOk, OnOk, option_copied, string_bytes};
 ghost use Rattle.std.specs.List.{flat_map};
 ghost use Rattle.rb_book.specs.Books.{AreChaptersOf, IsBookOf, IsChapterOf, joined};
 ghost use Rattle.rb_book.specs.Contents.{contents_text};
@@ -55,24 +55,31 @@ fn write_chapters<S: Site, D: ChapterTexts>(
     texts: &D,
     chapters: &[Chapter],
 ) -> Result<(), BookFault>
-    ensures { OnOk result ((files : List SiteFile) × AreChaptersOf (IsChapterOf (D.is_page texts.now) (D.is_picture texts.now)) chapters.now files × AddsFiles (S.files site.old) (S.files site.new) files) }
+    ensures { OnOk result ((files : List SiteFile) × AreChaptersOf (IsChapterOf (D.is_page texts.now) (D.is_picture texts.now)) None chapters.now files × AddsFiles (S.files site.old) (S.files site.new) files) }
 {
-    for chapter in chapters {
-        write_chapter(alloc, site, texts, chapter)?;
+    let mut last = None;
+    let mut rest = chapters;
+    while let Some((chapter, others)) = rest.split_first() {
+        write_chapter(alloc, site, texts, last, chapter, others.first())?;
+        last = Some(chapter);
+        rest = others;
     }
     Ok(())
 }
 
+// The page and the picture of a chapter between two others.
 fn write_chapter<S: Site, D: ChapterTexts>(
     alloc: Global,
     site: &mut S,
     texts: &D,
+    last: Option<&Chapter>,
     chapter: &Chapter,
+    following: Option<&Chapter>,
 ) -> Result<(), BookFault>
-    ensures { OnOk result ((files : List SiteFile) × IsChapterOf (D.is_page texts.now) (D.is_picture texts.now) chapter.now files × AddsFiles (S.files site.old) (S.files site.new) files) }
+    ensures { OnOk result ((files : List SiteFile) × IsChapterOf (D.is_page texts.now) (D.is_picture texts.now) (option_copied last.entry) chapter.now (option_copied following.entry) files × AddsFiles (S.files site.old) (S.files site.new) files) }
 {
     let name = chapter.place.as_bytes();
-    let front = front(alloc, chapter)?;
+    let front = front(alloc, last, chapter, following)?;
     let back = back(alloc, chapter)?;
     let page = texts.page(alloc, &chapter.script, name, &front, &back)?;
     let page_path = with_ending(alloc, chapter.place.as_str(), ".html")?;

@@ -19,10 +19,6 @@ pub struct Chapter {
     pub script: Vec<u8>,
     /// Whether an output is not the expected one.
     pub differs: bool,
-    /// The place of the chapter before, if there is one.
-    pub last: Option<String>,
-    /// The place of the chapter after, if there is one.
-    pub following: Option<String>,
 }
 
 // As a piece of the contents page it is a row: its title, and its place.

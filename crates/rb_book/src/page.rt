@@ -1,7 +1,7 @@
 //! What is around the rows of a chapter's page: links to the style and the code, and to the pages before and after it.
 
-ghost use Rattle.std.specs.Prelude.{◌≡◌, ◌++◌, IfOk, OnOk, Some, option_map, string_bytes};
-ghost use Rattle.rb_book.specs.Pages.{back_text, first_link_text, front_text, head_text, link_front, link_sign, link_text, links_text, without_text};
+ghost use Rattle.std.specs.Prelude.{◌≡◌, ◌++◌, IfOk, OnOk, Some, option_copied};
+ghost use Rattle.rb_book.specs.Pages.{back_text, first_link_text, front_text, head_text, link_front, link_sign, link_text, links_text, place_of, without_text};
 
 use crate::chapter::Chapter;
 use crate::html::{BETWEEN, ELEMENTS, END, HEAD, LINKED};
@@ -9,14 +9,19 @@ use crate::piece::HtmlPiece;
 use rb_text::add_pieces;
 use std::alloc::{AllocError, Global};
 
-/// What is before the rows of a chapter's page.
-pub(crate) fn front(alloc: Global, chapter: &Chapter) -> Result<Vec<u8>, AllocError>
-    ensures { IfOk result (λ text. text.items ≡ front_text chapter.now) }
+/// What is before the rows of a chapter's page, between those of two others.
+pub(crate) fn front(
+    alloc: Global,
+    last: Option<&Chapter>,
+    chapter: &Chapter,
+    following: Option<&Chapter>,
+) -> Result<Vec<u8>, AllocError>
+    ensures { IfOk result (λ text. text.items ≡ front_text (option_copied last.entry) chapter.now (option_copied following.entry)) }
 {
     let place = chapter.place.as_bytes();
     let mut text = Vec::new(alloc);
     add_head(&mut text, place)?;
-    add_links(&mut text, place, chapter)?;
+    add_links(&mut text, place, last, following)?;
     add_without(&mut text, place)?;
     text.extend_from_slice(ELEMENTS)?;
     Ok(text)
@@ -52,13 +57,18 @@ pub(crate) fn back(alloc: Global, chapter: &Chapter) -> Result<Vec<u8>, AllocErr
     Ok(text)
 }
 
-// The links of the page at a place to the contents, and to the pages before and after it.
-fn add_links(text: &mut Vec<u8>, place: &[u8], chapter: &Chapter) -> Result<(), AllocError>
-    ensures { OnOk result (text.new.items ≡ text.old.items ++ links_text place.now chapter.now) }
+// The links of the page at a place to the contents, and to the pages of the chapters before and after it.
+fn add_links(
+    text: &mut Vec<u8>,
+    place: &[u8],
+    last: Option<&Chapter>,
+    following: Option<&Chapter>,
+) -> Result<(), AllocError>
+    ensures { OnOk result (text.new.items ≡ text.old.items ++ links_text place.now (option_copied last.entry) (option_copied following.entry)) }
 {
     add_first_link(text, place)?;
-    add_link(text, place, Neighbour::Last, &chapter.last)?;
-    add_link(text, place, Neighbour::Following, &chapter.following)?;
+    add_link(text, place, Neighbour::Last, last)?;
+    add_link(text, place, Neighbour::Following, following)?;
     text.extend_from_slice(b"</nav>\n")?;
     Ok(())
 }
@@ -109,12 +119,12 @@ fn add_link(
     text: &mut Vec<u8>,
     place: &[u8],
     neighbour: Neighbour,
-    other: &Option<String>,
+    other: Option<&Chapter>,
 ) -> Result<(), AllocError>
-    ensures { OnOk result (text.new.items ≡ text.old.items ++ link_text place.now neighbour (option_map string_bytes other.now)) }
+    ensures { OnOk result (text.new.items ≡ text.old.items ++ link_text place.now neighbour (place_of (option_copied other.entry))) }
 {
     match other {
-        Some(other) => add_link_to(text, place, neighbour, other.as_bytes()),
+        Some(other) => add_link_to(text, place, neighbour, other.place.as_bytes()),
         None => Ok(()),
     }
 }

@@ -1,6 +1,6 @@
 //! The chapters of a site: scripts, read and run.
 
-ghost use Rattle.std.specs.Prelude.{◌≡◌, IfOk, IfSome};
+ghost use Rattle.std.specs.Prelude.{◌≡◌, ◌++◌, ◌∷◌, [], IfOk, IfSome, OnOk};
 ghost use Rattle.rb_site.specs.Shown.{IsRunOf};
 
 use crate::fault::{SiteFault, lost};
@@ -9,7 +9,7 @@ use rb_book::{BookFault, Chapter, title_of};
 use rb_files::{PathError, opened};
 use rb_script::MAX_SCRIPT;
 use rb_text::{ReadFault, ReadSource, read_up_to};
-use std::alloc::{AllocError, Global};
+use std::alloc::AllocError;
 use std::io;
 use std::path::Path;
 use std::rt::Files;
@@ -25,10 +25,16 @@ pub(crate) fn add_chapters<R: Files + AllocGlobal>(
 ) -> Result<(), SiteFault> {
     for path in scripts {
         if let Some(chapter) = chapter(rt, root, path.as_str(), only_differing)? {
-            add_chapter(rt.alloc(), chapters, chapter)?;
+            add_chapter(chapters, chapter)?;
         }
     }
     Ok(())
+}
+
+fn add_chapter(chapters: &mut Vec<Chapter>, chapter: Chapter) -> Result<(), AllocError>
+    ensures { OnOk result (chapters.new.items ≡ chapters.old.items ++ chapter ∷ []) }
+{
+    Ok(chapters.push(chapter)?)
 }
 
 // The chapter of a script, if it is asked for.
@@ -56,8 +62,6 @@ fn chapter<R: Files + AllocGlobal>(
         title,
         script,
         differs: ran.differs,
-        last: None,
-        following: None,
     }))
 }
 
@@ -91,17 +95,4 @@ fn place_of<'a>(root: &str, path: &'a str) -> &'a str {
         Some(place) => place,
         None => place,
     }
-}
-
-// Adds a chapter. It and the last one before it know each other's place.
-fn add_chapter(
-    alloc: Global,
-    chapters: &mut Vec<Chapter>,
-    mut chapter: Chapter,
-) -> Result<(), AllocError> {
-    if let Some(last) = chapters.last_mut() {
-        last.following = Some(String::from_str(alloc, chapter.place.as_str())?);
-        chapter.last = Some(String::from_str(alloc, last.place.as_str())?);
-    }
-    Ok(chapters.push(chapter)?)
 }

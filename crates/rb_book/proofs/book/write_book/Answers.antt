@@ -1,9 +1,9 @@
-use Rattle.std.proofs.Common.{◌≡◌, ◌∙◌, ◌++◌, List, [], ◌∷◌, ℕ, refl}
+use Rattle.std.proofs.Common.{◌∙◌, ◌++◌, List, [], ◌∷◌, ℕ, refl}
 use Rattle.std.specs.Prelude.{codes}
 use Rattle.rb_book.specs.declared.html.TheConstants.{BOOK_STYLE}
 use Rattle.rb_book.specs.Books.{joined}
 use Rattle.rb_book.specs.Contents.{contents_text}
-use Rattle.rb_book.specs.Sites.{AddsFiles, SiteFile}
+use Rattle.rb_book.specs.Sites.{AddsFiles}
 use Rattle.rb_book.proofs.BookLaws.{adds_more, along_four}
 use Rattle.rb_book.proofs.book.write_book.Goals as goal
 

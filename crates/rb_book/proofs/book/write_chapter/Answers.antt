@@ -1,5 +1,5 @@
 use Rattle.std.proofs.Common.{◌≡◌, ◌∙◌, ◌++◌, List, [], ◌∷◌, ℕ, ap, refl, string_bytes}
-use Rattle.std.specs.Prelude.{codes}
+use Rattle.std.specs.Prelude.{codes, option_copied}
 use Rattle.rb_book.specs.Pages.{back_text, front_text}
 use Rattle.rb_book.specs.Sites.{AddsFiles}
 use Rattle.rb_book.proofs.BookLaws.{adds_more, along_four, along_two}
@@ -22,7 +22,7 @@ returns g c =
     let page_is =
     along_four (λ (script name front back : List ℕ). g.D.ChapterTexts.is_page c.args.texts.now script name front back page)
     c.deref.result.now c.as_bytes-name.result.now c.deref-2.result.now c.deref-3.result.now
-    chapter.script.items place (front_text chapter) (back_text chapter)
+    chapter.script.items place (front_text (option_copied c.args.last) chapter (option_copied c.args.following)) (back_text chapter)
     c.deref.ensures.value named (c.deref-2.ensures.value ∙ c.in_ok-front.ensures) (c.deref-3.ensures.value ∙ c.in_ok-back.ensures) c.in_ok-page.ensures in
     let picture_is =
     along_two (λ (script name : List ℕ). g.D.ChapterTexts.is_picture c.args.texts.now script name picture)

@@ -1,4 +1,4 @@
-use Rattle.std.proofs.Common.{◌≡◌, ◌∙◌, ◌++◌, List, ℕ, ap, append_assoc}
+use Rattle.std.proofs.Common.{◌∙◌, ◌++◌, List, ℕ, ap, append_assoc}
 use Rattle.std.specs.Prelude.{codes}
 use Rattle.rb_book.specs.Contents.{head_text, rows_text}
 use Rattle.rb_book.proofs.contents.contents.Goals as goal
