@@ -44,8 +44,8 @@ class Language:
         self.process.stdin.write(b"Content-Length: %d\r\n\r\n%s" % (len(body), body))
         self.process.stdin.flush()
 
-    def _receive(self) -> dict[str, Any]:
-        """The next message; diagnostics are kept."""
+    def _body(self) -> bytes:
+        """The next message, as it is sent."""
         assert self.process and self.process.stdout
         length = 0
         while (line := self.process.stdout.readline()) != b"\r\n":
@@ -53,7 +53,11 @@ class Language:
                 raise Refused("the language server has ended")
             name, _, value = line.partition(b":")
             length = int(value) if name.lower() == b"content-length" else length
-        message: dict[str, Any] = json.loads(self.process.stdout.read(length))
+        return self.process.stdout.read(length)
+
+    def _receive(self) -> dict[str, Any]:
+        """The next message; diagnostics are kept."""
+        message: dict[str, Any] = json.loads(self._body())
         if message.get("method") == "textDocument/publishDiagnostics":
             self.diagnostics = message["params"]["diagnostics"]
         return message

@@ -1,7 +1,7 @@
 """The rows of a script's page (docs/FORMATS.md), cut into one stretch a directive, and the stretches that an edit changes.
 
-If the changed stretches are put into the earlier rows, the result is the rows of the new script. All rows are written again and compared; a
-program that writes the rows of some directives alone could give a stretch itself.
+If the changed stretches are put into the earlier rows, the result is the rows of the new script. Where the rows of some directives are asked for alone
+(somerows.py), only these are cut; otherwise all rows are written again and compared.
 """
 from __future__ import annotations
 
@@ -19,6 +19,11 @@ NUMBER = re.compile(re.escape(STEP) + rb"(\d+)\],")
 # So many are compared at once.
 AT_ONCE = 256
 END = re.compile(rb'\n(?=\["(?:warning|end)",)')
+TEXT = b'\n["text","'
+CELLS = re.compile(rb'\n\["cells",(\d+)\],\n')
+COUNT = re.compile(rb'\["end",(\d+),\d+\]\]\s*\Z')
+# The bytes that a text between quotes has as they are (docs/FORMATS.md).
+PLAIN = bytes(byte for byte in range(32, 127) if byte not in b'"\\<>&')
 
 
 @dataclasses.dataclass(frozen=True)
@@ -87,6 +92,35 @@ def _same_back(page: bytes, least: int, at: int, old: Rows, front: int) -> tuple
     return len(old.steps) - front, at, moved
 
 
+@dataclasses.dataclass(frozen=True)
+class SomeRows:
+    """The rows of some directives, as an answer to `raftbench/rows` has them; and of all the script how many cells comparing leaves, how many directives
+    there are, and the warnings and the end."""
+
+    heads: tuple[int, ...]
+    steps: tuple[bytes, ...]
+    cells: int
+    count: int
+    end: bytes
+
+
+def read_some(answer: bytes) -> SomeRows | None:
+    """Cuts an answer to `raftbench/rows`. None if it has no rows: the text isn't a script, or a page has no room for them."""
+    cut, last = CELLS.search(answer), COUNT.search(answer)
+    if not cut or not last:
+        return None
+    pairs = [part.split(b"],", 1) for part in answer[:cut.start()].split(STEP)[1:]]
+    return SomeRows(tuple(int(line) for line, _ in pairs), tuple(step for _, step in pairs), int(cut[1]), int(last[1]), answer[cut.end():].rstrip(b"\n"))
+
+
+def in_page(data: bytes) -> bytes:
+    """A text between quotes, as rows have it."""
+    data = data.replace(b"\\", b"\\u005c")
+    for byte in set(data.translate(None, PLAIN + b"\\")):
+        data = data.replace(bytes((byte,)), b"\\u%04x" % byte)
+    return data
+
+
 def listed(rows: bytes) -> list[list[Any]]:
     """Rows as lists; what follows the last one may be a comma, or the end of all rows."""
     inner = rows.strip(b",\n")
@@ -121,6 +155,20 @@ class Shown:
     blocks: Sequence[Block]
     tail: Sequence[bytes]
     rows: Rows
+
+
+def lines_in(blocks: Sequence[Block]) -> int:
+    return sum(len(block.lines) for block in blocks)
+
+
+def with_some(old: Shown, blocks: Sequence[Block], data: bytes, front: int, back: int, some: SomeRows) -> Rows:
+    """The rows of a script of these blocks and bytes: `some` after those of the first `front` directives of an earlier one, and before those of its last
+    ones `back`, whose heads have moved with their lines."""
+    rows, last = old.rows, len(old.blocks) - back
+    moved = lines_in(blocks[front:len(blocks) - back]) - lines_in(old.blocks[front:last])
+    begin = rows.front[:rows.front.index(TEXT)] + TEXT + in_page(data) + b'"],'
+    heads = (*rows.heads[:front], *some.heads, *(line + moved for line in rows.heads[last:]))
+    return Rows(begin, heads, (*rows.steps[:front], *some.steps, *rows.steps[last:]), some.end)
 
 
 def stretch(old: Shown, new: Shown) -> bytes:

@@ -4,6 +4,11 @@
 
 const { spawn } = require("child_process");
 
+// What the editor takes, and which commands of lenses it runs.
+const CAPABILITIES = {
+  textDocument: { completion: { completionItem: { snippetSupport: true } }, publishDiagnostics: { relatedInformation: true } },
+  experimental: { commands: { commands: ["raftbench.accept", "raftbench.openPage"] } },
+};
 // How long a server may take to end.
 const MOST_MS_TO_END = 5_000;
 
@@ -135,7 +140,7 @@ class Client {
    * @param {Record<string, unknown>} [options]
    */
   begin(options = {}) {
-    const answer = this.request("initialize", { processId: process.pid, rootUri: null, initializationOptions: options, capabilities: { textDocument: { completion: { completionItem: { snippetSupport: true } }, publishDiagnostics: { relatedInformation: true } } } });
+    const answer = this.request("initialize", { processId: process.pid, rootUri: null, initializationOptions: options, capabilities: CAPABILITIES });
     this.notify("initialized", {});
     return answer;
   }

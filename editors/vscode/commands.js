@@ -1,11 +1,12 @@
 "use strict";
-// The commands: restart the server, check the scripts of a folder, open the page of a script.
+// The commands: check the scripts of a folder, open the page of a script, accept an output.
 
 const { spawn } = require("child_process");
 const fs = require("fs");
 const os = require("os");
 const path = require("path");
 const vscode = require("vscode");
+const { changesOf } = require("./convert.js");
 
 function program() {
   return vscode.workspace.getConfiguration("raftbench").get("program", "raftbench");
@@ -49,13 +50,46 @@ function written(words, folder) {
   });
 }
 
+/**
+ * Makes the changes that accept an output. A lens calls this.
+ * @param {import("./convert.js").ProtocolChanges} changes
+ */
+async function accept(changes) {
+  await vscode.workspace.applyEdit(changesOf(changes));
+}
+
+/**
+ * The open document with this address; that in front where none is told.
+ * @param {unknown} [uri]
+ */
+function documentOf(uri) {
+  if (uri === undefined) return vscode.window.activeTextEditor?.document;
+  return vscode.workspace.textDocuments.find((it) => it.uri.toString() === String(uri));
+}
+
+/**
+ * Writes a page that leads to the directive on a line of another: what opens a file drops the place from its address.
+ * @param {string} page
+ * @param {number} line
+ */
+function leadTo(page, line) {
+  const file = `${page}.L${line}.html`;
+  fs.writeFileSync(file, `<meta http-equiv="refresh" content="0; url=${encodeURIComponent(path.basename(page))}#L${line}">`);
+  return file;
+}
+
 class Pages {
   /** @type {string | undefined} The folder of the pages, once there is one. */
   folder;
 
-  /** Opens the page of the script in front in the browser. The page shows what is in the editor, saved or not. */
-  async open() {
-    const document = vscode.window.activeTextEditor?.document;
+  /**
+   * Opens the page of a script in the browser: of that in front where no address is told, and at the directive on a line where that is a number. The
+   * page shows what is in the editor, saved or not.
+   * @param {unknown} [uri]
+   * @param {unknown} [line]
+   */
+  async open(uri, line) {
+    const document = documentOf(uri);
     if (!document || document.languageId !== "raftbench") {
       vscode.window.showWarningMessage("The document in front is not a script");
       return;
@@ -67,7 +101,7 @@ class Pages {
       const page = await written(["page", "--", name], this.folder);
       const file = path.join(this.folder, `${name}.html`);
       fs.writeFileSync(file, page);
-      await vscode.env.openExternal(vscode.Uri.file(file));
+      await vscode.env.openExternal(vscode.Uri.file(typeof line === "number" ? leadTo(file, line) : file));
     } catch (error) {
       vscode.window.showErrorMessage(`No page: ${error instanceof Error ? error.message : error}`);
     }
@@ -78,4 +112,4 @@ class Pages {
   }
 }
 
-module.exports = { checkFolder, Pages };
+module.exports = { accept, checkFolder, Pages };

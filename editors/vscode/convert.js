@@ -16,6 +16,10 @@ const SNIPPET = 2;
 /** @typedef {{ title: string, kind: string, edit: { changes: Record<string, ProtocolEdit[]> } }} ProtocolAction */
 /** @typedef {{ label: string, kind: number, documentation?: string, textEdit: ProtocolEdit, insertTextFormat?: number }} ProtocolItem */
 /** @typedef {{ name: string, kind: number, range: ProtocolRange, selectionRange: ProtocolRange }} ProtocolSymbol */
+/** @typedef {{ range: ProtocolRange, command: { title: string, command: string, arguments: unknown[] } }} ProtocolLens */
+/** @typedef {{ position: ProtocolPosition, label: string, paddingLeft: boolean }} ProtocolHint */
+/** @typedef {{ range: ProtocolRange, parent?: ProtocolSelection }} ProtocolSelection */
+/** @typedef {{ changes: Record<string, ProtocolEdit[]> }} ProtocolChanges */
 
 /** @param {ProtocolRange} range */
 function rangeOf(range) {
@@ -51,6 +55,15 @@ function editOf({ range, newText }) {
   return vscode.TextEdit.replace(rangeOf(range), newText);
 }
 
+/** @param {ProtocolChanges} from */
+function changesOf({ changes }) {
+  const edit = new vscode.WorkspaceEdit();
+  for (const [uri, edits] of Object.entries(changes)) {
+    for (const { range, newText } of edits) edit.replace(vscode.Uri.parse(uri), rangeOf(range), newText);
+  }
+  return edit;
+}
+
 /**
  * An action on one document.
  * @param {vscode.TextDocument} document
@@ -77,4 +90,24 @@ function symbolOf({ name, kind, range, selectionRange }) {
   return new vscode.DocumentSymbol(name, "", kind - 1, rangeOf(range), rangeOf(selectionRange));
 }
 
-module.exports = { rangeOf, diagnosticOf, editOf, actionOf, itemOf, symbolOf, locationOf, highlightOf };
+/** @param {ProtocolLens} from */
+function lensOf({ range, command }) {
+  return new vscode.CodeLens(rangeOf(range), command);
+}
+
+/** @param {ProtocolHint} from */
+function hintOf({ position, label, paddingLeft }) {
+  const hint = new vscode.InlayHint(new vscode.Position(position.line, position.character), label);
+  hint.paddingLeft = paddingLeft;
+  return hint;
+}
+
+/**
+ * @param {ProtocolSelection} from
+ * @returns {vscode.SelectionRange}
+ */
+function selectionOf({ range, parent }) {
+  return new vscode.SelectionRange(rangeOf(range), parent && selectionOf(parent));
+}
+
+module.exports = { rangeOf, diagnosticOf, editOf, actionOf, changesOf, itemOf, symbolOf, locationOf, highlightOf, lensOf, hintOf, selectionOf };

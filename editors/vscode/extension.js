@@ -2,14 +2,16 @@
 // Takes plain text that is a script for one, shows what `raftbench lsp` says of each script, and has commands.
 
 const vscode = require("vscode");
-const { checkFolder, Pages } = require("./commands.js");
+const { accept, checkFolder, Pages } = require("./commands.js");
 const { Plays } = require("./live.js");
-const { actionOf, editOf, highlightOf, itemOf, locationOf, rangeOf, symbolOf } = require("./convert.js");
+const { actionOf, editOf, highlightOf, hintOf, itemOf, lensOf, locationOf, rangeOf, selectionOf, symbolOf } = require("./convert.js");
 const { MOST, isScript } = require("./detect.js");
 const { Server } = require("./server.js");
 
 // An option's values follow these: typing one of them offers the values.
 const BEFORE_VALUES = ["=", "(", ","];
+// A server is told these when it starts.
+const SERVER_SETTINGS = ["raftbench.program", "raftbench.lsp.softenLaterMismatches", "raftbench.lsp.inlayHints"];
 /** @type {Server | undefined} */
 let server;
 
@@ -81,6 +83,18 @@ function providersOf(from) {
     async provideDocumentHighlights(document, position) {
       return ((await ask("documentHighlight", document, { position })) ?? []).map(highlightOf);
     },
+    /** @type {vscode.CodeLensProvider["provideCodeLenses"]} */
+    async provideCodeLenses(document) {
+      return ((await ask("codeLens", document, {})) ?? []).map(lensOf);
+    },
+    /** @type {vscode.InlayHintsProvider["provideInlayHints"]} */
+    async provideInlayHints(document, { start, end }) {
+      return ((await ask("inlayHint", document, { range: { start, end } })) ?? []).map(hintOf);
+    },
+    /** @type {vscode.SelectionRangeProvider["provideSelectionRanges"]} */
+    async provideSelectionRanges(document, positions) {
+      return ((await ask("selectionRange", document, { positions })) ?? []).map(selectionOf);
+    },
   };
 }
 
@@ -95,7 +109,7 @@ function listen(it) {
     workspace.onDidChangeTextDocument((event) => it.change(event)),
     workspace.onDidCloseTextDocument((document) => it.close(document)),
     workspace.onDidChangeConfiguration((event) => {
-      if (event.affectsConfiguration("raftbench.program") || event.affectsConfiguration("raftbench.lsp.softenLaterMismatches")) it.restart();
+      if (SERVER_SETTINGS.some((name) => event.affectsConfiguration(name))) it.restart();
     }),
   ];
 }
@@ -114,6 +128,10 @@ function register(providers) {
     languages.registerDefinitionProvider("raftbench", providers),
     languages.registerReferenceProvider("raftbench", providers),
     languages.registerDocumentHighlightProvider("raftbench", providers),
+    languages.registerCodeLensProvider("raftbench", providers),
+    languages.registerSelectionRangeProvider("raftbench", providers),
+    // Editors before 1.67 have no inlay hints.
+    ...(languages.registerInlayHintsProvider ? [languages.registerInlayHintsProvider("raftbench", providers)] : []),
   ];
 }
 
@@ -132,7 +150,8 @@ function activate(context) {
     plays,
     vscode.commands.registerCommand("raftbench.restart", () => it.restart()),
     vscode.commands.registerCommand("raftbench.checkFolder", checkFolder),
-    vscode.commands.registerCommand("raftbench.openPage", () => pages.open()),
+    vscode.commands.registerCommand("raftbench.openPage", (uri, line) => pages.open(uri, line)),
+    vscode.commands.registerCommand("raftbench.accept", accept),
     vscode.commands.registerCommand("raftbench.play", () => plays.open()),
     ...listen(it),
     ...register(providersOf(it)),

@@ -35,7 +35,7 @@ class Server {
       hasGone: (why, isMissing) => this.hasGone(why, isMissing),
       traced: (arrow, message) => this.trace(arrow, message),
     });
-    this.client.begin({ softenLaterMismatches: settings.get("lsp.softenLaterMismatches") });
+    this.client.begin({ softenLaterMismatches: settings.get("lsp.softenLaterMismatches"), inlayHints: settings.get("lsp.inlayHints") });
     vscode.workspace.textDocuments.forEach((document) => this.tell(document));
   }
 

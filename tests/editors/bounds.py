@@ -1,17 +1,18 @@
-"""What a server does where an editor would wait: a run stops after so much work, as few lines are compared as by `check`, cancelled requests aren't done, and a
-change whose version goes back is refused. What is due comes from docs/USING.md and the protocol (LSP 3.17, "Cancellation Support", "VersionedTextDocumentIdentifier").
+"""What a server does where an editor would wait: a run stops after so much work, as few lines are compared as by `check`, so much is told of diffs, cancelled
+requests aren't done, and a change whose version goes back is refused. What is due comes from docs/USING.md and the protocol (LSP 3.17, "Cancellation Support", "VersionedTextDocumentIdentifier").
 """
 import pathlib
 import subprocess
 from collections.abc import Iterator
 from typing import Any
 
+from tests.editors import oracle, plainly
 from tests.editors.client import MOST_SECONDS, Client, changed, framed, notification, opened, request, unframed
 from tests.harness import PROGRAM
 
 URI, OTHER = "file:///script.txt", "file:///other.txt"
 SMALL = "log-level debug\n----\nno\n"
-STOPPED = "the script is not run from here on: an editor waits for 4,000,000 steps; raftbench check runs it all"
+STOPPED = "the script is not run from here on: an editor waits for 16,000,000 steps; raftbench check runs it all"
 NOT_RUN = {"code": -32803, "message": "the run of this script was stopped"}
 CANCELLED = {"code": -32800, "message": "the request was cancelled"}
 # Processor seconds. A run that stops takes some two; by a program without a proof, which checks each step, eighty. A letter runs nothing.
@@ -105,7 +106,8 @@ def bounded_runs(_edits: int) -> Iterator[str]:
 
 def bounded_comparisons(_edits: int) -> Iterator[str]:
     """Outputs of 1,990 lines with one in common with what is expected in the middle: 4 million pairs of lines each. Five are compared, as by `check`, and then
-    those whose lines still fit; the next letter begins anew. Without the first the sixth is compared too."""
+    those whose lines still fit; the next letter begins anew. Without the first the sixth is compared too. What is told of a diff shows a line of the output
+    only if the line in common was found."""
     quiet = ["add-nodes 1 voters=(1) index=10", "campaign 1", "stabilize", *["propose 1 a"] * 1990, "stabilize"]
     same = '1/1000 "a"'
     wrong = "".join((same if line == 500 else f"{line}") + "\n" for line in range(1990))
@@ -114,17 +116,17 @@ def bounded_comparisons(_edits: int) -> Iterator[str]:
     text = front + block * 8
     last = "status 1\n----\nx\n"
 
-    def signs_of(mismatches: list[dict[str, Any]]) -> list[str]:
-        """The sign of the line in common, where each mismatch shows it first."""
-        return [next(line[:2] for line in it["message"].split("\n\n", 1)[-1].split("\n") if line[2:] == same and line[:2] != "+ ") for it in mismatches]
+    def compared(mismatches: list[dict[str, Any]]) -> list[bool]:
+        """Whether the line in common was found, of each mismatch."""
+        return [any(line[:2] == "+ " for line in it["message"].split("\n")) for it in mismatches]
 
     with Client(PROGRAM) as client:
         client.begin()
         client.send(opened(URI, text + last))
         found, _ = told(client)
-        signs = signs_of(found[:8])
-        if signs != ["  "] * 5 + ["- "] * 3 or len(found) != 9 or not found[8]["message"].startswith("- x\n"):
-            yield f"{len(found)} diagnostics, and the line in common has {signs}"
+        were = compared(found[:8])
+        if were != [True] * 5 + [False] * 3 or len(found) != 9 or not found[8]["message"].startswith("- x\n"):
+            yield f"{len(found)} diagnostics, and compared are {were}"
         for version, letter in enumerate("yz", 2):
             at = {"line": (text + last).count("\n") - 1, "character": 0}
             client.send(changed(URI, version, {"range": {"start": at, "end": at}, "text": letter}))
@@ -135,10 +137,28 @@ def bounded_comparisons(_edits: int) -> Iterator[str]:
         for version, end, new, count in (4, behind, "", 7), (5, first, block, 8):
             client.send(changed(URI, version, {"range": {"start": first, "end": end}, "text": new}))
             again, _ = told(client)
-            if len(again) != count + 1 or (signs := signs_of(again[:count])) != ["  "] * 5 + ["- "] * (count - 5):
-                yield f"of {count} mismatches {len(again)} diagnostics, and the line in common has {signs}"
+            if len(again) != count + 1 or compared(again[:count]) != [True] * 5 + [False] * (count - 5):
+                yield f"of {count} mismatches {len(again)} diagnostics, and compared are {compared(again[:count])}"
         if (status := client.end()) != 0:
             yield f"status {status}"
+
+
+def bounded_diffs(_edits: int) -> Iterator[str]:
+    """Of each diff 4 KiB are told, of all 64 KiB, in whole lines, and behind a diff that is cut where the rest is. Each mismatch has its mark, and its output if
+    that has room."""
+    long = "".join(f"a line that is expected, {n}\n" for n in range(200))
+    text = "".join(f"log-level debug\n----\n{long if n % 3 else 'no' + chr(10)}\n" for n in range(40))
+    found = oracle.found_in(PROGRAM, text, "utf-16-le")
+    sizes = [len(it["message"].encode()) for it, _ in found]
+    if not (len(sizes) == 40 and sum(sizes) <= 65_536 + 40 * 36 and max(sizes) <= 4_096 + 36 and min(sizes[30:]) == 36):
+        yield f"sizes: {sizes}"
+    for related in False, True:
+        with Client(PROGRAM) as client:
+            client.begin(related=related)
+            client.send(opened(URI, text))
+            due = plainly.with_what_came(found, text, URI, "utf-16-le") if related else [it for it, _ in found]
+            if (got := told(client)[0]) != due:
+                yield f"{related}: {[it['message'][-40:] for it in got]}"
 
 
 def cancelled_requests(_edits: int) -> Iterator[str]:

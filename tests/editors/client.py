@@ -112,13 +112,18 @@ class Client:
         answer = self.receive()
         return answer["result"] if "result" in answer else answer["error"]
 
-    def begin(self, *encodings: str, related: bool | None = None, options: Any = None) -> Any:
-        """Says that columns may count in these, besides UTF-16, and whether related information is taken, and with which settings, where that is
-        given; gives the name of what the server took. What else it can do stands in `capabilities`."""
+    def begin(self, *encodings: str, related: bool | None = None, options: Any = None, pulls: bool = False, runs: list[str] | None = None) -> Any:
+        """Says that columns may count in these, besides UTF-16, and whether related information is taken, with which settings, whether diagnostics are
+        asked for, and which commands it runs, where that is given; gives the name of what the server took. What else it can do stands in
+        `capabilities`."""
         general = {"general": {"positionEncodings": list(encodings)}} if encodings else {}
-        documents = {} if related is None else {"textDocument": {"publishDiagnostics": {"relatedInformation": related}}}
+        documents: dict[str, Any] = {} if related is None else {"publishDiagnostics": {"relatedInformation": related}}
+        if pulls:
+            documents["diagnostic"] = {}
+        commands = {} if runs is None else {"experimental": {"commands": {"commands": runs}}}
         settings = {} if options is None else {"initializationOptions": options}
-        self.send(request(0, "initialize", processId=None, rootUri=None, capabilities=general | documents, **settings))
+        capabilities = general | ({"textDocument": documents} if documents else {}) | commands
+        self.send(request(0, "initialize", processId=None, rootUri=None, capabilities=capabilities, **settings))
         answer = self.receive()
         self.send(notification("initialized"))
         self.capabilities = answer["result"]["capabilities"]

@@ -1,6 +1,6 @@
 """Opens a script in Neovim without a screen, with the files of editors/vim and editors/nvim, and looks at what is shown: a mismatch is marked when it is
-typed, what came is shown at a key, and the mismatch is gone when it is mended, or accepted at a key. Where an empty line is missing a key puts it in, and
-where a name is wrong it puts the right one in its place. The script is saved.
+typed, what came is shown at a key, and the mismatch is gone when it is mended, or accepted at a key, by an action or a lens. Where an empty line is missing
+a key puts it in, and where a name is wrong it puts the right one in its place. The script is saved, and its page opened.
 """
 import pathlib
 import subprocess
@@ -75,6 +75,26 @@ press('gra')
 wait_for(0)
 say('')
 vim.cmd('silent write')
+-- Lenses open the page, and accept.
+local function lenses()
+  vim.cmd('doautocmd InsertLeave')
+  return vim.wait(1000, function() return #vim.lsp.codelens.get(vim.api.nvim_get_current_buf()) == 2 end, 20)
+end
+vim.api.nvim_buf_set_lines(0, 2, 3, true, { 'more' })
+wait_for(1)
+say('lenses', vim.wait(60000, lenses, 20))
+vim.api.nvim_win_set_cursor(0, { 1, 0 })
+local opened
+vim.ui.open = function(path) opened = path end
+vim.ui.select = function(items, _, choose) choose(items[2], 2) end
+press('grx')
+vim.wait(60000, function() return opened end, 20)
+say('opened', unpack(vim.fn.readfile(opened)))
+say('paged', #vim.fn.readfile(vim.fn.fnamemodify(opened, ':h') .. '/page.html') > 10)
+vim.ui.select = function(items, _, choose) choose(items[1], 1) end
+vim.wait(60000, lenses, 20)
+press('grx')
+wait_for(0)
 -- A script to play with: what is called gets its path, and an address is shown.
 vim.g.raftbench_live = PLAYS
 local shown_address
@@ -87,7 +107,8 @@ vim.cmd('qall!')
 DUE = ["raftbench true", "there 0", "there 1", "2 1 mismatch - no|+ ok", "there 0", "there 1", "2 1 mismatch - another|+ ok",
        "shown ok raft-state ok on their way no messages", "there 0", "there 2", "3 1 mismatch - log-level debug|| ok|- log-level debug|- ----|- ok",
        "3 2 slip this looks like a directive inside an expectation: an empty line is missing before it", "there 0", "there 1",
-       '6 1 mismatch - ok|+ error: unknown directive "log-levle"|did you mean "log-level"?', "there 0", "played true"]
+       '6 1 mismatch - ok|+ error: unknown directive "log-levle"|did you mean "log-level"?', "there 0",
+       "there 1", "2 1 mismatch - more|+ ok", "lenses true", 'opened <meta http-equiv="refresh" content="0; url=page.html#L1">', "paged true", "there 0", "played true"]
 
 
 def shown(program: pathlib.Path, room: pathlib.Path) -> Any:
@@ -109,7 +130,7 @@ def look(program: pathlib.Path) -> Iterator[str]:
     """Texts for what is not as it must be."""
     with tempfile.TemporaryDirectory() as room:
         lines, left = shown(program, pathlib.Path(room))
-    if (lines := [line for line in lines if line.split()[0] in ("raftbench", "there", "missing", "0", "1", "2", "3", "6", "shown", "played")]) != DUE:
+    if (lines := [line for line in lines if line.split()[0] in ("raftbench", "there", "missing", "0", "1", "2", "3", "6", "shown", "lenses", "opened", "paged", "played")]) != DUE:
         yield f"shown: {lines}"
     if left != f"{SCRIPT}\n{SCRIPT}":
         yield f"left: {left!r}"

@@ -4,12 +4,20 @@ import pathlib
 import re
 import subprocess
 import tempfile
+from collections.abc import Sequence
 from typing import Any
 
 from tests.editors.served import served
 from tests.harness import matched
 
 MOST_SECONDS = 120
+# By docs/USING.md: how many bytes are told of a diff, or of an actual output, and of all of a document; and what ends a diff that is cut.
+MOST_OF_ONE, MOST_OF_ALL = 4_096, 65_536
+REST = b"raftbench check shows the whole diff"
+# How many lines of an output are shown at most.
+MOST_SHOWN = 20
+# A diagnostic, and whether it is a mismatch whose output has room to be told.
+Found = tuple[dict[str, Any], bool]
 HEADING = re.compile(r"script:(?:(\d+):)? ?(.*)\Z", re.S)
 # What would act in a terminal: control characters but tabs and ends of lines, and marks that turn text or end lines. A report of a script that has one
 # writes all but printable ASCII by numbers.
@@ -96,10 +104,31 @@ def read_back(text: str, report: str) -> str:
     return re.sub(rb"\\x([0-9a-f]{2})", lambda it: bytes.fromhex(it[1].decode()), report.encode()).decode()
 
 
-def of_report(text: str, report: str, differing: dict[int, Any], encoding: str) -> list[dict[str, Any]]:
+def first_lines(output: Sequence[str]) -> str:
+    """The lines of an output, as far as they are shown at its expectation."""
+    more = len(output) - MOST_SHOWN
+    return "\n".join([*output[:MOST_SHOWN], *[f"and {more} more"] * (more > 0)])
+
+
+def cut(message: bytes, most: int) -> bytes:
+    """A message, or its first lines."""
+    return message if len(message) <= most else message[:message.rfind(b"\n", 0, most) + 1] + REST
+
+
+def with_room(mismatch: tuple[str, str], left: int) -> tuple[str, bool, int]:
+    """What is told of a message, whether the shown output behind it is told too, and how many bytes are left then of these."""
+    message, output = (it.encode() for it in mismatch)
+    told = cut(message, min(left, MOST_OF_ONE))
+    left = max(0, left - len(told))
+    has_room = len(output) <= min(left, MOST_OF_ONE)
+    return told.decode(), has_room, left - len(output) * has_room
+
+
+def of_report(text: str, report: str, differing: dict[int, Any], encoding: str) -> list[Found]:
     """Those that a report of `check` shows: a heading with a diff below it, up to an empty line, or a heading that ends in an error; below
     either, the word that was probably meant. Mismatches after the first are information. The warnings come last."""
-    found: list[dict[str, Any]] = []
+    found: list[Found] = []
+    left = MOST_OF_ALL
     lines = [read_back(text, it) for it in report.split("\n")[:-2] if not re.match(r"script:\d+: warning: ", it)]
     severity, at = 1, 0
     while at < len(lines):
@@ -115,13 +144,13 @@ def of_report(text: str, report: str, differing: dict[int, Any], encoding: str) 
         if body:
             # Each byte outside ASCII is a character of its own there.
             expected, output = ([it.encode("latin-1").decode() for it in differing[line][side]] for side in ("expected", "output"))
-            message = opening(expected, output) + "\n".join(body + hint)
-            found.append(diagnostic(text, marked_line(text, line, expected, output), encoding, severity, "mismatch", message))
+            message, has_room, left = with_room((opening(expected, output) + "\n".join(body + hint), first_lines(output)), left)
+            found.append((diagnostic(text, marked_line(text, line, expected, output), encoding, severity, "mismatch", message), has_room))
             severity = 3
             at += 1
         else:
-            found.append(diagnostic(text, line, encoding, 2, "error-output", "\n".join([said[said.rindex(": error: ") + 2:]] + hint)))
-    return found + [diagnostic(text, line, encoding, 2, "slip", sentence) for line, sentence in slips(report)]
+            found.append((diagnostic(text, line, encoding, 2, "error-output", "\n".join([said[said.rindex(": error: ") + 2:]] + hint)), False))
+    return found + [(diagnostic(text, line, encoding, 2, "slip", sentence), False) for line, sentence in slips(report)]
 
 
 def checked(program: pathlib.Path, text: str, words: list[str]) -> tuple[int, str, str]:
@@ -135,6 +164,11 @@ def checked(program: pathlib.Path, text: str, words: list[str]) -> tuple[int, st
 def diagnostics(program: pathlib.Path, text: str, encoding: str) -> list[dict[str, Any]]:
     """What `check` says of the text, in the order of its lines, and then what it warns of; if the text isn't a script, what it says of the text
     above the fault, and then of the fault."""
+    return [it for it, _ in found_in(program, text, encoding)]
+
+
+def found_in(program: pathlib.Path, text: str, encoding: str) -> list[Found]:
+    """The same, each with whether it is a mismatch whose output has room to be told."""
     status, report, told = checked(program, text, ["--color", "never"])
     if status in (0, 1):
         objects = [json.loads(it) for it in checked(program, text, ["--format", "json"])[1].splitlines()] if status else []
@@ -143,4 +177,4 @@ def diagnostics(program: pathlib.Path, text: str, encoding: str) -> list[dict[st
     heading = matched(HEADING.pattern, refusal)
     fault = diagnostic(text, int(heading[1] or 1), encoding, 1, "no-script", heading[2].removeprefix(" "))
     above = served(text)
-    return (diagnostics(program, above, encoding) if above else []) + [fault]
+    return (found_in(program, above, encoding) if above else []) + [(fault, False)]

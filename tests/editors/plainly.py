@@ -1,16 +1,13 @@
 """What the plain bench (plain/) says of a place in a script: what is shown there, and what accepting makes of the script."""
 import copy
-from collections.abc import Sequence
 from typing import Any
 
 from plain.cluster import Cluster
 from plain.script import RULE, Fault, Script, lines_of, read_block, read_script, read_with_lines
 from plain.session import run_quickly
-from tests.editors.oracle import line_starts, position
+from tests.editors.oracle import Found, first_lines, line_starts, position
 
 MARK = b"# expects an error"
-# By docs/USING.md: how many lines of an output are told at most.
-MOST_SHOWN = 20
 DROPS_ALL = "deliver-msgs drop=(" + ",".join(str(id) for id in range(1, 33)) + ")"
 
 
@@ -107,22 +104,17 @@ def accepting(text: str, first: int | None = None, last: int | None = None) -> A
     return Script(tuple(blocks), script.tail), count
 
 
-def shown(output: Sequence[bytes]) -> str:
-    """The lines of an output, as far as they are told."""
-    more = len(output) - MOST_SHOWN
-    return "\n".join([line.decode() for line in output[:MOST_SHOWN]] + [f"and {more} more"] * (more > 0))
-
-
-def with_what_came(diagnostics: list[dict[str, Any]], text: str, uri: str, encoding: str) -> Any:
-    """Diagnostics of a text, of which each mismatch tells what came, at the lines that expect another output."""
+def with_what_came(diagnostics: list[Found], text: str, uri: str, encoding: str) -> Any:
+    """Diagnostics of a text, of which each mismatch tells what came, if that has room, at the lines that expect another output."""
     if (found := read(text)) is None:
-        return diagnostics
+        return [it for it, _ in diagnostics]
     script, heads = found
-    places = iter([(expected, behind, shown(output)) for block, output, (_, expected, behind) in zip(script.blocks, run_quickly(script), extents(text, script, heads)) if block.expected != output])
+    places = iter([(expected, behind, first_lines([line.decode() for line in output])) for block, output, (_, expected, behind) in zip(script.blocks, run_quickly(script), extents(text, script, heads)) if block.expected != output])
     told = []
-    for it in diagnostics:
+    for it, has_room in diagnostics:
         if it["code"] == "mismatch":
             expected, behind, message = next(places)
+        if has_room:
             it = it | {"relatedInformation": [{"location": {"uri": uri, "range": range_of(text, expected, behind, encoding)}, "message": message}]}
         told.append(it)
     return told

@@ -130,6 +130,27 @@ class FoldingRange {
   }
 }
 
+class CodeLens {
+  constructor(range, command) {
+    assert(range instanceof Range && command.title && command.command);
+    Object.assign(this, { range, command });
+  }
+}
+
+class InlayHint {
+  constructor(position, label) {
+    assert(position instanceof Position && label);
+    Object.assign(this, { position, label });
+  }
+}
+
+class SelectionRange {
+  constructor(range, parent) {
+    assert(!parent || parent.range.contains(range), "a selection's parent contains it");
+    Object.assign(this, { range, parent });
+  }
+}
+
 class ProcessExecution {
   constructor(program, words, options) {
     assert(program && Array.isArray(words));
@@ -144,7 +165,7 @@ class Task {
   }
 }
 
-const PROVIDERS = ["Hover", "CodeActions", "CompletionItem", "DocumentSymbol", "FoldingRange", "DocumentFormattingEdit", "DocumentRangeFormattingEdit", "Definition", "Reference", "DocumentHighlight"];
+const PROVIDERS = ["Hover", "CodeActions", "CompletionItem", "DocumentSymbol", "FoldingRange", "DocumentFormattingEdit", "DocumentRangeFormattingEdit", "Definition", "Reference", "DocumentHighlight", "CodeLens", "InlayHints", "SelectionRange"];
 
 // What the editor has to say to its user, and does for an extension: `warnings` and `errors` are shown, `lines` are written down, and `done` are
 // commands, tasks and addresses that are opened. `chooses` is the button that the user presses, or undefined.
@@ -205,6 +226,7 @@ function editor(settings) {
     workspaceFolders: undefined,
     getWorkspaceFolder: () => undefined,
     saveAll: async () => it.done.push(["save all"]),
+    applyEdit: async (edit) => it.done.push(["edit", edit]),
     getConfiguration: () => ({ get: (name, otherwise) => settings[name] ?? otherwise }),
     onDidOpenTextDocument: on("open"),
     onDidChangeTextDocument: on("change"),
@@ -213,7 +235,7 @@ function editor(settings) {
     onDidChangeConfiguration: on("configuration"),
   };
   const Uri = { parse: (text) => text, file: (path) => ({ scheme: "file", path, fsPath: path, toString: () => `file://${path}` }) };
-  const types = { CodeAction, CodeActionKind, CompletionItem, Diagnostic, DiagnosticRelatedInformation, DocumentHighlight, DocumentSymbol, FoldingRange, Hover, Location, MarkdownString, Position, ProcessExecution, Range, SnippetString, Task, TextEdit, WorkspaceEdit };
+  const types = { CodeAction, CodeActionKind, CodeLens, CompletionItem, Diagnostic, DiagnosticRelatedInformation, DocumentHighlight, DocumentSymbol, FoldingRange, Hover, InlayHint, Location, MarkdownString, Position, ProcessExecution, Range, SelectionRange, SnippetString, Task, TextEdit, WorkspaceEdit };
   return { api: { ...types, Uri, languages, workspace, ...api }, shown, providers, documents, tell, user: it, warnings: it.warnings, lines: it.lines };
 }
 

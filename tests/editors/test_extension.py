@@ -15,6 +15,8 @@ from tests.harness import TESTS, TOP, NotHere
 VSCODE = TOP / "editors/vscode"
 TYPES = TESTS / "editors/types"
 LEAST_PIXELS = 128
+# Commands that nobody but the server's lenses call.
+INNER = {"raftbench.accept"}
 
 
 def package() -> Any:
@@ -47,12 +49,12 @@ def test_icon_is_large_enough() -> Iterator[str]:
 
 
 def test_commands_are_registered() -> Iterator[str]:
-    """Each command of the manifest is one of the extension, starts it, and is in its README.md."""
+    """Each command of the manifest is one of the extension, starts it, and is in its README.md. Lenses call those that the server names."""
     it = package()
     named = {command["command"]: command for command in it["contributes"]["commands"]}
-    registered = re.findall(r'registerCommand\("([\w.]+)"', (VSCODE / "extension.js").read_text())
+    registered = set(re.findall(r'registerCommand\("([\w.]+)"', (VSCODE / "extension.js").read_text()))
     starting = [event.partition(":")[2] for event in it["activationEvents"] if event.startswith("onCommand:")]
-    if not sorted(named) == sorted(registered) == sorted(starting) or len(named) < 3:
+    if not INNER < registered or not set(named) == registered - INNER == set(starting) or len(named) < 3:
         yield f"commands: {sorted(named)}, {registered}, {starting}"
     rows = re.findall(r"^\| `(.+?)` \|", (VSCODE / "README.md").read_text(), re.M)
     if sorted(rows) != sorted(f"{command['category']}: {command['title']}" for command in named.values()):

@@ -3,7 +3,7 @@
 A case of cases/ is a conversation: what is sent, and what must come, both by hand from the protocol's specification (LSP 3.17). Lists of edits are
 made by a fixed seed over examples/tour and tests/cases: after each edit the diagnostics must be what `check` says of the text, what the
 server offers of it what docs/SCRIPTS.md say (offers.py), and what came of a mismatch, what is shown of a place, and what
-an action makes of the script, what the plain bench says (plainly.py).
+an action makes of the script, what the plain bench says (plainly.py, beside.py).
 
 With EDITS=N in the environment N edits of each script are made, and 20 else.
 
@@ -12,6 +12,7 @@ protocol, which is in the npm package vscode-languageserver-protocol and the sou
 editors' clients send must be of it (metamodel.py). MONACO names the folder of Monaco that has vs/ (Debian's node-monaco-editor, where it isn't given).
 """
 import functools
+import hashlib
 import itertools
 import json
 import os
@@ -28,6 +29,7 @@ from tests.harness import PROGRAM, TOP, NotHere, Result, result_of
 
 HERE = pathlib.Path(__file__).resolve().parent
 
+from tests.editors import beside
 from tests.editors import bounds
 from tests.editors import memory
 from tests.editors import messages
@@ -300,8 +302,8 @@ def what_came(edits: int) -> Iterator[str]:
             client.begin(*offered, related=related)
             for version in range(1, edits + 1):
                 client.send(changed(URI, version, {"text": text}) if version > 1 else opened(URI, text))
-                told, due = client.receive()["params"]["diagnostics"], diagnostics(PROGRAM, text, encoding)
-                if told != (due := plainly.with_what_came(due, served(text), URI, encoding) if related is True else due):
+                told, found = client.receive()["params"]["diagnostics"], oracle.found_in(PROGRAM, text, encoding)
+                if told != (due := plainly.with_what_came(found, served(text), URI, encoding) if related is True else [it for it, _ in found]):
                     yield f"{path.name}, version {version}: {told}, and due is {due}"
                     break
                 text, *_ = edited(dice, text)
@@ -661,6 +663,81 @@ def completed(edits: int) -> Iterator[str]:
     yield from asked_of("completionProvider", "textDocument/completion", completions_due, edits, told=offers.as_told)
 
 
+def hints_due(dice: random.Random, text: str, encoding: str) -> Iterator[tuple[dict[str, Any], Any]]:
+    """Those of the whole text, and of some of its lines."""
+    for start, end in (0, len(text)), sorted(dice.choices(range(len(text) + 1), k=2)):
+        if not offers.is_cut(text, start) and not offers.is_cut(text, end):
+            range_ = {"start": position(text, start, encoding), "end": position(text, end, encoding)}
+            yield {"range": range_}, beside.hints(text, text.count("\n", 0, start), text.count("\n", 0, end), encoding)
+
+
+def hinted(edits: int) -> Iterator[str]:
+    """At a directive's line `----` it is told who leads then, unless the client's settings say no."""
+    yield from asked_of("inlayHintProvider", "textDocument/inlayHint", hints_due, edits)
+    text = "add-nodes 1 voters=(1) index=10\n----\n"
+    whole = {"start": {"line": 0, "character": 0}, "end": {"line": 9, "character": 0}}
+    for options, count in (None, 1), ({"inlayHints": True}, 1), ({"inlayHints": False}, 0):
+        with Client(PROGRAM) as client:
+            client.begin(options=options)
+            client.send(opened(URI, text))
+            client.receive()
+            if len(told := client.ask(1, "textDocument/inlayHint", textDocument={"uri": URI}, range=whole)) != count:
+                yield f"{options}: {told}"
+
+
+def lensed(edits: int) -> Iterator[str]:
+    """A directive whose output differs has lenses, for the commands that the client says it runs."""
+    dice = random.Random(59)
+    lists: tuple[list[str] | None, ...] = None, [], [beside.ACCEPT], ["another", beside.PAGE], [beside.PAGE, beside.ACCEPT]
+    for (encoding, offered), runs in itertools.product(ENCODINGS, lists):
+        with Client(PROGRAM) as client:
+            client.begin(*offered, runs=runs)
+            for version, text in enumerate(offered_texts(dice, edits if runs else 0)):
+                client.send(opened(URI, text, version))
+                client.receive()
+                told = client.ask(version, "textDocument/codeLens", textDocument={"uri": URI})
+                has_slips = bool(told) and bool(oracle.slips(oracle.checked(PROGRAM, served(text), ["--color", "never"])[1]))
+                yield from (f"{text!r}: {it}" for it in beside.wrong_lenses(text, URI, runs or [], has_slips, told, encoding))
+
+
+def selections_due(dice: random.Random, text: str, encoding: str) -> Iterator[tuple[dict[str, Any], Any]]:
+    """Those of some places at once, and of none."""
+    places = [at for at in dice.choices(range(len(text) + 1), k=5) if not offers.is_cut(text, at)]
+    yield {"positions": [position(text, at, encoding) for at in places]}, [beside.selection(text, at, encoding) for at in places]
+    yield {"positions": []}, []
+
+
+def selected(edits: int) -> Iterator[str]:
+    """Around a place the word can be selected, the argument, the line, the part of the block, the block, and the whole text."""
+    yield from asked_of("selectionRangeProvider", "textDocument/selectionRange", selections_due, edits)
+
+
+def reported(_edits: int) -> Iterator[str]:
+    """A client that asks for diagnostics gets those of the text as it stands, with the text's digest (FIPS 180-4) as their id, and not again where it has
+    them. None are published, but for a document that is closed."""
+    dice = random.Random(61)
+    for encoding, offered in ENCODINGS:
+        with Client(PROGRAM) as client:
+            client.begin(*offered, pulls=True)
+            if client.capabilities["diagnosticProvider"] != {"identifier": "raftbench", "interFileDependencies": False, "workspaceDiagnostics": False}:
+                yield f"{client.capabilities}"
+            for version, text in enumerate(offered_texts(dice, 1)):
+                client.send(opened(URI, text, version))
+                digest = hashlib.sha256(text.encode()).hexdigest()
+                full = {"kind": "full", "resultId": digest, "items": diagnostics(PROGRAM, text, encoding)}
+                for known, due in (None, full), ("0" * 64, full), (digest, {"kind": "unchanged", "resultId": digest}):
+                    told = {} if known is None else {"previousResultId": known}
+                    if (got := client.ask(version, "textDocument/diagnostic", textDocument={"uri": URI}, identifier="raftbench", **told)) != due:
+                        yield f"{text!r}, {known}: {got}, and due is {due}"
+            client.send(notification("textDocument/didClose", textDocument={"uri": URI}))
+            if (got := client.receive()["params"]) != {"uri": URI, "diagnostics": []}:
+                yield f"closed: {got}"
+    with Client(PROGRAM) as client:
+        client.begin()
+        if "diagnosticProvider" in client.capabilities:
+            yield "reports are offered where nobody asks for them"
+
+
 def in_neovim(_edits: int, program: pathlib.Path = PROGRAM) -> Iterator[str]:
     """Neovim shows what a server tells it, as an editor's user sees it."""
     if not shutil.which("nvim"):
@@ -691,12 +768,12 @@ def conversation() -> Any:
     """What is said where texts are opened, one in the place of another, and asked about at some places."""
     dice, options = random.Random(43), {"options": {"tabSize": 4, "insertSpaces": True}}
     with Client(PROGRAM, keeps=True) as client:
-        client.begin(related=True)
+        client.begin(related=True, runs=[beside.ACCEPT, beside.PAGE])
         number = itertools.count(1)
         for version, text in enumerate(offered_texts(dice, 1)):
             client.send(opened(URI, text, version))
             client.receive()
-            for method in ("foldingRange", "documentSymbol", "formatting"):
+            for method in ("foldingRange", "documentSymbol", "codeLens", "diagnostic", "formatting"):
                 more: dict[str, Any] = options if method == "formatting" else {}
                 client.ask(next(number), f"textDocument/{method}", textDocument={"uri": URI}, **more)
             for at in dice.choices(range(len(text) + 1), k=4):
@@ -704,6 +781,7 @@ def conversation() -> Any:
                 acted = {"range": {"start": place, "end": place}, "context": {"diagnostics": []}}
                 asked: list[tuple[str, dict[str, Any]]] = [("hover", {"position": place}), ("completion", {"position": place}), ("codeAction", acted)]
                 asked += [("rangeFormatting", {"range": acted["range"], **options}), ("references", {"position": place, "context": {"includeDeclaration": True}})]
+                asked += [("inlayHint", {"range": acted["range"]}), ("selectionRange", {"positions": [place]})]
                 asked += [(method, {"position": place}) for method in ("definition", "documentHighlight")]
                 for method, more in asked:
                     client.ask(next(number), f"textDocument/{method}", textDocument={"uri": URI}, **more)
@@ -733,7 +811,7 @@ def by_the_meta_model(_edits: int) -> Iterator[str]:
         yield from (f"{name}: {it}" for it in metamodel.faults(model, talk) if not OWN_CAPABILITY.match(it))
 
 
-FUNCTIONS: list[Callable[[int], Iterator[str]]] = [in_neovim, in_vscode, in_monaco, by_the_meta_model, one_byte_at_a_time, cut_off, no_message, reader_that_goes, many_documents, too_many_documents, bounds.bounded_runs, bounds.bounded_comparisons, bounds.cancelled_requests, bounds.versions_that_go_back, other_texts, ends_of_lines, sizes, want_of_memory, refused_allocations, random_edits, editing_lists, what_came, folds, outlines, formatted, ranges_formatted, messages_found, completed, questions, hover_shows_reasons, wrong_words, missing_index, questions_between_changes, accepted_by_check, below_a_new_error, slips_are_mended, later_mismatches]
+FUNCTIONS: list[Callable[[int], Iterator[str]]] = [in_neovim, in_vscode, in_monaco, by_the_meta_model, one_byte_at_a_time, cut_off, no_message, reader_that_goes, many_documents, too_many_documents, bounds.bounded_runs, bounds.bounded_comparisons, bounds.bounded_diffs, bounds.cancelled_requests, bounds.versions_that_go_back, other_texts, ends_of_lines, sizes, want_of_memory, refused_allocations, random_edits, editing_lists, what_came, folds, outlines, formatted, ranges_formatted, messages_found, completed, hinted, lensed, selected, reported, questions, hover_shows_reasons, wrong_words, missing_index, questions_between_changes, accepted_by_check, below_a_new_error, slips_are_mended, later_mismatches]
 
 
 def results(word: str) -> Iterator[Result]:

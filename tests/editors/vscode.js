@@ -41,6 +41,34 @@ async function accepts(document) {
   }
 }
 
+// A lens accepts the output, or opens the page at its directive.
+async function acceptsByALens(document) {
+  const lenses = await providers.provideCodeLenses(document);
+  assert.deepStrictEqual(lenses.map(({ range, command }) => [range.numbers, command.title]), [[[0, 0, 0, 0], "Accept the actual output"], [[0, 0, 0, 0], "Open the page here"]]);
+  const [accept, page] = lenses.map(({ command }) => command);
+  await user.commands.get(accept.command)(...accept.arguments);
+  const [[, { edits }]] = user.done.splice(0);
+  assert.deepStrictEqual(edits.map(([uri, { range, newText }]) => [uri, range.numbers, newText]), [[document.uri, [2, 0, 3, 0], "ok\n"]]);
+  documents.unshift({ uri: api.Uri.file("/script.txt"), languageId: "raftbench", getText: () => SCRIPT });
+  await user.commands.get(page.command)(...page.arguments);
+  documents.shift();
+  const [[does, file]] = user.done.splice(0);
+  assert.deepStrictEqual([does, fs.readFileSync(file, "utf8")], ["open", '<meta http-equiv="refresh" content="0; url=script.txt.html#L1">']);
+  assert(fs.readFileSync(path.join(path.dirname(file), "script.txt.html"), "utf8").includes("log-level debug"));
+}
+
+// Who leads is told at a line `----`, and what is selected grows.
+async function hintsAndSelects() {
+  const small = opened("small.txt", "add-nodes 1 voters=(1) index=10\n----\n\ncampaign 1\n----\n\nstabilize\n----\n", "raftbench");
+  const hints = await providers.provideInlayHints(small, new api.Range(0, 0, 8, 0));
+  assert.deepStrictEqual(hints.map(({ position, label, paddingLeft }) => [position.line, position.character, label, paddingLeft]), [[1, 4, "no leader, term 0", true], [4, 4, "no leader, term 1", true], [7, 4, "leader 1, term 1", true]]);
+  const [word, none] = await providers.provideSelectionRanges(small, [new api.Position(0, 20), new api.Position(2, 0)]);
+  const numbers = (it) => (it ? [it.range.numbers, ...numbers(it.parent)] : []);
+  assert.deepStrictEqual(numbers(word), [[0, 20, 0, 21], [0, 12, 0, 22], [0, 0, 0, 31], [0, 0, 1, 0], [0, 0, 2, 0], [0, 0, 8, 0]]);
+  assert.deepStrictEqual(numbers(none), [[0, 0, 8, 0]]);
+  closed(small);
+}
+
 async function writesDownTheConversation(document) {
   assert.deepStrictEqual(lines, []);
   settings["lsp.trace"] = "messages";
@@ -247,6 +275,8 @@ async function main() {
   await offersWhatTheTextHas(document);
   await formats();
   await findsMessages();
+  await acceptsByALens(document);
+  await hintsAndSelects();
   await asksWhereTheServerSays();
   await namesAMissingProgram(document);
   lines.splice(0);

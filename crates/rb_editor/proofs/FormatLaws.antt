@@ -1,7 +1,6 @@
 -- What is sent for formatting makes the canonical text, without the empty line at its end.
 use Rattle.std.proofs.Common.{◌≡◌, ℕ, Bool, true, List, Ok, Err, ap, refl, subst, sym}
 use Rattle.std.specs.Prelude.{Result, if◌then◌else◌}
-use Rattle.std.specs.Str.{bytes_eq}
 use Rattle.std.proofs.lemmas.Bool.{and_parts}
 use Rattle.std.proofs.lemmas.Slice.Eq.{bytes_eq-Decides}
 use Rattle.rb_script.specs.declared.fault.ScriptFault.{ScriptFault}

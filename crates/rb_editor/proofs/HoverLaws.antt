@@ -113,11 +113,14 @@ explained_all reasons output i past = ap (explained reasons i) (drop_all i outpu
 
 -- ---- the cluster after a directive
 
+pub runs_next : (s : PlainScript) (i : ℕ) (b : PlainBlock) (d : PlainDirective) (before after : Cluster) → slice_get s.blocks i ≡ Some b → before ≡ state s i → d ≡ directive_of b → after ≡ (outcome before d).cluster
+    → after ≡ state s (i + 1)
+runs_next s i b d before after there here is next = machine_next s i b before after there here (next ∙ ap (λ (x : PlainDirective). (outcome before x).cluster) is)
+
 pub seen_after : (s : PlainScript) (i : ℕ) (b : PlainBlock) (d : PlainDirective) (before after : Cluster) (seen : List Line) → slice_get s.blocks i ≡ Some b → before ≡ state s i → d ≡ directive_of b
     → after ≡ (outcome before d).cluster → seen ≡ looked_in after → seen ≡ looked s (i + 1)
 unfolding looked
-seen_after s i b d before after seen there here is next shows =
-    shows ∙ ap looked_in (machine_next s i b before after there here (next ∙ ap (λ (x : PlainDirective). (outcome before x).cluster) is))
+seen_after s i b d before after seen there here is next shows = shows ∙ ap looked_in (runs_next s i b d before after there here is next)
 
 -- ---- the text that is shown
 

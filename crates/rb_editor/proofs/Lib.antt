@@ -2,12 +2,16 @@ pub mod FindingLaws
 pub mod ComparisonLaws
 pub mod EachFindingLaws
 pub mod QuietLaws
+pub mod ToldLaws
 pub mod MismatchLaws
 pub mod CameLaws
 pub mod HoverLaws
 pub mod MessageLaws
 pub mod RangeFormattingLaws
 pub mod ActionLaws
+pub mod LensLaws
+pub mod HintLaws
+pub mod SelectionLaws
 pub mod RangeLaws
 pub mod EditedLaws
 pub mod EditedScriptLaws
@@ -17,6 +21,7 @@ pub mod RunLaws
 pub mod WorkLaws
 pub mod StopLaws
 pub mod ServedLaws
+pub mod SomeRowLaws
 pub mod FixLaws
 pub mod FrontLaws
 pub mod CompletingLaws

@@ -23,6 +23,8 @@ use Rattle.rb_editor.specs.ActionLaws.{IsQuietText}
 use Rattle.rb_editor.proofs.FindingLaws.{of_read}
 use Rattle.rb_editor.proofs.ServedLaws.{shown_script}
 use Rattle.rb_editor.specs.Served.{shown}
+use Rattle.rb_editor.specs.declared.actions.told.TheConstants.{MAX_TOLD}
+use Rattle.rb_editor.specs.Told.{all_told}
 
 nothing_found : (left first : ℕ) (ls : List Line) (line : ℕ) (b : PlainBlock) (o : List Line) → same_lines b.expected o ≡ true → is_unexpected ls line o ≡ false → finding left first ls line b o ≡ None
 unfolding finding
@@ -49,14 +51,15 @@ nothing_said left ls heads s is =
     let p = and_parts (length (mismatches s) == 0) (not (list_any is_error (outputs s))) is in
     sym (quiet left (first_head heads (mismatches s)) ls heads s.blocks (outputs s) 1 (nil_from_length (mismatches s) (eqb-true (length (mismatches s)) 0 p.0)) (not-true (list_any is_error (outputs s)) p.1))
 
-pub none_listed : (text : PlainDiagnostic → List ℕ) (ds : List PlainDiagnostic) → (length ds == 0) ≡ true → codes "[]" ≡ list_text text ds
-none_listed text ds none = sym (empty_list text ds (nil_from_length ds (eqb-true (length ds) 0 none)))
+pub none_listed : (text : PlainDiagnostic → List ℕ) (left : ℕ) (ds : List PlainDiagnostic) → (length ds == 0) ≡ true → codes "[]" ≡ list_text text (all_told left ds)
+none_listed text left ds none = sym (empty_list text (all_told left ds) (ap (all_told left) (nil_from_length ds (eqb-true (length ds) 0 none))))
 
 pub quiet_text : (client : Client) (uri text : List ℕ) → IsQuietText text → diagnose None client uri text ≡ codes "[]"
 quiet_text client uri text q =
     let heads = heads_of text q.script in
     let first = first_head heads (mismatches q.script) in
-    empty_list (diagnostic_text client uri text) (shown None text)
-    (shown_script text q.script None q.reads
+    let none : shown None text ≡ [] =
+    shown_script text q.script None q.reads
     ∙ sym (of_read text q.script q.reads)
-    ∙ ap₂ (λ (ds : List PlainDiagnostic) (ws : List Warning). ds ++ map slip ws) (quiet MAX_SCRIPT_CELLS first (lines text) heads q.script.blocks (outputs q.script) 1 q.same q.no_error) q.no_slip)
+    ∙ ap₂ (λ (ds : List PlainDiagnostic) (ws : List Warning). ds ++ map slip ws) (quiet MAX_SCRIPT_CELLS first (lines text) heads q.script.blocks (outputs q.script) 1 q.same q.no_error) q.no_slip in
+    empty_list (diagnostic_text client uri text) (all_told MAX_TOLD (shown None text)) (ap (all_told MAX_TOLD) none)

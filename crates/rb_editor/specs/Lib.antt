@@ -3,6 +3,7 @@ pub mod Came
 pub mod Findings
 pub mod Comparisons
 pub mod ShownMessages
+pub mod Told
 pub mod Published
 pub mod Work
 pub mod Stops
@@ -16,7 +17,11 @@ pub mod MessagePlaces
 pub mod RangeFormatting
 pub mod Corrections
 pub mod Actions
+pub mod Lenses
+pub mod Hints
+pub mod Selections
 pub mod Completing
+pub mod SomeRows
 pub mod Meanings
 pub mod Edits
 pub mod ActionLaws

@@ -14,6 +14,8 @@ use Rattle.rb_editor.specs.declared.actions.diagnostic.DiagnosticKind.TheVariant
 use Rattle.rb_editor.specs.Diagnostics.{PlainActualOutput, PlainDiagnostic}
 use Rattle.rb_editor.specs.Served.{shown}
 use Rattle.rb_editor.specs.ShownMessages.{shown_message}
+use Rattle.rb_editor.specs.declared.actions.told.TheConstants.{MAX_TOLD}
+use Rattle.rb_editor.specs.Told.{all_told}
 
 -- the severity, and the code
 unfoldable pub kind_text : Bool → DiagnosticKind → List ℕ
@@ -51,7 +53,7 @@ diagnostic_text client uri text d =
     range_member (start_of client.encoding (d.line - 1) text) (start_of client.encoding d.line text)
     ++ (message_text client.softens_later d ++ (related_if client.takes_related client.encoding uri text d.came ++ codes "}"))
 
--- What is published for a text. It depends on the text alone, on where its run stopped, if it did, on the URI of its document, and on what the client
+-- What is told of a text. It depends on the text alone, on where its run stopped, if it did, on the URI of its document, and on what the client
 -- counts in and takes.
 abbrev pub diagnose : Option Stop → Client → List ℕ → List ℕ → List ℕ
-diagnose stop client uri text = list_text (diagnostic_text client uri text) (shown stop text)
+diagnose stop client uri text = list_text (diagnostic_text client uri text) (all_told MAX_TOLD (shown stop text))

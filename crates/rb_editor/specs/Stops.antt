@@ -7,7 +7,7 @@ use Rattle.rb_script.specs.Script.{PlainScript}
 use Rattle.rb_script.specs.Reading.{read_of}
 use Rattle.rb_lsp.specs.declared.server.stop.Stop.{Stop}
 use Rattle.rb_lsp.specs.declared.server.query.Query.{Query}
-use Rattle.rb_lsp.specs.declared.server.query.Query.TheVariants.{CodeAction, Hover}
+use Rattle.rb_lsp.specs.declared.server.query.Query.TheVariants.{CodeAction, CodeLens, Hover, InlayHint, Rows}
 use Rattle.rb_editor.specs.declared.offers.block_lines.BlockLines.{BlockLines}
 use Rattle.rb_editor.specs.BlockLines.{blocks_of}
 use Rattle.rb_editor.specs.Heads.{heads_of}
@@ -16,6 +16,9 @@ use Rattle.rb_editor.specs.Heads.{heads_of}
 abbrev pub needs_run : Query → Bool
 needs_run (CodeAction range) = true
 needs_run (Hover position) = true
+needs_run CodeLens = true
+needs_run (InlayHint range) = true
+needs_run (Rows span) = true
 needs_run asked = false
 
 -- the line of a directive's head, by its index, in a text that is read so

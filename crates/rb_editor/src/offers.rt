@@ -18,7 +18,7 @@ mod unfinished;
 mod words;
 mod writing;
 
-pub(crate) use above::begun_lines;
+pub(crate) use above::{begun_lines, line_begin};
 pub(crate) use block_lines::{all_lines, blocks_of, script_of};
 pub use block_lines::{BlockLines, begins_rule};
 pub use completion::add_completion;
@@ -32,6 +32,7 @@ pub use laws::{
     values_are_those_of_the_option,
 };
 pub use place::CompletionPlace;
+pub(crate) use symbols::line_at;
 pub use symbols::{MAX_NAME, add_symbols};
-pub(crate) use writing::add_range;
 pub use writing::add_range_member;
+pub(crate) use writing::{add_position, add_range};

@@ -15,5 +15,7 @@ pub mod ReplyLaws
 pub mod TalkLaws
 pub mod OneLaws
 pub mod NoticeLaws
+pub mod NamedLaws
+pub mod SelectionLaws
 pub mod RefusalLaws
 pub mod DocumentLaws

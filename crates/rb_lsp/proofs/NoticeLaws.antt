@@ -12,9 +12,8 @@ use Rattle.rb_lsp.specs.Documents.{PlainDocument}
 use Rattle.rb_lsp.specs.Methods.{is_of_documents}
 use Rattle.rb_lsp.specs.declared.server.reach.Reach.{Reach}
 use Rattle.rb_lsp.specs.Meanings.{Meaning}
-use Rattle.rb_lsp.specs.Notices.{Notice, notice_body, notice_of, notice_text, stale_versions, with_uri}
+use Rattle.rb_lsp.specs.Notices.{Notice, framed, notice_body, notice_of, notice_text, stale_versions, with_uri}
 use Rattle.rb_lsp.specs.Replies.{PlainServer, On, noticed_by, published, with_notice}
-use Rattle.rb_lsp.specs.Messages.{frame}
 use Rattle.rb_lsp.specs.Laws.{IsPublished, published_text}
 
 -- a notice is taken where the server runs
@@ -41,7 +40,7 @@ body_is meaning reach None n before ds = refl
 one_is : (meaning : Meaning) (reach : Reach) (before : List PlainDocument) (next : PlainServer) (notice : Option Notice) → IsOf next.phase notice
     → IsPublished meaning reach before next notice (notice_text meaning reach notice before next.documents)
 one_is meaning reach before next None is = refl
-one_is meaning reach before next (Some n) is = record { running = is; text_is = ap frame (body_is meaning reach (stale_versions n before) n before next.documents) }
+one_is meaning reach before next (Some n) is = record { running = is; text_is = ap framed (body_is meaning reach (stale_versions n before) n before next.documents) }
 
 -- a notification that is no `exit`
 after_is : (meaning : Meaning) (reach : Reach) (server next : PlainServer) (method : Method) (params : Option Data) → On (with_notice server method params) ≡ On next

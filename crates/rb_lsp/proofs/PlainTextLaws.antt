@@ -12,7 +12,7 @@ use Rattle.rb_lsp.specs.declared.server.phase.Phase.{Phase}
 use Rattle.rb_lsp.specs.declared.server.phase.Phase.TheVariants.{Fresh, Running}
 use Rattle.rb_lsp.specs.declared.server.method.Method.{Method}
 use Rattle.rb_lsp.specs.declared.server.method.Method.TheVariants.{Initialize}
-use Rattle.rb_lsp.specs.Beginnings.{capabilities, client_of, completes, initialized, synchronizes}
+use Rattle.rb_lsp.specs.Beginnings.{capabilities, client_of, completes, document_capabilities, initialized, last_capabilities, reports, synchronizes}
 use Rattle.rb_lsp.specs.Replies.{answer_to, initialize_answer}
 
 pub id_is_plain : (d : Data) → is_id d ≡ true → has_float d ≡ false
@@ -49,14 +49,16 @@ versioned false s plain = tt
 said_is_plain : (d : Data) → IsPlain (said d)
 said_is_plain d = versioned (has_version d) (with_method d (text_at (codes "method") d)) (with_method_is_plain d (text_at (codes "method") d))
 
-initialized_is_plain : (encoding : Encoding) → has_float (initialized encoding) ≡ false
-unfolding initialized capabilities completes synchronizes
-initialized_is_plain Utf8 = refl
-initialized_is_plain Utf16 = refl
+initialized_is_plain : (encoding : Encoding) (pulls : Bool) → has_float (initialized encoding pulls) ≡ false
+unfolding initialized capabilities completes document_capabilities last_capabilities reports synchronizes
+initialized_is_plain Utf8 true = refl
+initialized_is_plain Utf8 false = refl
+initialized_is_plain Utf16 true = refl
+initialized_is_plain Utf16 false = refl
 
 beginning_is_plain : (client : Option Client) (id : Data) → has_float id ≡ false → has_float (initialize_answer client id) ≡ false
 beginning_is_plain None id plain = rw plain
-beginning_is_plain (Some client) id plain = rw (plain, initialized_is_plain client.encoding)
+beginning_is_plain (Some client) id plain = rw (plain, initialized_is_plain client.encoding client.pulls)
 
 pub answer_is_plain : (phase : Phase) (method : Method) (params : Option Data) (id : Data) → has_float id ≡ false → has_float (answer_to phase method params id) ≡ false
 answer_is_plain Fresh Initialize params id plain = beginning_is_plain (client_of params) id plain

@@ -9,12 +9,15 @@ pub mod Reading
 pub mod Said
 pub mod Answers
 pub mod Params
+pub mod ItemSpans
 pub mod Cancels
 pub mod Methods
 pub mod Beginnings
 pub mod Documents
 pub mod DocumentChanges
+pub mod Inquiries
 pub mod Meanings
+pub mod Reports
 pub mod Questions
 pub mod Notices
 pub mod Replies

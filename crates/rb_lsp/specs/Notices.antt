@@ -1,6 +1,6 @@
 -- Notifications about documents, and what is published for each: the diagnostics of its current text. (LSP 3.17, "PublishDiagnostics
 -- Notification".)
-use Rattle.std.specs.Prelude.{ℕ, nat_le, Bool, ◌&&◌, not, is_some, if◌then◌else◌, List, [], ◌++◌, Option, Some, None, codes, decimal}
+use Rattle.std.specs.Prelude.{ℕ, nat_le, Bool, ◌&&◌, not, is_some, if◌then◌else◌, List, [], ◌++◌, Option, Some, None, codes, decimal, option_map}
 use Rattle.std.specs.List.{flat_map}
 use Rattle.serde_json.specs.Data.{Data}
 use Rattle.rb_text.specs.Json.{escaped}
@@ -51,10 +51,10 @@ list_by meaning NoMemory client uri text = no_memory_list
 list_by meaning (Stopped stop) client uri text = meaning.diagnose (Some stop) client uri text
 list_by meaning reach client uri text = meaning.diagnose None client uri text
 
--- those of an open document, or of one that isn't open
-abbrev pub list_text : Meaning → Reach → Client → List ℕ → Bool → Option (List ℕ) → List ℕ
-list_text meaning reach client uri is_crowded None = closed_list is_crowded
-list_text meaning reach client uri is_crowded (Some text) = list_by meaning reach client uri text
+-- Those that are published: of an open document, unless the client asks for them itself, or of one that isn't open.
+abbrev pub list_text : Meaning → Reach → Client → List ℕ → Bool → Option (List ℕ) → Option (List ℕ)
+list_text meaning reach client uri is_crowded None = Some (closed_list is_crowded)
+list_text meaning reach client uri is_crowded (Some text) = if client.pulls then None else Some (list_by meaning reach client uri text)
 
 unfoldable pub head_text : List ℕ → List ℕ
 head_text uri = codes "{\"jsonrpc\":\"2.0\",\"method\":\"textDocument/publishDiagnostics\",\"params\":{\"uri\":\"" ++ (flat_map escaped uri ++ codes "\"")
@@ -63,8 +63,8 @@ head_text uri = codes "{\"jsonrpc\":\"2.0\",\"method\":\"textDocument/publishDia
 unfoldable pub list_publication : List ℕ → Option ℕ → List ℕ → List ℕ
 list_publication uri version list = head_text uri ++ (middle_text version ++ (list ++ codes "}}"))
 
-abbrev pub publication : Meaning → Reach → Client → List ℕ → Option ℕ → Bool → Option (List ℕ) → List ℕ
-publication meaning reach client uri version is_crowded text = list_publication uri version (list_text meaning reach client uri is_crowded text)
+abbrev pub publication : Meaning → Reach → Client → List ℕ → Option ℕ → Bool → Option (List ℕ) → Option (List ℕ)
+publication meaning reach client uri version is_crowded text = option_map (λ list. list_publication uri version list) (list_text meaning reach client uri is_crowded text)
 
 -- ---- a notification
 
@@ -121,8 +121,8 @@ stale_text known told =
     ++ (decimal told ++ (codes ", doesn't follow the document's, " ++ (decimal known ++ codes "; close the document and open it again\"}}")))
 
 -- the diagnostics that are published, or the message that it was refused
-abbrev pub notice_body : Meaning → Reach → Option (ℕ × ℕ) → Notice → List PlainDocument → List PlainDocument → List ℕ
-notice_body meaning reach (Some versions) n before ds = stale_text versions.0 versions.1
+abbrev pub notice_body : Meaning → Reach → Option (ℕ × ℕ) → Notice → List PlainDocument → List PlainDocument → Option (List ℕ)
+notice_body meaning reach (Some versions) n before ds = Some (stale_text versions.0 versions.1)
 notice_body meaning reach None n before ds = publication meaning reach n.client n.uri (told_version n) (is_crowded n before) (text_of n.uri ds)
 
 -- the text that is run for it: its document's, unless it was refused
@@ -134,7 +134,11 @@ abbrev pub notice_run : Option Notice → List PlainDocument → List PlainDocum
 notice_run None before ds = None
 notice_run (Some n) before ds = run_after (stale_versions n before) n ds
 
+abbrev pub framed : Option (List ℕ) → List ℕ
+framed None = []
+framed (Some body) = frame body
+
 -- what is sent, by the documents before it and after it
 abbrev pub notice_text : Meaning → Reach → Option Notice → List PlainDocument → List PlainDocument → List ℕ
 notice_text meaning reach None before ds = []
-notice_text meaning reach (Some n) before ds = frame (notice_body meaning reach (stale_versions n before) n before ds)
+notice_text meaning reach (Some n) before ds = framed (notice_body meaning reach (stale_versions n before) n before ds)

@@ -1,6 +1,6 @@
 -- Parameters of a method, by the keys that lead to them. (LSP 3.17, "Position", "Range" and "TextDocumentIdentifier".)
-use Rattle.std.specs.Prelude.{ℕ, List, Option, Some, None, codes, option_and_then}
-use Rattle.serde_json.specs.Data.{Data}
+use Rattle.std.specs.Prelude.{ℕ, List, [], ◌∷◌, ◌++◌, Option, Some, None, codes, option_and_then}
+use Rattle.serde_json.specs.Data.{Data, Items, no_items, item}
 use Rattle.serde_json.specs.Find.{get, as_str, as_number, as_u64}
 use Rattle.rb_lsp.specs.declared.document.position.Position.{Position}
 use Rattle.rb_lsp.specs.declared.document.position.Range.{Range}
@@ -30,6 +30,15 @@ as_position d = position_of_both (number_at (codes "line") d) (number_at (codes 
 
 abbrev pub position_at : List ℕ → Data → Option Position
 position_at key d = option_and_then as_position (get key d)
+
+abbrev pub position_list : Option Position → List Position
+position_list None = []
+position_list (Some p) = p ∷ []
+
+-- the positions among some values
+abbrev pub positions_in : Items → List Position
+positions_in no_items = []
+positions_in (item d ds) = position_list (as_position d) ++ positions_in ds
 
 -- a range, if both of its positions are there
 abbrev pub range_of_both : Option Position → Option Position → Option Range

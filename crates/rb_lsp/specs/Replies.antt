@@ -29,7 +29,7 @@ pub record PlainServer : Type 0 where
 -- ---- the answer to a request of no document
 
 abbrev pub initialize_answer : Option Client → Data → Data
-initialize_answer (Some client) id = success id (initialized client.encoding)
+initialize_answer (Some client) id = success id (initialized client.encoding client.pulls)
 initialize_answer None id = failure id InvalidParams (codes "params is no object")
 
 -- before `initialize`

@@ -27,5 +27,7 @@ pub use incoming::{Incoming, incoming_of};
 pub use laws::{framed_bodies_are_messages, messages_are_one};
 pub use limits::{MAX_BODY, MAX_CALLS, MAX_FIELDS, MAX_HEAD, MAX_WAITING};
 pub use message_reader::{MessageReader, NextMessage};
-pub use params::{number_below, position_at, range_at, text_at, text_below};
+pub use params::{
+    as_position, number_at, number_below, position_at, range_at, text_at, text_below,
+};
 pub use reading::{ReadError, read};

@@ -38,5 +38,7 @@ pub mod PageRoomLaws
 pub mod WatchLaws
 pub mod StepRoomLaws
 pub mod ValueLaws
+pub mod SomeLaws
+pub mod StayLaws
 pub mod MailLaws
 pub mod TraceLaws

@@ -45,7 +45,7 @@ step_is s =
     (both_joined texts (texts_of s.changes ++ texts_of (hints s)) rows (s.changes ++ hints s) (observed_joined s.before s.observed)
     (both_joined (texts_of s.changes) (texts_of (hints s)) s.changes (hints s) (rows_joined s.changes) (rows_joined (hints s))))
 
-steps_are : (ss : List Step) → joined (flat_map step_texts ss) ≡ flat_map next_text (flat_map step_rows ss)
+pub steps_are : (ss : List Step) → joined (flat_map step_texts ss) ≡ flat_map next_text (flat_map step_rows ss)
 steps_are [] = refl
 steps_are (s ∷ ss) = both_joined (step_texts s) (flat_map step_texts ss) (step_rows s) (flat_map step_rows ss) (step_is s) (steps_are ss)
 

@@ -33,6 +33,7 @@ pub mod Changes
 pub mod Steps
 pub mod StepSizes
 pub mod Values
+pub mod SomeSteps
 pub mod Pages
 pub mod Mail
 pub mod Objects

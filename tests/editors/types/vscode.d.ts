@@ -1,4 +1,4 @@
-// As much of Visual Studio Code's API (1.60) as the extension of editors/vscode calls.
+// As much of Visual Studio Code's API (1.60, and the inlay hints of 1.67) as the extension of editors/vscode calls.
 
 declare module "vscode" {
   export interface Disposable {
@@ -78,6 +78,17 @@ declare module "vscode" {
     constructor(start: number, end: number);
   }
 
+  export class CodeLens {
+    constructor(range: Range, command?: { title: string; command: string; arguments?: unknown[] });
+  }
+  export class InlayHint {
+    constructor(position: Position, label: string);
+    paddingLeft?: boolean;
+  }
+  export class SelectionRange {
+    constructor(range: Range, parent?: SelectionRange);
+  }
+
   export const ViewColumn: { readonly Beside: number };
   export interface TextDocument {
     readonly uri: Uri;
@@ -121,6 +132,15 @@ declare module "vscode" {
   export interface DocumentHighlightProvider {
     provideDocumentHighlights(document: TextDocument, position: Position): Result<DocumentHighlight[]>;
   }
+  export interface CodeLensProvider {
+    provideCodeLenses(document: TextDocument): Result<CodeLens[]>;
+  }
+  export interface InlayHintsProvider {
+    provideInlayHints(document: TextDocument, range: Range): Result<InlayHint[]>;
+  }
+  export interface SelectionRangeProvider {
+    provideSelectionRanges(document: TextDocument, positions: readonly Position[]): Result<SelectionRange[]>;
+  }
   export interface DiagnosticCollection extends Disposable {
     set(uri: Uri, diagnostics: Diagnostic[]): void;
     clear(): void;
@@ -152,6 +172,9 @@ declare module "vscode" {
     function registerDefinitionProvider(language: string, provider: DefinitionProvider): Disposable;
     function registerReferenceProvider(language: string, provider: ReferenceProvider): Disposable;
     function registerDocumentHighlightProvider(language: string, provider: DocumentHighlightProvider): Disposable;
+    function registerCodeLensProvider(language: string, provider: CodeLensProvider): Disposable;
+    function registerSelectionRangeProvider(language: string, provider: SelectionRangeProvider): Disposable;
+    const registerInlayHintsProvider: ((language: string, provider: InlayHintsProvider) => Disposable) | undefined;
   }
   export namespace window {
     const activeTextEditor: { readonly document: TextDocument } | undefined;
@@ -170,9 +193,10 @@ declare module "vscode" {
     function getConfiguration(name: string): { get<T>(name: string): T | undefined; get<T>(name: string, otherwise: T): T };
     function getWorkspaceFolder(uri: Uri): WorkspaceFolder | undefined;
     function saveAll(includesUntitled?: boolean): Thenable<boolean>;
+    function applyEdit(edit: WorkspaceEdit): Thenable<boolean>;
   }
   export namespace commands {
-    function registerCommand(name: string, call: () => unknown): Disposable;
+    function registerCommand(name: string, call: (...words: any[]) => unknown): Disposable;
     function executeCommand(name: string, ...words: unknown[]): Thenable<unknown>;
   }
   export namespace env {

@@ -5,8 +5,8 @@ ghost use Rattle.rb_lsp.specs.Tables.{feed_start};
 ghost use Rattle.rb_editor.specs.Findings.{above};
 ghost use Rattle.rb_editor.specs.RangeFormatting.{lines_before};
 
-// Where a line of a text begins, which counts from 0: at its end, if it has fewer lines.
-fn line_start(text: &[u8], line: usize) -> usize
+/// Where a line of a text begins, which counts from 0: at its end, if it has fewer lines.
+pub(crate) fn line_start(text: &[u8], line: usize) -> usize
     ensures start { result ≡ feed_start line text.now }
     ensures within { result ≤ length text.now }
 {

@@ -26,8 +26,8 @@ use rb_script_report::{
 use rb_text::{Json, Piece, add_pieces};
 use std::alloc::{AllocError, Global};
 
-// Whether the directive is picked, and its output differs and is no new error.
-fn is_accepted(
+/// Whether the directive is picked, and its output differs and is no new error.
+pub(crate) fn is_accepted(
     picked: AcceptFilter<'_>,
     lines: &Lines,
     line: usize,
@@ -110,10 +110,10 @@ struct Selection<'a> {
 
 /// A directive that ran: the line of its head, its block, and its output.
 #[derive(Clone, Copy)]
-struct RanBlock<'a> {
-    line: usize,
-    block: &'a Block,
-    output: &'a Lines,
+pub(crate) struct RanBlock<'a> {
+    pub(crate) line: usize,
+    pub(crate) block: &'a Block,
+    pub(crate) output: &'a Lines,
 }
 
 // Adds the edit of a directive after others, if it is wanted.
@@ -251,7 +251,8 @@ fn add_list(
     out.extend_from_slice(b"]")
 }
 
-fn span_of(encoding: Encoding, range: Range, text: &[u8]) -> LineSpan
+/// Finds the lines on which a range begins and ends.
+pub(crate) fn span_of(encoding: Encoding, range: Range, text: &[u8]) -> LineSpan
     ensures { result ≡ span_of encoding range text.now }
 {
     LineSpan {

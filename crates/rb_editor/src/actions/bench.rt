@@ -16,10 +16,14 @@ use crate::actions::bounded::BoundedCluster;
 use crate::actions::completing::{AskedPlace, add_completions};
 use crate::actions::document::AskedDocument;
 use crate::actions::hover::add_hover;
+use crate::actions::inlay_hint::add_hints;
+use crate::actions::lens::add_lenses;
 use crate::actions::message_places::{add_definition, add_highlights, add_references};
 use crate::actions::publishing::add_list;
 use crate::actions::range_formatting::add_range_formatting;
+use crate::actions::selection_range::add_selection;
 use crate::actions::served::{shown, text_for};
+use crate::actions::some_rows::add_rows;
 use crate::actions::stopping::KeptRun;
 use crate::actions::work_meter::WorkMeter;
 use crate::offers::{add_folds, add_formatting, add_symbols};
@@ -111,7 +115,14 @@ impl Service for Bench {
 fn needs_run(asked: Query) -> bool
     ensures { result ≡ needs_run asked }
 {
-    matches!(asked, Query::CodeAction(_) | Query::Hover(_))
+    matches!(
+        asked,
+        Query::CodeAction(_)
+            | Query::Hover(_)
+            | Query::CodeLens
+            | Query::InlayHint(_)
+            | Query::Rows(_)
+    )
 }
 
 impl Bench {
@@ -160,6 +171,12 @@ impl Bench {
                 add_references(alloc, out, document, position, includes)
             }
             Query::DocumentHighlight(position) => add_highlights(alloc, out, document, position),
+            Query::CodeLens => add_lenses(alloc, out, client, document, run, &mut meter),
+            Query::InlayHint(range) => {
+                add_hints(alloc, out, client, (text, range), run, &mut meter)
+            }
+            Query::SelectionRange(position) => add_selection(alloc, out, encoding, text, position),
+            Query::Rows(span) => add_rows(alloc, out, document, span, run, &mut meter),
         }
     }
 }

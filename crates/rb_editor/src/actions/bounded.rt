@@ -1,8 +1,12 @@
 //! A cluster whose run has a bound, since an editor waits for it.
 //!
-//! The work of a run is counted and not timed: [`DIRECTIVE_WORK`] for each directive, and one for each item that its observer gets, such as a
-//! delivery, an event or a state. A run that has met the bound is refused as for want of memory, also within a directive, and the meter says at how
-//! much work.
+//! The work of a run is counted and not timed: [`DIRECTIVE_WORK`] for each directive and [`ARGUMENT_WORK`] for each of its arguments, [`ITEM_WORK`] for
+//! each item that its observer gets, such as a delivery, an event or a state, and one for each byte that is printed. So outputs have a bound too: four
+//! times the longest script. A run that has met the bound is refused as for want of memory, also within a directive, and the meter says at how much work.
+
+ghost use Rattle.std.specs.Prelude.{◌≡◌};
+ghost use Rattle.rb_script.specs.Tokens.{plain};
+ghost use Rattle.rb_editor.specs.Work.{begun};
 
 use crate::actions::work_meter::{EnoughWork, WorkMeter};
 use rb_cluster::Cluster;
@@ -16,6 +20,12 @@ use std::alloc::{AllocError, Global};
 
 // The work of a directive, whatever happens in it.
 const DIRECTIVE_WORK: u64 = 100;
+
+// The work of an argument: for each a directive may look through all that is on its way.
+const ARGUMENT_WORK: u64 = 200;
+
+// The work of an item, but for its bytes.
+const ITEM_WORK: u64 = 4;
 
 /// A machine whose run may be refused since it has done as much work as it may.
 pub(crate) trait Bounded: Machine {
@@ -40,20 +50,19 @@ struct CountedLines {
 impl<L: RaftLog> Observer<L> for CountedLines {
     ghost use Rattle.rb_machine.specs.Observations.{passing};
     ghost use Rattle.rb_editor.specs.declared.actions.bounded.CountedLines.{CountedLines};
-    ghost use Rattle.rb_editor.specs.Work.{with_directive, with_item};
+    ghost use Rattle.rb_editor.specs.Work.{at_level, with_item};
 
     ghost Meaning = { CountedLines };
 
     ghost meaning = { λ c. c };
 
-    ghost starting = { with_directive };
+    ghost starting = { at_level };
 
     ghost taking = { with_item };
 
     ghost settling = { passing };
 
     fn start(&mut self, level: Level) {
-        self.work = self.work.saturating_add(DIRECTIVE_WORK);
         Observer::<L>::start(&mut self.printed, level);
     }
 
@@ -61,13 +70,24 @@ impl<L: RaftLog> Observer<L> for CountedLines {
         if self.work >= self.bound {
             return Err(AllocError);
         }
-        self.work += 1;
-        Observer::<L>::observe(&mut self.printed, item)
+        let before = self.printed.lines.text().len();
+        Observer::<L>::observe(&mut self.printed, item)?;
+        let printed = self.printed.lines.text().len() - before;
+        self.work = self.work.saturating_add(ITEM_WORK + printed as u64);
+        Ok(())
     }
 
     fn settle(&mut self, _id: u64, _node: &Node<L>) -> Result<(), AllocError> {
         Ok(())
     }
+}
+
+// The work of a run once a directive has begun.
+fn begun(work: u64, directive: &DirectiveRef<'_>) -> u64
+    ensures { result ≡ begun (plain directive.now) work }
+{
+    let looks = (directive.args() as u64).saturating_mul(ARGUMENT_WORK);
+    work.saturating_add(DIRECTIVE_WORK).saturating_add(looks)
 }
 
 /// A cluster, and the work of the run up to it.
@@ -84,6 +104,18 @@ impl BoundedCluster {
     ghost use Rattle.rb_machine.specs.Outcome.{execution, lines_at, shown_items};
     ghost use Rattle.rb_editor.specs.Work.{work_after};
 
+    /// The cluster alone.
+    pub(crate) fn into_cluster(self) -> Cluster<SplitLog>
+        ensures { result ≡ self.cluster }
+    {
+        let BoundedCluster {
+            alloc: _,
+            cluster,
+            work: _,
+        } = self;
+        cluster
+    }
+
     // Runs a directive, and returns what it prints.
     fn printed(
         &mut self,
@@ -92,12 +124,12 @@ impl BoundedCluster {
     ) -> Result<Lines, AllocError>
         ensures cluster { OnOk result (self.new.cluster ≡ (execution self.old.cluster (plain directive.now)).cluster) }
         ensures output { IfOk result (λ lines. lines ≡ lines_at (execution self.old.cluster (plain directive.now)).level (shown_items (execution self.old.cluster (plain directive.now)))) }
-        ensures work { OnOk result (self.new.work ≡ work_after (execution self.old.cluster (plain directive.now)) self.old.work) }
+        ensures work { OnOk result (self.new.work ≡ work_after (plain directive.now) (execution self.old.cluster (plain directive.now)) self.old.work) }
         ensures counted { meter.new.count ≡ meter.old.count }
     {
         let mut counted = CountedLines {
             printed: PrintedLines::new(self.alloc),
-            work: self.work,
+            work: begun(self.work, directive),
             bound: meter.bound(),
         };
         let ran = self.cluster.run_watched(directive, &mut counted);

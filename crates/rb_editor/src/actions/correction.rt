@@ -23,8 +23,8 @@ use rb_script_report::{block_at, number_at};
 use rb_text::{Json, Piece, add_pieces};
 use std::alloc::{AllocError, Global};
 
-// Whether the byte ends a word of a head.
-fn ends_word(b: u8) -> bool
+/// Whether the byte ends a word of a head.
+pub(crate) fn ends_word(b: u8) -> bool
     ensures { result ≡ ends_word b }
 {
     is_space(b) || b == b'=' || b == b'(' || b == b')' || b == b','

@@ -14,8 +14,8 @@ ghost use Rattle.rb_report.specs.Whys.{below, reason_at};
 use crate::actions::document::AskedDocument;
 use crate::actions::explain::Explains;
 use crate::actions::extent::{Extent, LineSpan, extent_of, has_line};
-use crate::actions::layout::{ScriptLayout, line_at};
-use crate::actions::run::{DocumentRun, kept_of};
+use crate::actions::layout::line_at;
+use crate::actions::run::{DocumentRun, RunView, kept_of};
 use crate::offers::add_range_member;
 use rb_lsp::document::{Encoding, LineTable, Position};
 use rb_machine::{Count, Machine};
@@ -60,15 +60,6 @@ fn add_explained(
             Piece::Bytes(b"\n"),
         ],
     )
-}
-
-/// The run of a text: its session, and where the script is in the text.
-#[derive(Clone, Copy)]
-struct RunView<'a, M: Machine> {
-    encoding: Encoding,
-    text: &'a [u8],
-    session: &'a Session<M>,
-    layout: &'a ScriptLayout,
 }
 
 // Makes a text of an output with its reasons.

@@ -1,15 +1,18 @@
 //! Theorems about what an editor is sent. The functions do nothing: their contracts are the theorems.
 
-ghost use Rattle.std.specs.Prelude.{◌≡◌, ◌≤◌, List, ℕ, None, codes};
+ghost use Rattle.std.specs.Prelude.{◌≡◌, ◌≤◌, ◌+◌, ◌*◌, List, ℕ, None, codes, length};
 ghost use Rattle.rb_script.specs.Script.{PlainScript};
 ghost use Rattle.rb_replay.specs.Run.{outputs};
 ghost use Rattle.rb_report.specs.declared.check.table.TheConstants.{MAX_SCRIPT_CELLS};
 ghost use Rattle.rb_lsp.specs.declared.server.client.Client.{Client};
 ghost use Rattle.rb_editor.specs.ActionLaws.{AcceptsAsCheckDoes, EditedLinesRead, EditedTextsRead, EditsReplaceLines, IdsAreOfTheCluster, IsQuietText, MakesWhatCheckWrites, TextsHaveOneRun};
+ghost use Rattle.rb_editor.specs.Diagnostics.{PlainDiagnostic};
 ghost use Rattle.rb_editor.specs.Findings.{cells_for};
+ghost use Rattle.rb_editor.specs.Told.{diff_bytes};
 ghost use Rattle.rb_editor.specs.Published.{diagnose};
 ghost use Rattle.rb_editor.specs.declared.actions.actual_output.TheConstants.{MAX_SHOWN};
 ghost use Rattle.rb_editor.specs.declared.actions.bounded.TheConstants.{DIRECTIVE_WORK};
+ghost use Rattle.rb_editor.specs.declared.actions.told.TheConstants.{MAX_DIFF, MAX_TOLD};
 ghost use Rattle.rb_editor.specs.declared.offers.symbols.TheConstants.{MAX_NAME};
 
 /// A script has no diagnostics if all outputs are expected, none is an error, and there is no warning.
@@ -33,10 +36,18 @@ pub fn comparing_is_bounded()
     ensures { (s : PlainScript) → cells_for MAX_SCRIPT_CELLS s.blocks (outputs s) ≤ MAX_SCRIPT_CELLS }
 {}
 
-/// The numbers that definitions name: how many lines of an output are shown at its expectation, the work of a directive, and how many characters
-/// of a head are in an outline.
+/// Of diffs and actual outputs an editor is told 64 KiB of a document, and with each at most a sentence that says where the rest is.
+#[tactic(auto, using(crate::proofs::ToldLaws::told_bound))]
+pub fn diffs_are_bounded()
+    ensures { (ds : List PlainDiagnostic) → diff_bytes MAX_TOLD ds ≤ MAX_TOLD + 36 * length ds }
+{}
+
+/// The numbers that definitions name: how many lines of an output are shown at its expectation, how many bytes of diffs and outputs are told of a
+/// document, and of each, the work of a directive, and how many characters of a head are in an outline.
 pub fn limits_are()
     ensures shown { MAX_SHOWN ≡ 20 }
+    ensures told { MAX_TOLD ≡ 65536 }
+    ensures diff { MAX_DIFF ≡ 4096 }
     ensures work { DIRECTIVE_WORK ≡ 100 }
     ensures name { MAX_NAME ≡ 80 }
 {}

@@ -36,6 +36,15 @@ pub(crate) struct DocumentRun<M: Machine> {
     comparisons: Comparisons,
 }
 
+/// The run of a text: its session, and where the script is in the text.
+#[derive(Clone, Copy)]
+pub(crate) struct RunView<'a, M: Machine> {
+    pub(crate) encoding: Encoding,
+    pub(crate) text: &'a [u8],
+    pub(crate) session: &'a Session<M>,
+    pub(crate) layout: &'a ScriptLayout,
+}
+
 impl<M: Machine> Model for DocumentRun<M> {
     ghost use Rattle.rb_editor.specs.Layouts.{IsLayout, PlainRun};
 

@@ -56,9 +56,13 @@ fn above_fault<'t>(
     }
 }
 
-// Gives the text that is served.
+/// Gives the text that is served.
+///
+/// # Errors
+///
+/// If memory was refused.
 #[tactic(auto, using(crate::proofs::ServedLaws::of_fault))]
-fn served(alloc: Global, text: &[u8]) -> Result<&[u8], AllocError>
+pub(crate) fn served(alloc: Global, text: &[u8]) -> Result<&[u8], AllocError>
     ensures text { IfOk result (λ front. front.now ≡ served text.now) }
     ensures within { IfOk result (λ front. length front.now ≤ length text.now) }
 {
@@ -66,8 +70,8 @@ fn served(alloc: Global, text: &[u8]) -> Result<&[u8], AllocError>
     above_fault(alloc, text, fault)
 }
 
-/// Gives the text by which a request is answered. A text that isn't a script isn't formatted, and can be completed anywhere; messages are found in
-/// all of it.
+/// Gives the text by which a request is answered. A text that isn't a script isn't formatted, has no rows, and can be completed anywhere; messages
+/// are found in all of it, and pieces of all lines are selected.
 ///
 /// # Errors
 ///
@@ -77,9 +81,12 @@ pub(crate) fn text_for(alloc: Global, asked: Query, text: &[u8]) -> Result<&[u8]
     ensures within { IfOk result (λ front. length front.now ≤ length text.now) }
 {
     match asked {
-        Query::CodeAction(_) | Query::Hover(_) | Query::FoldingRange | Query::DocumentSymbol => {
-            served(alloc, text)
-        }
+        Query::CodeAction(_)
+        | Query::Hover(_)
+        | Query::FoldingRange
+        | Query::DocumentSymbol
+        | Query::CodeLens
+        | Query::InlayHint(_) => served(alloc, text),
         _ => Ok(text),
     }
 }

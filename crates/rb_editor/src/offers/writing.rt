@@ -8,8 +8,9 @@ use rb_lsp::document::{Encoding, LineTable, Position};
 use rb_text::{Piece, add_pieces};
 use std::alloc::AllocError;
 
+/// Adds a position.
 #[tactic(auto, unfolding(crate::specs::Texts::position_text))]
-fn add_position(out: &mut Vec<u8>, position: Position) -> Result<(), AllocError>
+pub(crate) fn add_position(out: &mut Vec<u8>, position: Position) -> Result<(), AllocError>
     ensures { OnOk result (out.new.items ≡ out.old.items ++ position_text position) }
 {
     add_pieces(

@@ -2,7 +2,7 @@
 
 ghost use Rattle.std.specs.Prelude.{◌≡◌, option_map};
 ghost use Rattle.serde_json.specs.View.{view};
-ghost use Rattle.rb_lsp.specs.Params.{number_at, number_below, position_at, range_at, text_at, text_below};
+ghost use Rattle.rb_lsp.specs.Params.{as_position, number_at, number_below, position_at, range_at, text_at, text_below};
 
 use crate::document::{Position, Range};
 use serde_json::Value;
@@ -32,10 +32,16 @@ pub fn number_below(params: &Value, key: &str, inner: &str) -> Option<u64>
 pub fn position_at(params: &Value, key: &str) -> Option<Position>
     ensures { result ≡ position_at key.now (view params.now) }
 {
-    let position = params.get(key)?;
+    as_position(params.get(key)?)
+}
+
+/// The position that a value is, if it is one.
+pub fn as_position(value: &Value) -> Option<Position>
+    ensures { result ≡ as_position (view value.now) }
+{
     Some(Position {
-        line: number_at(position, "line")?,
-        character: number_at(position, "character")?,
+        line: number_at(value, "line")?,
+        character: number_at(value, "character")?,
     })
 }
 
@@ -50,8 +56,8 @@ pub fn range_at(params: &Value, key: &str) -> Option<Range>
     })
 }
 
-// The natural number at a key.
-fn number_at(params: &Value, key: &str) -> Option<u64>
+/// The natural number at a key.
+pub fn number_at(params: &Value, key: &str) -> Option<u64>
     ensures { result ≡ number_at key.now (view params.now) }
 {
     params.get(key).and_then(Value::as_u64)

@@ -29,7 +29,10 @@ fn initialize_answer(alloc: Global, client: Option<Client>, id: &Value) -> Resul
     ensures { IfOk result (λ value. view value ≡ initialize_answer client (view id.now)) }
 {
     match client {
-        Some(client) => success(alloc, id, initialized(alloc, client.encoding)?),
+        Some(client) => {
+            let able = initialized(alloc, client)?;
+            success(alloc, id, able)
+        }
         None => failure(alloc, id, ErrorCode::InvalidParams, "params is no object"),
     }
 }
@@ -96,16 +99,17 @@ fn answer_to(
 pub(crate) fn answer_told<V: Service>(
     alloc: Global,
     service: &mut V,
-    documents: &Documents<V::Kept>,
+    documents: &mut Documents<V::Kept>,
     phase: Phase,
     method: Method,
     request: &ClientRequest<'_>,
 ) -> Result<OutgoingText, AllocError>
     requires { has_float (view request.now.id.now) ≡ false }
-    ensures said { IfOk result (λ told. told.out.items ≡ frame (body_in V.meaning told.reach documents.now phase method (option_map (λ v. view v.now) request.now.params) (view request.now.id.now))) }
-    ensures stops { IfOk result (λ told. can_reach V.meaning (request_run V.meaning documents.now phase method (option_map (λ v. view v.now) request.now.params)) told.reach ≡ true) }
+    ensures documents { documents.new ≡ documents.old }
+    ensures said { IfOk result (λ told. told.out.items ≡ frame (body_in V.meaning told.reach documents.old phase method (option_map (λ v. view v.now) request.now.params) (view request.now.id.now))) }
+    ensures stops { IfOk result (λ told. can_reach V.meaning (request_run V.meaning documents.old phase method (option_map (λ v. view v.now) request.now.params)) told.reach ≡ true) }
     ensures only { IfOk result (λ told. told.reach ≡ Reach.Cancelled → IsCancelled (view request.now.id.now) (waiting request.now.reader.now)) }
-    ensures cancelled { IfOk result (λ told. IsCancelled (view request.now.id.now) (waiting request.now.reader.now) → told.out.items ≡ frame (body_in V.meaning (undone told.reach) documents.now phase method (option_map (λ v. view v.now) request.now.params) (view request.now.id.now))) }
+    ensures cancelled { IfOk result (λ told. IsCancelled (view request.now.id.now) (waiting request.now.reader.now) → told.out.items ≡ frame (body_in V.meaning (undone told.reach) documents.old phase method (option_map (λ v. view v.now) request.now.params) (view request.now.id.now))) }
 {
     match (phase, method) {
         (Phase::Running(client), Method::Asks(question)) => question_told(

@@ -7,6 +7,7 @@ use crate::document::Document;
 use crate::server::limits::MAX_DOCUMENTS;
 use std::alloc::{AllocError, Global};
 use std::marker::Model;
+use std::mem;
 
 /// A document with its URI, and what the service keeps for it.
 #[derive(Drop)]
@@ -36,11 +37,6 @@ impl<K> OpenDocument<K> {
         ensures bounded { length result.now ≤ MAX_TEXT }
     {
         self.document.text()
-    }
-
-    /// What the service keeps for it.
-    pub(crate) fn kept(&self) -> &K {
-        &self.kept
     }
 
     // Whether it has this URI.
@@ -102,25 +98,14 @@ impl<K: Drop> Documents<K> {
         place_in(self.open.as_slice(), uri)
     }
 
-    /// The text of the document with this URI, and what the service keeps for it.
-    pub(crate) fn get(&self, uri: &[u8]) -> Option<(&[u8], &K)>
-        ensures text { option_map (λ found. found.0.now) result ≡ text_of uri.now self.now }
-        ensures bounded { IfSome result (λ found. length found.0.now ≤ MAX_TEXT) }
-    {
-        let place = self.place_of(uri);
-        match self.open.get(place) {
-            Some(found) => Some((found.text(), found.kept())),
-            None => None,
-        }
-    }
-
     /// The text of the document with this URI.
     pub(crate) fn text(&self, uri: &[u8]) -> Option<&[u8]>
         ensures text { option_map (λ text. text.now) result ≡ text_of uri.now self.now }
         ensures bounded { IfSome result (λ text. length text.now ≤ MAX_TEXT) }
     {
-        match self.get(uri) {
-            Some((text, _kept)) => Some(text),
+        let place = self.place_of(uri);
+        match self.open.get(place) {
+            Some(found) => Some(found.text()),
             None => None,
         }
     }
@@ -181,6 +166,17 @@ impl<K: Drop> Documents<K> {
             kept: beside,
         })?;
         Ok(())
+    }
+
+    /// Takes out what is kept for the document with this URI, and keeps this instead. If it isn't open, gives this back.
+    pub(crate) fn take_kept(&mut self, uri: &[u8], beside: K) -> K
+        ensures { self.new ≡ self.old }
+    {
+        let place = self.place_of(uri);
+        match self.open.get_mut(place) {
+            Some(found) => mem::replace(&mut found.kept, beside),
+            None => beside,
+        }
     }
 
     /// Keeps this for the document with this URI, if it is open.

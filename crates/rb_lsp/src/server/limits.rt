@@ -9,7 +9,7 @@ ghost use Rattle.rb_lsp.specs.declared.server.limits.TheConstants.{MAX_DOCUMENTS
 pub const MAX_DOCUMENTS: usize = 1_000;
 
 /// The work after which the run of a text may stop, since an editor waits for it. A service says what it counts.
-pub const MAX_WORK: u64 = 4_000_000;
+pub const MAX_WORK: u64 = 16_000_000;
 
 /// The limits that definitions name are these numbers.
 pub fn limits_are()
@@ -20,5 +20,5 @@ pub fn limits_are()
     ensures waiting { MAX_WAITING ≡ 1000 }
     ensures text { MAX_TEXT ≡ 67108864 }
     ensures documents { MAX_DOCUMENTS ≡ 1000 }
-    ensures work { MAX_WORK ≡ 4000000 }
+    ensures work { MAX_WORK ≡ 16000000 }
 {}

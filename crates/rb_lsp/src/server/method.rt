@@ -10,12 +10,17 @@ pub(crate) enum Question {
     Formatting,
     RangeFormatting,
     Hover,
+    Rows,
     Completion,
     FoldingRange,
     DocumentSymbol,
     Definition,
     References,
     DocumentHighlight,
+    CodeLens,
+    InlayHint,
+    Diagnostic,
+    SelectionRange,
 }
 
 /// A method.
@@ -47,6 +52,10 @@ fn whole_method(name: &str) -> Method
         Method::Asks(Question::FoldingRange)
     } else if name == "textDocument/documentSymbol" {
         Method::Asks(Question::DocumentSymbol)
+    } else if name == "textDocument/codeLens" {
+        Method::Asks(Question::CodeLens)
+    } else if name == "textDocument/diagnostic" {
+        Method::Asks(Question::Diagnostic)
     } else {
         Method::Unknown
     }
@@ -65,6 +74,10 @@ fn message_method(name: &str) -> Method
         Method::Asks(Question::DocumentHighlight)
     } else if name == "textDocument/rangeFormatting" {
         Method::Asks(Question::RangeFormatting)
+    } else if name == "textDocument/inlayHint" {
+        Method::Asks(Question::InlayHint)
+    } else if name == "textDocument/selectionRange" {
+        Method::Asks(Question::SelectionRange)
     } else {
         whole_method(name)
     }
@@ -81,6 +94,8 @@ fn question_method(name: &str) -> Method
         Method::Asks(Question::CodeAction)
     } else if name == "textDocument/completion" {
         Method::Asks(Question::Completion)
+    } else if name == "raftbench/rows" {
+        Method::Asks(Question::Rows)
     } else {
         message_method(name)
     }

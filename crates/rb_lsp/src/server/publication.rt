@@ -4,7 +4,7 @@ ghost use Rattle.std.specs.Prelude.{◌≡◌, ◌≢◌, ◌≤◌, ◌++◌, S
 ghost use Rattle.rb_lsp.specs.declared.document.limits.TheConstants.{MAX_TEXT};
 ghost use Rattle.rb_lsp.specs.Meanings.{can_reach};
 ghost use Rattle.rb_lsp.specs.Messages.{frame};
-ghost use Rattle.rb_lsp.specs.Notices.{closed_list, crowded_list, head_text, list_by, list_publication, middle_text, no_memory_list, publication};
+ghost use Rattle.rb_lsp.specs.Notices.{closed_list, crowded_list, framed, head_text, list_by, list_publication, middle_text, no_memory_list, publication};
 
 use crate::server::client::Client;
 use crate::server::outgoing::{OutgoingText, framed};
@@ -123,26 +123,20 @@ fn closed_list(is_crowded: bool) -> &'static [u8]
     if is_crowded { crowded_list() } else { b"[]" }
 }
 
-/// Makes what is published for a document: the diagnostics of its text, as far as it was run, or the one that memory was refused. If it isn't open,
-/// none, or the one that there is no room for it. If memory was refused, drops what the service kept of the document first, so that there is memory
-/// to say so.
-pub(crate) fn publication<V: Service>(
+// Makes a notification with the diagnostics of a text, as far as it was run, or with the one that memory was refused, framed. If it was, drops what the
+// service kept of the document first, so that there is memory to say so.
+fn of_open<V: Service>(
     alloc: Global,
     service: &mut V,
     document: &Published<'_>,
-    text: Option<&[u8]>,
+    text: &[u8],
     kept: &mut V::Kept,
 ) -> Result<OutgoingText, AllocError>
-    requires { IfSome text (λ text. length text.now ≤ MAX_TEXT) }
-    ensures out { IfOk result (λ told. told.out.items ≡ frame (publication V.meaning told.reach document.now.client document.now.uri.now document.now.version document.now.is_crowded (option_map (λ text. text.now) text.entry))) }
+    requires { length text.now ≤ MAX_TEXT }
+    ensures out { IfOk result (λ told. told.out.items ≡ frame (list_publication document.now.uri.now document.now.version (list_by V.meaning told.reach document.now.client document.now.uri.now text.now))) }
     ensures dropped { IfOk result (λ told. told.reach ≡ Reach.NoMemory → V.is_nothing kept.new ≡ true) }
-    ensures stops { IfOk result (λ told. can_reach V.meaning (option_map (λ text. text.now) text.entry) told.reach ≡ true) }
+    ensures stops { IfOk result (λ told. can_reach V.meaning (Some text.now) told.reach ≡ true) }
 {
-    let Some(text) = text else {
-        let list = closed_list(document.is_crowded);
-        let out = with_list(alloc, document.uri, document.version, list)?;
-        return Ok(OutgoingText::whole(out));
-    };
     match diagnosed(alloc, service, document, text, kept) {
         Ok(told) => Ok(told),
         Err(AllocError) => {
@@ -153,4 +147,34 @@ pub(crate) fn publication<V: Service>(
             })
         }
     }
+}
+
+/// Makes what is published for a document: the diagnostics of its text, as far as it was run, or the one that memory was refused. A client that asks for
+/// them is sent none; the text is run, and what is kept of it answers what is asked. If the document isn't open, there are none, or the one that there is
+/// no room for it.
+pub(crate) fn publication<V: Service>(
+    alloc: Global,
+    service: &mut V,
+    document: &Published<'_>,
+    text: Option<&[u8]>,
+    kept: &mut V::Kept,
+) -> Result<OutgoingText, AllocError>
+    requires { IfSome text (λ text. length text.now ≤ MAX_TEXT) }
+    ensures out { IfOk result (λ told. told.out.items ≡ framed (publication V.meaning told.reach document.now.client document.now.uri.now document.now.version document.now.is_crowded (option_map (λ text. text.now) text.entry))) }
+    ensures dropped { IfOk result (λ told. told.reach ≡ Reach.NoMemory → V.is_nothing kept.new ≡ true) }
+    ensures stops { IfOk result (λ told. can_reach V.meaning (option_map (λ text. text.now) text.entry) told.reach ≡ true) }
+{
+    let Some(text) = text else {
+        let list = closed_list(document.is_crowded);
+        let out = with_list(alloc, document.uri, document.version, list)?;
+        return Ok(OutgoingText::whole(out));
+    };
+    let told = of_open(alloc, service, document, text, kept)?;
+    if document.client.pulls {
+        return Ok(OutgoingText {
+            out: Vec::new(alloc),
+            reach: told.reach,
+        });
+    }
+    Ok(told)
 }

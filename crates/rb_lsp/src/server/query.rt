@@ -1,11 +1,12 @@
-//! Requests about a document.
+//! What a service is asked about a document.
 
 ghost use Rattle.std.specs.Prelude.{◌≡◌};
 ghost use Rattle.serde_json.specs.View.{view};
-ghost use Rattle.rb_lsp.specs.Questions.{asked_of, includes_definition, says_includes};
+ghost use Rattle.rb_lsp.specs.Questions.{includes_definition, query_of, says_includes};
 
 use crate::document::{Position, Range};
 use crate::rpc::{position_at, range_at};
+use crate::server::item_span::{ItemSpan, span_of};
 use crate::server::method::Question;
 use serde_json::Value;
 
@@ -20,6 +21,8 @@ pub enum Query {
     RangeFormatting(Range),
     /// The hover at a position.
     Hover(Position),
+    /// The rows that a page has of some items.
+    Rows(ItemSpan),
     /// The completions at a position.
     Completion(Position),
     /// The folding ranges.
@@ -32,6 +35,12 @@ pub enum Query {
     References(Position, bool),
     /// The places of the document to highlight, by a position.
     DocumentHighlight(Position),
+    /// The code lenses.
+    CodeLens,
+    /// The inlay hints in a range.
+    InlayHint(Range),
+    /// What can be selected around a position.
+    SelectionRange(Position),
 }
 
 // Whether a definition is one of its references: yes, unless the client says no.
@@ -51,15 +60,16 @@ fn says_includes(context: &Value) -> Option<bool>
     context.get("includeDeclaration").and_then(Value::as_bool)
 }
 
-/// The request, if the method's parameters give it.
-pub(crate) fn asked_of(question: Question, params: &Value) -> Option<Query>
-    ensures { result ≡ asked_of question (view params.now) }
+/// The query of a service, if it is one, and the method's parameters give it.
+pub(crate) fn query_of(question: Question, params: &Value) -> Option<Query>
+    ensures { result ≡ query_of question (view params.now) }
 {
     match question {
         Question::CodeAction => Some(Query::CodeAction(range_at(params, "range")?)),
         Question::Formatting => Some(Query::Formatting),
         Question::RangeFormatting => Some(Query::RangeFormatting(range_at(params, "range")?)),
         Question::Hover => Some(Query::Hover(position_at(params, "position")?)),
+        Question::Rows => Some(Query::Rows(span_of(params)?)),
         Question::Completion => Some(Query::Completion(position_at(params, "position")?)),
         Question::FoldingRange => Some(Query::FoldingRange),
         Question::DocumentSymbol => Some(Query::DocumentSymbol),
@@ -71,5 +81,8 @@ pub(crate) fn asked_of(question: Question, params: &Value) -> Option<Query>
         Question::DocumentHighlight => Some(Query::DocumentHighlight(position_at(
             params, "position",
         )?)),
+        Question::CodeLens => Some(Query::CodeLens),
+        Question::InlayHint => Some(Query::InlayHint(range_at(params, "range")?)),
+        Question::Diagnostic | Question::SelectionRange => None,
     }
 }

@@ -2,7 +2,7 @@
 
 use crate::rpc::MessageReader;
 use crate::server::client::Client;
-use crate::server::query::Query;
+use crate::server::inquiry::Inquiry;
 use serde_json::Value;
 
 /// A request without its method.
@@ -18,7 +18,7 @@ pub(crate) struct ClientRequest<'a> {
 #[derive(Drop)]
 pub(crate) struct DocumentRequest<'a> {
     pub(crate) client: Client,
-    pub(crate) query: Query,
+    pub(crate) inquiry: Inquiry<'a>,
     pub(crate) uri: &'a [u8],
     pub(crate) id: &'a Value,
     /// As in [`ClientRequest`].

@@ -101,7 +101,7 @@ fn hear_request<V: Service>(
     let told = answer_told(
         alloc,
         service,
-        &server.documents,
+        &mut server.documents,
         server.phase,
         method,
         request,

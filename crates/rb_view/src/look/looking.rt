@@ -1,7 +1,8 @@
 //! Shows the state at a place of a script.
 
-ghost use Rattle.std.specs.Prelude.{◌≡◌, ◌+◌, ◌*◌, ◌<◌, ◌≤◌, ◌++◌, ◌^◌, ℕ, [], length, min, codes, decimal, IfOk, OnOk};
+ghost use Rattle.std.specs.Prelude.{◌≡◌, ◌+◌, ◌-◌, ◌*◌, ◌<◌, ◌≤◌, ◌++◌, ◌^◌, ℕ, [], length, min, codes, decimal, IfOk, OnOk};
 ghost use Rattle.rb_script.specs.declared.limits.TheConstants.{MAX_DIRECTIVES};
+ghost use Rattle.rb_replay.specs.Points.{last_up_to};
 ghost use Rattle.rb_replay.specs.Run.{state};
 ghost use Rattle.rb_view.specs.Looks.{answer_in, asked, question, of_node, of_nodes, section, looked_in, looked, all_dropped};
 
@@ -73,6 +74,8 @@ pub fn machine_in_session<M: Machine>(
     requires meter { M.Meter.count_of meter.old ≤ 2 ^ 62 }
     ensures machine { IfOk result (λ m. M.meaning m ≡ state session.now.script place) }
     ensures counted { M.Meter.count_of meter.new ≤ M.Meter.count_of meter.old + place }
+    // No directive up to the last checkpoint is run.
+    ensures near { M.Meter.count_of meter.new ≤ M.Meter.count_of meter.old + (place - last_up_to place session.now.points) }
 {
     let (from, mut machine) = session.last_checkpoint(place)?;
     for i in from..place {

@@ -7,8 +7,8 @@ ghost use Rattle.rb_view.specs.NewRows.{has_text, new_of, new_texts};
 use rb_script::Lines;
 use std::alloc::AllocError;
 
-// Whether both are the same bytes.
-fn is_same(text: &[u8], other: &[u8]) -> bool
+/// Whether both are the same bytes.
+pub(crate) fn is_same(text: &[u8], other: &[u8]) -> bool
     ensures { result ≡ bytes_eq text.now other.now }
 {
     text == other

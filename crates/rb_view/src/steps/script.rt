@@ -11,7 +11,8 @@ use rb_report::check::{Table, show_diff};
 use rb_script::Lines;
 use std::alloc::{AllocError, Global};
 
-fn is_same(lines: &Lines, other: &Lines) -> bool
+/// Whether both have the same lines.
+pub(crate) fn is_same(lines: &Lines, other: &Lines) -> bool
     ensures { result ≡ same_lines lines.now other.now }
 {
     lines.same(other)

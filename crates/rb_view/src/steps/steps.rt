@@ -78,8 +78,8 @@ fn keep_warning(texts: &mut Lines, warning: &Warning) -> Result<(), AllocError>
     keep_row(texts, b"warning", &cells)
 }
 
-// Adds the lines that are probably a mistake.
-fn keep_warnings(texts: &mut Lines, found: &[Warning]) -> Result<(), AllocError>
+/// Adds the lines that are probably a mistake.
+pub(crate) fn keep_warnings(texts: &mut Lines, found: &[Warning]) -> Result<(), AllocError>
     ensures { OnOk result (texts.new ≡ texts.old ++ texts_of (map warning_row found.now)) }
 {
     for i in 0..found.len() {
@@ -88,8 +88,11 @@ fn keep_warnings(texts: &mut Lines, found: &[Warning]) -> Result<(), AllocError>
     Ok(())
 }
 
-// Adds how many directives and mismatches there are.
-fn keep_end<M: Machine>(texts: &mut Lines, session: &Session<M>) -> Result<(), AllocError>
+/// Adds how many directives and mismatches there are.
+pub(crate) fn keep_end<M: Machine>(
+    texts: &mut Lines,
+    session: &Session<M>,
+) -> Result<(), AllocError>
     ensures { OnOk result (texts.new ≡ texts.old ++ texts_of (end_row session.now.script ∷ [])) }
 {
     let cells = [

@@ -20,7 +20,7 @@ always (Err e) P p = tt
 pub returns-clause-output : goal.returns-clause-output
 returns-clause-output c =
     let e = execution c.args.self.now.cluster (plain c.args.directive.now) in
-    let first : CountedLines = record { printed = c.new.result; work = c.args.self.now.work; bound = c.bound.result } in
+    let first : CountedLines = record { printed = c.new.result; work = c.begun.result; bound = c.bound.result } in
     let ran = on_ok c.run_watched-ran.result _ _ c.in_ok-ran.was c.run_watched-ran.ensures in
     subst (λ (ls : List Line). IfOk c.or_ok.result (λ lines. lines ≡ ls))
     (printed_is c.new.result c.run_watched-ran.new.observer.printed e c.new.ensures (printed_by first c.run_watched-ran.new.observer _ e ran)) c.or_ok.ensures
@@ -28,6 +28,6 @@ returns-clause-output c =
 pub returns-clause-work : goal.returns-clause-work
 returns-clause-work c =
     let e = execution c.args.self.now.cluster (plain c.args.directive.now) in
-    let first : CountedLines = record { printed = c.new.result; work = c.args.self.now.work; bound = c.bound.result } in
+    let first : CountedLines = record { printed = c.new.result; work = c.begun.result; bound = c.bound.result } in
     let ran = on_ok c.run_watched-ran.result _ _ c.in_ok-ran.was c.run_watched-ran.ensures in
-    always c.or_ok.result _ (counted_by first c.run_watched-ran.new.observer _ e ran)
+    always c.or_ok.result _ (counted_by (plain c.args.directive.now) c.args.self.now.work first c.run_watched-ran.new.observer _ e c.begun.ensures ran)
