@@ -20,22 +20,21 @@ import sys
 import tempfile
 import threading
 import time
-from collections.abc import Iterator, Sequence
+from collections.abc import Iterator
+from typing import Any
 
 TOP = pathlib.Path(__file__).resolve().parents[1]
 
 sys.dont_write_bytecode = True
 sys.path[:1] = [str(TOP)]
 
-from live import branch  # noqa: E402
-from live.blocks import Block  # noqa: E402
-from live.edits import Asked  # noqa: E402
+from live import branch, live, server  # noqa: E402
 from live.guard import ADDRESS, Guard  # noqa: E402
-from live.live import Live  # noqa: E402
 from live.program import Program  # noqa: E402
-from live.server import Served, Server  # noqa: E402
+from live.server import Handler, Served  # noqa: E402
 from live.session import Session  # noqa: E402
 from live.shell import files_of, found_assets  # noqa: E402
+from live.somerows import RowServer  # noqa: E402
 from tests.harness import PROGRAM  # noqa: E402
 from tests.page.browser import Browser, found  # noqa: E402
 
@@ -71,8 +70,8 @@ CLICK = """(selector, where) => new Promise((done) => {
 })"""
 
 
-class Watch:
-    """Adds up the milliseconds of some calls; one within another counts once."""
+class Watch(threading.local):
+    """Adds up the milliseconds of some calls of a thread; one within another counts once."""
 
     def __init__(self) -> None:
         self.took, self.depth = 0.0, 0
@@ -88,7 +87,7 @@ class Watch:
             self.took += 0 if self.depth else 1000 * (time.perf_counter() - start)
 
 
-OF_PROGRAM, OF_SERVER = Watch(), Watch()
+OF_PROGRAM = Watch()
 
 
 class TimedProgram(Program):
@@ -98,23 +97,31 @@ class TimedProgram(Program):
 
 
 class TimedSession(Session):
-    def become(self, blocks: Sequence[Block]) -> int:
+    def line(self) -> bytes:
         with OF_PROGRAM.on():
-            return super().become(blocks)
+            return super().line()
 
-    def load(self, blocks: Sequence[Block]) -> int:
+
+class TimedRowServer(RowServer):
+    def _body(self) -> bytes:
         with OF_PROGRAM.on():
-            return super().load(blocks)
+            return super()._body()
 
 
-class TimedLive(Live):
-    def do(self, asked: Asked) -> branch.Branch:
-        with OF_SERVER.on():
-            return super().do(asked)
+class TimedServed(Served):
+    """`spent` are the milliseconds of the program, and of all, of the last thing that was done."""
 
-    def state(self, branch: branch.Branch, has: object) -> bytes:
-        with OF_SERVER.on():
-            return super().state(branch, has)
+    spent = (0.0, 0.0)
+
+
+class TimedHandler(Handler):
+    served: TimedServed
+
+    def do(self, asked: dict[str, Any]) -> bytes:
+        OF_PROGRAM.took, start = 0.0, time.perf_counter()
+        answer = super().do(asked)
+        self.served.spent = (OF_PROGRAM.took, 1000 * (time.perf_counter() - start))
+        return answer
 
 
 @dataclasses.dataclass(frozen=True)
@@ -135,28 +142,30 @@ def script_of(count: int) -> bytes:
 
 
 @contextlib.contextmanager
-def serving(path: pathlib.Path) -> Iterator[tuple[str, Live]]:
+def serving(path: pathlib.Path) -> Iterator[tuple[str, TimedServed]]:
     """The server, in this process, so that its parts can be timed."""
-    vars(branch)["Session"] = TimedSession
-    guard, live = Guard(), TimedLive(path, TimedProgram(pathlib.Path(PROGRAM)))
-    served = Served(live, files_of(found_assets(TOP)), guard)
-    server = Server(served, 0)
-    thread = threading.Thread(target=server.serve_forever, daemon=True)
+    for module, timed in ((branch, TimedSession), (live, TimedRowServer), (server, TimedHandler)):
+        vars(module)[timed.__bases__[0].__name__] = timed
+    guard, playing = Guard(), live.Live(path, TimedProgram(pathlib.Path(PROGRAM)))
+    playing.warm()
+    served = TimedServed(playing, files_of(found_assets(TOP)), guard)
+    listening = server.Server(served, 0)
+    thread = threading.Thread(target=listening.serve_forever, daemon=True)
     thread.start()
     try:
-        yield f"http://{ADDRESS}:{server.server_address[1]}/#key={guard.key}", live
+        yield f"http://{ADDRESS}:{listening.server_address[1]}/#key={guard.key}", served
     finally:
-        server.shutdown()
-        server.server_close()
+        listening.shutdown()
+        listening.server_close()
         served.language.close()
-        live.close()
+        playing.close()
 
 
 class Measured:
     """A page whose clicks are measured."""
 
-    def __init__(self, browser: Browser, address: str) -> None:
-        self.browser = browser
+    def __init__(self, browser: Browser, address: str, served: TimedServed) -> None:
+        self.browser, self.served = browser, served
         browser.call("Emulation.setEmulatedMedia", features=[{"name": "prefers-reduced-motion", "value": "reduce"}])
         browser.load("about:blank")
         browser.load(address)
@@ -178,10 +187,9 @@ class Measured:
         self.rest(count)
 
     def click(self, key: str, place: int) -> Click:
-        OF_PROGRAM.took = OF_SERVER.took = 0.0
         clicked, asked, answered, drawn, known = self.browser.value(f"({CLICK})('[data-key=\"{key}\"]', 'step {place} of ')")
-        program, python = OF_PROGRAM.took, OF_SERVER.took - OF_PROGRAM.took
-        return Click(drawn - clicked, program, python, answered - asked - program - python, asked - clicked + drawn - answered, known - clicked)
+        program, served = self.served.spent
+        return Click(drawn - clicked, program, served - program, answered - asked - served, asked - clicked + drawn - answered, known - clicked)
 
 
 def shown(what: str, clicks: list[Click], most: float) -> bool:
@@ -200,9 +208,9 @@ def measure(browser: Browser, count: int, rounds: int) -> bool:
     with tempfile.TemporaryDirectory() as room:
         path = pathlib.Path(room, "script.txt")
         path.write_bytes(subprocess.run([PROGRAM, "rewrite", "-"], input=script_of(count), stdout=subprocess.PIPE, check=True).stdout)
-        with serving(path) as (address, live):
-            page = Measured(browser, address)
-            print(f"{count:,} directives, rows of {len(live.branches[1].shown.rows.raw):,} bytes")
+        with serving(path) as (address, served):
+            page = Measured(browser, address, served)
+            print(f"{count:,} directives, rows of {len(served.live.branches[1].whole().raw):,} bytes")
             middle = count // 14 * 7 + 3
             cases = [("at the end", count, "stabilize"), ("in the middle, meets again", middle, "stabilize"), ("in the middle, never does", middle, "tick-election 3")]
             return all([is_soon_enough(page, count, rounds, *case) for case in cases])

@@ -7,7 +7,6 @@ from __future__ import annotations
 
 import dataclasses
 import functools
-import itertools
 from collections.abc import Iterable, Sequence
 
 RULE = b"----"
@@ -116,27 +115,6 @@ def cut(data: bytes, heads: Iterable[int]) -> tuple[list[Block], list[bytes]]:
         blocks.append(Block(tuple(lines[start:end]), head - 1 - start, rule - start))
         start = end
     return blocks, lines[start:]
-
-
-def recut(blocks: Sequence[Block], tail: Sequence[bytes], heads: Sequence[int], front: int, back: int) -> tuple[list[Block], list[bytes]] | None:
-    """The same blocks as the program reads them, by the lines of its heads: those before `front`, and the last ones `back`, were cut before.
-    Nothing if what is between is read otherwise."""
-    starts = list(itertools.accumulate((len(block.lines) for block in blocks), initial=0))
-    last = len(blocks) - back
-    known = [start + block.head + 1 for start, block in zip(starts, blocks)]
-    if known[:front] != list(heads[:front]) or known[last:] != list(heads[last:]):
-        return None
-    data = joined(blocks[front:last], () if back else tail)
-    given = [head - starts[front] for head in heads[front:last]]
-    if given and not 0 < given[0] <= given[-1] <= data.count(b"\n") + 1:
-        return None
-    try:
-        found, rest = cut(data, given)
-    except IndexError:
-        return None
-    if back and rest:
-        return None
-    return [*blocks[:front], *found, *blocks[last:]], list(tail) if back else rest
 
 
 def joined(blocks: Iterable[Block], tail: Iterable[bytes]) -> bytes:

@@ -5,8 +5,9 @@ from collections.abc import Callable
 from typing import Any
 
 from .accepting import accepted
-from .blocks import Block, joined, new_block
+from .blocks import new_block
 from .branch import Branch
+from .chunks import Blocks
 from .program import Refused
 
 Asked = dict[str, Any]
@@ -44,9 +45,9 @@ def text_of(asked: Asked) -> list[bytes]:
     return data.strip(b"\r\n").split(b"\n")
 
 
-def _hints(branch: Branch, blocks: list[Block], place: int) -> str:
+def _hints(branch: Branch, blocks: Blocks, place: int) -> str:
     """The error of a directive, and what was probably meant."""
-    rows = branch.program.rows(joined(blocks[:place], ())).of_directive(place)
+    rows = branch.written(blocks[:place].text).some(place - 1, 1).of(place)
     said = [str(row[1]) for row in rows if row[0] in ("error", "hint")]
     return "; ".join(said) or "it errs"
 
@@ -54,66 +55,58 @@ def _hints(branch: Branch, blocks: list[Block], place: int) -> str:
 def insert(branch: Branch, asked: Asked) -> None:
     """Puts a directive after another, with its output accepted. One that errs is asked about first."""
     place = place_of(branch, asked)
-    blocks, tail = branch.blocks()
-    end = blocks[0].end if blocks else b"\n"
-    if place:
-        blocks[place - 1] = blocks[place - 1].closed()
-    given = text_of(asked)
-    blocks.insert(place, new_block(given, (), end))
+    old, given = branch.shown.blocks, text_of(asked)
+    end = old[0].end if old else b"\n"
+    above = [block.closed() for block in old.between(max(0, place - 1), place)]
+
+    def with_output(output: list[bytes]) -> Blocks:
+        return old.with_these(place - len(above), place, [*above, new_block(given, output, end)])
+    blocks = with_output([])
     output = branch.output(blocks, place + 1)
     if any(line.startswith(b"error: ") for line in output) and not asked.get("isSure"):
-        said = _hints(branch, blocks, place + 1)
-        branch.follow()
-        raise Doubtful(said)
-    blocks[place] = new_block(given, output, end)
-    branch.change(blocks, tail, place + 1)
+        raise Doubtful(_hints(branch, blocks, place + 1))
+    branch.change(with_output(output), place + 1)
 
 
 def replace(branch: Branch, asked: Asked) -> None:
     """Writes another head, input and comment. The expectation stays, so what differs shows as a mismatch."""
     place = own_place(branch, asked)
-    blocks, tail = branch.blocks()
+    blocks = branch.shown.blocks
     given = [line.rstrip(b"\r") for line in text_of(asked)]
     if any(line.strip(b" \t") == b"----" for line in given):
         raise Refused("a line ---- separates a directive from its expectation, so none can be written here")
-    blocks[place - 1] = blocks[place - 1].with_given(given)
-    branch.change(blocks, tail, place)
+    branch.change(blocks.with_these(place - 1, place, [blocks[place - 1].with_given(given)]), place)
 
 
 def remove(branch: Branch, asked: Asked) -> None:
     """Takes a directive out."""
     place = own_place(branch, asked)
-    blocks, tail = branch.blocks()
-    del blocks[place - 1]
-    branch.change(blocks, tail, max(1, place - 1))
+    branch.change(branch.shown.blocks.with_these(place - 1, place), max(1, place - 1))
 
 
 def move(branch: Branch, asked: Asked) -> None:
     """Moves a directive one place up or down."""
     place, by = own_place(branch, asked), asked.get("by")
-    blocks, tail = branch.blocks()
+    blocks = branch.shown.blocks
     to = place + (1 if by == 1 else -1)
     if not 1 <= to <= len(blocks):
         raise Refused("it can't be moved farther")
-    moved = blocks.pop(place - 1).closed()
-    blocks.insert(to - 1, moved)
-    blocks[max(place, to) - 2] = blocks[max(place, to) - 2].closed()
-    branch.change(blocks, tail, to)
+    first = min(place, to)
+    one, other = blocks.between(first - 1, first + 1)
+    branch.change(blocks.with_these(first - 1, first + 1, [other.closed(), one.closed() if to > place else one]), to)
 
 
 def duplicate(branch: Branch, asked: Asked) -> None:
     """Puts a copy of a directive after it."""
     place = own_place(branch, asked)
-    blocks, tail = branch.blocks()
-    blocks[place - 1] = blocks[place - 1].closed()
-    blocks.insert(place, blocks[place - 1])
-    branch.change(blocks, tail, place + 1)
+    blocks = branch.shown.blocks
+    branch.change(blocks.with_these(place - 1, place, [blocks[place - 1].closed()] * 2), place + 1)
 
 
 def accept(branch: Branch, asked: Asked) -> None:
     """Accepts the output of a directive, or with `all` of all of them, as `check --accept` does. What is left out is said."""
     place = None if asked.get("all") else own_place(branch, asked)
-    line = None if place is None else branch.heads[place - 1]
+    line = None if place is None else branch.shown.blocks.head(place - 1)
     data, notes = accepted(branch.program, branch.data, line, bool(asked.get("isSure")))
     branch.change_text(data, place or branch.chosen)
     branch.notes = notes

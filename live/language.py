@@ -24,7 +24,15 @@ class Language:
         self.diagnostics: list[dict[str, Any]] = []
 
     def close(self) -> None:
-        """Ends the language server."""
+        """Ends the language server. Whoever still waits for an answer of it is told that it has ended."""
+        process = self.process
+        if process:
+            process.kill()
+        with self.lock:
+            self._end()
+
+    def _end(self) -> None:
+        """Ends it, for one who holds the lock."""
         if self.process:
             self.process.kill()
             self.process.communicate()
@@ -80,7 +88,7 @@ class Language:
                 self._send("textDocument/didChange", change)
                 items = self._request("textDocument/completion", textDocument={"uri": URI}, position={"line": line, "character": character}) or []
             except (OSError, ValueError) as fault:
-                self.close()
+                self._end()
                 raise Refused(f"the language server has failed: {fault}") from None
         listed = items["items"] if isinstance(items, dict) else items
         hints = [hint for it in self.diagnostics if first <= it["range"]["start"]["line"] < last for hint in _hints(it)]

@@ -8,16 +8,19 @@ import queue
 import threading
 from typing import Any
 
-from .blocks import Block, joined
 from .branch import Branch
+from .chunks import Blocks
 from .edits import EDITS, Asked
 from .losing import losses
 from .may import Offers
 from .program import Program, Refused
-from .rows import stretch
+from .rows import ending
 from .scriptfile import ScriptFile, Theirs
+from .somerows import RowServer
 
 MOST_BRANCHES = 20
+# The rows of so many directives are sent at a time to a page that reads on.
+AT_A_TIME = 500
 OTHER = "the file has another text, which isn't shown here"
 UNPROVED = "the program isn't proved, so it doesn't write into scripts: RAFTBENCH_UNPROVED=1 in the environment allows it"
 
@@ -38,28 +41,34 @@ class Live:
         self.theirs: bytes | None = None
         self.file = ScriptFile(path)
         self.offers = Offers(program, self.names)
+        self.server = RowServer(program.path)
         data = self.file.known or b""
         try:
-            first = Branch(1, program, data)
+            first = Branch(1, program, self.server, data)
         except Refused as refused:
             # What can't be shown is as another's: it isn't written over without a question.
             self.fault, self.theirs, self.file.known = f"the script can't be read: {refused}", data, None
-            first = Branch(1, program, b"")
+            first = Branch(1, program, self.server, b"")
         self.branches = {1: first}
         self.home = 1
         first.keep(0)
 
     def warm(self) -> None:
-        """Loads the session that the first edit needs."""
+        """Loads the script into the session and the language server that the first edit needs."""
         with self.lock:
-            self.branches[self.home].ready()
+            branch = self.branches[self.home]
+            branch.begin()
+            branch.give_up()
+        if branch.count:
+            self.server.rows(branch.shown, 0, 0)
 
     def close(self) -> None:
-        """Ends all sessions."""
+        """Ends all sessions, and the language server."""
         with self.lock:
             for branch in self.branches.values():
                 branch.close()
             self.offers.close()
+            self.server.close()
 
     def branch(self, asked: Asked) -> Branch:
         """The branch that is asked about. Raises Stale if it has been closed."""
@@ -85,10 +94,8 @@ class Live:
             branch.notes, branch.ran = [], 0
             if kind not in ("undo", "redo"):
                 branch.choose(asked.get("at"))
-            if kind in EDITS:
-                EDITS[kind](branch, asked)
-            elif kind in ("undo", "redo"):
-                branch.go(kind == "undo")
+            if kind in EDITS or kind in ("undo", "redo"):
+                self.edit(branch, kind, asked)
             elif kind in OTHERS:
                 branch = OTHERS[kind](self, branch, asked)
             else:
@@ -96,6 +103,16 @@ class Live:
             self.renew()
         self.tell()
         return branch
+
+    def edit(self, branch: Branch, kind: str, asked: Asked) -> None:
+        """Edits a script. One that refuses the edit stays as it is."""
+        try:
+            if kind in EDITS:
+                EDITS[kind](branch, asked)
+            else:
+                branch.go(kind == "undo")
+        finally:
+            branch.give_up()
 
     def renew(self) -> None:
         """Begins another version."""
@@ -129,11 +146,10 @@ class Live:
         if len(self.branches) >= MOST_BRANCHES:
             raise Refused(f"there are {MOST_BRANCHES} branches: close one first")
         place = asked.get("place", branch.chosen)
-        blocks, _tail = branch.blocks()
-        if not isinstance(place, int) or not 0 <= place <= len(blocks):
+        if not isinstance(place, int) or not 0 <= place <= branch.count:
             raise Refused("there is no such directive")
         self.last += 1
-        made = Branch(self.last, self.program, joined(blocks[:place], ()))
+        made = Branch(self.last, self.program, self.server, branch.shown.first(place).data)
         self.branches[self.last] = made
         return made
 
@@ -203,18 +219,27 @@ class Live:
     def state(self, branch: Branch, has: object) -> bytes:
         """What a page is made of: what is said of the script, and its rows; or of them only what has changed since the version that a page has."""
         with self.lock:
-            was, now = branch.at(has), branch.shown
-            since = {"since": has} if was and was.blocks and now.blocks else {}
-            rows = b',"stretch":' + stretch(was, now) if was and since else b',"rows":' + now.rows.raw
-            return json.dumps({**self.about(branch), **since}).encode()[:-1] + rows + b"}"
+            return json.dumps(self.about(branch)).encode()[:-1] + branch.told(has) + b"}"
 
-    def up_to(self, asked: Asked) -> tuple[list[Block], dict[str, Any]]:
+    def rows(self, asked: Asked) -> bytes:
+        """The rows of some directives, for a page that has those before them."""
+        with self.lock:
+            branch, first = self.branch(asked), asked.get("from")
+            if asked.get("version") != self.version:
+                raise Stale("the script has changed meanwhile")
+            if not isinstance(first, int) or not 0 <= first <= branch.count:
+                raise Refused("there is no such directive")
+            some = branch.some(first, AT_A_TIME)
+            said = json.dumps({"version": self.version, "from": first}).encode()[:-1]
+            return said + b',"rows":[' + some.between(some.first, some.last) + b"]" + ending(some, branch.shown) + b"}"
+
+    def up_to(self, asked: Asked) -> tuple[Blocks, dict[str, Any]]:
         """The directives up to the one that is asked about; and which that is, of which version."""
         with self.lock:
             branch, place = self.branch(asked), asked.get("place")
             if not isinstance(place, int) or not 0 < place <= branch.count:
                 raise Refused("there is no such directive")
-            return branch.blocks()[0][:place], {"version": self.version, "place": place}
+            return branch.shown.blocks[:place], {"version": self.version, "place": place}
 
     def may(self, asked: Asked) -> bytes:
         """What each node may do after a directive, and why not."""

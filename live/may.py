@@ -8,7 +8,8 @@ import re
 import threading
 from collections.abc import Sequence
 
-from .blocks import Block, new_block
+from .blocks import new_block
+from .chunks import Blocks
 from .program import Program, Refused
 from .session import Session
 
@@ -72,7 +73,7 @@ class Offers:
         self.program = program
         self.tried = {name: text for name, text in TRIED.items() if name in names}
         self.lock = threading.Lock()
-        self.kept: tuple[list[Block], dict[str, dict[str, str]]] = ([], {})
+        self.kept: tuple[Blocks, dict[str, dict[str, str]]] = (Blocks(), {})
         self.session: Session | None = None
 
     def close(self) -> None:
@@ -81,17 +82,17 @@ class Offers:
             self.session.close()
             self.session = None
 
-    def after(self, blocks: Sequence[Block]) -> dict[str, dict[str, str]]:
+    def after(self, blocks: Blocks) -> dict[str, dict[str, str]]:
         """By node, why each directive can't be done there; an empty text if it can."""
         with self.lock:
-            given = list(blocks)
-            if self.kept[0] != given or not self.kept[1]:
-                self.kept = (given, self._try_all(given))
+            if self.kept[0] != blocks or not self.kept[1]:
+                self.kept = (blocks, self._try_all(blocks))
             return self.kept[1]
 
-    def _try_all(self, blocks: list[Block]) -> dict[str, dict[str, str]]:
+    def _try_all(self, blocks: Blocks) -> dict[str, dict[str, str]]:
         """The session stays at the end of the directives that it was asked about last, so that going on from there runs little."""
-        before = [*blocks[:-1], blocks[-1].closed(), new_block([b"log-level debug"], (), b"\n")]
+        last = len(blocks) - 1
+        before = blocks.with_these(last, last + 1, [blocks[last].closed(), new_block([b"log-level debug"], (), b"\n")])
         try:
             if self.session is None:
                 self.session = Session(self.program.path, before)

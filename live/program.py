@@ -10,7 +10,7 @@ import subprocess
 import tempfile
 from collections.abc import Sequence
 
-from .rows import NO_ROWS, Rows, read
+from .rows import PageRows
 
 MOST_SECONDS = 120
 BEGIN = b'<script type="application/json" id="steps">'
@@ -58,13 +58,13 @@ class Program:
     path: pathlib.Path
     may_save: bool = True
 
-    def rows(self, data: bytes, old: Rows = NO_ROWS) -> Rows:
-        """Runs a script. Shares the texts of other rows where they are equal. Raises Refused with what is wrong with the script."""
+    def rows(self, data: bytes) -> PageRows:
+        """Runs a script. Raises Refused with what is wrong with it."""
         status, output, said = self.page(data)
         found = rows_in(output)
         if found is None:
             raise Refused(said.removeprefix("raftbench: ") or f"the program ended with status {status}")
-        return read(output, *found, old)
+        return PageRows(output[slice(*found)])
 
     def page(self, data: bytes) -> tuple[int, bytes, str]:
         """The page of a script, as the program writes it."""

@@ -53,6 +53,9 @@ class Handler(http.server.BaseHTTPRequestHandler):
     sys_version = ""
     # A request that isn't whole by then is ended.
     timeout = MOST_SECONDS
+    # An answer goes out as one piece, at once.
+    wbufsize = -1
+    disable_nagle_algorithm = True
     served: Served
 
     def log_message(self, *_: object) -> None:
@@ -123,7 +126,7 @@ class Handler(http.server.BaseHTTPRequestHandler):
             return self.enter(asked)
         live = self.served.live
         answers: dict[str, Callable[[dict[str, Any]], bytes]] = {
-            "do": self.do, "state": self.state, "may": live.may, "losses": live.losses, "ask": self.ask, "theirs": self.theirs,
+            "do": self.do, "state": self.state, "rows": live.rows, "may": live.may, "losses": live.losses, "ask": self.ask, "theirs": self.theirs,
         }
         if path not in answers:
             raise Bad(404, "that can't be asked for")
@@ -185,9 +188,10 @@ class Handler(http.server.BaseHTTPRequestHandler):
         if not isinstance(given, str) or not all(isinstance(it, int) and it >= 0 for it in (place, line, character)):
             raise Refused("that can't be asked for")
         with live.lock:
-            blocks = live.branch(asked).blocks()[0]
-        above = [block.closed() for block in blocks[:place if asked.get("isNew") else max(0, int(place or 0) - 1)]]
-        before = b"".join(part for block in above for part in block.lines).decode("utf-8", "replace")
+            blocks = live.branch(asked).shown.blocks
+        above = min(len(blocks), int(place or 0) if asked.get("isNew") else max(0, int(place or 0) - 1))
+        last = [block.closed() for block in blocks.between(max(0, above - 1), above)]
+        before = blocks[:above].with_these(above - len(last), above, last).text.decode("utf-8", "replace")
         first = before.count("\n")
         text = f"{before}{given}\n----\n"
         found = self.served.language.at(text, first, text.count("\n"), first + int(line or 0), int(character or 0))
@@ -200,7 +204,7 @@ class Handler(http.server.BaseHTTPRequestHandler):
         live = self.served.live
         with live.lock:
             branch = live.branch(asked)
-            data, heads, version = branch.data, branch.heads, live.version
+            data, heads, version = branch.data, tuple(branch.shown.blocks.heads()), live.version
         return json.dumps({"version": version, **self.served.theirs(data).shown(heads)}).encode()
 
     # ---- what the page hears

@@ -9,9 +9,9 @@ import subprocess
 import tempfile
 from collections.abc import Sequence
 
-from .blocks import RULE, Block, bare, joined
+from .blocks import RULE, Block, bare
+from .chunks import Blocks
 from .program import Refused
-from .rows import ends
 
 # Of more changes than these the script is loaded anew.
 MOST_CHANGES = 400
@@ -23,9 +23,9 @@ DONE = re.compile(rb"done executed=(\d+) mismatches=(\d+)\n\Z")
 class Session:
     """A session that is loaded with some blocks, and can become others. A process ends with `close`."""
 
-    def __init__(self, program: pathlib.Path, blocks: Sequence[Block] = ()) -> None:
+    def __init__(self, program: pathlib.Path, blocks: Blocks = Blocks()) -> None:
         self.program = program
-        self.blocks: list[Block] = []
+        self.blocks = Blocks()
         self.process: subprocess.Popen[bytes] | None = None
         self.load(blocks)
 
@@ -40,15 +40,15 @@ class Session:
                     pipe.close()
             process.wait()
 
-    def load(self, blocks: Sequence[Block]) -> int:
+    def load(self, blocks: Blocks) -> int:
         """Begins anew with these blocks. Gives how many directives ran."""
         self.close()
         handle, name = tempfile.mkstemp(prefix="raftbench-live-")
         try:
             with open(handle, "wb") as file:
-                file.write(joined(blocks, ()))
+                file.write(blocks.text)
             self.process = subprocess.Popen([self.program, "session", name], stdin=subprocess.PIPE, stdout=subprocess.PIPE, stderr=subprocess.DEVNULL)
-            self.blocks = list(blocks)
+            self.blocks = blocks
             self.output(0)
         finally:
             os.unlink(name)
@@ -109,19 +109,19 @@ class Session:
 
     # ---- what becomes of the script
 
-    def become(self, blocks: Sequence[Block]) -> int:
+    def become(self, blocks: Blocks) -> int:
         """Takes other blocks in place of those that it has. Gives how many directives ran."""
-        old, new = self.blocks, list(blocks)
-        front, back = ends(old, new)
-        last, following = len(old) - back, len(new) - back
+        old = self.blocks
+        front, back = old.ends(blocks)
+        last, following = len(old) - back, len(blocks) - back
         if max(last, following) - front > MOST_CHANGES:
-            return self.load(new)
+            return self.load(blocks)
         try:
-            ran = self._put(front, old[front:last], new[front:following])
+            ran = self._put(front, old.between(front, last), blocks.between(front, following))
         except Refused:
-            self.load(self.blocks)
+            self.load(old)
             raise
-        self.blocks = new
+        self.blocks = blocks
         return ran
 
     def _put(self, front: int, old: Sequence[Block], new: Sequence[Block]) -> int:

@@ -35,12 +35,15 @@ class Follower {
     const { talk, branch, version } = this;
     /** @type {Told} */
     let told = await talk.post("state", { branch, has: version });
-    if (told.stretch && !(told.since === version && this.run?.change(told.stretch))) {
+    if (!told.rows && !(told.since === version && this.run && (!told.stretch || this.run.change(told.stretch, told.of)))) {
       told = await talk.post("state", { branch });
     }
     this.version = told.version;
     this.run = told.rows ? new Run(told.rows) : this.run;
-    this.run?.goOn(this.run.steps.length);
+    while (this.run && this.run.missing > 0) {
+      this.run.add(await talk.post("rows", { branch, version: told.version, from: this.run.steps.length }));
+    }
+    this.run?.goOn(this.run.of);
     byId("name").textContent = told.branch === told.home ? `${told.name}, the file` : `${told.name}, branch ${told.branch}`;
     this.show();
   }

@@ -5,6 +5,7 @@ import { Beside } from "./beside.js";
 import { byId } from "./dom.js";
 import { follow } from "./following.js";
 import { begin, editChosen } from "./forms.js";
+import { afterFrame } from "./frames.js";
 import { makeLegend } from "./legend.js";
 import { LivePage } from "./livepage.js";
 import { directiveOf } from "./meant.js";
@@ -116,16 +117,50 @@ export class Live {
   async take(told, isOwn) {
     const { rows, since, stretch, ...state } = told;
     const isBased = since === this.state?.version && state.branch === this.state?.branch;
-    if (stretch && !(isBased && this.run?.change(stretch))) {
+    if (!rows && !(isBased && this.run && (!stretch || this.run.change(stretch, state.of)))) {
       return this.take(await this.talk.post("state", { branch: state.branch }), isOwn);
     }
     this.run = rows ? new Run(rows) : this.run;
     const place = isOwn || !this.page ? state.chosen : Math.min(this.page.chosen.place, state.of);
     const isOther = this.state?.branch !== state.branch;
     this.state = state;
-    this.keepingFocus(() => this.draw(state, stretch ? stretch.front : -1, place, isOther));
-    this.offers.ask();
-    this.theirs.renew();
+    await this.readUpTo(place);
+    this.keepingFocus(() => this.draw(state, rows ? -1 : stretch ? stretch.front : state.of, place, isOther));
+    afterFrame(() => {
+      this.offers.ask();
+      this.theirs.renew();
+    });
+  }
+
+  /**
+   * Has the rows come up to those of a directive: after an edit only some come at once.
+   * @param {number} place
+   */
+  async readUpTo(place) {
+    const { run, state } = this;
+    try {
+      while (run && run === this.run && state === this.state && run.missing > 0 && run.steps.length < place) {
+        await this.askRows(run);
+      }
+    } catch (fault) {
+      // Where the script has changed meanwhile, another one is shown soon.
+      if (!(fault instanceof Refusal)) {
+        throw fault;
+      }
+    }
+  }
+
+  /**
+   * Asks for more rows. Where another script is shown by then, nothing is done.
+   * @param {Run} run
+   */
+  async askRows(run) {
+    const { state, talk } = this;
+    const { version } = run;
+    const more = await talk.post("rows", { branch: state?.branch, version: state?.version, from: run.steps.length });
+    if (run === this.run && state === this.state && version === run.version) {
+      run.add(more);
+    }
   }
 
   /**
@@ -162,10 +197,10 @@ export class Live {
     const { model } = run;
     this.placed = place;
     const position = { place, event: 0 };
-    const shown = this.page && front >= 0 ? Math.min(front, run.count) : -1;
-    run.goOn(shown < 0 ? model.source.lines.length : Math.max(front, place) + AT_ONCE - run.count);
-    if (this.page && shown >= 0) {
-      this.page.showFrom(shown, position);
+    const isFresh = !this.page || front < 0;
+    const shown = run.goOn(isFresh ? run.of : Math.max(front, place) + AT_ONCE - run.count);
+    if (this.page && !isFresh) {
+      this.page.showFrom(Math.min(front, shown), position);
     } else if (this.made) {
       this.page = this.made;
       this.page.replace(model, position);
@@ -184,16 +219,26 @@ export class Live {
     if (run?.isWhole) {
       tellCounts(run.model);
     } else if (run && page) {
-      this.reading = setTimeout(() => {
-        const front = run.count;
-        run.goOn(AT_A_TIME);
-        page.goFurther(front);
-        if (run.isWhole) {
-          page.finish();
-          this.bar.draw();
-        }
-        this.readOn();
-      });
+      this.reading = setTimeout(() => this.readSome(run, page).catch((fault) => this.lost(fault)));
+    }
+  }
+
+  /**
+   * @param {Run} run
+   * @param {LivePage} page
+   */
+  async readSome(run, page) {
+    const { version } = run;
+    if (run.count === run.steps.length && run.missing > 0) {
+      await this.askRows(run);
+    }
+    if (run === this.run && page === this.page && version === run.version) {
+      page.goFurther(run.goOn(AT_A_TIME));
+      if (run.isWhole) {
+        page.finish();
+        this.bar.draw();
+      }
+      this.readOn();
     }
   }
 
@@ -276,7 +321,7 @@ export class Live {
     this.bar.draw();
   }
 
-  /** @param {unknown} fault what came of looking again: once more wouldn't help */
+  /** @param {unknown} fault what came of looking again, or on: once more wouldn't help */
   lost(fault) {
     if (!(fault instanceof Gone || fault instanceof Refusal)) {
       throw fault;

@@ -148,8 +148,8 @@ export class LivePage extends Page {
     LivePage.made = live;
     super(model);
     this.live = live;
-    /** @type {{ spans: import("./mail.js").Spans | null, place: number, messages: Message[] }} */
-    this.found = { spans: null, place: 0, messages: [] };
+    /** @type {{ run: import("./run.js").Run | null, version: number, place: number, messages: Message[] }} */
+    this.found = { run: null, version: 0, place: 0, messages: [] };
     const { drawing } = this.picture;
     drawing.addEventListener("click", (event) => this.clicked(event), { capture: true });
     drawing.addEventListener("pointermove", (event) => drawing.classList.toggle("can-deliver", this.messageAt(event) !== null));
@@ -228,7 +228,7 @@ export class LivePage extends Page {
       picture.replace(model, chosen);
     }
     Object.assign(script, { isFolded: script.isFolded || chosen.place !== script.chosen.place, chosen });
-    measureFrom(script, this.live.run?.hasWarnings ? 0 : front);
+    measureFrom(script, front);
   }
 
   /** What is only right once all directives have their places. */
@@ -278,9 +278,10 @@ export class LivePage extends Page {
 
   /** The messages that are on their way after the chosen directive. They are found once, and asked for at each button. */
   pendingNow() {
-    const { model: { spans }, chosen: { place } } = this;
-    if (this.found.spans !== spans || this.found.place !== place) {
-      this.found = { spans, place, messages: spans.pendingAfter(place, instantAt(this.model, { place, event: 0 }).serial) };
+    const { model: { spans }, chosen: { place }, live: { run } } = this;
+    const version = run?.version ?? 0;
+    if (this.found.run !== run || this.found.version !== version || this.found.place !== place) {
+      this.found = { run, version, place, messages: spans.pendingAfter(place, instantAt(this.model, { place, event: 0 }).serial) };
     }
     return this.found.messages;
   }

@@ -6,8 +6,8 @@ import pathlib
 from collections.abc import Iterable, Iterator, Sequence
 from typing import Any, NamedTuple
 
-from live.blocks import Block, new_block
-from live.branch import Branch
+from live.blocks import Block, cut, new_block
+from live.chunks import Blocks
 from live.program import Program
 from live.session import Session
 from plain.cluster import Cluster
@@ -109,7 +109,7 @@ def wrong_of_program(blocks: Sequence[Block], pending: Sequence[Message], nodes:
         others = sorted([*pending[:at], *pending[at + 1:]], key=lambda it: it.to)
         left = [f"drop {message_text(it)}" for it in others] or ["no messages"]
         for verb, text in (("deliver", way.deliver), ("drop", way.drop))[int(message.to > nodes):]:
-            session.become([*blocks, *(new_block([it.encode()], (), b"\n") for it in (f"{text} log-level=info", ALL))])
+            session.become(Blocks([*blocks, *(new_block([it.encode()], (), b"\n") for it in (f"{text} log-level=info", ALL))]))
             taken, then = ([line.decode() for line in session.output(len(blocks) + more)] for more in (1, 2))
             if [line for line in taken if line.startswith(("deliver ", "drop "))] != [f"{verb} {message_text(message)}"] or then != left:
                 yield f"{text}: {taken}, {then}"
@@ -145,14 +145,14 @@ def the_program_takes_it_alone(browser: Browser) -> None:
 
     def does(player: Player, server: Running, path: pathlib.Path) -> None:
         for data in [EQUAL, *(path.read_bytes() for path in TOUR)]:
-            branch, session = Branch(1, program, data), Session(PROGRAM)
+            session = Session(PROGRAM)
             try:
+                all_blocks, _ = cut(data, program.rows(data).heads())
                 ways = ways_of(player, data, program.names()["deliver-msgs"])
                 for place, ((pending, nodes), own) in enumerate(zip(pending_of(data), ways, strict=True), 1):
-                    blocks = branch.blocks()[0][:place]
+                    blocks = all_blocks[:place]
                     wrong = list(wrong_of_program([*blocks[:-1], blocks[-1].closed()], pending, nodes, own, session))
                     same(f"what is wrong with step {place} of {data[:60]!r}", wrong[:3], [])
             finally:
                 session.close()
-                branch.close()
     on_script(browser, START, does)

@@ -6,7 +6,6 @@ import pathlib
 from collections.abc import Iterable, Iterator, Sequence
 from typing import NamedTuple
 
-from live.rows import stretch
 from tests.live.alone import EQUAL
 from tests.live.player import Player
 from tests.live.playing import on_script
@@ -16,9 +15,10 @@ from tests.page.browser import Browser
 from tests.page.scripts import same
 
 LEVEL = b"log-level info\n----\nok\n\n"
-# Reads a script's rows, and then puts stretches in, each a few directives at a time, as a page does. Gives, of each, whether it could be put in; whether
-# the model is that of all rows of the new script, read at once, as the live page reads them, and as a page alone does; and how long that is.
-GOES_ON = """(async ([first, ...changes]) => {
+# Reads a script's rows, and then puts stretches in, each a few directives at a time, as a page does; rows that don't come at once are asked for. Some
+# stretches may come before that is done. Gives, of each, whether it could be put in; whether the model is that of all rows of the new script, read at once,
+# as the live page reads them, and as a page alone does; and how long that is.
+GOES_ON = """(async (isHasty, [first, ...changes]) => {
   const [{ Run }, { readRows }] = await Promise.all([import("/run.js"), import("/rows.js")]);
   const places = (list) => Array.from(list, (it) => it && (Array.isArray(it) ? it.map(({ number }) => number) : it.number));
   const plain = (key, value) => key === "sent" || key === "met" ? value && value.place : key === "message" ? value && value.number
@@ -29,12 +29,26 @@ GOES_ON = """(async ([first, ...changes]) => {
     run.goOn(1e9);
     return run;
   };
+  const more = (run, rows) => {
+    const from = run.steps.length;
+    const end = rows.findIndex(([name]) => name === "warning" || name === "end");
+    const starts = rows.flatMap(([name], at) => (name === "step" ? [at] : []));
+    if (run.missing > 0) {
+      run.add({ from, rows: rows.slice(starts[from], starts[from + 70] ?? end), end: rows.slice(end) });
+    }
+  };
   let run = fresh(first);
-  return changes.map(({ stretch, rows }) => {
-    const isPut = run.change(stretch);
+  return changes.map(({ stretch, of, rows }, at) => {
+    const isPut = run.change(stretch, of);
     run = isPut ? run : new Run(rows);
+    if (isHasty && isPut && at % 3 > 0) {
+      run.goOn(30);
+      more(run, rows);
+      return [isPut, true, true, 1e9];
+    }
     while (!run.isWhole) {
       run.goOn(3);
+      more(run, rows);
     }
     const own = dump(run.model);
     return [isPut, own === dump(fresh(rows).model), own === dump(readRows(rows)), own.length];
@@ -51,17 +65,17 @@ class Went(NamedTuple):
     size: int
 
 
-def went_on(browser: Browser, data: bytes) -> Iterator[tuple[str, int, Went]]:
+def went_on(browser: Browser, data: bytes, is_hasty: bool = False) -> Iterator[tuple[str, int, Went]]:
     """By each edit of a script, how long its rows are, and what became of the run."""
     found = list(changes(data))
-    given = [json.loads(found[0][1].rows.raw), *({"stretch": json.loads(stretch(before, now)), "rows": json.loads(now.rows.raw)} for _, before, now in found)]
+    given = [found[0].before, *({"stretch": it.told["stretch"], "of": it.told["of"], "rows": it.now} for it in found)]
     told: list[Went] = []
 
     def does(player: Player, server: Running, path: pathlib.Path) -> None:
-        told.extend(Went(*it) for it in player.browser.value(f"{GOES_ON}({json.dumps(given)})"))
+        told.extend(Went(*it) for it in player.browser.value(f"{GOES_ON}({json.dumps(is_hasty)}, {json.dumps(given)})"))
     on_script(browser, START, does)
-    for (what, _, now), went in zip(found, told, strict=True):
-        yield what, len(now.rows.raw), went
+    for it, went in zip(found, told, strict=True):
+        yield it.what, len(json.dumps(it.now)), went
 
 
 def a_run_that_goes_on_is_as_a_fresh_one(browser: Browser) -> None:
@@ -70,6 +84,14 @@ def a_run_that_goes_on_is_as_a_fresh_one(browser: Browser) -> None:
     for what, size, went in found:
         same(f"whether the model is a fresh one after {what}", went.is_fresh and went.is_of_a_page and went.size > 20 * size ** 0.5, True)
     same("edits after which all rows are needed", [what for what, _, went in found if not went.is_put], [found[-3][0], found[-2][0]])
+
+
+def a_run_whose_rows_come_in_parts_is_as_a_fresh_one(browser: Browser) -> None:
+    """After an edit that is never forgotten only the first rows come at once; and the next edit may come before the others."""
+    for is_hasty in (False, True):
+        found = list(went_on(browser, ELECTION.read_bytes() + b"\n" + LEVEL * 500, is_hasty))
+        for what, _, went in found:
+            same(f"whether the model is a fresh one after {what}", went.is_fresh and went.is_of_a_page, True)
 
 
 def a_run_with_skipped_messages_goes_on(browser: Browser) -> None:

@@ -6,96 +6,104 @@ import random
 from collections.abc import Iterator
 from typing import Any
 
-import live.rows
-from live.blocks import joined
-from live.branch import Branch
-from live.edits import EDITS
-from live.program import Program
-from live.rows import Rows, Shown, read, stretch
-from tests.harness import PROGRAM, TOP
+from live import chunks
+from live.blocks import Block
+from live.chunks import Blocks
+from live.rows import PageRows, read_some
+from tests.harness import TOP
+from tests.live.edited import Edited, branch_of, edit, page_rows, put, steps_in, told_of
 
 ELECTION = TOP / "examples" / "tour" / "01-election.txt"
+LEVEL = b"log-level info\n----\nok\n\n"
+# A session keeps a checkpoint at least after so many directives, so an edit that changes nothing for long runs no more than twice as many.
+MOST_RUN = 32
 
 
-def put(rows: list[list[Any]], given: dict[str, Any]) -> list[list[Any]]:
-    """Rows with a stretch put in: lines and rows between those that stay are the stretch's, and lines that stay have moved with them."""
-    starts = [at for at, row in enumerate(rows) if row[0] == "step"]
-    end = next(at for at, row in enumerate(rows) if row[0] in ("warning", "end"))
-    steps = [rows[start:after] for start, after in zip(starts, [*starts[1:], end])]
-    lines = rows[1][1].split("\n")
-    after = lines[len(lines) - 1 - given["linesAfter"]:] if given["linesAfter"] and not lines[-1] else lines[len(lines) - given["linesAfter"]:] if given["linesAfter"] else []
-    text = "".join(line + "\n" for line in lines[:given["linesBefore"]]) + given["text"] + "\n".join(after)
-    moved = text.count("\n") - rows[1][1].count("\n")
-    rest = [[["step", step[0][1] + moved], *step[1:]] for step in (steps[len(steps) - given["back"]:] if given["back"] else [])]
-    return [rows[0], ["text", text], *(row for step in [*steps[:given["front"]], *given["rows"], *rest] for row in step), *given["end"]]
-
-
-def changes(data: bytes) -> Iterator[tuple[str, Shown, Shown]]:
-    """A script's edits: by each, what was shown before and then. Some meet again, some never do, and a comment or the tail may change alone."""
-    branch = Branch(1, Program(PROGRAM), data)
-    middle = branch.count // 2
-    edits: list[tuple[str, dict[str, Any]]] = [
-        ("insert", {"place": middle, "text": "raft-state"}), ("insert", {"place": branch.count + 1, "text": "tick-heartbeat 1"}), ("replace", {"place": 3, "text": "# why\nlog-level none"}),
-        ("remove", {"place": 2}), ("duplicate", {"place": middle}), ("move", {"place": middle, "by": -1}), ("accept", {"all": True, "isSure": True}), ("undo", {}),
-        ("insert", {"place": 0, "text": "log-level debug"}), ("replace", {"place": 1, "text": "# caf\u00e9\nlog-level info"}), ("undo", {}), ("redo", {}),
-    ]
-    try:
-        for kind, more in edits:
-            before = branch.shown
-            if kind in EDITS:
-                EDITS[kind](branch, more)
-            else:
-                branch.go(kind == "undo")
-            yield f"{kind} {more}", before, branch.shown
-        for text in (joined(branch.shown.blocks, ()) + b"# the end\n", b"# \x1b[31m acts\n" + data, data[:-1], data):
-            before = branch.shown
-            branch.change_text(text, 1)
-            yield f"a text of {len(text)} bytes", before, branch.shown
-    finally:
-        branch.close()
+def changes(data: bytes) -> Iterator[Edited]:
+    """A script's edits. Some meet again, some never do, and a comment or the tail may change alone."""
+    with branch_of(data) as branch:
+        middle = branch.count // 2
+        edits: list[tuple[str, dict[str, Any]]] = [
+            ("insert", {"place": middle, "text": "raft-state"}), ("insert", {"place": branch.count + 1, "text": "tick-heartbeat 1"}), ("replace", {"place": 3, "text": "# why\nlog-level none"}),
+            ("remove", {"place": 2}), ("duplicate", {"place": middle}), ("move", {"place": middle, "by": -1}), ("accept", {"all": True, "isSure": True}), ("undo", {}),
+            ("insert", {"place": 0, "text": "log-level debug"}), ("replace", {"place": 1, "text": "# caf\u00e9\nlog-level info"}), ("undo", {}), ("redo", {}),
+        ]
+        for version, (kind, more) in enumerate(edits, 1):
+            before = page_rows(branch.data)
+            edit(branch, kind, more)
+            yield told_of(branch, f"{kind} {more}", before, version)
+        for version, text in enumerate((branch.shown.blocks.text + b"# the end\n", b"# \x1b[31m acts\n" + data, data[:-1], data), len(edits) + 1):
+            before = page_rows(branch.data)
+            edit(branch, "text", {"text": text})
+            yield told_of(branch, f"a text of {len(text)} bytes", before, version)
 
 
 def test_a_stretch_put_in_gives_the_rows_of_the_new_script() -> Iterator[str]:
     """The law, by the program's own page of each script."""
     spared = 0
-    for what, before, now in changes(ELECTION.read_bytes()):
-        given = json.loads(stretch(before, now))
-        if put(json.loads(before.rows.raw), given) != json.loads(now.rows.raw):
-            yield f"{what}: {given}"
-        spared += len(given["rows"]) < len(now.blocks) // 2
-    if spared < 6:
+    for data in (ELECTION.read_bytes(), ELECTION.read_bytes() + b"\n" + LEVEL * 100):
+        for edited in changes(data):
+            if put(edited) != edited.now:
+                yield f"{edited.what}: {edited.told}"
+            spared += edited.sent < steps_in(edited.now) // 2
+    if spared < 12:
         yield f"only {spared} edits send less than half of the rows"
 
 
-def test_an_edit_among_equal_directives_sends_its_own_rows() -> None:
+def test_an_edit_among_equal_directives_sends_its_own_rows() -> Iterator[str]:
     """Although many rows before and after it are the same, at both ends."""
-    branch = Branch(1, Program(PROGRAM), b"log-level info\n----\nok\n\n" * 700)
-    try:
-        for place, text in ((350, "log-level debug"), (1, "log-level info")):
-            before = branch.shown
-            EDITS["insert"](branch, {"place": place, "text": text})
-            given = json.loads(stretch(before, branch.shown))
-            assert len(given["rows"]) == 1 and put(json.loads(before.rows.raw), given) == json.loads(branch.shown.rows.raw), given
-    finally:
-        branch.close()
+    with branch_of(b"log-level info\n----\nok\n\n" * 700) as branch:
+        branch.begin()
+        branch.give_up()
+        branch.server.rows(branch.shown, 0, 0)
+        for version, (place, text) in enumerate([(350, "log-level debug"), (1, "log-level info")], 1):
+            before = page_rows(branch.data)
+            edit(branch, "insert", {"place": place, "text": text})
+            edited = told_of(branch, text, before, version)
+            if edited.sent > MOST_RUN or edited.more or put(edited) != edited.now:
+                yield f"{text} after {place}: {edited.told}"
 
 
-def test_ends_are_compared_alike_however_many_at_once() -> Iterator[str]:
-    """Of lists that differ by some items: as many are the same at both beginnings, and then at both ends, as one by one."""
+def random_blocks(dice: random.Random, most: int) -> list[Block]:
+    """Blocks of which many are the same."""
+    return [Block(tuple(b"%d\n" % dice.randint(1, 2) for _ in range(dice.randint(1, 2))), 0, 0) for _ in range(dice.randint(0, most))]
+
+
+def test_blocks_in_chunks_are_as_a_list() -> Iterator[str]:
+    """However many have room in a chunk: others in place of some, their lines and bytes, and how many are the same at both ends."""
     dice = random.Random(1)
-    at_once = live.rows.AT_ONCE
+    most = chunks.MOST
     try:
-        for case in range(2000):
-            one = dice.choices((1, 2), k=dice.randint(0, 12))
-            other = [*one[:dice.randint(0, 12)], *dice.choices((2, 3), k=dice.randint(0, 2)), *one[dice.randint(0, 12):]]
-            least = min(len(one), len(other))
-            front = next((at for at in range(least) if one[at] != other[at]), least)
-            back = next((at for at in range(least - front) if one[-1 - at] != other[-1 - at]), least - front)
-            live.rows.AT_ONCE = dice.choice((1, 2, 3, 5))
-            if live.rows.ends(one, tuple(other)) != (front, back):
-                yield f"{one} and {other}: {live.rows.ends(one, tuple(other))}, and not {front}, {back}"
+        for case in range(500):
+            chunks.MOST = dice.choice((1, 2, 3, 8))
+            wanted = random_blocks(dice, 40)
+            blocks = Blocks(wanted)
+            for _edit in range(6):
+                front = dice.randint(0, len(wanted))
+                end = min(len(wanted), front + dice.choice([0, 0, 1, 2, 30]))
+                new, old, before = random_blocks(dice, dice.choice([0, 1, 2, 20])), blocks, wanted
+                blocks, wanted = blocks.with_these(front, end, new), [*wanted[:front], *new, *wanted[end:]]
+                yield from (f"{case}: {what}" for what in wrong_with(blocks, wanted, dice))
+                least = min(len(before), len(wanted))
+                same = next((at for at in range(least) if before[at] != wanted[at]), least)
+                back = next((at for at in range(least - same) if before[-1 - at] != wanted[-1 - at]), least - same)
+                if old.ends(blocks) != (same, back) or blocks.ends(old) != (same, back) or (old == blocks) != (before == wanted):
+                    yield f"{before} and {wanted}: {old.ends(blocks)}, and not {same}, {back}"
     finally:
-        live.rows.AT_ONCE = at_once
+        chunks.MOST = most
+
+
+def wrong_with(blocks: Blocks, wanted: list[Block], dice: random.Random) -> Iterator[str]:
+    """What of blocks in chunks isn't that of a list."""
+    first, last = sorted((dice.randint(0, len(wanted)), dice.randint(0, len(wanted))))
+    if list(blocks) != wanted or len(blocks) != len(wanted) or [blocks[at] for at in range(len(wanted))] != wanted:
+        yield f"{list(blocks)}, and not {wanted}"
+    if blocks.between(first, last) != wanted[first:last] or list(blocks[first:last]) != wanted[first:last]:
+        yield f"from {first} to {last} of {wanted}: {blocks.between(first, last)}"
+    if blocks.lines_before(first) != sum(len(it.lines) for it in wanted[:first]) or blocks.text != b"".join(it.text for it in wanted):
+        yield f"the lines before {first} of {wanted}: {blocks.lines_before(first)}"
+    if blocks.heads() != [blocks.head(at) for at in range(len(wanted))] or any(not 0 < len(it.blocks) <= chunks.MOST for it in blocks.chunks):
+        yield f"heads {blocks.heads()}, chunks {[len(it.blocks) for it in blocks.chunks]}"
 
 
 def rows_of(steps: list[tuple[int, str]]) -> bytes:
@@ -104,30 +112,24 @@ def rows_of(steps: list[tuple[int, str]]) -> bytes:
     return f'[["raftbench",2,"x"],\n["text","y"],{body}\n["end",{len(steps)},0]]'.encode()
 
 
-def test_rows_are_cut_alike_whatever_was_shown_before() -> Iterator[str]:
-    """A directive that has one row more, or fewer, or the beginning or the end of another's rows, isn't taken for it."""
+def test_rows_of_some_directives_are_cut_alike_out_of_a_page_and_an_answer() -> Iterator[str]:
+    """Also where a directive has no rows, and where it has those that another begins or ends with."""
     one, two, three = '\n["output","a"],', '\n["output","a"],\n["output","b"],', '\n["output","b"],'
-    texts: list[list[str]] = [
-        [], [one], [two], [three], [one, two], [two, one], [three, two], [two, three], [one, one, one], [one, two, one], [two, two], [""], ["", one], [one, ""], [three, one, two, three, one],
-    ]
-    pages = [rows_of([(first + 3 * at, text) for at, text in enumerate(given)]) for given in texts for first in (1, 98)]
-    for page in pages:
-        plain = read(page, 0, len(page))
-        if plain.raw != page or len(plain.steps) != page.count(b'"step"'):
-            yield f"{page!r}: {plain}"
-        for other in pages:
-            if read(page, 0, len(page), read(other, 0, len(other))) != plain:
-                yield f"{page!r} after {other!r}"
-
-
-def test_the_rows_of_a_script_are_cut_alike_after_edits() -> Iterator[str]:
-    shared = 0
-    for what, before, now in changes(ELECTION.read_bytes()):
-        raw = now.rows.raw
-        for old in (Rows(), before.rows):
-            found = read(raw, 0, len(raw), old)
-            if found != now.rows:
-                yield f"{what}: {found}"
-            shared += sum(any(step is it for it in before.rows.steps) for step in found.steps)
-    if shared < 20:
-        yield f"only {shared} texts are shared"
+    texts: list[list[str]] = [[], [one], [two, one], [three, two], [one, two, one], [""], ["", one], [one, ""], [three, one, two, three, one]]
+    for given in texts:
+        steps = [(1 + 3 * at, text) for at, text in enumerate(given)]
+        page = PageRows(rows_of(steps))
+        if (page.count, page.heads()) != (len(steps), tuple(line for line, _ in steps)):
+            yield f"{page.raw!r}: {page.count} {page.heads()}"
+        for first in range(len(steps) + 2):
+            for end in range(first, len(steps) + 2):
+                own = [json.loads(f'[["step",{line}]{"," * bool(rows)}{rows.strip(",")}]') for line, rows in steps[first:end]]
+                answer = rows_of(steps[first:end]).replace(b'\n["text","y"],', b"").replace(b'\n["end",%d' % len(own), b'\n["cells",7],\n["end",%d' % len(steps))
+                some = [page.some(first, end - first), read_some(answer, first)]
+                for it in some:
+                    if it is None or (it.first, it.last, it.count) != (min(first, len(steps)), min(end, len(steps)), len(steps)) or it.end != b'["end",%d,0]]' % len(steps):
+                        yield f"{first} to {end} of {page.raw!r}: {it}"
+                    elif [json.loads(b"[" + it.between(at, at + 1) + b"]") for at in range(it.first, it.last)] != own:
+                        yield f"{first} to {end} of {page.raw!r}: {it}"
+                    elif json.loads(b"[" + it.between(it.first, it.last) + b"]") != [row for step in own for row in step]:
+                        yield f"{first} to {end} of {page.raw!r}: {it.rows!r}"

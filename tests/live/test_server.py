@@ -9,6 +9,7 @@ import socket
 import subprocess
 from collections.abc import Iterator
 
+from tests.live.edited import steps_in
 from tests.live.running import CAMPAIGN, COMMAND, MOST_SECONDS, START, Running, around, checked, put
 
 
@@ -290,10 +291,10 @@ def test_a_page_that_is_behind_gets_what_has_changed_since(room: pathlib.Path) -
         first = server.state["version"]
         for at in range(2, 5):
             status, told = server.post("/do", {"do": "insert", "place": at, "text": "raft-state", "version": server.state["version"], "branch": 1, "has": server.state["version"]})
-            assert status == 200 and "rows" not in told and (told["since"], told["stretch"]["front"], len(told["stretch"]["rows"])) == (server.state["version"], at, 1), told
+            assert status == 200 and "rows" not in told and (told["since"], told["stretch"]["front"], steps_in(told["stretch"]["rows"])) == (server.state["version"], at, 1), told
             server.look()
         behind = server.post("/state", {"branch": 1, "has": first})[1]
-        assert (behind["since"], behind["stretch"]["front"], len(behind["stretch"]["rows"])) == (first, 2, 3), behind
+        assert (behind["since"], behind["stretch"]["front"], steps_in(behind["stretch"]["rows"])) == (first, 2, 3), behind
         for asked in ({"branch": 1, "has": -1}, {"branch": 1, "has": "0"}, {"branch": 1, "has": None}, {"has": first}):
             assert len(server.post("/state", asked)[1]["rows"]) > 20, asked
         for _ in range(5):

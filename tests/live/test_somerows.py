@@ -2,18 +2,18 @@
 from __future__ import annotations
 
 import contextlib
+import json
 import pathlib
 import random
 from collections.abc import Iterator
 from typing import Any
 
-from live.blocks import joined
-from live.branch import Branch
-from live.edits import EDITS
-from live.program import Program, Refused
-from live.rows import Shown
+from live.branch import AT_ONCE, Branch
+from live.chunks import Shown
+from live.program import Refused
 from live.somerows import RowServer
 from tests.harness import PROGRAM, TOP
+from tests.live.edited import Edited, branch_of, edit, page_rows, put, steps_in, told_of
 
 SCRIPTS = [TOP / "examples" / "tour" / name for name in ("01-election.txt", "06-membership.txt", "12-broken.txt")]
 EDITS_EACH = 30
@@ -31,127 +31,122 @@ class Counting(RowServer):
         super().__init__(program)
         self.asked: list[int] = []
 
-    def _some(self, first: int, count: int) -> Any:
+    def rows(self, now: Shown, first: int, count: int) -> Any:
         self.asked.append(count)
-        return super()._some(first, count)
+        return super().rows(now, first, count)
 
 
 def random_edit(branch: Branch, numbers: random.Random) -> str:
     """Makes an edit, and says which. One that can't be made is none."""
     kind = numbers.choice(["insert", "insert", "insert", "replace", "remove", "duplicate", "move", "accept", "undo", "redo", "tail"])
-    place = numbers.randint(1, branch.count)
+    place = numbers.randint(1, max(1, branch.count))
     asked: dict[str, Any] = {"place": place, "text": numbers.choice(TEXTS), "by": numbers.choice([1, -1]), "isSure": True, "all": kind == "accept" and numbers.random() < 0.3}
     with contextlib.suppress(Refused):
-        if kind in EDITS:
-            EDITS[kind](branch, {**asked, "place": numbers.randint(0, branch.count)} if kind == "insert" else asked)
-        elif kind == "tail":
-            blocks, tail = branch.blocks()
-            branch.change(blocks, [] if tail else [b"# the end\n"], branch.count)
+        if kind == "tail":
+            branch.change(branch.shown.blocks, branch.count, [] if branch.shown.tail else [b"# the end\n"])
         else:
-            branch.go(kind == "undo")
+            edit(branch, kind, {**asked, "place": numbers.randint(0, branch.count)} if kind == "insert" else asked)
     return f"{kind} {asked}"
 
 
-def edited(data: bytes, numbers: random.Random, edits: int) -> Iterator[tuple[str, tuple[Shown, bytes], Branch]]:
-    """A script after one edit after another: which, what was shown before, and the branch then."""
-    branch = Branch(1, Program(PROGRAM), data)
-    try:
-        for _edit in range(edits):
-            before, branch.ran = (branch.shown, branch.data), 0
-            what = random_edit(branch, numbers)
-            if branch.count and before[0].blocks:
-                yield what, before, branch
-    finally:
-        branch.close()
+def edited(branch: Branch, numbers: random.Random, edits: int) -> Iterator[Edited]:
+    """A script's random edits. One that can't be made changes nothing."""
+    for version in range(1, edits + 1):
+        before = page_rows(branch.data)
+        yield told_of(branch, random_edit(branch, numbers), before, version)
 
 
 def test_rows_after_random_edits_are_those_of_the_page() -> Iterator[str]:
     few = many = 0
     for seed, path in enumerate(SCRIPTS):
         server = Counting(PROGRAM)
-        for what, (shown, data), branch in edited(path.read_bytes(), random.Random(seed), EDITS_EACH):
-            now = branch.shown
-            found = server.after(shown, data, now.blocks, now.tail, branch.data, branch.ran)
-            if found != now.rows:
-                yield f"{path.name}, {what}: {found and found.raw!r}, and not {now.rows.raw!r}"
-            few, many = few + (server.asked[-1] < len(now.blocks) // 2), many + 1
-        server.close()
+        with branch_of(path.read_bytes(), server) as branch:
+            branch.server.rows(branch.shown, 0, 0)
+            for it in edited(branch, random.Random(seed), EDITS_EACH):
+                if put(it) != it.now:
+                    yield f"{path.name}, {it.what}: {it.told}, and not {it.now}"
+                few, many = few + (server.asked[-1] < steps_in(it.now) // 2), many + 1
     if few < many // 4:
         yield f"{few} of {many} edits ask for less than half of the rows"
 
 
 def test_the_first_rows_after_an_edit_dont_wait_for_the_others() -> Iterator[str]:
-    server = RowServer(PROGRAM)
     numbers = random.Random(5)
-    for what, _before, branch in edited(SCRIPTS[1].read_bytes(), numbers, 12):
-        now = branch.shown
-        first, count = numbers.randrange(len(now.blocks)), numbers.choice([1, 3, 200])
-        found = server.first(now.blocks, first, count)
-        if not found or (found.heads, found.steps) != (now.rows.heads[first:first + count], now.rows.steps[first:first + count]):
-            yield f"{what}, {count} after {first}: {found}"
+    server = RowServer(PROGRAM)
+    with branch_of(SCRIPTS[1].read_bytes()) as branch:
+        for it in edited(branch, numbers, 12):
+            first, count = numbers.randrange(branch.count), numbers.choice([1, 3, 200])
+            found, wanted = server.rows(branch.shown.first(first + count), first, count), branch.whole().some(first, count)
+            if not found or (found.heads, found.between(first, found.last)) != (wanted.heads, wanted.between(first, wanted.last)) or found.count != found.last:
+                yield f"{it.what}, {count} after {first}: {found}"
     server.close()
 
 
 def test_a_server_that_holds_another_script_is_asked_alike() -> Iterator[str]:
     """Also one that has just been started, or was ended."""
     server = RowServer(PROGRAM)
-    for what, (shown, data), branch in edited(SCRIPTS[0].read_bytes(), random.Random(7), 8):
-        now = branch.shown
-        if not server.ready(Shown(now.blocks[:1], (), now.rows), joined(now.blocks[:1], ())):
-            yield "it isn't ready"
-        if server.after(shown, data, now.blocks, now.tail, branch.data, branch.ran) != now.rows:
-            yield what
-        assert server.process
-        server.process.kill()
-        if server.after(shown, data, now.blocks, now.tail, branch.data, branch.ran) not in (None, now.rows):
-            yield f"{what}, ended"
-    server.close()
+    with branch_of(SCRIPTS[0].read_bytes(), server) as branch:
+        for version in range(1, 13):
+            before = page_rows(branch.data)
+            if version % 3 == 1:
+                server.rows(branch.shown.first(1), 0, 1)
+            elif version % 3 == 2 and server.process:
+                server.process.kill()
+            it = told_of(branch, random_edit(branch, random.Random(version)), before, version)
+            if put(it) != it.now:
+                yield f"{version}, {it.what}: {it.told}"
 
 
 def test_ends_of_lines_and_bytes() -> Iterator[str]:
-    """A CR alone ends a line of an editor, and none of a script; bytes that aren't UTF-8 can't be sent, so all rows are written again."""
+    """A CR alone ends a line of an editor, and none of a script; of bytes that aren't UTF-8 the program writes all rows again."""
     plain = b"# one\nadd-nodes 1 voters=(1) index=10\n----\nINFO 1 started at 1/10 with voters=(1)\n\ncampaign 1\n----\n\nraft-state\n----\n\n"
     for data, is_sent in ((plain, True), (plain.replace(b"\n", b"\r\n"), True), (plain.replace(b"# one", b"# o\rne"), True), (plain.rstrip(b"\n"), True), (plain.replace(b"one", b"on\xe9"), False)):
-        server = RowServer(PROGRAM)
-        for what, (shown, before), branch in edited(data, random.Random(3), 8):
-            now = branch.shown
-            found = server.after(shown, before, now.blocks, now.tail, branch.data, branch.ran)
-            if found != (now.rows if is_sent else None):
-                yield f"{data!r}, {what}: {found}"
-        server.close()
+        with branch_of(data) as branch:
+            for it in edited(branch, random.Random(3), 8):
+                if put(it) != it.now:
+                    yield f"{data!r}, {it.what}: {it.told}"
+            if (branch.server.rows(branch.shown, 0, 1) is not None) != (is_sent or b"\xe9" not in branch.data):
+                yield f"{data!r}: {is_sent}"
 
 
 def test_blocks_that_are_read_otherwise_are_not_taken() -> Iterator[str]:
     """A directive without an end takes the next one's lines for its output: the script has one directive fewer than blocks."""
-    branch = Branch(1, Program(PROGRAM), SCRIPTS[0].read_bytes())
-    server = RowServer(PROGRAM)
-    try:
-        shown = branch.shown
-        blocks, tail = branch.blocks()
+    with branch_of(SCRIPTS[0].read_bytes()) as branch:
+        before, blocks = branch.data, branch.shown.blocks
         open_block = blocks[2].with_given([b"raft-state"])
         for at in range(1, len(blocks)):
-            cut = [*blocks[:at], type(open_block)(open_block.lines[:open_block.rule + 1], open_block.head, open_block.rule), *blocks[at:]]
-            found = server.after(shown, branch.data, cut, tail, joined(cut, tail), 0)
-            if found is not None:
+            cut = blocks.with_these(at, at, [type(open_block)(open_block.lines[:open_block.rule + 1], open_block.head, open_block.rule)])
+            with contextlib.suppress(Refused):
+                branch.change(cut, 1)
                 yield f"an open one at {at}"
-    finally:
-        branch.close()
-        server.close()
+            if branch.data != before or branch.past:
+                yield f"it changes the script at {at}"
 
 
-def test_where_few_cells_are_left_all_rows_are_written_again() -> Iterator[str]:
+def test_a_long_edit_sends_its_first_rows_at_once() -> Iterator[str]:
+    """One after which nothing is as it was: the page asks for what follows them, whatever it has of the end. All are those of the page then."""
+    data = b"add-nodes 3 voters=(1,2,3) index=10\n----\n\n" + b"raft-state\n----\n\n" * 900
+    with branch_of(data) as branch:
+        branch.begin()
+        branch.give_up()
+        for version, (place, text, kind) in enumerate([(100, "campaign 1", "insert"), (3, "campaign 2", "insert"), (0, "", "undo"), (850, "campaign 3", "insert")], 1):
+            before = page_rows(branch.data)
+            edit(branch, kind, {"place": place, "text": text})
+            it = told_of(branch, text or kind, before, version)
+            is_part = branch.count - it.told["stretch"]["front"] > AT_ONCE
+            if put(it) != it.now or bool(it.more) != is_part or not 0 < it.sent <= AT_ONCE or bool(it.told["stretch"]["end"]) == is_part:
+                yield f"{it.what}: {it.sent} directives, {len(it.more)} answers more"
+
+
+def test_where_few_cells_are_left_all_rows_after_an_edit_are_sent_again() -> Iterator[str]:
     """Five comparisons of some 2,000 lines take all that a script has."""
     front = "add-nodes 1 voters=(1) index=10\n----\n\ncampaign 1\n----\n\nstabilize\n----\n\nlog-level none\n----\nok\n\n" + "propose 1 x\n----\nok\n\n" * 1_985
     lines = "".join(f"line {n}\n" for n in range(1_990))
-    branch = Branch(1, Program(PROGRAM), (front + f"raft-log 1\n----\n{lines}\n" * 5).encode())
-    server = RowServer(PROGRAM)
-    try:
-        shown, data = branch.shown, branch.data
-        branch.ran = 0
-        EDITS["insert"](branch, {"place": 4, "text": "raft-state"})
-        now = branch.shown
-        if (found := server.after(shown, data, now.blocks, now.tail, branch.data, branch.ran)) is not None:
-            yield f"{len(found.steps)} directives"
-    finally:
-        branch.close()
-        server.close()
+    for level, is_few in (("info", True), ("none", False)):
+        with branch_of((front + f"raft-log 1 log-level={level}\n----\n{lines}\n" * 5).encode()) as branch:
+            branch.server.rows(branch.shown, 0, 0)
+            before = page_rows(branch.data)
+            edit(branch, "insert", {"place": 4, "text": "raft-state"})
+            it = told_of(branch, "raft-state", before, 1)
+            if (it.told["stretch"]["back"] == 0) != is_few or json.dumps(put(it)) != json.dumps(it.now):
+                yield f"{level}: {it.told['stretch']['front']}, {it.sent}, {it.told['stretch']['back']}"
