@@ -1,5 +1,6 @@
 // The bar above the panes: branches, what is done with the chosen directive, sides of a cut, saving, and what there is to say.
 
+import { become } from "./become.js";
 import { byId, element, withAttributes } from "./dom.js";
 import { button } from "./livepage.js";
 import { counted } from "./text.js";
@@ -70,11 +71,11 @@ export class Bar {
     const { live } = this;
     this.room.hidden = live.state === null;
     if (live.state) {
-      this.lines[0].replaceChildren(...this.tabs(), ...this.file());
-      this.buttons.replaceChildren(...this.ofChosen());
-      this.lines[2].replaceChildren(...this.sides());
-      this.lines[3].replaceChildren(...this.alerts());
-      this.lines[4].replaceChildren(...live.theirs.rows());
+      become(this.lines[0], [...this.tabs(), ...this.file()]);
+      become(this.buttons, this.ofChosen());
+      become(this.lines[2], this.sides());
+      become(this.lines[3], this.alerts());
+      become(this.lines[4], live.theirs.rows());
       this.lines.forEach((line, at) => (line.hidden = at !== 1 && line.childNodes.length === 0));
     }
   }

@@ -5,9 +5,9 @@ import { Beside } from "./beside.js";
 import { byId } from "./dom.js";
 import { follow } from "./following.js";
 import { begin, editChosen } from "./forms.js";
-import { afterFrame } from "./frames.js";
+import { afterFrame, now } from "./frames.js";
 import { makeLegend } from "./legend.js";
-import { LivePage } from "./livepage.js";
+import { LivePage, LONG } from "./livepage.js";
 import { directiveOf } from "./meant.js";
 import { Motion } from "./motion.js";
 import { Offers } from "./offers.js";
@@ -64,8 +64,6 @@ export class Live {
     this.made = null;
     /** @type {Run | null} what the page shows, as it was read so far */
     this.run = null;
-    /** @type {ReturnType<typeof setTimeout> | undefined} */
-    this.reading = undefined;
     /** @type {{ text: string, yes: string, does: () => void } | null} */
     this.question = null;
     this.hasGone = false;
@@ -212,14 +210,19 @@ export class Live {
     this.readOn();
   }
 
-  /** Reads what is left of a long run, some at a time. */
+  /** Reads what is left of a long run, some at a time, once what is read so far is drawn. */
   readOn() {
     const { run, page } = this;
-    clearTimeout(this.reading);
     if (run?.isWhole) {
-      tellCounts(run.model);
+      // What is told at once of a short run takes long for one of thousands.
+      (run.of > LONG ? afterFrame : now)(() => tellCounts(run.model));
     } else if (run && page) {
-      this.reading = setTimeout(() => this.readSome(run, page).catch((fault) => this.lost(fault)));
+      const { version } = run;
+      afterFrame(() => {
+        if (run === this.run && version === run.version) {
+          this.readSome(run, page).catch((fault) => this.lost(fault));
+        }
+      });
     }
   }
 

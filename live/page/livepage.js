@@ -1,9 +1,12 @@
 // The page of a run, in which each node's card says what the node may do, and each message on its way can be delivered or dropped.
 
-import { element, withAttributes } from "./dom.js";
+import { become, keepChildren } from "./become.js";
+import { byId, element, withAttributes } from "./dom.js";
+import { afterFrame, now } from "./frames.js";
 import { measureFrom, placeFrom } from "./further.js";
 import { wayOf } from "./meant.js";
 import { Page } from "./page.js";
+import { LogsPane, Pane } from "./pane.js";
 import { instantAt } from "./position.js";
 import { State } from "./state.js";
 import { messageText } from "./words.js";
@@ -20,6 +23,12 @@ const OF_NODE = [
 ];
 // How near to a line of the picture a click counts as one on it, in pixels.
 const NEAR = 7;
+// What goes over all of a run with more directives is done once the page is drawn.
+export const LONG = 200;
+// How much room a script has below its last line.
+const BELOW = 40;
+// A taller picture is scrolled by parts of its height (picture.js).
+const TALLEST = 8_000_000;
 
 /**
  * A button that says why if it can't be used: it can be reached and read all the same.
@@ -51,6 +60,9 @@ class LiveState extends State {
   constructor(model, search, choose, live) {
     super(model, search, choose);
     this.live = live;
+    // What is being listed as it comes into view, or open, is made anew.
+    keepChildren(this.pane, () => this.growing.size === 0 && !this.isOpen);
+    this.pane = /** @type {any} */ (new Pane(this.pane));
   }
 
   /**
@@ -154,10 +166,58 @@ export class LivePage extends Page {
     drawing.addEventListener("click", (event) => this.clicked(event), { capture: true });
     drawing.addEventListener("pointermove", (event) => drawing.classList.toggle("can-deliver", this.messageAt(event) !== null));
     this.script.pane.addEventListener("dblclick", () => live.edit());
+    this.keepWhatStays();
+    this.usePanes();
+  }
+
+  /** Has what is drawn again stay where it is as it was. */
+  keepWhatStays() {
+    const { picture, script } = this;
+    [script.list, script.texts, picture.description, this.logs.pane, ...this.search.choices].forEach((element) => keepChildren(element));
+    picture.drawing.replaceChildren = (...children) => {
+      /** @type {import("./become.js").Kept} */
+      const kept = new Map();
+      become(picture.drawing, children, kept);
+      const { painter } = picture;
+      if (painter) {
+        painter.labels = new Map([...painter.labels].map(([label, message]) => [/** @type {Element} */ (kept.get(label) ?? label), message]));
+        painter.arrows = /** @type {SVGElement} */ (kept.get(painter.arrows) ?? painter.arrows);
+      }
+    };
+    knowWidths(byId("where"));
+  }
+
+  /** Has the parts know where their panes are scrolled to, and how large these are, without asking the browser. */
+  usePanes() {
+    const { picture, script, logs } = this;
+    const { most } = logs;
+    const highest = () => script.tops[script.tops.length - 1] + script.more + BELOW - script.pane.clientHeight;
+    const panes = [new Pane(picture.scroll), new Pane(script.pane, highest, () => script.draw()), new LogsPane(logs.pane, () => logs.most > most)];
+    [picture.scroll, script.pane, logs.pane] = /** @type {any[]} */ (panes);
+    for (const part of [picture, script]) {
+      const { resized } = part;
+      let width = "";
+      part.resized = () => {
+        panes.forEach((pane) => pane.measure());
+        // Letters are as wide as they were, unless the reader makes them larger.
+        const now = `${script.pane.clientWidth} ${devicePixelRatio}`;
+        if (part === script && now === width) {
+          script.show();
+          script.draw();
+        } else {
+          resized.call(part);
+        }
+        width = now;
+      };
+    }
   }
 
   get picture() {
     return /** @type {Picture} */ (this.parts[0]);
+  }
+
+  get logs() {
+    return /** @type {import("./logs.js").Logs} */ (this.parts[2]);
   }
 
   get state() {
@@ -202,16 +262,36 @@ export class LivePage extends Page {
    * @param {Position} position
    */
   showFrom(front, position) {
-    this.player.stop();
+    if (this.player.isPlaying()) {
+      this.player.stop();
+    }
     this.chosen = this.within(position);
     this.goFurther(front);
     const { picture, script, chosen } = this;
     Object.assign(picture, { chosen, painter: null, traced: null, described: "" });
-    picture.resized();
+    this.drawPicture();
     script.show();
     script.draw();
     this.parts.slice(2).forEach((part) => part.replace(this.model, chosen));
     this.tell();
+  }
+
+  /** Draws the picture as high as it is now, with what is chosen in view. */
+  drawPicture() {
+    const { picture } = this;
+    // It is drawn here, and not once more in the next frame.
+    picture.isDrawn = true;
+    this.fitPicture();
+    picture.show();
+    picture.draw();
+    picture.isDrawn = false;
+  }
+
+  /** Has the picture's pane be as high as the picture. */
+  fitPicture() {
+    const { picture } = this;
+    byId("extent").style.height = `${Math.min(picture.layout.height, TALLEST)}px`;
+    picture.scrollTo(picture.top);
   }
 
   /**
@@ -219,10 +299,10 @@ export class LivePage extends Page {
    * @param {number} front
    */
   goFurther(front) {
-    const { picture, script, model, chosen } = this;
-    // A filter's type may be in what isn't read yet.
-    if (this.live.run?.isWhole) {
-      this.search.replace(model);
+    const { picture, script, model, chosen, search, live: { run } } = this;
+    // A filter's type may be in what isn't read yet. While none is chosen, which ones there are may be told later.
+    if (run?.isWhole) {
+      (run.of > LONG && !search.isFiltered() ? afterFrame : now)(() => search.replace(model));
     }
     if (!placeFrom(picture.layout, front)) {
       picture.replace(model, chosen);
@@ -233,7 +313,7 @@ export class LivePage extends Page {
 
   /** What is only right once all directives have their places. */
   finish() {
-    this.picture.resized();
+    this.fitPicture();
     this.script.draw();
     this.tell();
   }
@@ -318,4 +398,20 @@ function distance([x, y], [ax, ay], [bx, by]) {
   const [dx, dy] = [bx - ax, by - ay];
   const part = Math.max(0, Math.min(1, ((x - ax) * dx + (y - ay) * dy) / (dx * dx + dy * dy || 1)));
   return Math.hypot(x - ax - part * dx, y - ay - part * dy);
+}
+
+/**
+ * Has it be known how wide an element is with a text: digits are all as wide as zeros. A browser that is asked lays all out that has changed.
+ * @param {HTMLElement} element
+ */
+function knowWidths(element) {
+  /** @type {Map<string, DOMRect>} */
+  const known = new Map();
+  const { getBoundingClientRect } = element;
+  element.getBoundingClientRect = () => {
+    const like = `${(element.textContent ?? "").replace(/[1-9]/g, "0")} ${innerWidth} ${devicePixelRatio}`;
+    const found = known.get(like) ?? getBoundingClientRect.call(element);
+    known.set(like, found);
+    return found;
+  };
 }
