@@ -226,12 +226,10 @@ class Cluster:
     def do_stabilize(self, words: Words, options: Given, _: Input) -> None:
         chosen, rounds = sorted(set(words)) or list(self.nodes), options.get("rounds", 200)
         for _round in range(rounds):
-            if not self.has_work(chosen):
+            were_ready = [self.process(id) for id in chosen]
+            delivered = [self.deliver(id) for id in chosen]
+            if not any(were_ready) and not any(delivered):
                 return
-            for id in chosen:
-                self.process(id)
-            for id in chosen:
-                self.deliver(id)
         if self.has_work(chosen):
             self.put(f"stopped after {rounds} rounds")
 

@@ -4,7 +4,7 @@ docs/SCRIPTS.md, which are Ongaro's thesis and the documentation of etcd's raft.
 from __future__ import annotations
 
 import dataclasses
-from typing import Any, NamedTuple, Sequence
+from typing import Any, Mapping, NamedTuple, Sequence
 
 from .config import Change, ChangeFault, Config, both, changed, commit_of, vote_result
 from .records import Body, Entry, Event, Hard, Message, Numbered, Options, Read, Ready, Snapshot
@@ -79,7 +79,30 @@ class View:
         return self.state, self.match, self.next, self.active, self.waiting, self.pending, tuple(self.window)
 
 
+# What a node of a role does with a message, by name, so that a node which changes a rule is asked for its own.
+CASES = {
+    ("candidate", "MsgVoteResp"): "count_vote",
+    ("precandidate", "MsgPreVoteResp"): "count_vote",
+    ("candidate", "MsgProp"): "drop",
+    ("precandidate", "MsgProp"): "drop",
+    ("follower", "MsgProp"): "pass_proposal",
+    ("follower", "MsgTransferLeader"): "pass_transfer",
+    ("follower", "MsgTimeoutNow"): "campaign_by_transfer",
+    ("follower", "MsgHeartbeat"): "take_beat",
+    ("follower", "MsgApp"): "take_append",
+    ("follower", "MsgSnap"): "take_snapshot",
+    ("leader", "MsgProp"): "take_proposal",
+    ("leader", "MsgAppResp"): "take_answer",
+    ("leader", "MsgHeartbeatResp"): "take_beat_answer",
+    ("leader", "MsgTransferLeader"): "start_transfer",
+}
+
+
 class Node:
+    cases: Mapping[tuple[str, str], str] = CASES
+    # Messages that a node's own clients cause: these have no term.
+    without_term: Sequence[str] = ("MsgProp", "MsgTransferLeader")
+
     def __init__(self, id: int, config: Config, index: int, content: bytes, options: Options) -> None:
         self.id, self.options = id, options
         self.start_from(Disk(Hard(0, 0, index), index, 1 if index else 0, content, config, (), 0))
@@ -189,10 +212,16 @@ class Node:
         self.tell("DEBUG", f"ignored {m.kind} from {m.sender}")
 
     def send(self, kind: str, to: int, **parts: Any) -> None:
+        m = Message(kind, self.id, to, **{"term": self.term, **parts})
+        (self.waiting if self.waits(m) else self.sent).append(m)
+
+    def waits(self, m: Message) -> bool:
         """Answers to votes and appends wait until what they rest on is durable (3.8); all else goes out at once."""
-        parts.setdefault("term", self.term)
-        waits = kind in ("MsgVoteResp", "MsgPreVoteResp", "MsgAppResp")
-        (self.waiting if waits else self.sent).append(Message(kind, self.id, to, **parts))
+        return m.kind in ("MsgVoteResp", "MsgPreVoteResp", "MsgAppResp")
+
+    def answer_itself(self, kind: str, **parts: Any) -> None:
+        """Its own vote and its own entries count as others' do: by an answer that waits."""
+        self.send(kind, self.id, **parts)
 
     # Roles
 
@@ -217,7 +246,7 @@ class Node:
         coming = self.entries_from(self.applied + 1, self.commit)
         reasons = [
             ("leader", self.role == "leader"),
-            ("not a voter", self.id not in self.config.voters()),
+            ("not a voter", not self.config.is_voter(self.id)),
             ("snapshot pending", self.restored),
             ("change pending", any(isinstance(entry.body, Change) for _, entry in coming)),
             ("term limit", self.term + 1 > TERM_LIMIT),
@@ -246,7 +275,7 @@ class Node:
     def ask(self, kind: str, term: int, by_transfer: bool) -> None:
         for id in sorted(self.config.voters()):
             if id == self.id:
-                self.send(kind + "Resp", id, term=term)
+                self.answer_itself(kind + "Resp", term=term)
             else:
                 last = self.last()
                 self.send(kind, id, term=term, index=last, log_term=self.term_at(last), by_transfer=by_transfer)
@@ -275,7 +304,7 @@ class Node:
             return False
         self.entries.append(Entry(self.term, body))
         self.uncommitted += self.size_of(body)
-        self.send("MsgAppResp", self.id, index=self.last())
+        self.answer_itself("MsgAppResp", index=self.last())
         return True
 
     @staticmethod
@@ -348,7 +377,7 @@ class Node:
     # Messages
 
     def step(self, m: Message) -> None:
-        if m.kind not in ("MsgProp", "MsgTransferLeader"):
+        if m.kind not in self.without_term:
             if self.is_undisturbed(m):
                 return self.ignore(m)
             if m.term > self.term:
@@ -389,7 +418,7 @@ class Node:
     def by_role(self, m: Message) -> None:
         if self.role in ("candidate", "precandidate") and m.kind in ("MsgApp", "MsgHeartbeat", "MsgSnap"):
             self.follow(self.term, m.sender)
-        getattr(self, CASES.get((self.role, m.kind), "ignore"))(m)
+        getattr(self, self.cases.get((self.role, m.kind), "ignore"))(m)
 
     def count_vote(self, m: Message) -> None:
         self.votes.setdefault(m.sender, not m.refused)
@@ -500,7 +529,7 @@ class Node:
             return self.tell("WARN", f"can't read {id}")
         self.reads[id] = PendingRead(self.commit, {self.id})
         for to in self.others():
-            self.send("MsgHeartbeat", to, commit=min(self.views[to].match, self.commit), context=id)
+            self.beat(to, id)
         return self.serve(id)
 
     def serve(self, id: int) -> None:
@@ -576,7 +605,7 @@ class Node:
             self.sends(m.sender, "tell" if was_paused else "news")
         self.send_rest(m.sender)
         if m.sender == self.transferee and view.match == self.last():
-            self.send("MsgTimeoutNow", m.sender)
+            self.hand_over(m.sender)
 
     def commits(self) -> bool:
         """Commits what a quorum holds, if it is of the leader's own term (3.6.2), and tells all."""
@@ -600,14 +629,18 @@ class Node:
         return None
 
     def start_transfer(self, m: Message) -> None:
-        if m.target not in self.config.voters() or m.target in (self.id, self.transferee):
+        if not self.config.is_voter(m.target) or m.target in (self.id, self.transferee):
             return self.ignore(m)
         self.end_transfer()
         self.elapsed, self.transferee = 0, m.target
         self.tell("INFO", f"starts transfer to {m.target}")
         if m.target in self.views and self.views[m.target].match == self.last():
-            return self.send("MsgTimeoutNow", m.target)
+            return self.hand_over(m.target)
         return self.sends(m.target, "tell")
+
+    def hand_over(self, to: int) -> None:
+        """Asks a node that has all of its log to campaign at once."""
+        self.send("MsgTimeoutNow", to)
 
     def end_transfer(self) -> None:
         if self.transferee:
@@ -619,7 +652,7 @@ class Node:
     def tick(self) -> None:
         self.elapsed = min(self.elapsed + 1, GREATEST_TIMEOUT)
         if self.role != "leader":
-            if self.id in self.config.voters() and self.elapsed >= self.timeout:
+            if self.elapsed >= self.timeout and self.config.is_voter(self.id):
                 self.elapsed = 0
                 self.campaign()
             return
@@ -629,7 +662,11 @@ class Node:
         if self.beat_elapsed >= 1:
             self.beat_elapsed = 0
             for id in self.others():
-                self.send("MsgHeartbeat", id, commit=min(self.views[id].match, self.commit))
+                self.beat(id)
+
+    def beat(self, id: int, read: int = 0) -> None:
+        """Sends a heartbeat, which says what the member may commit, and asks for a read if it is for one."""
+        self.send("MsgHeartbeat", id, commit=min(self.views[id].match, self.commit), context=read)
 
     def keeps_lead(self) -> bool:
         """What a leader looks at after each timeout: whether a quorum answers, and whether a transfer takes too long."""
@@ -651,7 +688,7 @@ class Node:
 
     def has_ready(self) -> bool:
         rest = self.sent or self.waiting or self.restored or self.commit > self.applied or self.served
-        return bool(rest or self.last() > self.durable or self.hard_state() != self.saved)
+        return bool(rest or self.base + len(self.entries) > self.durable or (self.term, self.vote, self.commit) != self.saved)
 
     def ready(self) -> Ready:
         hard = self.hard_state()
@@ -730,7 +767,7 @@ class Node:
         self.tell("INFO", f"switched to {config_text(self.config)}")
         if self.role != "leader":
             return None
-        if self.options.step_down_on_removal and self.id not in self.config.voters():
+        if self.options.step_down_on_removal and not self.config.is_voter(self.id):
             return self.follow(self.term, 0)
         return self.view_members()
 
@@ -745,22 +782,3 @@ class Node:
         if not self.commits():
             for id in added:
                 self.sends(id, "tell")
-
-
-# What a node of a role does with a message, by name, so that a node which changes a rule is asked for its own.
-CASES = {
-    ("candidate", "MsgVoteResp"): "count_vote",
-    ("precandidate", "MsgPreVoteResp"): "count_vote",
-    ("candidate", "MsgProp"): "drop",
-    ("precandidate", "MsgProp"): "drop",
-    ("follower", "MsgProp"): "pass_proposal",
-    ("follower", "MsgTransferLeader"): "pass_transfer",
-    ("follower", "MsgTimeoutNow"): "campaign_by_transfer",
-    ("follower", "MsgHeartbeat"): "take_beat",
-    ("follower", "MsgApp"): "take_append",
-    ("follower", "MsgSnap"): "take_snapshot",
-    ("leader", "MsgProp"): "take_proposal",
-    ("leader", "MsgAppResp"): "take_answer",
-    ("leader", "MsgHeartbeatResp"): "take_beat_answer",
-    ("leader", "MsgTransferLeader"): "start_transfer",
-}

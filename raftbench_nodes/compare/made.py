@@ -60,7 +60,7 @@ def note_call(made: collections.Counter[str], before: NodeBefore, node: Node, na
         made["leads lost without a quorum"] += 1
     if node.config is not before.config and name == "advance":
         made["changes applied"] += 1
-        made["leaders removed"] += before.role == "leader" and node.id not in node.config.voters()
+        made["leaders removed"] += before.role == "leader" and not node.config.is_voter(node.id)
     if message:
         note_message(made, before, node, message)
 

@@ -41,7 +41,7 @@ def view_relation(node: Node, m: Message) -> tuple[object, ...]:
     """How an answer relates to what a leader knows of its sender."""
     view = node.views.get(m.sender) if node.role == "leader" else None
     if view is None:
-        return (m.sender in node.config.voters(), m.sender in node.votes)
+        return (node.config.is_voter(m.sender), m.sender in node.votes)
     return view.state, view.waiting, view.active, sign(m.index, view.match), sign(m.index + 1, view.next), len(view.window) >= node.options.inflight, node.transferee == m.sender
 
 

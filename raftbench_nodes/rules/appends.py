@@ -22,15 +22,19 @@ class AppendRules(Ruled):
             return self.take_compared(m)
         if self.on("append-below-commit-counts") and m.index < self.commit and not self.is_against_commit(m):
             return self.take_below_commit(m)
-        is_refused = m.index >= self.commit and self.term_at(m.index) != m.log_term
-        if self.on("refusal-has-term") and is_refused:
+        if m.index < self.commit and self.on("old-append-answered"):
+            return self.answer_append(m, index=self.commit)
+        if m.index >= self.commit and self.term_at(m.index) != m.log_term:
+            return self.refuse_append(m)
+        return super().take_append(m)
+
+    def refuse_append(self, m: Message) -> None:
+        if self.on("refusal-has-term"):
             # Below its base it takes each term for 0, which always agrees; so does the leader.
             hint = self.hint(m.index, m.log_term) or max(self.base - 1, 0)
             return self.answer_append(m, refused=True, index=m.index, hint=hint, log_term=self.term_at(hint) or 0)
-        if self.on("refusal-hints-last") and is_refused:
+        if self.on("refusal-hints-last"):
             return self.answer_append(m, refused=True, index=m.index, hint=self.last_told())
-        if self.on("old-append-answered") and m.index < self.commit:
-            return self.answer_append(m, index=self.commit)
         return super().take_append(m)
 
     def is_against_commit(self, m: Message) -> bool:

@@ -292,7 +292,7 @@ class CallRules(Ruled):
             return
         member = self.members[to]
         if member.next > self.last() and not member.is_deferred and not member.serves:
-            self.send("MsgTimeoutNow", to)
+            super().hand_over(to)
 
     def campaign_by_transfer(self, m: Message) -> None:
         """Whoever is asked campaigns, unless it does: the request has no term."""

@@ -49,7 +49,7 @@ class CampaignRules(Ruled):
         if self.on("declined-campaign-forgets-leader") and self.why_not_now(kind) == "not a voter":
             self.lead = 0
         super().campaign(kind)
-        if (self.on("unstable-member-campaigns") or self.on("messages-are-calls")) and self.role == "candidate" and self.id not in self.config.voters():
+        if (self.on("unstable-member-campaigns") or self.on("messages-are-calls")) and self.role == "candidate" and not self.config.is_voter(self.id):
             self.vote = 0
         if self.on("pre-vote-restarts-clock") and self.role == "precandidate" and kind == "usual" and self.why_not_now(kind) is None:
             self.elapsed = 0

@@ -85,8 +85,7 @@ class ChangeRules(Ruled):
 
     def commits(self) -> bool:
         moved = super().commits()
-        is_gone = self.role == "leader" and self.id not in self.config.voters() and not self.is_unstable()
-        if self.on("leaves-when-committed") and is_gone:
+        if self.on("leaves-when-committed") and self.role == "leader" and not self.config.is_voter(self.id) and not self.is_unstable():
             self.follow(self.term, 0)
         return moved
 
@@ -107,7 +106,7 @@ class ChangeRules(Ruled):
 
     def apply_change(self, index: int, change: Change) -> None:
         if self.on("change-counts-when-appended"):
-            is_gone = self.role == "leader" and self.id not in self.config.voters()
+            is_gone = self.role == "leader" and not self.config.is_voter(self.id)
             if is_gone and self.options.step_down_on_removal and not self.on("leaves-when-committed"):
                 self.follow(self.term, 0)
             return
@@ -118,7 +117,7 @@ class ChangeRules(Ruled):
     def view_members(self) -> None:
         self.is_growing = True
         self.views = {id: view for id, view in self.views.items() if id not in self.removed}
-        if self.on("demoted-leader-stops") and self.id not in self.config.voters():
+        if self.on("demoted-leader-stops") and not self.config.is_voter(self.id):
             self.view_added()
         elif self.on("change-tells-all"):
             self.view_added()

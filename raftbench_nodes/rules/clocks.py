@@ -1,8 +1,6 @@
 """Rules of time: whose timeouts pass, when a leader misses its quorum, and what it sends at a tick."""
 from __future__ import annotations
 
-from typing import Any
-
 from plain.config import both
 from plain.node import View
 from plain.records import Message
@@ -73,7 +71,7 @@ class ClockRules(Ruled):
 
     def time_out_nonvoter(self) -> None:
         """The timeout of a node that doesn't vote may pass too."""
-        is_due = self.role != "leader" and self.id not in self.config.voters() and self.elapsed >= self.timeout
+        is_due = self.role != "leader" and self.elapsed >= self.timeout and not self.config.is_voter(self.id)
         if self.on("nonvoter-times-out") and is_due:
             self.elapsed = 0
             self.campaign()
@@ -100,10 +98,10 @@ class BeatRules(Ruled):
             if self.views[id].state == "snapshot":
                 self.send("MsgApp", id, index=self.last(), log_term=self.last_term(), commit=self.commit, entries=())
 
-    def send(self, kind: str, to: int, **parts: Any) -> None:
-        """Heartbeats that are appends have no message of their own. Those that a read asks for have a context."""
-        if kind != "MsgHeartbeat" or "context" in parts or not self.on("heartbeats-append"):
-            super().send(kind, to, **parts)
+    def beat(self, id: int, read: int = 0) -> None:
+        """Heartbeats that are appends have no message of their own, but those that a read asks for."""
+        if read or not self.on("heartbeats-append"):
+            super().beat(id, read)
 
     def sends(self, id: int, mode: str) -> None:
         if not self.is_held:

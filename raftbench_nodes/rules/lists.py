@@ -20,7 +20,7 @@ from .reads import ReadRules
 from .saves import AcknowledgeRules, SaveRules
 from .streams import StreamRules
 from .switches import Unknown, switches_of
-from .terms import TermRules, VoteRules
+from .terms import OtherTermRules, PreVoteTermRules, TermRules, VoteRules
 from .transfers import TransferRules
 from .views import ViewRules
 
@@ -28,8 +28,8 @@ LIKE = pathlib.Path(__file__).resolve().parents[2] / "nodes" / "like"
 
 # All rules. What an earlier class does is done before, or instead of, what a later one does.
 RULES: tuple[type[Ruled], ...] = (
-    CallRules, LimitRules, StreamRules, ReadRules, CampaignRules, QuorumRules, ClockRules, TermRules, VoteRules, TransferRules, BeatRules, ViewRules,
-    AppendRules, AcknowledgeRules, SaveRules, ChangeRules, OwnRules,
+    CallRules, LimitRules, StreamRules, ReadRules, CampaignRules, QuorumRules, ClockRules, PreVoteTermRules, TermRules, OtherTermRules, VoteRules,
+    TransferRules, BeatRules, ViewRules, AppendRules, AcknowledgeRules, SaveRules, ChangeRules, OwnRules,
 )
 
 

@@ -58,19 +58,16 @@ class OwnRules(Ruled):
         "answers-in-order", "answers-wait-for-log", "change-counts-when-appended", "commit-told-later", "last-saved-commits", "own-answers-at-once",
         "own-commit-applies-at-once", "own-entry-before-change", "own-vote-at-once", "saved-answers-in-order",
     ))
-    # While it is true: own answers are of itself; nothing is sent to all.
-    is_own = is_quiet = False
+    is_quiet = False  # while nothing is sent to all
 
-    def send(self, kind: str, to: int, **parts: Any) -> None:
-        is_at_once = self.on("own-answers-at-once") or self.on("own-vote-at-once") and kind != "MsgAppResp"
-        if is_at_once and to == self.id and self.is_own:
-            return
-        waiting = len(self.waiting)
-        super().send(kind, to, **parts)
+    def answer_itself(self, kind: str, **parts: Any) -> None:
+        if not self.on("own-answers-at-once") and (kind == "MsgAppResp" or not self.on("own-vote-at-once")):
+            super().answer_itself(kind, **parts)
+
+    def waits(self, m: Message) -> bool:
         # An answer to itself that is no own one is to a snapshot that it was made to send itself.
-        is_message = to != self.id or self.on("own-answers-at-once")
-        if is_message and len(self.waiting) > waiting and self.is_in_order(self.waiting[-1]):
-            self.sent.append(self.waiting.pop())
+        is_message = m.to != self.id or self.on("own-answers-at-once")
+        return super().waits(m) and not (is_message and self.is_in_order(m))
 
     def is_in_order(self, m: Message) -> bool:
         """Whether an answer doesn't wait until all else is sent."""
@@ -83,10 +80,7 @@ class OwnRules(Ruled):
             self.votes[self.id] = True
             if vote_result(self.config, self.votes) == "won":
                 return self.win()
-        self.is_own = True
-        super().ask(kind, term, by_transfer)
-        self.is_own = False
-        return None
+        return super().ask(kind, term, by_transfer)
 
     def win(self) -> None:
         if self.role != "candidate":
@@ -101,9 +95,7 @@ class OwnRules(Ruled):
             super().tell_all()
 
     def append(self, body: Body) -> bool:
-        self.is_own = True
         done = super().append(body)
-        self.is_own = False
         is_change = done and isinstance(body, Change)
         if is_change and not self.on("own-entry-before-change"):
             self.recount()

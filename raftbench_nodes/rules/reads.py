@@ -1,13 +1,13 @@
 """Rules of reads, where followers forward them (6.4)."""
 from __future__ import annotations
 
-from typing import Any
-
 from plain.config import both
-from plain.node import Disk, PendingRead, View
+from plain.node import CASES, Disk, PendingRead, View
 from plain.records import Message, Read
 
 from .own import Ruled
+
+ROLES = ("follower", "precandidate", "candidate", "leader")
 
 
 class ReadRules(Ruled):
@@ -16,6 +16,8 @@ class ReadRules(Ruled):
     serves = frozenset(("reads-are-forwarded",))
     early: tuple[Message, ...] = ()  # asked for before the leader has committed in its term
     askers: dict[int, int] = {}  # who asked for which read
+    cases = {**CASES, **{(role, "MsgReadIndex"): "take_read" for role in ROLES}, ("follower", "MsgReadIndexResp"): "take_read_answer"}
+    without_term = (*Ruled.without_term, "MsgReadIndex")
     is_answering = False  # while an answer to an append is taken
 
     def start_from(self, disk: Disk) -> None:
@@ -25,17 +27,8 @@ class ReadRules(Ruled):
     def read(self, id: int) -> None:
         self.take_read(Message("MsgReadIndex", self.id, self.id, context=id))
 
-    def step(self, m: Message) -> None:
-        if m.kind == "MsgReadIndex":
-            self.take_read(m)
-        else:
-            super().step(m)
-
-    def by_role(self, m: Message) -> None:
-        if m.kind == "MsgReadIndexResp" and self.role == "follower":
-            self.served.append(Read(m.context, m.index))
-        else:
-            super().by_role(m)
+    def take_read_answer(self, m: Message) -> None:
+        self.served.append(Read(m.context, m.index))
 
     def take_read(self, m: Message) -> None:
         if self.role == "follower" and self.lead:
@@ -53,7 +46,7 @@ class ReadRules(Ruled):
         if m.context not in self.reads:
             self.reads[m.context], self.askers[m.context] = PendingRead(self.commit, {self.id}), m.sender
         for to in self.others():
-            self.send("MsgHeartbeat", to, commit=min(self.views[to].match, self.commit), context=m.context)
+            self.beat(to, m.context)
 
     def answer_read(self, id: int, asker: int, index: int) -> None:
         if asker == self.id:
@@ -61,10 +54,8 @@ class ReadRules(Ruled):
         else:
             self.send("MsgReadIndexResp", asker, index=index, context=id)
 
-    def send(self, kind: str, to: int, **parts: Any) -> None:
-        if kind == "MsgHeartbeat" and self.reads:
-            parts.setdefault("context", next(reversed(self.reads)))
-        super().send(kind, to, **parts)
+    def beat(self, id: int, read: int = 0) -> None:
+        super().beat(id, read or next(reversed(self.reads), 0))
 
     def take_beat_answer(self, m: Message) -> None:
         """Once a quorum has answered for a read, it is served, and so are those that were asked for before."""

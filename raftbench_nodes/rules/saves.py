@@ -9,6 +9,10 @@ from plain.records import Message, Numbered, Ready
 from .own import Ruled
 
 
+# What a restored snapshot moves once it is saved.
+MOVES_LATER = frozenset(("applied", "content"))
+
+
 class SaveRules(Ruled):
     """What is saved when, and what a restart leaves."""
 
@@ -18,7 +22,7 @@ class SaveRules(Ruled):
     ))
 
     def unsettled(self) -> frozenset[str]:
-        return frozenset(("applied", "content")) if self.on("applied-when-saved") and self.restored else super().unsettled()
+        return MOVES_LATER if self.restored and self.on("applied-when-saved") else super().unsettled()
 
     def save(self, done: Save) -> None:
         before, saved = self.durable, done.disk

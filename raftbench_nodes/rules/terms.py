@@ -15,14 +15,10 @@ ANSWERS = ("MsgAppResp", "MsgVoteResp", "MsgPreVoteResp", "MsgHeartbeatResp")
 ASKERS = {"MsgVoteResp": ("candidate",), "MsgPreVoteResp": ASKING}
 
 
-class TermRules(Ruled):
-    """What the term of a message changes."""
+class PreVoteTermRules(Ruled):
+    """The terms of pre-votes, and of their answers."""
 
-    serves = frozenset((
-        "answers-need-their-role", "earlier-append-refused", "earlier-vote-refused", "heartbeat-answers-have-no-term", "later-term-keeps-clock", "lead-is-kept",
-        "leader-follows-another", "pre-vote-answer-has-asked-term", "pre-vote-brings-term", "pre-vote-refusal-keeps-term", "stale-leader-keeps-term",
-        "stranger-ignored", "term-0-is-taken", "transfer-has-term",
-    ))
+    serves = frozenset(("pre-vote-answer-has-asked-term", "pre-vote-brings-term", "pre-vote-refusal-keeps-term"))
     asked_term = 0  # of the message that is handled
 
     def step(self, m: Message) -> None:
@@ -31,17 +27,6 @@ class TermRules(Ruled):
             return self.ignore(m)
         if self.on("pre-vote-brings-term") and self.is_stale_pre_vote(m):
             return self.ignore(m)
-        if self.on("stranger-ignored") and m.kind in ANSWERS and m.sender not in self.config.members():
-            return self.ignore(m)
-        if m.kind == "MsgTransferLeader" and m.term:
-            if m.term < self.term:
-                return self.ignore(m)
-            if m.term > self.term:
-                self.raise_term(m)
-        if self.on("term-0-is-taken") and m.term == 0:
-            if self.role in ASKING and m.kind in FROM_LEADERS:
-                self.follow(0, m.sender)
-            m = m._replace(term=self.term)
         return super().step(m)
 
     def is_of_next_term(self, m: Message) -> bool:
@@ -52,6 +37,46 @@ class TermRules(Ruled):
         """Whether the sender of a pre-vote, or of its grant, is of an earlier term than this node."""
         return (m.kind == "MsgPreVote" or m.kind == "MsgPreVoteResp" and not m.refused) and m.term - 1 < self.term
 
+    def raise_term(self, m: Message) -> None:
+        if self.on("pre-vote-brings-term") and m.kind == "MsgPreVote" and m.term - 1 > self.term:
+            self.follow(m.term - 1, 0)
+        else:
+            super().raise_term(m)
+
+    def send(self, kind: str, to: int, **parts: Any) -> None:
+        if kind == "MsgPreVoteResp" and to != self.id and self.on("pre-vote-answer-has-asked-term"):
+            parts["term"] = self.asked_term
+        super().send(kind, to, **parts)
+
+
+class TermRules(Ruled):
+    """Messages whose term doesn't count, or whose sender."""
+
+    serves = frozenset(("stranger-ignored", "term-0-is-taken", "transfer-has-term"))
+
+    def step(self, m: Message) -> None:
+        if m.kind in ANSWERS and self.on("stranger-ignored") and not self.config.is_member(m.sender):
+            return self.ignore(m)
+        if m.kind == "MsgTransferLeader" and m.term:
+            if m.term < self.term:
+                return self.ignore(m)
+            if m.term > self.term:
+                self.raise_term(m)
+        if m.term == 0 and self.on("term-0-is-taken"):
+            if self.role in ASKING and m.kind in FROM_LEADERS:
+                self.follow(0, m.sender)
+            m = m._replace(term=self.term)
+        return super().step(m)
+
+
+class OtherTermRules(Ruled):
+    """What a later or an earlier term of a message changes, and another leader of the same term."""
+
+    serves = frozenset((
+        "answers-need-their-role", "earlier-append-refused", "earlier-vote-refused", "heartbeat-answers-have-no-term", "later-term-keeps-clock", "lead-is-kept",
+        "leader-follows-another", "stale-leader-keeps-term",
+    ))
+
     def answer_older(self, m: Message) -> None:
         if self.on("earlier-vote-refused") and m.kind == "MsgVote":
             return self.send("MsgVoteResp", m.sender, refused=True)
@@ -60,8 +85,6 @@ class TermRules(Ruled):
         return super().answer_older(m)
 
     def raise_term(self, m: Message) -> None:
-        if self.on("pre-vote-brings-term") and m.kind == "MsgPreVote" and m.term - 1 > self.term:
-            return self.follow(m.term - 1, 0)
         if self.on("heartbeat-answers-have-no-term") and m.kind == "MsgHeartbeatResp":
             return
         if self.on("answers-need-their-role") and m.kind in ANSWERS and self.role not in ASKERS.get(m.kind, ("leader",)):
@@ -83,11 +106,6 @@ class TermRules(Ruled):
         if self.role == "leader" and m.kind in ("MsgApp", "MsgHeartbeat") and self.on("leader-follows-another"):
             self.follow(self.term, m.sender)
         super().by_role(m)
-
-    def send(self, kind: str, to: int, **parts: Any) -> None:
-        if kind == "MsgPreVoteResp" and to != self.id and self.on("pre-vote-answer-has-asked-term"):
-            parts["term"] = self.asked_term
-        super().send(kind, to, **parts)
 
 
 class VoteRules(Ruled):
@@ -132,7 +150,7 @@ class VoteRules(Ruled):
 
     def answer_candidate(self, m: Message) -> None:
         lead, vote = self.lead, self.vote
-        if self.on("nonvoter-refuses") and self.id not in self.config.voters():
+        if self.on("nonvoter-refuses") and not self.config.is_voter(self.id):
             return self.send(f"{m.kind}Resp", m.sender, refused=True)
         if self.on("pre-vote-ignores-vote") and m.kind == "MsgPreVote":
             self.lead = self.vote = 0

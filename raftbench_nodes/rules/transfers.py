@@ -1,8 +1,6 @@
 """Rules of what is passed on to a leader, and of how a leader hands over."""
 from __future__ import annotations
 
-from typing import Any
-
 from plain.records import Message
 
 from .own import Ruled
@@ -17,14 +15,15 @@ class TransferRules(Ruled):
     ))
     has_handed_over = False  # the transfer that is under way
 
-    def send(self, kind: str, to: int, **parts: Any) -> None:
-        if kind == "MsgTimeoutNow" and self.on("transfer-goes-by-sent"):
+    def hand_over(self, to: int) -> None:
+        if self.on("transfer-goes-by-sent"):
             if self.has_handed_over:
                 return
             self.has_handed_over = True
-        if kind == "MsgTimeoutNow" and self.on("transfer-needs-whole-log"):
-            parts |= {"index": self.last(), "log_term": self.last_term()}
-        super().send(kind, to, **parts)
+        if self.on("transfer-needs-whole-log"):
+            self.send("MsgTimeoutNow", to, index=self.last(), log_term=self.last_term())
+        else:
+            super().hand_over(to)
 
     def pass_proposal(self, m: Message) -> None:
         if self.on("proposal-refused"):
@@ -50,7 +49,7 @@ class TransferRules(Ruled):
         return super().campaign_by_transfer(m)
 
     def start_transfer(self, m: Message) -> None:
-        if self.on("transfer-to-itself-ends") and m.target == self.id and self.transferee and m.target in self.config.voters():
+        if self.on("transfer-to-itself-ends") and m.target == self.id and self.transferee and self.config.is_voter(self.id):
             return self.end_transfer()
         if self.on("one-transfer-at-a-time") and self.transferee:
             return self.ignore(m)
@@ -58,5 +57,5 @@ class TransferRules(Ruled):
         if view and self.on("transfer-goes-by-sent") and m.target in self.config.voters() - {self.id, self.transferee} and view.next > self.last():
             self.end_transfer()
             self.elapsed, self.transferee = 0, m.target
-            return self.send("MsgTimeoutNow", m.target)
+            return self.hand_over(m.target)
         return super().start_transfer(m)

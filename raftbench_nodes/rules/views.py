@@ -114,7 +114,7 @@ class ViewRules(Ruled):
         self.sends(m.sender, "news")
         self.send_rest(m.sender)
         if m.sender == self.transferee and view.match == self.last():
-            self.send("MsgTimeoutNow", m.sender)
+            self.hand_over(m.sender)
 
     def take_refusal(self, m: Message, view: View) -> None:
         if self.on("refusal-has-term") and m.log_term:
