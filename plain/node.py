@@ -48,6 +48,8 @@ class PendingRead:
 class View:
     """What a leader knows of a member (etcd's Progress)."""
 
+    __slots__ = ("state", "match", "next", "active", "waiting", "pending", "window")
+
     def __init__(self, state: str, match: int, next: int, active: bool) -> None:
         self.state, self.match, self.next, self.active = state, match, next, active
         self.waiting, self.pending = False, 0
@@ -99,6 +101,11 @@ CASES = {
 
 
 class Node:
+    __slots__ = (
+        "id", "options", "disk", "saved", "restored", "base", "base_term", "base_content", "base_config", "content", "config", "entries", "durable", "applied",
+        "commit", "term", "vote", "lead", "role", "timeout", "views", "votes", "elapsed", "beat_elapsed", "transferee", "pending_change", "sent", "waiting",
+        "events", "under_way", "reads", "served", "uncommitted", "unlimited",
+    )
     cases: Mapping[tuple[str, str], str] = CASES
     # Messages that a node's own clients cause: these have no term.
     without_term: Sequence[str] = ("MsgProp", "MsgTransferLeader")

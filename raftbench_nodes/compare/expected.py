@@ -45,7 +45,7 @@ class PlannedCall:
     role: str = ""  # the node's before the call
     cut: NumberedMessage | None = None  # the message of a `step`, which is made from what the process gave before
     unheard: frozenset[int] = NONE  # members that must not be active in the views that are answered; nothing else of them counts
-    whats: list[tuple[str, str]] = dataclasses.field(default_factory=list)  # of a `step`: each message's type, and the role before it
+    whats: tuple[tuple[str, str], ...] = ()  # of a `step`: each message's type, and the role before it
 
 
 class Checker:

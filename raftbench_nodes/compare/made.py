@@ -27,6 +27,7 @@ class NodeBefore(NamedTuple):
     """What a node was before a call."""
 
     role: str
+    term: int
     base: int
     last: int
     durable: int
@@ -36,7 +37,7 @@ class NodeBefore(NamedTuple):
 
     @classmethod
     def of(cls, node: Node) -> NodeBefore:
-        return cls(node.role, node.base, node.last(), node.durable, node.commit, node.entries, node.config)
+        return cls(node.role, node.term, node.base, node.last(), node.durable, node.commit, node.entries, node.config)
 
 
 def note_start(made: collections.Counter[str], node: Node) -> None:

@@ -23,6 +23,7 @@ from ..rules.own import Ruled
 from .answers import log_of, state_of
 from .comparison import Comparison, Difference, failure
 from .expected import Checker, ExpectedState, NumberedMessage, PlannedCall
+from .made import NodeBefore
 from .runner_steps import steps_above
 from .script import directive_of
 from .stage import NEVER, Reference, allowed
@@ -49,10 +50,10 @@ class PlanningReference(Reference):
     def __init__(self, kind: type[Node], begins_at_0: bool, hello: Hello, has_views: bool) -> None:
         super().__init__(kind, begins_at_0)
         self.hello, self.has_views = hello, has_views
-        self.plain: dict[int, Node] = {}  # the same as `nodes`, all of which are plain ones
         self.asked: list[PlannedCall] = []
         self.met: set[int] = set()
         self.notes_where = True  # where the script leads
+        self.where: tuple[tuple[object, ...], ...] = ()  # what is special about a node that is called, and how the message relates to it
         self.number = 0
         self.steps_to = 0  # the node that the last call is a step of, if more may join it
 
@@ -93,7 +94,7 @@ class PlanningReference(Reference):
     def make_node(self, id: int, config: Config, index: int, content: bytes, options: Options) -> Node:
         node = super().make_node(id, config, index, content, options)
         base = {"index": index, "term": 1 if index else 0, "content": data_out(content), "config": config_out(config)}
-        self.nodes[id] = self.plain[id] = node
+        self.nodes[id] = node
         self.ask(id, "start", base=base, options=options_out(options, self.hello.limits))
         return node
 
@@ -101,19 +102,21 @@ class PlanningReference(Reference):
         self.touched.add(id)
 
     def call(self, id: int, name: str, *parts: Any) -> None:
-        if self.notes_where:
-            node = self.plain[id]
-            before = situation(node, id in self.restarted, id in self.under_way)
-            relation = (message_relation(node, parts[0]), view_relation(node, parts[0])) if name == "step" else ()
-            role, term, commit, last = node.role, node.term, node.commit, node.last()
-            super().call(id, name, *parts)
-            self.met.add(number_of((self.what, before, relation, effect(node, role, term, commit, last))))
-        else:
-            super().call(id, name, *parts)
+        super().call(id, name, *parts)
         if name == "step":
             self.ask_step(id, parts[0])
         else:
             self.ask(id, name, **PARTS[name](*parts))
+
+    def note_before(self, node: Node, before: NodeBefore, message: Message | None) -> None:
+        if self.notes_where:
+            relation = (message_relation(node, message), view_relation(node, message)) if message else ()
+            self.where = situation(node, before.last, node.id in self.restarted, node.id in self.under_way), relation
+
+    def note_after(self, node: Node, before: NodeBefore, name: str, message: Message | None) -> None:
+        super().note_after(node, before, name, message)
+        if self.notes_where:
+            self.met.add(number_of((self.what, *self.where, effect(node, before))))
 
     def ask_step(self, id: int, m: Message) -> None:
         assert isinstance(m, NumberedMessage)
@@ -123,14 +126,14 @@ class PlanningReference(Reference):
         elif self.steps_to == id:
             self.asked[-1].call["numbers"].append(m.number)
             self.asked[-1].states.append(self.expected(id))
-            self.asked[-1].whats.append((m.kind, self.role_before))
+            self.asked[-1].whats += ((m.kind, self.role_before),)
         else:
             self.ask(id, "step", numbers=[m.number])
-            self.asked[-1].whats = [(m.kind, self.role_before)]
+            self.asked[-1].whats = ((m.kind, self.role_before),)
             self.steps_to = id
 
     def numbered(self, message: Message) -> NumberedMessage:
-        sent = NumberedMessage(*message)
+        sent = NumberedMessage._make(message)
         sent.number, sent.given = self.number, len(message.entries)
         self.number += 1
         return sent
@@ -143,21 +146,15 @@ class PlanningReference(Reference):
 
     def take_ready(self, id: int) -> Ready:
         ready = super().take_ready(id)
-        ready = ready._replace(messages=[self.numbered(m) for m in ready.messages])
+        ready.messages[:] = map(self.numbered, ready.messages)
         self.steps_to = 0
         self.asked.append(PlannedCall({"call": "ready", "node": id}, answer=ready, role=self.role_before))
         return ready
 
     def finish(self, id: int) -> bool:
-        if id not in self.under_way:
+        if not super().finish(id):
             return False
         node = self.plain[id]
-        if self.notes_where:
-            before, role, term, commit, last = situation(node, id in self.restarted, False), node.role, node.term, node.commit, node.last()
-            super().finish(id)
-            self.met.add(number_of(("advance", before, effect(node, role, term, commit, last))))
-        else:
-            super().finish(id)
         self.ask(id, "advance")
         self.asked[-1].end = LogEnd(node.last(), node.last_term(), node.durable)
         return True

@@ -277,23 +277,34 @@ class Reference(Stage):
     def __init__(self, kind: type[Node] = Node, begins_at_0: bool = False) -> None:
         super().__init__(begins_at_0)
         self.kind = kind
+        self.plain: dict[int, Node] = {}  # the same as `nodes`, all of which are plain ones
         self.made: collections.Counter[str] = collections.Counter()
 
     def call(self, id: int, name: str, *parts: Any) -> None:
-        node: Any = self.nodes[id]
-        before = NodeBefore.of(node)
+        message = parts[0] if name == "step" else None
+        node, before = self.plain[id], NodeBefore.of(self.plain[id])
+        self.note_before(node, before, message)
         super().call(id, name, *parts)
-        note_call(self.made, before, node, name, parts[0] if name == "step" else None, self.nodes)  # type: ignore[arg-type]
+        self.note_after(node, before, name, message)
 
     def finish(self, id: int) -> bool:
-        node: Any = self.nodes[id]
-        before = NodeBefore.of(node)
-        is_finished = super().finish(id)
-        note_call(self.made, before, node, "advance", None, self.nodes)  # type: ignore[arg-type]
-        return is_finished
+        if id not in self.under_way:
+            return False
+        node, before = self.plain[id], NodeBefore.of(self.plain[id])
+        self.note_before(node, before, None)
+        super().finish(id)
+        self.note_after(node, before, "advance", None)
+        return True
+
+    def note_before(self, node: Node, before: NodeBefore, message: Message | None) -> None:
+        """A call is made; `message` is the one that a step brings."""
+
+    def note_after(self, node: Node, before: NodeBefore, name: str, message: Message | None) -> None:
+        """A call was made."""
+        note_call(self.made, before, node, name, message, self.plain)
 
     def make_node(self, id: int, config: Config, index: int, content: bytes, options: Options) -> Node:
-        node = self.kind(id, config, index, content, options)
+        node = self.plain[id] = self.kind(id, config, index, content, options)
         note_start(self.made, node)
         return node
 

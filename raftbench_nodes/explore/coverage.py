@@ -6,6 +6,7 @@ import hashlib
 from plain.node import Node
 from plain.records import Message
 
+from ..compare.made import NodeBefore
 
 NUMBERS: dict[tuple[object, ...], int] = {}
 
@@ -24,15 +25,15 @@ def sign(one: int, other: int) -> int:
 
 def message_relation(node: Node, m: Message) -> tuple[object, ...]:
     """How a message relates to what a node has: its term, its index, its entries, and what it says."""
-    at, commit, last = m.index, node.commit, node.last()
-    places = (at > last) - (at < last), (at > commit) - (at < commit), sign(at, node.base), node.term_at(at) == m.log_term
+    at, commit, last, base, term = m.index, node.commit, node.last(), node.base, node.term
+    places = (at > last) - (at < last), (at > commit) - (at < commit), (at > base) - (at < base), node.term_at(at) == m.log_term
     first = m.entries[0].term if m.entries else -1
     there = node.term_at(at + 1) if m.entries else None
     conflict = None if there is None else there == first
     snapshot = sign(m.snapshot.index, commit) if m.snapshot else None
     is_newer = sign(m.log_term, node.last_term()) if m.kind in ("MsgVote", "MsgPreVote") else None
     return (
-        sign(m.term, node.term), places, min(2, len(m.entries)), conflict, snapshot, is_newer, m.refused, m.by_transfer, m.sender == node.lead,
+        (m.term > term) - (m.term < term), places, min(2, len(m.entries)), conflict, snapshot, is_newer, m.refused, m.by_transfer, m.sender == node.lead,
         (m.commit > commit) - (m.commit < commit),
     )
 
@@ -45,15 +46,16 @@ def view_relation(node: Node, m: Message) -> tuple[object, ...]:
     return view.state, view.waiting, view.active, sign(m.index, view.match), sign(m.index + 1, view.next), len(view.window) >= node.options.inflight, node.transferee == m.sender
 
 
-def situation(node: Node, is_restarted: bool, is_under_way: bool) -> tuple[object, ...]:
-    """What is special about a node."""
+def situation(node: Node, last: int, is_restarted: bool, is_under_way: bool) -> tuple[object, ...]:
+    """What is special about a node, whose log ends with `last`."""
     id, config, applied = node.id, node.config, node.applied
     place = id in config.incoming, id in config.outgoing, id in config.learners
-    pending = node.restored, node.durable < node.last(), node.commit > applied, node.pending_change > applied, node.transferee != 0
+    pending = node.restored, node.durable < last, node.commit > applied, node.pending_change > applied, node.transferee != 0
     return node.role, place, bool(config.outgoing), pending, node.lead != 0, is_restarted, is_under_way
 
 
-def effect(node: Node, role: str, term: int, commit: int, last: int) -> tuple[object, ...]:
+def effect(node: Node, before: NodeBefore) -> tuple[object, ...]:
     """What a call has done."""
-    now = node.role
-    return now if now != role else "", sign(node.term, term), sign(node.commit, commit), sign(node.last(), last), bool(node.sent), bool(node.waiting)
+    role, term, commit, last = node.role, node.term, node.commit, node.last()
+    moved = (term > before.term) - (term < before.term), (commit > before.commit) - (commit < before.commit), (last > before.last) - (last < before.last)
+    return role if role != before.role else "", *moved, bool(node.sent), bool(node.waiting)
