@@ -13,7 +13,7 @@ from plain.script import Block
 from ..explore.coverage import effect, message_relation, number_of, situation, view_relation
 from ..process.node import options_out
 from ..process.process import CallFailure, Process
-from ..promises.checker import Promises
+from ..promises.checker import NoPromises, Promises
 from ..promises.clusters import WatchedCluster
 from ..promises.run import PromiseResult, PromiseRun
 from ..protocol.capabilities import reduced
@@ -284,12 +284,12 @@ def compared_at_once(asked: Sequence[PlannedCall], answers: Sequence[Answer], ch
     return AtOnce(False, None, checker.other_state(asked[other], answers[other], place, directive_of(block).name.decode("latin-1")))
 
 
-class WatchedPlanningReference(WatchedCluster, PlanningReference):
-    """The reference, held to the promises, which notes the calls that it gets."""
+class HealedReference(WatchedCluster, PlanningReference):
+    """The reference, which notes the calls that it gets in a script and while that is healed. It isn't held to the promises itself."""
 
     def __init__(self, kind: type[Node], begins_at_0: bool, hello: Hello) -> None:
         super().__init__(kind, begins_at_0, hello, False)
-        self.promises, self.notes_where = Promises(hello.without & {"status"}), False
+        self.promises, self.notes_where = NoPromises(hello.without & {"status"}), False
 
     def look_at_views(self, id: int, unheard: set[int]) -> None:
         super().look_at_views(id, unheard)
@@ -300,10 +300,10 @@ class WatchedPlanningReference(WatchedCluster, PlanningReference):
 def keeps_promises_at_once(
     blocks: Sequence[Block], process: Process, chosen: Comparison, has_all_reads: bool,
 ) -> tuple[PromiseResult | None, Difference | None]:
-    """What a script comes to with nodes that do as a reference that keeps all promises, also while it heals. If they do otherwise there is None, and how the
-    first state differs, where it is the first answer that does.
+    """What a script comes to with nodes that do as the reference, also while it heals: then they keep all promises that it keeps. If they do otherwise there
+    is None, and how the first state differs, where it is the first answer that does.
     """
-    cluster = WatchedPlanningReference(chosen.kind, chosen.begins_at_0, process.hello)
+    cluster = HealedReference(chosen.kind, chosen.begins_at_0, process.hello)
     cluster.has_all_reads = has_all_reads
     result = PromiseRun(blocks, process, chosen, cluster).result()
     if result.broken or result.failed:

@@ -343,3 +343,25 @@ class Promises:
     def ask_read(self, id: int, node: int, nodes: Mapping[int, AnyNode]) -> None:
         """A read is asked for at a node."""
         self.asked[id] = node, max(node.commit for node in nodes.values())
+
+
+class NoPromises(Promises):
+    """Checks nothing, for a reference: what it breaks doesn't count. It only notes whom leaders have heard, and what reads have to see."""
+
+    def look(self, node: AnyNode, nodes: Mapping[int, AnyNode], is_restarted: bool = False, message: Message | None = None) -> None:
+        self.activity.look(node, None if is_restarted else message)
+
+    def look_at_logs(self, nodes: Mapping[int, AnyNode], touched: set[int]) -> None:
+        pass
+
+    def look_at_ready(self, node: AnyNode, ready: Ready, nodes: Mapping[int, AnyNode], limit: int) -> None:
+        pass
+
+    def look_at_restart(self, node: AnyNode) -> None:
+        pass
+
+    def image(self, node: AnyNode, ready: Ready) -> Saved:
+        return Saved(node.term, node.vote, NOTHING)
+
+    def send_early(self, node: AnyNode, messages: Sequence[Message]) -> None:
+        pass

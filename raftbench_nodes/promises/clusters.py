@@ -11,7 +11,10 @@ from plain.script import Block
 from ..compare.runner_steps import steps_above
 from ..compare.stage import HostedCluster, Reference, Stage, allowed
 from ..process.process import Process
-from .checker import Promises, Saved, name_of
+from .checker import NOTHING, Promises, Saved, name_of
+
+# What a node has saved that nobody has looked at.
+UNSAVED = Saved(0, 0, NOTHING)
 
 
 class WatchedCluster(Stage):
@@ -52,7 +55,7 @@ class WatchedCluster(Stage):
         self.promises.send(id)
 
     def crash_while_saving(self, id: int, when: str) -> list[Message]:
-        before, early = self.promises.saved[id], super().crash_while_saving(id, when)
+        before, early = self.promises.saved.get(id, UNSAVED), super().crash_while_saving(id, when)
         if when == "after save":
             self.promises.save(id, self.image)
         elif when == "in save":
