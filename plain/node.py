@@ -155,7 +155,8 @@ class Node:
         """The term of the entry at an index, or None where that is not in the log."""
         if index == self.base:
             return self.base_term
-        return self.entries[index - self.base - 1].term if self.base < index <= self.last() else None
+        at = index - self.base - 1
+        return self.entries[at].term if 0 <= at < len(self.entries) else None
 
     def last_term(self) -> int:
         return self.entries[-1].term if self.entries else self.base_term

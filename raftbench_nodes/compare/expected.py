@@ -69,11 +69,13 @@ class Checker:
             return False
         if answer.end and planned.end and (answer.end.last, answer.end.term) != (planned.end.last, planned.end.term):
             return False
-        return all(self.differing(wanted, state) is None for wanted, state in zip(planned.states, answer.states))
+        return all([self.differing(wanted, state) is None for wanted, state in zip(planned.states, answer.states)])
 
     def differing(self, wanted: ExpectedState, came: State) -> str | None:
         """The part in which a state differs, or None."""
         ours, without = wanted.state, self.without
+        if ours == came:
+            return None
         skipped = without | wanted.skipped if wanted.skipped else without
         part = differing_part(ours, came, skipped)
         if part is None and ours.ready != came.ready and "ready" not in skipped:

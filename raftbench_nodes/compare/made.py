@@ -4,7 +4,7 @@ much was tried.
 from __future__ import annotations
 
 import collections
-from typing import Mapping, NamedTuple, Sequence
+from typing import Any, Callable, Iterator, Mapping, NamedTuple, Sequence
 
 from plain.node import Node
 from plain.records import Entry, Message
@@ -46,34 +46,71 @@ def note_start(made: collections.Counter[str], node: Node) -> None:
         made["elections won"] += 1
 
 
-def note_call(made: collections.Counter[str], before: NodeBefore, node: Node, name: str, message: Message | None, nodes: Mapping[int, Node]) -> None:
-    """Counts what a call made a node do."""
-    if name == "restart":
-        made["crashes"] += 1
-        made["crashes with unsaved entries"] += before.durable < before.last
-        note_start(made, node)
-        return
-    if name == "read" and before.role == "leader" and any(other.role == "leader" and other.term > node.term for other in nodes.values()):
-        made["reads at deposed leaders"] += 1
+Made = collections.Counter[str]
+
+
+def note_call(made: Made, what: str, before: NodeBefore, node: Node, message: Message | None, nodes: Mapping[int, Node]) -> None:
+    """Counts what a call made a node do. `what` is its name, or the type of the message that it brought."""
     if node.role == "leader" and before.role != "leader":
         made["elections won"] += 1
-    if name == "tick" and before.role == "leader" and node.role != "leader":
-        made["leads lost without a quorum"] += 1
-    if node.config is not before.config and name == "advance":
-        made["changes applied"] += 1
-        made["leaders removed"] += before.role == "leader" and not node.config.is_voter(node.id)
-    if message:
-        note_message(made, before, node, message)
+    if what in NOTED:
+        made.update(NOTED[what](before, node, message, nodes))
 
 
-def note_message(made: collections.Counter[str], before: NodeBefore, node: Node, m: Message) -> None:
-    if m.kind == "MsgVote" and m.term == node.term and node.vote != m.sender and not node.is_new(m.log_term, m.index):
-        made["votes refused by log"] += 1
-    elif m.kind == "MsgApp" and node.entries is not before.entries:
-        first = m.index - before.base
-        made["conflicts cut"] += any(0 <= at < len(before.entries) and before.entries[at].term != entry.term for at, entry in enumerate(m.entries, first))
-    elif m.kind == "MsgSnap" and node.base != before.base:
-        made["snapshots restored"] += 1
-        made["snapshots over other entries"] += before.last > before.commit
-    elif m.kind == "MsgTimeoutNow" and before.role == "follower" and node.role == "candidate":
-        made["transfers of the lead"] += 1
+# What is counted of a call or a message: each yields names of `THINGS`.
+Noting = Callable[[NodeBefore, Node, Any, Mapping[int, Node]], Iterator[str]]
+
+
+def noted_restart(before: NodeBefore, node: Node, *_: object) -> Iterator[str]:
+    yield "crashes"
+    if before.durable < before.last:
+        yield "crashes with unsaved entries"
+    if node.role == before.role == "leader":
+        yield "elections won"
+
+
+def noted_read(before: NodeBefore, node: Node, _: object, nodes: Mapping[int, Node]) -> Iterator[str]:
+    if before.role == "leader" and any(other.role == "leader" and other.term > node.term for other in nodes.values()):
+        yield "reads at deposed leaders"
+
+
+def noted_tick(before: NodeBefore, node: Node, *_: object) -> Iterator[str]:
+    if before.role == "leader" and node.role != "leader":
+        yield "leads lost without a quorum"
+
+
+def noted_advance(before: NodeBefore, node: Node, *_: object) -> Iterator[str]:
+    if node.config is not before.config:
+        yield "changes applied"
+        if before.role == "leader" and not node.config.is_voter(node.id):
+            yield "leaders removed"
+
+
+def noted_vote(_: NodeBefore, node: Node, m: Message, __: object) -> Iterator[str]:
+    if m.term == node.term and node.vote != m.sender and not node.is_new(m.log_term, m.index):
+        yield "votes refused by log"
+
+
+def noted_append(before: NodeBefore, node: Node, m: Message, _: object) -> Iterator[str]:
+    if node.entries is not before.entries:
+        pairs = enumerate(m.entries, m.index - before.base)
+        if any(0 <= at < len(before.entries) and before.entries[at].term != entry.term for at, entry in pairs):
+            yield "conflicts cut"
+
+
+def noted_snapshot(before: NodeBefore, node: Node, *_: object) -> Iterator[str]:
+    if node.base != before.base:
+        yield "snapshots restored"
+        if before.last > before.commit:
+            yield "snapshots over other entries"
+
+
+def noted_handing_over(before: NodeBefore, node: Node, *_: object) -> Iterator[str]:
+    if before.role == "follower" and node.role == "candidate":
+        yield "transfers of the lead"
+
+
+NOTED: dict[str, Noting] = {
+    "restart": noted_restart, "read": noted_read, "tick": noted_tick, "advance": noted_advance, "MsgVote": noted_vote, "MsgApp": noted_append,
+    "MsgSnap": noted_snapshot, "MsgTimeoutNow": noted_handing_over,
+}

@@ -110,11 +110,11 @@ class PlanningReference(Reference):
 
     def note_before(self, node: Node, before: NodeBefore, message: Message | None) -> None:
         if self.notes_where:
-            relation = (message_relation(node, message), view_relation(node, message)) if message else ()
+            relation = (message_relation(node, before, message), view_relation(node, message)) if message else ()
             self.where = situation(node, before.last, node.id in self.restarted, node.id in self.under_way), relation
 
-    def note_after(self, node: Node, before: NodeBefore, name: str, message: Message | None) -> None:
-        super().note_after(node, before, name, message)
+    def note_after(self, node: Node, before: NodeBefore, message: Message | None) -> None:
+        super().note_after(node, before, message)
         if self.notes_where:
             self.met.add(number_of((self.what, *self.where, effect(node, before))))
 

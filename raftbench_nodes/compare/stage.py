@@ -285,7 +285,7 @@ class Reference(Stage):
         node, before = self.plain[id], NodeBefore.of(self.plain[id])
         self.note_before(node, before, message)
         super().call(id, name, *parts)
-        self.note_after(node, before, name, message)
+        self.note_after(node, before, message)
 
     def finish(self, id: int) -> bool:
         if id not in self.under_way:
@@ -293,15 +293,15 @@ class Reference(Stage):
         node, before = self.plain[id], NodeBefore.of(self.plain[id])
         self.note_before(node, before, None)
         super().finish(id)
-        self.note_after(node, before, "advance", None)
+        self.note_after(node, before, None)
         return True
 
     def note_before(self, node: Node, before: NodeBefore, message: Message | None) -> None:
         """A call is made; `message` is the one that a step brings."""
 
-    def note_after(self, node: Node, before: NodeBefore, name: str, message: Message | None) -> None:
-        """A call was made."""
-        note_call(self.made, before, node, name, message, self.plain)
+    def note_after(self, node: Node, before: NodeBefore, message: Message | None) -> None:
+        """A call was made, which is `what`."""
+        note_call(self.made, self.what, before, node, message, self.plain)
 
     def make_node(self, id: int, config: Config, index: int, content: bytes, options: Options) -> Node:
         node = self.plain[id] = self.kind(id, config, index, content, options)

@@ -23,9 +23,9 @@ def sign(one: int, other: int) -> int:
     return (one > other) - (one < other)
 
 
-def message_relation(node: Node, m: Message) -> tuple[object, ...]:
+def message_relation(node: Node, before: NodeBefore, m: Message) -> tuple[object, ...]:
     """How a message relates to what a node has: its term, its index, its entries, and what it says."""
-    at, commit, last, base, term = m.index, node.commit, node.last(), node.base, node.term
+    at, commit, last, base, term = m.index, before.commit, before.last, before.base, before.term
     places = (at > last) - (at < last), (at > commit) - (at < commit), (at > base) - (at < base), node.term_at(at) == m.log_term
     first = m.entries[0].term if m.entries else -1
     there = node.term_at(at + 1) if m.entries else None

@@ -6,7 +6,7 @@ from __future__ import annotations
 import dataclasses
 import functools
 import operator
-from typing import Callable, Union
+from typing import Callable, NamedTuple, Union
 
 from plain.config import Config
 from plain.records import Event, Hard, Message, Numbered, Read, Ready
@@ -21,8 +21,7 @@ LEVELS = ("DEBUG", "INFO", "WARN", "ERROR", "FATAL")
 VIEW_STATES = ("probe", "replicate", "snapshot")
 
 
-@dataclasses.dataclass(slots=True)
-class State:
+class State(NamedTuple):
     """A node's state. This is the one table of its parts, in the order in which a difference is named."""
 
     role: str
@@ -36,7 +35,7 @@ class State:
     ready: bool
 
 
-STATE = tuple(field.name for field in dataclasses.fields(State))
+STATE = State._fields
 all_parts = operator.itemgetter(*STATE)
 TYPES = (str, *[int] * 5, str, dict, bool)
 CONFIGS: dict[str, Config] = {}
@@ -64,8 +63,7 @@ class LogEnd:
     durable: int
 
 
-@dataclasses.dataclass(slots=True)
-class MemberView:
+class MemberView(NamedTuple):
     """What a leader says of a member."""
 
     state: str
@@ -111,7 +109,7 @@ def hello_in(parts: Parts) -> Hello:
 
 def result_in(parts: Parts, without: frozenset[str], has_several: bool = False) -> CallResult:
     states = parts.objects("states") if has_several else [parts.needed_object("state")]
-    return CallResult([state_in(each, without) for each in states], events_in(parts), log_end_in(parts))
+    return CallResult([state_in(each, without) for each in states], events_in(parts), log_end_in(parts) if "log" in parts.value else None)
 
 
 @functools.lru_cache(maxsize=100)
@@ -160,7 +158,7 @@ def state_by_parts(parts: Parts, without: frozenset[str]) -> State:
 def events_in(parts: Parts) -> list[Event]:
     events = parts.items("events")
     for event in events:
-        if not (isinstance(event, list) and len(event) == 2 and all(isinstance(it, str) for it in event) and event[0] in LEVELS):
+        if not (type(event) is list and len(event) == 2 and event[0] in LEVELS and type(event[1]) is str):
             raise Wrong(f"{parts.where('events')}: {shown(event)} is not a pair of a level and a line")
     return [(level, printable(line)) for level, line in events]
 
@@ -171,7 +169,7 @@ def log_end_in(parts: Parts) -> LogEnd | None:
 
 
 def log_in(parts: Parts, without: frozenset[str]) -> Log:
-    base, entries = parts.needed_object("base"), entries_in(parts.objects("entries"))
+    base, entries = parts.needed_object("base"), entries_in(parts)
     for at, (index, _) in enumerate(entries, base.number("index", needed=True) + 1):
         if index != at:
             raise Wrong(f"entries: index {index}, where {at} is due")
@@ -198,7 +196,7 @@ def ready_in(parts: Parts, without: frozenset[str] = frozenset()) -> Ready:
     return Ready(
         Hard(hard.number("term"), hard.number("vote"), hard.number("commit")) if hard else None,
         (snapshot.number("index"), snapshot.number("term")) if snapshot else None,
-        entries_in(ready.objects("entries")), entries_in(ready.objects("committed")), [message_in(m) for m in ready.objects("messages")],
+        entries_in(ready), entries_in(ready, "committed"), [message_in(m) for m in ready.objects("messages")],
         ready.truth("sync"), tuple(Read(read.number("id"), read.number("index")) for read in ready.objects("reads")),
     )
 

@@ -70,13 +70,23 @@ def decoded(text: str) -> bytes:
 
 
 class Parts:
-    """An object of an answer: its parts, read by name. A part that is left out is 0, false or empty, but for one that is `needed`."""
+    """An object of an answer: its parts, read by name. A part that is left out is 0, false or empty, but for one that is `needed`. `above` is the object that
+    has this one, as `name` or at a place of that list.
+    """
 
-    def __init__(self, value: object, path: str) -> None:
+    __slots__ = ("value", "name", "above", "at")
+
+    def __init__(self, value: object, name: str = "", above: Parts | None = None, at: int | None = None) -> None:
+        self.name, self.above, self.at = name, above, at
         if not isinstance(value, dict):
-            raise Wrong(f"{path}: {shown(value)} is not an object")
+            raise Wrong(f"{self.path}: {shown(value)} is not an object")
         self.value: Json = value
-        self.path = path
+
+    @property
+    def path(self) -> str:
+        """Where in the answer this is."""
+        place = self.above.where(self.name) if self.above else self.name
+        return place if self.at is None else f"{place}[{self.at}]"
 
     def where(self, name: str) -> str:
         return f"{self.path}.{name}" if self.path else name
@@ -121,7 +131,7 @@ class Parts:
             raise Wrong(f"{self.where(name)}: {shown(value)} is not base64") from None
 
     def items(self, name: str) -> list[Any]:
-        return list(self.part(name, list, "a list", []))
+        return list(self.part(name, list, "a list", ()))
 
     def words(self, name: str, known: Iterable[str], what: str) -> frozenset[str]:
         """A list of known words."""
@@ -148,10 +158,10 @@ class Parts:
     def object(self, name: str) -> Parts | None:
         """The parts of an object in this one, or None."""
         value = self.value.get(name)
-        return None if value is None else Parts(value, self.where(name))
+        return None if value is None else Parts(value, name, self)
 
     def objects(self, name: str) -> list[Parts]:
-        return [Parts(value, f"{self.where(name)}[{at}]") for at, value in enumerate(self.items(name))]
+        return [Parts(value, name, self, at) for at, value in enumerate(self.items(name))]
 
 
 # Out: what the bench and the plain node's adapter write
@@ -234,9 +244,24 @@ def body_in(parts: Parts) -> Body:
     return change_in(change) if change else parts.data("data")
 
 
-def entries_in(all_parts: Iterable[Parts]) -> list[Numbered]:
+def entries_in(parts: Parts, name: str = "entries") -> list[Numbered]:
     """Pairs of an index and an entry."""
-    return [(parts.number("index"), Entry(parts.number("term"), body_in(parts))) for parts in all_parts]
+    return [usual_entry(value) or entry_in(Parts(value, name, parts, at)) for at, value in enumerate(parts.items(name))]
+
+
+def entry_in(parts: Parts) -> Numbered:
+    return parts.number("index"), Entry(parts.number("term"), body_in(parts))
+
+
+def usual_entry(value: Any) -> Numbered | None:
+    """An entry with a payload, none of whose parts is wrong; None for others."""
+    try:
+        index, term, data = value.get("index", 0), value.get("term", 0), value.get("data", "")
+        if type(index) is int and type(term) is int and 0 <= index <= GREATEST and 0 <= term <= GREATEST and "change" not in value:
+            return index, Entry(term, decoded(data))
+    except (AttributeError, TypeError, ValueError):
+        pass
+    return None
 
 
 class WireMessage(Message):
@@ -254,20 +279,29 @@ def message_in(parts: Parts) -> WireMessage:
     kind = parts.text("type", needed=True)
     if not is_type(kind):
         raise Wrong(f"{parts.where('type')}: {shown(kind)} is not a type of a message")
-    known: Json = {name: parts.number(json_name) for json_name, name in NUMBERS.items() if json_name in parts.value}
-    known.update((name, parts.truth(json_name)) for json_name, name in TRUTHS.items() if json_name in parts.value)
-    entries = tuple(entry for _, entry in entries_in(parts.objects("entries")))
-    if kind == "MsgProp":
-        known["body"] = entries[0].body if entries else b""
-    else:
-        known["entries"] = entries
+    value, known = parts.value, Json()
+    for json_name, name in NUMBERS.items():
+        if json_name in value:
+            known[name] = parts.number(json_name)
+    for json_name, name in TRUTHS.items():
+        if json_name in value:
+            known[name] = parts.truth(json_name)
+    if "entries" in value or kind == "MsgProp":
+        known.update(bodies_in(parts, kind))
     if kind == "MsgSnap":
         s = parts.needed_object("snapshot")
         known["snapshot"] = Snapshot(s.number("index", True), s.number("term", True), s.data("content"), config_in(s.object("config")))
-    parts.truth("before_save")
+    if "before_save" in value:
+        parts.truth("before_save")
     message = WireMessage(kind, parts.number("from", True), parts.number("to", True), **known)
-    message.json = parts.value
+    message.json = value
     return message
+
+
+def bodies_in(parts: Parts, kind: str) -> Json:
+    """The entries of a message, or what is proposed."""
+    entries = tuple([entry for _, entry in entries_in(parts)])
+    return {"body": entries[0].body if entries else b""} if kind == "MsgProp" else {"entries": entries}
 
 
 def is_early(message: Message) -> bool:

@@ -6,7 +6,7 @@ from typing import Any
 from plain.node import Disk, Save
 from plain.records import Message, Numbered, Ready
 
-from .own import Ruled
+from .own import NONE, Ruled
 
 
 # What a restored snapshot moves once it is saved.
@@ -22,7 +22,7 @@ class SaveRules(Ruled):
     ))
 
     def unsettled(self) -> frozenset[str]:
-        return MOVES_LATER if self.restored and self.on("applied-when-saved") else super().unsettled()
+        return MOVES_LATER if self.restored and self.on("applied-when-saved") else NONE
 
     def save(self, done: Save) -> None:
         before, saved = self.durable, done.disk

@@ -101,7 +101,7 @@ class Reference(Adapter):
     def start(self, parts: Parts) -> Node:
         node, base, saved = super().start(parts), parts.needed_object("base"), parts.object("saved")
         hard = Hard(0, 0, base.number("index"))
-        entries = tuple(entry for _, entry in entries_in(saved.objects("entries"))) if saved else ()
+        entries = tuple(entry for _, entry in entries_in(saved)) if saved else ()
         if saved and (kept := saved.object("hard")):
             hard = Hard(kept.number("term"), kept.number("vote"), kept.number("commit"))
         config = config_in(base.needed_object("config"))
