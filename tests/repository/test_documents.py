@@ -1,5 +1,5 @@
-"""Compares the documents with the tree. docs/PROOFS.md names each law, and only functions and clauses that are there. What docs/READING.md shows of a file
-stands in it. Links lead to files. The version's toolchain is README.md's. Documents keep to their numbers of words, and no old name of a document is left.
+"""Compares the documents with the tree. docs/PROOFS.md names each law, and only functions and clauses that are there; each of its promises names some.
+What docs/READING.md shows of a file stands in it. Links lead to files. The version's toolchain is README.md's. Documents keep to their numbers of words, and no old name of a document is left.
 """
 import collections
 import pathlib
@@ -11,7 +11,7 @@ from tests.harness import TOP
 from tests.repository.promises import bodies_of, functions_of, laws_of
 
 NAME = r"[a-z0-9]+(?:_[a-z0-9]+)+"
-# A function, and in brackets behind it some of its clauses.
+# A function, and in brackets after it some of its clauses.
 CLAUSES = re.compile(r"`([\w:]+)` \(((?:`\w+`(?:, )?)+)\)")
 # What names contracts; elsewhere a name before brackets is a command or a field.
 OF_CONTRACTS = ("README.md", "docs/ARCHITECTURE.md", "docs/DECISIONS.md", "docs/MEASURES.md", "docs/READING.md")
@@ -26,10 +26,26 @@ def parts() -> Iterator[tuple[list[str], str]]:
             yield title.split(", "), text
 
 
+def promises(text: str) -> Iterator[tuple[str, str]]:
+    """The promises of a part, each an item: its first line, and the lines at its end that name functions."""
+    for item in re.findall(r"^- .*(?:\n  .*)*", text, re.M):
+        functions = re.search(r"(?:\n  `.*)+$", item)
+        yield item.split("\n")[0], functions[0] if functions else ""
+
+
 def named_functions(text: str) -> set[str]:
-    """What the last cells of a part's tables name, as `function` or `Type::function`."""
-    cells = [CLAUSES.sub(r"`\1`", row.split("|")[2]) for row in re.findall(r"^\|.*\|$", text, re.M)]
-    return set(re.findall(r"`([\w:]+)`", " ".join(cells)))
+    """What the promises of a part name, as `function` or `Type::function`."""
+    named = [CLAUSES.sub(r"`\1`", functions) for _, functions in promises(text)]
+    return set(re.findall(r"`([\w:]+)`", " ".join(named)))
+
+
+def test_each_promise_names_functions() -> Iterator[str]:
+    """Each promise of docs/PROOFS.md ends with functions that hold it."""
+    for crates, text in parts():
+        found = list(promises(text))
+        if not found:
+            yield f"docs/PROOFS.md, {', '.join(crates)}: no promise"
+        yield from (f"docs/PROOFS.md, {', '.join(crates)}: {line} names no function" for line, functions in found if not functions)
 
 
 def test_named_functions_are_there() -> Iterator[str]:
