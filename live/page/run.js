@@ -244,7 +244,7 @@ export class Run {
   }
 
   /**
-   * Forgets messages that were sent later, and that others arrived: they are on their way again.
+   * Forgets messages that were sent later, and the arrivals of earlier ones, which are then in flight again.
    * @param {number} serial
    * @param {number} front
    */

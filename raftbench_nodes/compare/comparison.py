@@ -263,7 +263,7 @@ class Run:
         return True
 
     def broken_promises(self) -> list[BrokenPromise]:
-        """The first of each promise that is broken, without those that the reference breaks too and those that one knows."""
+        """The first of each promise that is broken, without those that the reference breaks too and accepted ones."""
         firsts: dict[str, tuple[int, str]] = {}
         for place, text in self.broken:
             if name_of(text) not in self.chosen.known_promises:

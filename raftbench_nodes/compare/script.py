@@ -1,4 +1,4 @@
-"""A directive that can be drawn, mutated and shrunk, and the text of a script of such directives."""
+"""A directive that can be drawn, mutated and shrunk, and the text of a script of them."""
 from __future__ import annotations
 
 import functools

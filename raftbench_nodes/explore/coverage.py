@@ -1,4 +1,4 @@
-"""Where a script takes the reference: each call in its context, as a number. A script that reaches a context that no other reached is worth keeping."""
+"""What a script reaches in the reference: each call in its context, as a number. A script is worth keeping if it reaches a context that no other reached."""
 from __future__ import annotations
 
 import hashlib

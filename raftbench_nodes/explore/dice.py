@@ -1,5 +1,5 @@
-"""Dice for exploring: `plain` are those of plain/dice.py, `weighted` think of partitions and elections, `sane` throw only what a real cluster
-meets: nodes that begin alike or wait to be added, and snapshots that leaders send by themselves; `mixed` are of all three, with a theme.
+"""Dice for exploring: `plain` are those of plain/dice.py, `weighted` throw partitions and elections more often, `sane` throw only what can
+happen in a real cluster: nodes that begin alike or wait to be added, and snapshots that leaders send by themselves. `mixed` throw all three, with a theme.
 """
 from __future__ import annotations
 

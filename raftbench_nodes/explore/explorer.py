@@ -1,5 +1,5 @@
-"""Exploring: scripts from seeds, and children of those that reached something new, on the nodes and on the reference; and the shortest script of each
-kind of what was found.
+"""Runs scripts from seeds, and mutations of scripts that reached something new, on the nodes and on the reference. Shrinks one script of each kind of
+finding.
 """
 from __future__ import annotations
 
@@ -28,25 +28,25 @@ from .shrinker import Budget, Shortened, Shrinker
 MOST_RUNS = 250
 # A node that doesn't answer takes its whole time at each try.
 MOST_SLOW_RUNS = 12
-# How often a script goes on without a directive at which it fails as one knows.
+# How often a script continues without a directive whose failure is accepted.
 MOST_KNOWN_FAILURES = 4
-# Of this many scripts without the runner's steps the proved program is asked about one.
+# One in this many scripts without runner's steps is also run by the proved program.
 JUDGED = 40
-# Of so many scripts that are held to promises alone, one has reads at nodes that don't lead too. Nodes that forward these are asked at once with the
-# switch reads-are-forwarded.
+# One in this many scripts that only check promises also reads at followers. Nodes that forward reads are then asked in a batch, with the switch
+# reads-are-forwarded.
 READ_EVERYWHERE = 4
-# So many scripts are asked at once in any case; after that only if one of so many agreed.
+# The first MOST_TRIED scripts are batched. Later ones only if at least one in LEAST_AGREED agreed.
 MOST_TRIED, LEAST_AGREED = 40, 6
-# So many scripts are asked first.
+# This many scripts of earlier findings are asked first.
 MOST_EARLY = 400
 # What a mistake in the reference, or in a switch, raises.
 FAULTS = (AssertionError, IndexError, KeyError)
-# What a kind ends with that shows within a directive, and no more at its end.
+# The end of a kind's name, if the difference is seen within a directive, and is gone after it.
 WITHIN = " within a directive"
 
 
 class Settings(NamedTuple):
-    """What all scripts of an exploration share. `alone`: of how many scripts one is held to promises alone, with reads; 1: all, 0: none."""
+    """What all scripts of an exploration share. Every `alone`th script only checks promises, with reads; 1: all do, 0: none."""
 
     comparison: Comparison
     dice: str
@@ -64,7 +64,7 @@ class CorpusScript(NamedTuple):
 
 
 class EarlyScript(NamedTuple):
-    """A script in which something was found the last time, which is asked first."""
+    """A script in which the last exploration found something. It is asked first."""
 
     name: bytes
     origin: str
@@ -246,7 +246,7 @@ class Explorer:
         self.tried, self.agreed = self.tried + 1, self.agreed + has_agreed
 
     def agreed_at_once(self, steps: list[Step], plan: Plan) -> tuple[list[Step], Plan | None, Difference | None]:
-        """The plan as which all nodes did, if they did, of the script without directives at which a call fails as one knows; or the first state that differs."""
+        """The plan with which all nodes agreed, or the first state that differs. The script is taken without directives whose failure is accepted."""
         if not self.may_ask_at_once():
             return steps, None, None
         tried = steps
@@ -277,7 +277,7 @@ class Explorer:
         return tuple(steps) if kinds or new else ()
 
     def beyond_known(self, steps: list[Step]) -> tuple[list[Step], Outcome]:
-        """A script without the directives at which a call fails as one knows: what comes after is looked at too."""
+        """A script without the directives whose failure is accepted, so that later ones are looked at too."""
         for _ in range(MOST_KNOWN_FAILURES):
             outcome = self.outcome(steps)
             first = outcome.first

@@ -1,4 +1,4 @@
-"""What an exploration comes to, for people and for machines: a text, JSON, which can be merged, and JUnit's XML."""
+"""The results of an exploration: as a text for people, as JSON, which can be merged, and as JUnit's XML."""
 from __future__ import annotations
 
 import collections

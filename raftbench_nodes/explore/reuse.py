@@ -1,4 +1,4 @@
-"""Asking nodes again what they were asked before: if they answer the same, a script comes to what it came to then."""
+"""Repeats the calls of an earlier exploration. If the nodes give the same answers, a script has the same result."""
 from __future__ import annotations
 
 import pathlib
@@ -9,7 +9,7 @@ from ..process.cache import Memory, ScriptRecord, Transcript
 from ..process.process import CallFailure, Process
 from ..rules.own import Ruled
 
-# So many scripts are asked again in any case; after that only if one of so many was answered as before.
+# The first MOST_TRIED scripts are asked again. Later ones only if at least one in LEAST_SAME was answered as before.
 MOST_TRIED, LEAST_SAME = 40, 6
 
 
@@ -33,7 +33,7 @@ class Recall:
         return self.opened
 
     def again(self, name: bytes, is_early: bool) -> ScriptRecord | None:
-        """What a script came to, if the nodes answer as they did then. Those that are asked first say nothing about the others."""
+        """A script's earlier result, if the nodes give the same answers again. Scripts that are asked first say nothing about the others."""
         memory = self.memory()
         known = memory.find(name) if memory and (is_early or self.tried < MOST_TRIED or self.same * LEAST_SAME >= self.tried) else None
         if known is None:

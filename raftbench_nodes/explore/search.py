@@ -1,5 +1,5 @@
-"""The search of an exploration: rounds of scripts, thrown by seeds or children of those that reached something new. What a round is made of depends on
-the rounds before alone, so the same seeds give the same result, however many workers there are.
+"""The search of an exploration: rounds of scripts, thrown by seeds or children of those that reached something new. A round depends only on
+earlier rounds, so the same seeds give the same result, however many workers there are.
 """
 from __future__ import annotations
 

@@ -1,4 +1,4 @@
-"""Stories: steps in which what the network, crashes and elections do makes sense only together. Each takes the dice and two nodes."""
+"""Stories: scenarios that combine the network, crashes and elections. Each takes the dice and two nodes."""
 from __future__ import annotations
 
 from typing import Callable, Sequence, Union

@@ -1,4 +1,4 @@
-"""Rules of libraries in which messages are calls of procedures: a leader waits for each answer, and an answer counts only for the call that it is of."""
+"""Rules of libraries in which messages are calls of procedures: a leader waits for each response, and a response counts only for its own request."""
 from __future__ import annotations
 
 from typing import Any, Sequence

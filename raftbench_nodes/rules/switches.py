@@ -59,7 +59,7 @@ SWITCHES = {
     "transfer-goes-by-sent": "a transfer's target is told to campaign once all was sent to it, even if that was lost, and only once",
     "pre-vote-restarts-clock": "asking for pre-votes begins a timeout anew",
     "pre-vote-ignores-vote": "a pre-vote is granted whoever the node voted for in that term",
-    "pre-vote-refusal-keeps-term": "a pre-vote that is refused in the next term changes nothing at a precandidate",
+    "pre-vote-refusal-keeps-term": "a precandidate ignores a refusal that has the next term",
     "pre-vote-answer-has-asked-term": "a refused pre-vote is answered with the term that was asked for",
     "pre-vote-brings-term": "a request for a pre-vote, and its grant, are of the term before the one that is asked for: their sender's",
     "transfer-needs-whole-log": "who is told to campaign does so only if the leader that it knows tells it, and if its log ends as the leader's",
@@ -89,7 +89,7 @@ SWITCHES = {
     "restart-keeps-applied": "applied and content survive a restart",
     "restart-forgets-commit": "commit isn't saved: after a restart it is where the log begins",
     "saved-at-once": "term, vote, entries and snapshots are saved when they change, so a restart loses none",
-    "messages-are-calls": "a leader has one append or snapshot at a time on its way to a member, which fails after two ticks, and then goes again; an empty one goes at each tick and \
+    "messages-are-calls": "a leader has one append or snapshot at a time on its way to a member, which times out after two ticks and is sent again; an empty one is sent at each tick and \
 after each commit. Heartbeats have no commit. An answer counts only for the call that it is of",
     "changes-wait": "a leader declines a change until the last one, and an entry of its term, are committed",
     "impossible-change-declined": "a change that can't be applied isn't appended",

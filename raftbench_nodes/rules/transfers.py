@@ -1,4 +1,4 @@
-"""Rules of what is passed on to a leader, and of how a leader hands over."""
+"""Rules of what is forwarded to a leader, and of how a leader hands over."""
 from __future__ import annotations
 
 from plain.records import Message
