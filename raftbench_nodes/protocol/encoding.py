@@ -279,7 +279,8 @@ def message_in(parts: Parts) -> WireMessage:
     kind = parts.text("type", needed=True)
     if not is_type(kind):
         raise Wrong(f"{parts.where('type')}: {shown(kind)} is not a type of a message")
-    value, known = parts.value, Json()
+    value = parts.value
+    known: Json = {}
     for json_name, name in NUMBERS.items():
         if json_name in value:
             known[name] = parts.number(json_name)
