@@ -220,7 +220,8 @@ class Node:
         self.tell("DEBUG", f"ignored {m.kind} from {m.sender}")
 
     def send(self, kind: str, to: int, **parts: Any) -> None:
-        m = Message(kind, self.id, to, **{"term": self.term, **parts})
+        parts.setdefault("term", self.term)
+        m = Message(kind, self.id, to, **parts)
         (self.waiting if self.waits(m) else self.sent).append(m)
 
     def waits(self, m: Message) -> bool:
