@@ -90,7 +90,7 @@ export class Bar {
     });
     const others = branches.filter(({ number }) => number !== branch);
     const beside = others.map(({ number }) => button(live.beside.number === number ? "alone" : `beside ${number === home ? "file" : number}`, `beside ${number}`, "", "", () => live.beside.toggle(number)));
-    const close = () => live.ask({ do: "close" }, `Branch ${branch} isn't saved.`, "close it all the same");
+    const close = () => live.ask({ do: "close" }, `Branch ${live.state?.branch} isn't saved.`, "close it all the same");
     return [
       ...tabs, button("what if?", "fork", live.page ? "" : "there is no directive", "go on from here in another branch (w)", () => live.fork()), ...beside,
       ...(branch === home ? [] : [button("close", "close", "", `close branch ${branch}`, close)]),
@@ -129,23 +129,39 @@ export class Bar {
     ];
   }
 
+  /** The nodes that are there, and those of the side that is chosen. */
+  chosenSide() {
+    const { page } = this.live;
+    const ids = page ? page.model.nodes.filter(({ id }) => page.isThere(id)).map(({ id }) => id) : [];
+    return { ids, side: ids.filter((id) => this.side.has(id)) };
+  }
+
+  /** How what is on its way between the two sides is dropped. */
+  cuts() {
+    const { live } = this;
+    const { ids, side } = this.chosenSide();
+    const isPart = side.length > 0 && side.length < ids.length;
+    return isPart ? live.ways.cut(side, live.pending()) : [{ text: "", takes: [], why: "choose the nodes of one side, and not all" }];
+  }
+
   sides() {
     const { live } = this;
     if (!live.page) {
       return [];
     }
-    const ids = live.page.model.nodes.filter((node) => live.page?.isThere(node.id)).map(({ id }) => id);
-    const side = ids.filter((id) => this.side.has(id));
-    const boxes = ids.map((id) => this.box(id));
-    const isPart = side.length > 0 && side.length < ids.length;
-    const ways = () => (isPart ? live.ways.cut(side, live.pending()) : [{ text: "", takes: [], why: "choose the nodes of one side, and not all" }]);
-    const cut = ways();
+    const { ids, side } = this.chosenSide();
+    const cut = this.cuts();
     const crossing = cut.reduce((sum, { takes, why }) => sum + (why ? 0 : takes.length), 0);
+    const none = "choose the nodes of a side";
+    const stabilize = () => {
+      const now = this.chosenSide().side.join(" ");
+      return now ? live.insert(`stabilize ${now}`) : live.refuse(none);
+    };
     return [
       button("stabilize", "stabilize", "", "stabilize all (s)", () => live.insert("stabilize")),
-      element("span", "", "or a side:"), ...boxes,
-      button(`stabilize ${side.join(" ")}`.trim(), "stabilize-side", side.length ? "" : "choose the nodes of a side", "", () => live.insert(`stabilize ${side.join(" ")}`)),
-      button(`cut it off (${crossing})`, "cut", cut[0].why, "drop what is on its way between the sides", () => live.takeAll(ways)),
+      element("span", "", "or a side:"), ...ids.map((id) => this.box(id)),
+      button(`stabilize ${side.join(" ")}`.trim(), "stabilize-side", side.length ? "" : none, "", stabilize),
+      button(`cut it off (${crossing})`, "cut", cut[0].why, "drop what is on its way between the sides", () => live.takeAll(() => this.cuts())),
     ];
   }
 
@@ -168,13 +184,13 @@ export class Bar {
     const alert = (text, ...more) => withAttributes(element("div", "live-alert", `! ${text} `, ...more), { role: "alert" });
     const { question } = live;
     const theirs = fault ? "The file has another text, which isn't shown here." : "The file was changed by somebody else.";
-    const load = button("load theirs", "load", fault, "", () => (fault ? live.refuse(fault) : live.ask({ do: "load" })));
+    const load = button("load theirs", "load", fault, "", () => (live.state?.fault ? live.refuse(live.state.fault) : live.ask({ do: "load" })));
     const over = button("save mine over it", "over", "", "", () => live.ask({ do: "save", isSure: true }));
     return [
       ...(isTheirs ? [alert(theirs, load, over)] : []),
       ...(fault ? [alert(fault)] : []),
       ...notes.map((note) => alert(note)),
-      ...(question ? [alert(question.text, ...(question.yes ? [button(question.yes, "yes", "", "", question.does), button("no", "no", "", "", () => live.answer())] : []))] : []),
+      ...(question ? [alert(question.text, ...(question.yes ? [button(question.yes, "yes", "", "", () => live.question?.does()), button("no", "no", "", "", () => live.answer())] : []))] : []),
       ...(live.hasGone ? [alert("raftbench-live has ended. What isn't saved is only here: copy it before you close this page.", this.copied())] : []),
     ];
   }

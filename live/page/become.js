@@ -70,12 +70,22 @@ function keyOf(node) {
 }
 
 /**
- * Whether a node can become another. What a reader has opened and scrolled in one list isn't that of another.
+ * Whether a node can become another: one of the same key, or of the same attributes. What a reader has opened and scrolled in one list isn't that of
+ * another.
  * @param {Node} old
  * @param {Node} child
  */
 function canBecome(old, child) {
-  return old === child || (old.nodeName === child.nodeName && keyOf(old) === keyOf(child) && old.nodeName !== "DETAILS");
+  if (old === child || old.nodeName !== child.nodeName) {
+    return old === child;
+  }
+  const key = keyOf(old);
+  return old.nodeName !== "DETAILS" && key === keyOf(child) && (key !== undefined || namesOf(old) === namesOf(child));
+}
+
+/** @param {Node} node */
+function namesOf(node) {
+  return node instanceof Element ? node.getAttributeNames().join() : "";
 }
 
 /**

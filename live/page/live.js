@@ -215,7 +215,7 @@ export class Live {
     const { run, page } = this;
     if (run?.isWhole) {
       // What is told at once of a short run takes long for one of thousands.
-      (run.of > LONG ? afterFrame : now)(() => tellCounts(run.model));
+      (run.of > LONG && byId("counts").textContent ? afterFrame : now)(() => tellCounts(run.model));
     } else if (run && page) {
       const { version } = run;
       afterFrame(() => {

@@ -6,7 +6,7 @@ import { afterFrame, now } from "./frames.js";
 import { measureFrom, placeFrom } from "./further.js";
 import { wayOf } from "./meant.js";
 import { Page } from "./page.js";
-import { LogsPane, Pane } from "./pane.js";
+import { LogsPane, Pane, scrolledTogether } from "./pane.js";
 import { instantAt } from "./position.js";
 import { State } from "./state.js";
 import { messageText } from "./words.js";
@@ -138,15 +138,23 @@ class LiveState extends State {
   /** @param {Message} message */
   message(message) {
     const { live } = this;
-    const pending = live.pending();
+    const { from, to, type } = message;
+    // A button stays where another message of the same node and type is in its place.
+    const all = () => live.pending().filter((it) => it.from === from && it.to === to && it.type === type);
+    const at = all().indexOf(message);
+    /** @type {(isDropped: boolean) => Promise<boolean>} */
+    const take = (isDropped) => {
+      const own = all()[at];
+      return live.takeWay(() => wayOf(live, own, isDropped));
+    };
     const [deliver, drop] = [wayOf(live, message, false), wayOf(live, message, true)];
     /** @type {(word: string, count: number) => string} */
     const words = (word, count) => (count > 1 ? `${word} ${count}` : word);
-    const key = `${message.from} ${message.to} ${message.type} ${pending.filter((it) => it.from === message.from && it.to === message.to && it.type === message.type).indexOf(message)}`;
+    const key = `${from} ${to} ${type} ${at}`;
     return element(
       "li", "live-message", element("span", "", messageText(message)),
-      button(words("deliver", deliver.takes.length), `deliver ${key}`, deliver.why, deliver.text, () => live.takeWay(() => wayOf(live, message, false))),
-      button(words("drop", drop.takes.length), `drop ${key}`, "", drop.text, () => live.takeWay(() => wayOf(live, message, true))),
+      button(words("deliver", deliver.takes.length), `deliver ${key}`, deliver.why, deliver.text, () => take(false)),
+      button(words("drop", drop.takes.length), `drop ${key}`, "", drop.text, () => take(true)),
     );
   }
 }
@@ -266,13 +274,15 @@ export class LivePage extends Page {
       this.player.stop();
     }
     this.chosen = this.within(position);
-    this.goFurther(front);
-    const { picture, script, chosen } = this;
-    Object.assign(picture, { chosen, painter: null, traced: null, described: "" });
-    this.drawPicture();
-    script.show();
-    script.draw();
-    this.parts.slice(2).forEach((part) => part.replace(this.model, chosen));
+    scrolledTogether(() => {
+      this.goFurther(front);
+      const { picture, script, chosen } = this;
+      Object.assign(picture, { chosen, painter: null, traced: null, described: "" });
+      this.drawPicture();
+      script.show();
+      script.draw();
+      this.parts.slice(2).forEach((part) => part.replace(this.model, chosen));
+    });
     this.tell();
   }
 

@@ -30,13 +30,13 @@ export function directiveOf({ model, chosen }, name, id) {
 /**
  * The way that takes a message, if it is on its way after the chosen directive. After an edit that left it alone it may be another object.
  * @param {Live} live
- * @param {Message} message
+ * @param {Message | undefined} message
  * @param {boolean} isDropped
  * @returns {Way}
  */
 export function wayOf(live, message, isDropped) {
   const pending = live.pending();
-  const own = pending.find((it) => it.number === message.number && it.sentAt === message.sentAt && messageText(it) === messageText(message));
+  const own = message && pending.find((it) => it.number === message.number && it.sentAt === message.sentAt && messageText(it) === messageText(message));
   if (!own) {
     return { text: "", takes: [], why: "the message isn't on its way any more" };
   }

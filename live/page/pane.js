@@ -1,14 +1,31 @@
 // A pane that scrolls. A browser that is asked how large a pane is, or where it is scrolled to, first lays out all that has changed. So that is known here;
-// and panes are scrolled together, in the next frame.
+// and where all of a page is drawn again, its panes are scrolled together, in the next frame.
 
 /** @type {Set<Pane>} those that are to be scrolled */
 const moving = new Set();
+let isLater = false;
 
 function scrollAll() {
   const all = [...moving];
   moving.clear();
   all.forEach((pane) => pane.scroll());
   all.forEach((pane) => pane.look());
+}
+
+/**
+ * Has panes be scrolled in the next frame to where something has them go.
+ * @param {() => void} does
+ */
+export function scrolledTogether(does) {
+  isLater = true;
+  try {
+    does();
+  } finally {
+    isLater = false;
+  }
+  if (moving.size > 0) {
+    requestAnimationFrame(scrollAll);
+  }
 }
 
 /** What a part of the page uses in place of its element. */
@@ -57,10 +74,12 @@ export class Pane {
     const goal = Math.round(Math.max(0, Math.min(top, this.highest())));
     if (left !== this.left || goal !== this.top) {
       Object.assign(this, { left: Math.max(0, left), top: goal });
-      if (moving.size === 0) {
-        requestAnimationFrame(scrollAll);
+      if (isLater) {
+        moving.add(this);
+      } else {
+        this.scroll();
+        this.measure();
       }
-      moving.add(this);
     }
   }
 

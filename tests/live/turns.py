@@ -133,7 +133,35 @@ def a_press_counts_though_its_button_moves(browser: Browser) -> None:
     on_script(browser, START + CAMPAIGN, does)
 
 
+def a_side_is_chosen_though_the_bar_is_drawn_again(browser: Browser) -> None:
+    """Between press and release of its box: where the box stays, where it moves, and where it is let go elsewhere."""
+    def does(player: Player, server: Running, path: pathlib.Path) -> None:
+        def mouse(kind: str, x: float, y: float) -> None:
+            player.browser.call("Input.dispatchMouseEvent", type=kind, x=x, y=y, button="left", clickCount=1)
+        checked = "[...document.querySelectorAll('[data-key^=\"side \"]')].filter((box) => box.checked).map((box) => box.dataset.key)"
+        for number in (1, 2):
+            x, y = player.box(f'[data-key="side {number}"]')
+            mouse("mousePressed", x, y)
+            player.browser.value(f"location.hash = '#{number}', 1")
+            player.at(number, 2)
+            mouse("mouseReleased", x, y)
+            player.comes(checked, [f"side {it}" for it in range(1, number + 1)])
+        for width, far, wanted in ((700, 0, ["side 1", "side 2", "side 3"]), (1500, 300, ["side 1", "side 2", "side 3"]), (900, 0, ["side 1", "side 2"])):
+            x, y = player.box('[data-key="side 3"]')
+            mouse("mousePressed", x, y)
+            player.browser.size(width, 1600)
+            player.browser.settle()
+            mouse("mouseReleased", x, y + far)
+            player.comes(checked, wanted)
+        server.enter().do("insert", place=2, text="raft-state")
+        player.at(2, 3)
+        player.click('[data-key="stabilize-side"]')
+        player.comes("document.querySelector('#script .chosen .head').textContent", "stabilize 1 2")
+    browser.size(1500, 1600)
+    on_script(browser, START + CAMPAIGN, does)
+
+
 TESTS = [
     presses_wait_for_those_before_them, messages_are_those_that_were_pressed, directives_are_written_without_waiting, what_was_chosen_meanwhile_isn_t_removed,
-    a_key_that_is_held_goes_no_faster_than_the_server, a_press_counts_though_its_button_moves,
+    a_key_that_is_held_goes_no_faster_than_the_server, a_press_counts_though_its_button_moves, a_side_is_chosen_though_the_bar_is_drawn_again,
 ]
