@@ -1,6 +1,6 @@
 // The bar above the panes: branches, what is done with the chosen directive, sides of a cut, saving, and what there is to say.
 
-import { become } from "./become.js";
+import { become, keepText } from "./become.js";
 import { byId, element, withAttributes } from "./dom.js";
 import { button } from "./livepage.js";
 import { counted } from "./text.js";
@@ -29,6 +29,7 @@ export class Bar {
     this.buttons = element("span", "live-buttons");
     this.lines[1].append(this.buttons);
     this.room.replaceChildren(...this.lines);
+    keepText(this.said);
   }
 
   write() {
@@ -215,7 +216,10 @@ export class Bar {
   /** @param {import("./rows.js").Model | undefined} model */
   title(model) {
     const { name, isSaved } = /** @type {import("./live.js").About} */ (this.live.state);
-    document.title = `${isSaved ? "" : "● "}${name}: raftbench live`;
+    const title = `${isSaved ? "" : "● "}${name}: raftbench live`;
+    if (document.title !== title) {
+      document.title = title;
+    }
     byId("name").textContent = name;
     if (!model) {
       byId("counts").textContent = counted(0, "directive", "directives");

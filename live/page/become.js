@@ -138,3 +138,20 @@ export function keepChildren(element, canStay = () => true) {
   const { replaceChildren } = element;
   element.replaceChildren = (...children) => (canStay() ? become(element, children) : replaceChildren.apply(element, children));
 }
+
+/**
+ * Has an element that is given the text that it has stay as it is.
+ * @param {Element} element
+ */
+export function keepText(element) {
+  const { get, set } = /** @type {PropertyDescriptor} */ (Object.getOwnPropertyDescriptor(Node.prototype, "textContent"));
+  Object.defineProperty(element, "textContent", {
+    configurable: true,
+    get,
+    set(text) {
+      if (get?.call(this) !== text) {
+        set?.call(this, text);
+      }
+    },
+  });
+}

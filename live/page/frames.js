@@ -22,3 +22,22 @@ export function afterFrame(does) {
 export function now(does) {
   does();
 }
+
+/** Has the address say what is chosen once that is drawn. Where the reader goes to another address before, that stays. */
+export function writeAddressLater() {
+  const { replaceState } = history;
+  /** @type {Parameters<History["replaceState"]> | null} */
+  let last = null;
+  history.replaceState = (...given) => {
+    if (last === null) {
+      const { hash } = location;
+      afterFrame(() => {
+        if (last !== null && location.hash === hash) {
+          replaceState.apply(history, last);
+        }
+        last = null;
+      });
+    }
+    last = given;
+  };
+}

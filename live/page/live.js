@@ -5,7 +5,7 @@ import { Beside } from "./beside.js";
 import { byId } from "./dom.js";
 import { follow } from "./following.js";
 import { begin, editChosen } from "./forms.js";
-import { afterFrame, now } from "./frames.js";
+import { afterFrame, now, writeAddressLater } from "./frames.js";
 import { makeLegend } from "./legend.js";
 import { LivePage, LONG } from "./livepage.js";
 import { directiveOf } from "./meant.js";
@@ -81,6 +81,7 @@ export class Live {
     this.theirs = new Theirs(this);
     this.bar = new Bar(this);
     countPresses();
+    writeAddressLater();
     document.addEventListener("keydown", (event) => this.pressed(event));
     window.addEventListener("beforeunload", (event) => this.leaves(event));
   }

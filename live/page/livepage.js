@@ -1,6 +1,6 @@
 // The page of a run, in which each node's card says what the node may do, and each message on its way can be delivered or dropped.
 
-import { become, keepChildren } from "./become.js";
+import { become, keepChildren, keepText } from "./become.js";
 import { byId, element, withAttributes } from "./dom.js";
 import { afterFrame, now } from "./frames.js";
 import { measureFrom, placeFrom } from "./further.js";
@@ -110,7 +110,7 @@ class LiveState extends State {
   /** @param {number} id */
   buttonsOf(id) {
     const { live } = this;
-    const why = live.offers.may[id] ?? {};
+    const why = live.offers.looks[id] ?? {};
     const there = live.state?.directives ?? {};
     const lost = live.offers.losses[id] ?? "";
     const own = OF_NODE.filter(([name]) => name in there).map(([name, text]) => {
@@ -192,7 +192,23 @@ export class LivePage extends Page {
         painter.arrows = /** @type {SVGElement} */ (kept.get(painter.arrows) ?? painter.arrows);
       }
     };
+    for (const id of ["name", "counts", "where", "said", "found", "play"]) {
+      keepText(byId(id));
+    }
     knowWidths(byId("where"));
+    this.keepHeads();
+  }
+
+  /** Has the heads of the picture's columns stay, where the nodes are as they were. */
+  keepHeads() {
+    const { picture } = this;
+    const { makeHeads } = picture;
+    picture.makeHeads = () => {
+      const made = makeHeads.call(picture);
+      made.forEach(({ role }) => keepText(role));
+      return made;
+    };
+    picture.columns.forEach(({ role }) => keepText(role));
   }
 
   /** Has the parts know where their panes are scrolled to, and how large these are, without asking the browser. */

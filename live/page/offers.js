@@ -10,6 +10,8 @@ export class Offers {
     this.live = live;
     /** @type {Record<string, Record<string, string>>} by node, why it can't do what */
     this.may = {};
+    /** @type {Record<string, Record<string, string>>} the same as the buttons look: until it is known, as it was known last */
+    this.looks = {};
     /** @type {Record<string, string>} by node, what it would lose */
     this.losses = {};
     /** Whether the server has answered. */
@@ -25,7 +27,7 @@ export class Offers {
     this.forget();
     const may = await this.asked("may");
     if (may) {
-      this.take({ may });
+      this.take({ may, looks: may });
       const losses = await this.asked("losses");
       if (losses) {
         this.take({ losses, areKnown: true });

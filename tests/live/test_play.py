@@ -12,7 +12,7 @@ import tempfile
 from collections.abc import Callable, Iterator
 
 from tests.harness import PROGRAM, TOP, Result, results_of
-from tests.live import arrows, cards, changing, staying, turns
+from tests.live import arrows, becoming, cards, changing, staying, turns
 from tests.live.alone import each_waiting_message_is_taken_alone, the_program_takes_it_alone
 from tests.live.each_message import ways_take_what_they_say
 from tests.live.going_on import a_long_page_goes_on_in_parts, a_page_that_went_on_is_as_a_fresh_one, a_run_that_goes_on_is_as_a_fresh_one, a_run_whose_rows_come_in_parts_is_as_a_fresh_one, a_run_with_skipped_messages_goes_on
@@ -329,7 +329,7 @@ TESTS = [
     election_by_mouse, election_by_keys, election_by_keys_on_buttons, figure_by_mouse, repair_by_mouse, figure_and_repair_by_keys,
     what_can_t_be_done_says_why, the_key_leaves_the_address, words_are_offered, other_programs_and_windows_are_seen,
     presses_count_and_the_focus_stays, filters_stay, nothing_of_a_script_acts, own_nodes_stand_in_two_halves,
-    *cards.TESTS, *arrows.TESTS, *changing.TESTS, *staying.TESTS, *turns.TESTS,
+    *becoming.TESTS, *cards.TESTS, *arrows.TESTS, *changing.TESTS, *staying.TESTS, *turns.TESTS,
 ]
 
 
