@@ -4,7 +4,8 @@ much was tried.
 from __future__ import annotations
 
 import collections
-from typing import Any, Callable, Iterator, Mapping, NamedTuple, Sequence
+import dataclasses
+from typing import Any, Callable, Iterator, Mapping, Sequence
 
 from plain.node import Node
 from plain.records import Entry, Message
@@ -23,7 +24,8 @@ def made_line(made: Mapping[str, int]) -> str:
     return f"what the nodes were made to do: {done or 'nothing'}{f'; NEVER: {never}' if never else ''}"
 
 
-class NodeBefore(NamedTuple):
+@dataclasses.dataclass(slots=True)
+class NodeBefore:
     """What a node was before a call."""
 
     role: str
@@ -54,7 +56,8 @@ def note_call(made: Made, what: str, before: NodeBefore, node: Node, message: Me
     if node.role == "leader" and before.role != "leader":
         made["elections won"] += 1
     if what in NOTED:
-        made.update(NOTED[what](before, node, message, nodes))
+        for thing in NOTED[what](before, node, message, nodes):
+            made[thing] += 1
 
 
 # What is counted of a call or a message: each yields names of `THINGS`.

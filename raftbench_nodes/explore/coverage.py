@@ -9,6 +9,8 @@ from plain.records import Message
 from ..compare.made import NodeBefore
 
 NUMBERS: dict[tuple[object, ...], int] = {}
+# The effect of a call that moves neither term, commit nor log.
+STILL = 0, 0, 0
 
 
 def number_of(context: tuple[object, ...]) -> int:
@@ -25,17 +27,15 @@ def sign(one: int, other: int) -> int:
 
 def message_relation(node: Node, before: NodeBefore, m: Message) -> tuple[object, ...]:
     """How a message relates to what a node has: its term, its index, its entries, and what it says."""
-    at, commit, last, base, term = m.index, before.commit, before.last, before.base, before.term
+    at, commit, last, base, kind, conflict, entries = m.index, before.commit, before.last, before.base, m.kind, None, m.entries
+    if entries and (there := node.term_at(at + 1)) is not None:
+        conflict = there == entries[0].term
     places = (at > last) - (at < last), (at > commit) - (at < commit), (at > base) - (at < base), node.term_at(at) == m.log_term
-    first = m.entries[0].term if m.entries else -1
-    there = node.term_at(at + 1) if m.entries else None
-    conflict = None if there is None else there == first
     snapshot = sign(m.snapshot.index, commit) if m.snapshot else None
-    is_newer = sign(m.log_term, node.last_term()) if m.kind in ("MsgVote", "MsgPreVote") else None
-    return (
-        (m.term > term) - (m.term < term), places, min(2, len(m.entries)), conflict, snapshot, is_newer, m.refused, m.by_transfer, m.sender == node.lead,
-        (m.commit > commit) - (m.commit < commit),
-    )
+    is_newer = sign(m.log_term, node.last_term()) if kind == "MsgVote" or kind == "MsgPreVote" else None
+    told = 0 if m.commit == commit else 1 if m.commit > commit else -1
+    term = 0 if m.term == before.term else 1 if m.term > before.term else -1
+    return term, places, min(2, len(entries)) if entries else 0, conflict, snapshot, is_newer, m.refused, m.by_transfer, m.sender == node.lead, told
 
 
 def view_relation(node: Node, m: Message) -> tuple[object, ...]:
@@ -56,6 +56,7 @@ def situation(node: Node, last: int, is_restarted: bool, is_under_way: bool) -> 
 
 def effect(node: Node, before: NodeBefore) -> tuple[object, ...]:
     """What a call has done."""
-    role, term, commit, last = node.role, node.term, node.commit, node.last()
-    moved = (term > before.term) - (term < before.term), (commit > before.commit) - (commit < before.commit), (last > before.last) - (last < before.last)
-    return role if role != before.role else "", *moved, bool(node.sent), bool(node.waiting)
+    role, last, moved = node.role, node.last(), STILL
+    if last != before.last or node.commit != before.commit or node.term != before.term:
+        moved = sign(node.term, before.term), sign(node.commit, before.commit), sign(last, before.last)
+    return "" if role == before.role else role, *moved, bool(node.sent), bool(node.waiting)
