@@ -37,6 +37,8 @@ JUDGED = 40
 READ_EVERYWHERE = 4
 # The first MOST_TRIED scripts are batched. Later ones only if at least one in LEAST_AGREED agreed.
 MOST_TRIED, LEAST_AGREED = 40, 6
+# The same of scripts that are tried in shrinking.
+MOST_SHORT, LEAST_SHORT = 12, 4
 # This many scripts of earlier findings are asked first.
 MOST_EARLY = 400
 # What a mistake in the reference, or in a switch, raises.
@@ -139,7 +141,7 @@ class Explorer:
         self.process, self.judge, self.chosen = process, judge, chosen
         self.recall = Recall(process, chosen.comparison, remembers_in, judge.identity())
         self.met: set[int] = set()
-        self.judged = self.tried = self.agreed = 0
+        self.judged = self.tried = self.agreed = self.short_tried = self.short_agreed = 0
 
     def outcome(self, steps: Sequence[Step], goes_on: bool = True) -> Outcome:
         return run_beside(blocks_of(steps), self.process, self.chosen.comparison, goes_on)
@@ -306,11 +308,25 @@ class Explorer:
             if kind.endswith(WITHIN):
                 state = self.other_state(steps, is_alone)
                 return state is not None and state.kind() == kind
+            if self.shows_nothing(steps, is_alone):
+                return False
             if is_alone:
                 return kind in dict(run_alone(blocks_of(steps), self.process, self.chosen.comparison).kinds())
             return kind in dict(self.outcome(steps, goes_on=kind.startswith("promise")).kinds())
         except FAULTS:
             return False
+
+    def shows_nothing(self, steps: Sequence[Step], is_alone: bool) -> bool:
+        """Whether nodes that are asked at once do in all as the reference. Most scripts that are tried show nothing any more."""
+        if not self.has_batch() or self.short_tried >= MOST_SHORT and self.short_agreed * LEAST_SHORT < self.short_tried:
+            return False
+        blocks, chosen = blocks_of(steps), self.chosen.comparison
+        if is_alone:
+            agrees = keeps_promises_at_once(blocks, self.process, chosen, True)[0] is not None
+        else:
+            agrees = asked_at_once(plan_of(blocks, self.process, chosen), self.process, chosen).agrees
+        self.short_tried, self.short_agreed = self.short_tried + 1, self.short_agreed + agrees
+        return agrees
 
     def shrunk(self, steps: Sequence[Step], kind: str, is_alone: bool, budget: Budget = Budget(MOST_RUNS)) -> list[Step]:
         """The shortest steps found that show a kind."""
