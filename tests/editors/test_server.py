@@ -696,7 +696,7 @@ def lensed(edits: int) -> Iterator[str]:
                 client.send(opened(URI, text, version))
                 client.receive()
                 told = client.ask(version, "textDocument/codeLens", textDocument={"uri": URI})
-                has_slips = bool(told) and bool(oracle.slips(oracle.checked(PROGRAM, served(text), ["--color", "never"])[1]))
+                has_slips = beside.ACCEPT in (runs or []) and bool(oracle.slips(oracle.checked(PROGRAM, served(text), ["--color", "never"])[1]))
                 yield from (f"{text!r}: {it}" for it in beside.wrong_lenses(text, URI, runs or [], has_slips, told, encoding))
 
 
