@@ -17,7 +17,7 @@ from ..promises.checker import NoPromises, Promises
 from ..promises.clusters import WatchedCluster
 from ..promises.run import PromiseResult, PromiseRun
 from ..protocol.capabilities import reduced
-from ..protocol.answers import Answer, CallResult, LogEnd, MemberView, answer_in
+from ..protocol.answers import Answer, LogEnd, MemberView, answer_in
 from ..protocol.encoding import Hello, Json, WireMessage, Wrong, change_out, config_out, data_out
 from ..rules.own import Ruled
 from .answers import log_of, state_of
@@ -219,11 +219,6 @@ def plan_of(blocks: Sequence[Block], process: Process, chosen: Comparison) -> Pl
 
 # Asking at once
 
-# What lines come to that were answered with a state, and with several.
-KNOWN_STATE: dict[tuple[frozenset[str], bytes], Answer] = {}
-KNOWN_STATES: dict[tuple[frozenset[str], bytes], Answer] = {}
-MOST_KNOWN, MOST_KNOWN_LINE = 20_000, 600
-
 
 def answers_at_once(asked: Sequence[PlannedCall], process: Process) -> list[Answer]:
     """The answers to all calls; Wrong if one isn't an answer. A message that the network cut is made from what the process gave, so its call has to wait for
@@ -236,23 +231,9 @@ def answers_at_once(asked: Sequence[PlannedCall], process: Process) -> list[Answ
         begun = len(answers)
         calls = [call_of(each, given) for each in asked[begun:at]]
         if calls:
-            lines = process.lines_of(calls)
-            answers += [answer_of_line(process, call, line, number) for number, (call, line) in enumerate(zip(calls, lines), begun)]
+            answers += [answer_in(call, answer, process.without) for call, answer in zip(calls, process.ask_all(calls, begun))]
             given += [message for answer in answers[begun:] for message in messages_of(answer)]
     return answers
-
-
-def answer_of_line(process: Process, call: Json, line: bytes, number: int) -> Answer:
-    """The answer that a line is. Half of the states have come before in the same words: these aren't read again."""
-    known = KNOWN_STATES if "numbers" in call else KNOWN_STATE
-    answer = known.get((process.without, line))
-    if answer is None:
-        answer = answer_in(call, process.answer_of(call, line, number), process.without)
-        if isinstance(answer, CallResult) and len(line) <= MOST_KNOWN_LINE:
-            if len(known) >= MOST_KNOWN:
-                known.clear()
-            known[process.without, line] = answer
-    return answer
 
 
 def call_of(asked: PlannedCall, given: Sequence[Message]) -> Json:

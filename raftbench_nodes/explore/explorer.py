@@ -23,7 +23,7 @@ from .dice import steps_of
 from .library import TreeScript, step_in
 from .mutation import Mutator
 from .reuse import Recall
-from .shrinker import Budget, Shortened, Shrinker
+from .shrinker import Budget, shrunk
 
 MOST_RUNS = 250
 # A node that doesn't answer takes its whole time at each try.
@@ -330,15 +330,7 @@ class Explorer:
 
     def shrunk(self, steps: Sequence[Step], kind: str, is_alone: bool, budget: Budget = Budget(MOST_RUNS)) -> list[Step]:
         """The shortest steps found that show a kind."""
-        return self.shortened(steps, kind, is_alone, budget).steps
-
-    def shortened(self, steps: Sequence[Step], kind: str, is_alone: bool, budget: Budget) -> Shortened:
-        """The same, with what it took."""
-        is_slow = "no answer within" in kind
-        budget = budget._replace(runs=MOST_SLOW_RUNS) if is_slow else budget
-        shrinker = Shrinker(lambda tried: self.has(tried, kind, is_alone), budget)
-        shorter = shrinker.shrunk(list(steps))
-        return Shortened(shorter, shrinker.used, shrinker.left <= 0 and not is_slow)
+        return shrunk(list(steps), lambda tried: self.has(tried, kind, is_alone), budget_of(kind, budget))
 
     def script(self, steps: Sequence[Step], comments: Sequence[str]) -> bytes:
         """The text of a script with the proved program's expectations; the reference's where that knows nothing of it. Comments stand above the last directive."""
@@ -353,6 +345,16 @@ class Explorer:
         if blocks:
             blocks[-1] = blocks[-1]._replace(lead=(*(f"# {line}".encode() for line in comments), *blocks[-1].lead))
         return Script(tuple(blocks), ()).text([tuple(line.encode() for line in lines) for lines in outputs])
+
+
+def is_slow(kind: str) -> bool:
+    """Whether each script that shows a kind takes long."""
+    return "no answer within" in kind
+
+
+def budget_of(kind: str, budget: Budget) -> Budget:
+    """What may be spent on a kind."""
+    return budget._replace(runs=MOST_SLOW_RUNS) if is_slow(kind) else budget
 
 
 def kinds_of_state(state: Difference | None) -> list[tuple[str, int]]:

@@ -34,72 +34,98 @@ class Shortened(NamedTuple):
     is_cut: bool
 
 
+class Place(NamedTuple):
+    """How far shrinking is: the steps when this turn began, and what is tried: without `size` steps at a place, simpler scripts, or smaller steps at a place."""
+
+    before: Steps
+    phase: str
+    size: int = 0
+    at: int = 0
+
+
+def first_place(steps: Steps) -> Place:
+    return Place(steps, "fewer", max(1, len(steps) // 2))
+
+
+def candidates(steps: Steps, place: Place) -> Iterator[tuple[Place, Steps]]:
+    """The scripts that are tried one after another from a place on, as long as none of them shows it. A turn that changed nothing is the last."""
+    before, phase, size, at = place
+    while True:
+        while phase == "fewer" and size:
+            for left in range(at, len(steps), size):
+                yield Place(before, phase, size, left), steps[:left] + steps[left + size:]
+            size, at = size // 2, 0
+        for simpler in simpler_scripts(steps) if phase != "smaller" else ():
+            yield Place(before, "simpler"), simpler
+        for smaller in range(at if phase == "smaller" else 0, len(steps)):
+            for step in smaller_steps(steps[smaller]):
+                yield Place(before, "smaller", 0, smaller), [*steps[:smaller], step, *steps[smaller + 1:]]
+        if steps == before:
+            return
+        before, phase, size, at = first_place(steps)
+
+
+class Trial(NamedTuple):
+    """A script that is tried, and what is left of the budget after it."""
+
+    place: Place
+    steps: Steps
+    left: int
+    used: int
+
+
 class Shrinker:
-    """`has` answers whether steps still show it; it is asked within a budget."""
+    """Shortens steps within a budget. It names the scripts to try, in order, and is told of each whether that shows what the steps show. So others may be
+    tried in advance; what comes of it is the same.
+    """
 
-    def __init__(self, has: Callable[[Steps], bool], budget: Budget) -> None:
-        self.has, self.left, self.directives, self.until = has, budget.runs, budget.directives, budget.until
-        self.tried: set[tuple[Step, ...]] = set()
+    def __init__(self, steps: Steps, budget: Budget) -> None:
+        self.steps, self.left, self.directives, self.until = steps, budget.runs, budget.directives, budget.until
         self.used = 0  # directives
+        self.tried: set[tuple[Step, ...]] = set()
+        self.ahead: list[Trial] = []
+        self.source = candidates(steps, first_place(steps))
+        self.is_spent = False  # whether the budget ends it, if nothing of what is ahead shows it
 
-    def shows(self, steps: Steps) -> bool:
-        key = tuple(steps)
-        if self.left <= 0 or not steps or key in self.tried or any(step.block() is None for step in steps):
-            return False
-        self.tried.add(key)
-        if self.used + len(steps) > self.directives or time.monotonic() >= self.until:
-            self.left = 0
-            return False
-        self.left, self.used = self.left - 1, self.used + len(steps)
-        return self.has(steps)
+    def look(self, number: int = 0) -> Steps | None:
+        """The script that is tried next, after so many others; None if it is over then."""
+        while len(self.ahead) <= number and not self.is_spent:
+            trial = self.next_trial()
+            if trial is None:
+                break
+            self.ahead.append(trial)
+        return self.ahead[number].steps if number < len(self.ahead) else None
 
-    def shrunk(self, steps: Steps) -> Steps:
-        before: Steps = []
-        while before != steps and self.left > 0:
-            before = steps
-            for shorten in (self.with_fewer, self.with_simpler, self.with_smaller):
-                steps = shorten(steps)
-        return steps
-
-    def with_fewer(self, steps: Steps) -> Steps:
-        size = max(1, len(steps) // 2)
-        while size:
-            at = 0
-            while at < len(steps):
-                less = steps[:at] + steps[at + size:]
-                if self.shows(less):
-                    steps = less
-                else:
-                    at += size
-            size //= 2
-        return steps
-
-    def with_simpler(self, steps: Steps) -> Steps:
-        """Writes lists with commas alone, replaces ticks by a campaign, joins `add-nodes`, and gives nodes lower numbers."""
-        found = True
-        while found and self.left > 0:
-            found = False
-            for simpler in simpler_scripts(steps):
-                if self.shows(simpler):
-                    steps, found = simpler, True
-                    break
-        return steps
-
-    def with_smaller(self, steps: Steps) -> Steps:
-        for at in range(len(steps)):
-            smaller = self.first_shown(steps, at)
-            while smaller:
-                steps = smaller
-                smaller = self.first_shown(steps, at)
-        return steps
-
-    def first_shown(self, steps: Steps, at: int) -> Steps | None:
-        """The script with the first smaller step at a place that still shows it, or None."""
-        for step in smaller_steps(steps[at]):
-            tried = [*steps[:at], step, *steps[at + 1:]]
-            if self.shows(tried):
-                return tried
+    def next_trial(self) -> Trial | None:
+        left, used = (self.ahead[-1].left, self.ahead[-1].used) if self.ahead else (self.left, self.used)
+        for place, steps in self.source:
+            key = tuple(steps)
+            if not steps or key in self.tried or any(step.block() is None for step in steps):
+                continue
+            self.is_spent = left <= 0 or used + len(steps) > self.directives or time.monotonic() >= self.until
+            if self.is_spent:
+                return None
+            self.tried.add(key)
+            return Trial(place, steps, left - 1, used + len(steps))
         return None
+
+    def answer(self, shows: bool) -> None:
+        """Whether the next script shows it. If so, what was ahead of it isn't tried any more."""
+        place, steps, self.left, self.used = self.ahead.pop(0)
+        if shows:
+            self.tried -= {tuple(trial.steps) for trial in self.ahead}
+            self.steps, self.ahead, self.is_spent, self.source = steps, [], False, candidates(steps, place)
+
+    def shortened(self) -> Shortened:
+        return Shortened(self.steps, self.used, self.is_spent or self.left <= 0)
+
+
+def shrunk(steps: Steps, has: Callable[[Steps], bool], budget: Budget) -> Steps:
+    """The shortest steps found that show it, which `has` answers."""
+    shrinker = Shrinker(steps, budget)
+    while (tried := shrinker.look()) is not None:
+        shrinker.answer(has(tried))
+    return shrinker.steps
 
 
 # Simpler scripts: as long or shorter

@@ -9,10 +9,10 @@ from ..compare.report import difference_lines
 from ..compare.script import Step, blocks_of
 from ..process.workers import Fleet
 from ..promises.run import run_alone
-from .explorer import MOST_RUNS, WITHIN, Explorer
+from .explorer import MOST_RUNS, WITHIN, Explorer, budget_of, is_slow
 from .results import KindResult, order_of
 from .search import Candidate, Kind, contains, surprise
-from .shrinker import Budget
+from .shrinker import Budget, Shortened, Shrinker
 
 # Kinds that are shrunk besides broken promises, all of which are; the others are counted.
 MOST_SHRUNK = 12
@@ -25,6 +25,8 @@ FIRST = 1, 3
 ROUNDS, LEAST_SHARE = 2, 100
 # How many scripts of other kinds are tried for one.
 MOST_SHORTER = 3
+# For each worker so many scripts are being tried, or wait for one.
+IN_ADVANCE = 2
 
 
 @dataclasses.dataclass(frozen=True)
@@ -60,9 +62,26 @@ class AdoptTask(NamedTuple):
     shorter: list[list[Step]]
 
 
-def shrink(explorer: Explorer, item: ShrinkTask) -> ShrunkKind:
-    shortened = explorer.shortened(item.candidate.steps, item.kind, item.candidate.is_alone, item.budget)
-    return shown_by(explorer, item, shortened.steps)._replace(used=shortened.used, is_cut=shortened.is_cut)
+class Trying(NamedTuple):
+    """A script that may show the kind of a task."""
+
+    item: ShrinkTask
+    steps: list[Step]
+
+
+class Shortest(NamedTuple):
+    """A kind with the shortest script that was found, the directives that this took, and whether more might shorten it."""
+
+    item: ShrinkTask
+    short: Shortened
+
+
+def tries(explorer: Explorer, trying: Trying) -> bool:
+    return explorer.has(trying.steps, trying.item.kind, trying.item.candidate.is_alone)
+
+
+def show(explorer: Explorer, shortest: Shortest) -> ShrunkKind:
+    return shown_by(explorer, shortest.item, shortest.short.steps)._replace(used=shortest.short.used, is_cut=shortest.short.is_cut)
 
 
 def adopt(explorer: Explorer, compared: AdoptTask) -> ShrunkKind:
@@ -133,6 +152,47 @@ class Purse:
         return True
 
 
+class SideBySide:
+    """Shortens several scripts at once. Each worker has something to try: the next script of each kind, and then those that come after it if it shows
+    nothing, as most do. Each shrinker is answered in its own order, so that what comes of it doesn't depend on how many workers there are.
+    """
+
+    def __init__(self, fleet: Fleet, tasks: Sequence[ShrinkTask], shrinkers: Sequence[Shrinker]) -> None:
+        self.fleet, self.tasks, self.shrinkers = fleet, tasks, shrinkers
+        self.waiting = [0] * len(tasks)  # how many scripts of each are being tried
+        self.turns = [0] * len(tasks)  # how often each was shortened: what was tried in advance before that counts for nothing
+        self.given: list[tuple[int, int]] = []  # which shrinker's, in which turn
+
+    def run(self) -> None:
+        # A lone worker tries nothing in advance.
+        most = self.fleet.jobs * IN_ADVANCE if self.fleet.jobs > 1 else 1
+        while True:
+            while len(self.given) < most and self.give():
+                pass
+            if not self.given:
+                return
+            self.take()
+
+    def give(self) -> bool:
+        """Gives a worker the next script of the shrinker of which fewest are being tried; answers whether there is one."""
+        for at in sorted(range(len(self.tasks)), key=self.waiting.__getitem__):
+            steps = self.shrinkers[at].look(self.waiting[at])
+            if steps is not None:
+                self.fleet.give(tries, [Trying(self.tasks[at], steps)])
+                self.given.append((at, self.turns[at]))
+                self.waiting[at] += 1
+                return True
+        return False
+
+    def take(self) -> None:
+        (at, turn), shows = self.given.pop(0), self.fleet.take()[0]
+        if turn != self.turns[at]:
+            return
+        self.shrinkers[at].answer(shows)
+        self.waiting[at] = 0 if shows else self.waiting[at] - 1
+        self.turns[at] += shows
+
+
 class Shrinking:
     """Shrinks kinds until a time, by a fleet, with what is in a purse. What comes of it doesn't depend on how many workers there are."""
 
@@ -174,8 +234,13 @@ class Shrinking:
         return time.monotonic() >= self.until
 
     def round(self, tasks: Sequence[ShrinkTask], shares: Sequence[int]) -> list[ShrunkKind]:
-        for task, share in zip(tasks, shares):
-            self.fleet.give(shrink, [dataclasses.replace(task, budget=Budget(MOST_RUNS, share, self.until))])
+        shrinkers = [
+            Shrinker(list(task.candidate.steps), budget_of(task.kind, Budget(MOST_RUNS, share, self.until))) for task, share in zip(tasks, shares)
+        ]
+        SideBySide(self.fleet, tasks, shrinkers).run()
+        for task, shrinker in zip(tasks, shrinkers):
+            short = shrinker.shortened()
+            self.fleet.give(show, [Shortest(task, short._replace(is_cut=short.is_cut and not is_slow(task.kind)))])
         results: list[ShrunkKind] = [self.fleet.take()[0] for _ in tasks]
         self.purse.pay(min(self.purse.left, sum(result.used for result in results)))
         return results

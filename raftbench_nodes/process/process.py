@@ -196,35 +196,29 @@ class Process:
 
     def ask_all(self, calls: Sequence[Json], begun: int = 0) -> list[Json]:
         """The answers to calls that are written at once. If one is an error, that is raised, with its number from `begun` on."""
-        lines = self.lines_of(calls)
-        return [self.answer_of(call, line, number) for number, (call, line) in enumerate(zip(calls, lines), begun)]
-
-    def lines_of(self, calls: Sequence[Json]) -> list[bytes]:
-        """A line for each of the calls, which are written at once."""
         self.calls += len(calls)
         if self.rest:
             raise self.failed(calls[0], f"it said what it wasn't asked: {shown(bytes(self.rest[:200]).decode('latin-1'))}")
+        answers: list[Json] = []
         given = b"".join([dumps(call) + b"\n" for call in calls])
         lines = self.exchange(calls, given)
         if self.transcript is not None:
             self.transcript.add(given, lines)
-        return lines
-
-    def answer_of(self, call: Json, line: bytes, number: int) -> Json:
-        """The answer that a line is; `number` is the call's, if that failed."""
-        try:
-            answer = loads(line)
-        except (ValueError, RecursionError):
-            raise self.failed(call, f"no JSON: {shown(line[:200].decode('latin-1'))}") from None
-        if not isinstance(answer, dict):
-            raise self.failed(call, f"not an object: {shown(answer)}")
-        if self.record is not None:
-            self.record.append((call, answer))
-        if "error" in answer:
-            failed = error_of(call, answer)
-            failed.number = number
-            raise failed
-        return answer
+        for call, line in zip(calls, lines):
+            try:
+                answer = loads(line)
+            except (ValueError, RecursionError):
+                raise self.failed(call, f"no JSON: {shown(line[:200].decode('latin-1'))}") from None
+            if not isinstance(answer, dict):
+                raise self.failed(call, f"not an object: {shown(answer)}")
+            if self.record is not None:
+                self.record.append((call, answer))
+            if "error" in answer:
+                failed = error_of(call, answer)
+                failed.number = begun + len(answers)
+                raise failed
+            answers.append(answer)
+        return answers
 
     def digest_of(self, calls: bytes, count: int) -> bytes:
         """The digest of the answers to lines with so many calls, by nodes that are reset; CallFailure where there is none."""

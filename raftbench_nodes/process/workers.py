@@ -80,7 +80,7 @@ class Fleet:
     """Workers, what they were given, and what they gave back."""
 
     def __init__(self, jobs: int, make: Callable[[], Worker]) -> None:
-        self.name, self.given, self.taken = "", 0, 0
+        self.name, self.given, self.taken, self.jobs = "", 0, 0, jobs
         self.waited = 0.0  # seconds for which workers had nothing to do
         self.back: dict[int, list[Any]] = {}
         self.dropped: set[int] = set()

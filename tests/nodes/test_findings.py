@@ -12,7 +12,7 @@ import re
 import signal
 import subprocess
 import time
-from collections.abc import Iterator
+from collections.abc import Iterator, Sequence
 from typing import Any
 
 from plain.node import Node
@@ -29,7 +29,7 @@ from raftbench_nodes.explore.library import TreeScript, distilled
 from raftbench_nodes.explore.remake import Remaker, remade
 from raftbench_nodes.explore.results import KindResult
 from raftbench_nodes.explore.search import Candidate, Kind, Library, Limits, Search
-from raftbench_nodes.explore.shrinking import LEAST_DIRECTIVES, AdoptTask, ShrinkTask, ShrunkKind, by_cause, chosen_of, shrunk_kinds
+from raftbench_nodes.explore.shrinking import LEAST_DIRECTIVES, AdoptTask, Shortest, ShrunkKind, Trying, by_cause, chosen_of, shrunk_kinds
 from raftbench_nodes.process.delays import marked_with, waited
 from raftbench_nodes.process.process import Process
 from raftbench_nodes.promises.checker import name_of
@@ -99,41 +99,53 @@ def test_causes(room: pathlib.Path) -> Iterator[str]:
         yield f"{came}"
 
 
+def proposals(steps: Sequence[Step]) -> list[str]:
+    return [step.head for step in steps if step.head.startswith("propose ")]
+
+
 class Spending:
-    """A fleet that shrinks: removing a step costs twenty directives, and shrinking stops when the script's share is spent."""
+    """A fleet in which a script shows a kind if it has all that the first one proposes: all else can be removed."""
 
-    def __init__(self) -> None:
-        self.results, self.used = list[ShrunkKind](), list[int]()
+    def __init__(self, jobs: int) -> None:
+        self.results, self.used, self.jobs = list[object](), 0, jobs
 
-    def give(self, task: object, chunk: list[ShrinkTask | AdoptTask]) -> None:
+    def give(self, task: object, chunk: list[Trying | Shortest | AdoptTask]) -> None:
         item = chunk[0]
         if isinstance(item, AdoptTask):
-            self.used.append(sum(map(len, item.shorter)))
             self.results.append(item.shrunk)
-            return
-        steps, used = list(item.candidate.steps), 0
-        while len(steps) > 1 and used + 20 <= item.budget.directives:
-            steps, used = steps[:-1], used + 20
-        self.used.append(used)
-        self.results.append(ShrunkKind(KindResult(item.kind, 1, 0, len(steps), [step.text() for step in steps], [], ""), steps, (), used, len(steps) > 1))
+        elif isinstance(item, Trying):
+            self.results.append(proposals(item.steps) == proposals(item.item.candidate.steps))
+        else:
+            name, (steps, used, is_cut) = item.item.kind, item.short
+            self.used += used
+            self.results.append(ShrunkKind(KindResult(name, 1, 0, len(steps), [step.text() for step in steps], [], ""), steps, (), used, is_cut))
 
-    def take(self) -> list[ShrunkKind]:
+    def take(self) -> list[object]:
         return [self.results.pop(0)]
 
 
-def test_shrinking_costs_no_more_than_finding(room: pathlib.Path) -> Iterator[str]:
-    """All kinds share what shrinking may cost; what one leaves others have; those that are shown first have most."""
+def spent(directives: int, jobs: int) -> tuple[int, list[KindResult]]:
+    """What shrinking thirty kinds costs after so many directives, and what it comes to."""
     kinds = []
     for at in range(30):
         kinds.append(Kind(f"promise broken: {at:02}"))
-        steps = tuple(Step(f"campaign {at + 1}") for _ in range(40))
+        steps = tuple(Step(f"propose 1 {at}-{each}" if each % 4 == 0 else f"tick-heartbeat {each % 3 + 1}") for each in range(40))
         kinds[-1].candidates.append(Candidate(40, at, at, False, steps, f"script {at}"))
-    for directives, most, fully in ((0, LEAST_DIRECTIVES, 3), (30_000, 10_000, 5), (90_000, 30_000, 25)):
-        fleet = Spending()
-        results = shrunk_kinds(fleet, kinds, directives, 1e18)  # type: ignore[arg-type]
-        lengths = [len(result.steps) for result in sorted(results, key=lambda result: result.kind)]
-        if sum(fleet.used) > most or lengths != sorted(lengths) or lengths.count(1) < fully or fleet.results:
-            yield f"of {directives}: {sum(fleet.used)} were used, {lengths}"
+    fleet = Spending(jobs)
+    results = shrunk_kinds(fleet, kinds, directives, 1e18)  # type: ignore[arg-type]
+    assert not fleet.results
+    return fleet.used, sorted(results, key=lambda result: result.kind)
+
+
+def test_shrinking_costs_no_more_than_finding(room: pathlib.Path) -> Iterator[str]:
+    """All kinds share what shrinking may cost; what one leaves others have; those that are shown first have most. It is the same with each number of workers."""
+    for directives, most, fully in ((0, LEAST_DIRECTIVES, 2), (30_000, 10_000, 2), (90_000, 30_000, 10)):
+        used, results = spent(directives, 1)
+        lengths = [len(result.steps) for result in results]
+        if used > most or lengths.count(10) < fully:
+            yield f"of {directives}: {used} were used, {lengths}"
+        if any(spent(directives, jobs) != (used, results) for jobs in (2, 4, 13)):
+            yield f"of {directives}: it depends on the number of workers"
 
 
 class HearsNobodyEarly(Node):

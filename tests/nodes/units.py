@@ -26,7 +26,7 @@ from raftbench_nodes.process.process import Process
 from raftbench_nodes.protocol.capabilities import reduced
 from raftbench_nodes.protocol.encoding import Hello
 from raftbench_nodes.compare.script import Step, blocks_of
-from raftbench_nodes.explore.shrinker import Budget, Shrinker, with_commas, with_joined_nodes
+from raftbench_nodes.explore.shrinker import Budget, Shortened, Shrinker, shrunk, with_commas, with_joined_nodes
 from raftbench_nodes.compare.stage import HoldingNetwork, Reference
 from raftbench_nodes.compare.runner_steps import step_of, steps_above
 from raftbench_nodes.rules.switches import Unknown
@@ -261,12 +261,21 @@ def part_exceptions() -> Checks:
 # Shrinking, and children
 
 
+def ahead(steps: list[Step], has: Callable[[list[Step]], bool], budget: Budget, many: int) -> Shortened:
+    """What shrinking comes to, and what it costs, if so many scripts are tried in advance."""
+    shrinker = Shrinker(steps, budget)
+    while (tried := shrinker.look()) is not None:
+        shrinker.look(many - 1)
+        shrinker.answer(has(tried))
+    return shrinker.shortened()
+
+
 def part_shrinking() -> Checks:
     def campaigns(steps: list[Step]) -> bool:
         return any(step.head in ("campaign 2", "tick-election 2") for step in steps)
 
     steps = script("add-nodes 3 voters=(1,2,3) index=10", "raft-state", "tick-election 2", "status 1")
-    yield "ticks give way to a campaign", is_equal(Shrinker(campaigns, Budget(200)).shrunk(steps), script("campaign 2"))
+    yield "ticks give way to a campaign", is_equal(shrunk(steps, campaigns, Budget(200)), script("campaign 2"))
     joined = next(with_joined_nodes(script("add-nodes 1 voters=(1,2) index=10", "raft-state", "add-nodes 1")), None)
     steps = script("add-nodes 3 voters=(1 2,3) learners=(4, 5)", "propose 1 a=(1 2)", "deliver-msgs drop=()")
     wanted = script("add-nodes 3 voters=(1,2,3) learners=(4,5)", "propose 1 a=(1 2)", "deliver-msgs drop=()")
@@ -277,15 +286,19 @@ def part_shrinking() -> Checks:
         cluster = run(Reference(), *(step.text() for step in steps))
         return any(node.role == "leader" for node in cluster.nodes.values())
 
-    shrunk = Shrinker(leads, Budget(400)).shrunk(script("add-nodes 5 voters=(1,2,3,4,5) index=10", "raft-state", "campaign 3", "stabilize log-level=none", "propose 3 abc", "stabilize"))
-    yield "nodes that aren't needed go", is_equal([step.head for step in shrunk], ["add-nodes 1 voters=(1) index=2", "campaign 1", "stabilize"])
+    steps = script("add-nodes 5 voters=(1,2,3,4,5) index=10", "raft-state", "campaign 3", "stabilize log-level=none", "propose 3 abc", "stabilize")
+    short = shrunk(steps, leads, Budget(400))
+    yield "nodes that aren't needed go", is_equal([step.head for step in short], ["add-nodes 1 voters=(1) index=2", "campaign 1", "stabilize"])
+    for budget in (Budget(400), Budget(60), Budget(400, 200)):
+        alone = ahead(steps, leads, budget, 1)
+        yield f"it comes to the same with others tried in advance, {budget[:2]}", is_equal([ahead(steps, leads, budget, many) for many in (2, 5, 50)], [alone] * 3)
     asked: list[int] = []
 
     def never(steps: list[Step]) -> bool:
         asked.append(len(steps))
         return False
 
-    Shrinker(never, Budget(7)).shrunk(script(*["raft-state"] * 20))
+    shrunk(script(*["raft-state"] * 20), never, Budget(7))
     yield "it is asked as often as it may be", None if len(asked) <= 7 else f"{len(asked)}"
 
 
