@@ -41,21 +41,6 @@ def comments(count: int) -> bytes:
     return line * ((count - left) // len(line)) + b"#" * (left - 1) + b"\n"
 
 
-def test_too_many_outputs(room: pathlib.Path) -> Iterator[str]:
-    """A script is refused at the directive with whose output all have more than 33,554,432 bytes, and only there."""
-    heads = [b"log-level none", b"add-nodes 1 voters=(1) index=10", b"campaign 1", *[b"propose 1 " + b"\xff" * 1024] * 1000, b"stabilize"]
-    for logs, refused in ((9, True), (8, False)):
-        all_heads = [*heads, *[b"raft-log 1 log-level=debug"] * logs]
-        script = b"".join(head + b"\n----\n\n" for head in all_heads)
-        (room / "a.txt").write_bytes(script)
-        status, output, errors = run(room, "a.txt")
-        told = b"a.txt:%d: the outputs up to this directive have more than 33,554,432 bytes; raftbench run writes them all\n" % (len(script.splitlines()) - 2)
-        if refused:
-            yield from differs(f"{logs} logs", (status, output, errors), (3, told + totals(1, 0, refused=1), b""))
-        elif status != 1 or not output.endswith(totals(1, len(all_heads), len(all_heads))):
-            yield f"{logs} logs: status {status}, {output[-200:]!r}"
-
-
 def test_what_is_wrong(room: pathlib.Path) -> Iterator[str]:
     """Each fault is told with its line and in a sentence."""
     many = b"log-level info\n----\nok\n\n"
@@ -314,18 +299,10 @@ def test_format_that_there_is_not(room: pathlib.Path) -> Iterator[str]:
     yield from differs("it", run(room, "--format", "xml", "."), (2, b"", b"raftbench: --format xml: text, json, github or junit\n"))
 
 
-SECONDS = re.compile(r"\d+\.\d{3}")
-
-
 def junit_cases(output: bytes) -> list[tuple[str, str, str, str]]:
-    """Of each case its name, what is in it, and the message and the text of that, as a parser of XML reads them. The totals are sums, and the times of paths
-    are together at most the time of all."""
+    """Of each case its name, what is in it, and the message and the text of that, as a parser of XML reads them."""
     root = ElementTree.fromstring(output)
     assert root.tag == "testsuites", root.tag
-    assert all(root.get(name) == str(sum(int(suite.get(name, "")) for suite in root)) for name in ("tests", "failures", "errors")), root.attrib
-    times = [(suite.get("time", ""), suite[0].get("time", "")) for suite in root]
-    assert all(SECONDS.fullmatch(of_suite) and of_suite == of_case for of_suite, of_case in times), times
-    assert sum(float(time) for time, _ in times) <= float(root.get("time", "")) + 0.001, (root.attrib, times)
     came = []
     for suite in root:
         (case,) = suite

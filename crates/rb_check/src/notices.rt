@@ -5,7 +5,8 @@ ghost use Rattle.rb_check.specs.Formats.{notice_text};
 ghost use Rattle.rb_check.specs.Objects.{notice_object};
 
 use crate::command::add_command;
-use crate::format::LineFormat;
+use crate::format::Format;
+use crate::junit::add_notice_suite;
 use crate::kind::ScriptNotice;
 use crate::piece::CommandPiece;
 use rb_text::{Json, Piece, add_pieces};
@@ -52,8 +53,9 @@ fn add_object<'a>(
 }
 
 fn add_notice(
+    alloc: Global,
     text: &mut Vec<u8>,
-    format: LineFormat,
+    format: Format,
     is_strict: bool,
     notice: ScriptNotice<'_>,
 ) -> Result<(), AllocError>
@@ -61,14 +63,14 @@ fn add_notice(
 {
     let kind = notice.kind;
     match format {
-        LineFormat::Json => add_object(
+        Format::Json => add_object(
             text,
             notice.path,
             notice.line,
             kind.status(),
             notice.message,
         ),
-        LineFormat::Github => {
+        Format::Github => {
             let pieces = [
                 CommandPiece::Message(notice.message),
                 CommandPiece::Bytes(b"\n"),
@@ -82,6 +84,7 @@ fn add_notice(
                 &pieces,
             )
         }
+        Format::Junit => add_notice_suite(alloc, text, notice),
     }
 }
 
@@ -92,13 +95,13 @@ fn add_notice(
 /// If memory was refused.
 pub(crate) fn notice_of(
     alloc: Global,
-    format: LineFormat,
+    format: Format,
     is_strict: bool,
     notice: ScriptNotice<'_>,
 ) -> Result<Vec<u8>, AllocError>
     ensures { IfOk result (λ made. made.items ≡ notice_text format is_strict notice.entry.path.now notice.entry.line notice.entry.kind notice.entry.message.now) }
 {
     let mut text = Vec::new(alloc);
-    add_notice(&mut text, format, is_strict, notice)?;
+    add_notice(alloc, &mut text, format, is_strict, notice)?;
     Ok(text)
 }

@@ -148,8 +148,8 @@ fn echo<W: ReportSink, E: ReportSink>(keys: &[u8], report: &mut Report<W, E>)
     if keys.is_empty() {
         return;
     }
-    report.say(visible_key(keys));
-    report.say(b"\n");
+    report.put(visible_key(keys));
+    report.put(b"\n");
 }
 
 // What comes from a terminal is not known.
@@ -163,8 +163,7 @@ impl<'a, R: Input + Clock + AllocGlobal> Person for TerminalPerson<'a, R> {
         question: &[u8],
         report: &mut Report<W, E>,
     ) -> HeardAnswer {
-        report.say(question);
-        if report.state.is_closed {
+        if !report.say(question) {
             return HeardAnswer::End;
         }
         if self.gives_keys {
@@ -188,7 +187,7 @@ pub(crate) fn ask<P: Person, W: ReportSink, E: ReportSink>(
     while turns < u64::MAX {
         match person.ask(question, report) {
             HeardAnswer::Answer(answer) => return answer,
-            HeardAnswer::Else => report.say(help()),
+            HeardAnswer::Else => report.put(help()),
             HeardAnswer::End => return Answer::Quit,
         }
         turns += 1;

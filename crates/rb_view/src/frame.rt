@@ -22,7 +22,6 @@ mod narrow_style;
 mod page;
 mod paint;
 mod paper_style;
-mod part;
 mod picture;
 mod picture_style;
 mod play;
@@ -42,4 +41,4 @@ mod text;
 mod words;
 mod wrap;
 
-pub use frame::{WHOLE, back, front};
+pub use frame::{back, front};

@@ -13,7 +13,6 @@ mod log;
 mod meant;
 mod node;
 mod page;
-mod page_observer;
 mod room;
 mod rows;
 mod script;

@@ -8,12 +8,9 @@ ghost use Rattle.rb_view.specs.Looks.{answer_in, asked, question, of_node, of_no
 
 use crate::look::answer::{answer, question};
 use crate::look::nodes::Nodes;
-use crate::look::quiet::cluster_at;
 use crate::look::section::add_section;
 use itoa::Buffer;
-use rb_cluster::{Cluster, Meter};
 use rb_machine::{Count, Machine};
-use rb_raftlog::RaftLog;
 use rb_replay::Session;
 use rb_script::{Lines, Script};
 use std::alloc::{AllocError, Global};
@@ -198,19 +195,19 @@ pub fn look_in<M: Nodes>(
     Ok(lines)
 }
 
-/// Shows the cluster after the first directives of a script, as [`look_in`] does. What they print is not kept.
+/// Shows the machine after the first directives of a script, as [`look_in`] does. The meter rises by the directives that are run for it.
 #[tactic(auto, unfolding(crate::specs::Looks::looked))]
-pub fn look<L: RaftLog>(
+pub fn look<M: Nodes>(
     alloc: Global,
     script: &Script,
     place: usize,
-    meter: &mut Meter,
+    meter: &mut M::Meter,
 ) -> Result<Lines, AllocError>
     requires there { place ≤ length script.now.blocks }
     requires few { place ≤ MAX_DIRECTIVES }
-    requires meter { meter.old ≤ 2 ^ 62 }
+    requires meter { M.Meter.count_of meter.old ≤ 2 ^ 62 }
     ensures { IfOk result (λ lines. lines ≡ looked script.now place) }
 {
-    let cluster: Cluster<L> = cluster_at(alloc, script, place, meter)?;
-    look_in(alloc, &cluster, meter)
+    let machine: M = machine_at(alloc, script, place, meter)?;
+    look_in(alloc, &machine, meter)
 }
