@@ -41,6 +41,21 @@ def comments(count: int) -> bytes:
     return line * ((count - left) // len(line)) + b"#" * (left - 1) + b"\n"
 
 
+def test_too_many_outputs(room: pathlib.Path) -> Iterator[str]:
+    """A script is refused at the directive with whose output all have more than 33,554,432 bytes, and only there."""
+    heads = [b"log-level none", b"add-nodes 1 voters=(1) index=10", b"campaign 1", *[b"propose 1 " + b"\xff" * 1024] * 1000, b"stabilize"]
+    for logs, refused in ((9, True), (8, False)):
+        all_heads = [*heads, *[b"raft-log 1 log-level=debug"] * logs]
+        script = b"".join(head + b"\n----\n\n" for head in all_heads)
+        (room / "a.txt").write_bytes(script)
+        status, output, errors = run(room, "a.txt")
+        told = b"a.txt:%d: the outputs up to this directive have more than 33,554,432 bytes; raftbench run writes them all\n" % (len(script.splitlines()) - 2)
+        if refused:
+            yield from differs(f"{logs} logs", (status, output, errors), (3, told + totals(1, 0, refused=1), b""))
+        elif status != 1 or not output.endswith(totals(1, len(all_heads), len(all_heads))):
+            yield f"{logs} logs: status {status}, {output[-200:]!r}"
+
+
 def test_what_is_wrong(room: pathlib.Path) -> Iterator[str]:
     """Each fault is told with its line and in a sentence."""
     many = b"log-level info\n----\nok\n\n"

@@ -64,8 +64,7 @@ def test_states_within_directives(room: pathlib.Path) -> Iterator[str]:
     result = answers[at]
     assert isinstance(result, CallResult)
     for part, value, wanted in (("commit", 3, "commit behind after advance at a leader within a directive"), ("ready", None, "ready after advance at a leader within a directive")):
-        changed: dict[str, Any] = {part: not result.states[0].ready if value is None else value}
-        state = result.states[0]._replace(**changed)
+        state = result.states[0]._replace(**{part: not result.states[0].ready if value is None else value})
         wrong = [*answers[:at], dataclasses.replace(result, states=[state]), *answers[at + 1:]]
         found = compared_at_once(plan.asked, wrong, checker, plan.places)
         if found.agrees or found.state is None or found.state.kind() != wanted or found.state.directive != "stabilize":

@@ -28,7 +28,8 @@ ENTRY = "start.js"
 # What each file of sources says of itself, the file that it is made of, and its constants, each with what it is.
 HTML = ("The elements of a page.", "page.html", {
     "HEAD": "The page's head, up to its style.",
-    "BODY": "From behind the style up to the rows.",
+    "BODY": "From behind the style up to the lines of the part that is shown.",
+    "STEPS": "From behind these up to the rows.",
     "BETWEEN": "From behind the rows up to the code.",
     "END": "What stands behind the code.",
 })
@@ -41,6 +42,10 @@ BOOK_HTML = ("The elements of a book's pages.", "page.html, and of assets/book.c
     "CONTENTS": "The head of a contents page, up to its title.",
     "BOOK_STYLE": "What a book's style has more than a page's.",
 })
+# The lines between which directives are shown: 0 is no line.
+WHOLE = "[0,0]"
+# Pages of a book have none.
+PART = '<script type="application/json" id="part">{part}</script>\n'
 GENERATOR = '<meta name="generator" content="raftbench">'
 # Style and code of a book are files, and pictures are shown.
 BOOK_POLICY = "default-src 'none'; style-src 'self'; script-src 'self'; img-src 'self'; base-uri 'none'; form-action 'none'"
@@ -101,21 +106,21 @@ def codes() -> list[str]:
 def elements() -> list[str]:
     """The parts of the page's own elements: those around the style, the rows and the code."""
     policy = f"default-src 'none'; style-src {hash_of(''.join(styles()))}; script-src {hash_of(''.join(codes()))}; base-uri 'none'; form-action 'none'"
-    return re.split("{style}|{steps}|{code}", text_of("page.html").replace("{policy}", policy))
+    return re.split("{style}|{part}|{steps}|{code}", text_of("page.html").replace("{policy}", policy))
 
 
 def book_elements() -> list[str]:
     """The same of a book's page, whose style and code are files; and the head of the contents page, and the book's style."""
-    page = text_of("page.html").replace("<style>{style}</style>", '<link rel="stylesheet" href="{up}page.css">')
+    page = text_of("page.html").replace(PART, "").replace("<style>{style}</style>", '<link rel="stylesheet" href="{up}page.css">')
     page = page.replace("<script>{code}</script>", '<script src="{up}page.js"></script>').replace("<body>\n", "<body>\n{links}")
     texts = re.split("{up}|{links}|{steps}", page.replace("{policy}", BOOK_POLICY).replace("<meta name=\"viewport\"", GENERATOR + "\n<meta name=\"viewport\""))
     return [*texts, texts[0].split("raftbench</title>")[0], (BOOK / "assets" / "book.css").read_text(encoding="utf-8")]
 
 
-def parts() -> tuple[str, str]:
-    """What stands before the JSON text, and what stands after it."""
-    head, body, between, end = elements()
-    return head + "".join(styles()) + body, between + "".join(codes()) + end
+def parts(part: str = WHOLE) -> tuple[str, str]:
+    """What stands before the JSON text, and what stands after it, of the page of a part of a script."""
+    head, body, steps, between, end = elements()
+    return head + "".join(styles()) + body + part + steps, between + "".join(codes()) + end
 
 
 def rows_in(page: str) -> str:
@@ -149,20 +154,22 @@ def order() -> str:
     """Which constants are before the rows and which are after them, in order."""
     names = [constant_of(module) for module in modules()]
     style_names = [name.upper() for name in STYLES]
-    uses = sorted(["use crate::frame::html::{BETWEEN, BODY, END, HEAD};", *(f"use crate::frame::{name.lower()}::{name};" for name in [*names, *style_names])])
+    uses = sorted(["use crate::frame::html::{BETWEEN, BODY, END, HEAD, STEPS};", *(f"use crate::frame::{name.lower()}::{name};" for name in [*names, *style_names])])
 
-    def function(said: str, name: str, parts: Sequence[str]) -> str:
+    def function(said: str, head: str, lifetime: str, parts: Sequence[str]) -> str:
         facts = " ∷ ".join(f"{part}.now" for part in parts)
         return (
-            f"/// {said}\n#[rattlefmt::skip]\npub fn {name}() -> [&'static [u8]; {len(parts)}]\n"
-            f"    ensures {{ map (λ part. part.now) result ≡ {facts} ∷ [] }}\n"
+            f"/// {said}\n#[rattlefmt::skip]\npub fn {head} -> [&'{lifetime} [u8]; {len(parts)}]\n"
+            f"    ensures {{ map (λ piece. piece.now) result ≡ {facts} ∷ [] }}\n"
             f"{{\n    [{', '.join(parts)}]\n}}\n")
     return "\n".join([
         "//! What is around the rows of a page, in parts. Made by `tests/page/assemble.py sources`.\n",
         "ghost use Rattle.std.specs.Prelude.{◌≡◌, ◌∷◌, [], map};\n",
         "\n".join(uses) + "\n",
-        function("The parts before the rows: the page's head with its style, and its elements.", "front", ["HEAD", *style_names, "BODY"]),
-        function("The parts after them: the page's code.", "back", ["BETWEEN", *names, "END"]),
+        f"/// The lines between which all directives are.\npub const WHOLE: &[u8] = b\"{WHOLE}\";\n",
+        function("The parts before the rows: the page's head with its style, its elements, and the lines between which directives are shown.",
+                 "front<'a>(part: &'a [u8])", "a", ["HEAD", *style_names, "BODY", "part", "STEPS"]),
+        function("The parts after them: the page's code.", "back()", "static", ["BETWEEN", *names, "END"]),
     ])
 
 
@@ -175,7 +182,7 @@ def library() -> str:
         "//! The files are in assets, and the sources are made of them. The page's head names its style and its code by their hashes, so that no other",
         "//! runs in it.\n",
         *(f"mod {name};" for name in names),
-        "\npub use frame::{back, front};\n",
+        "\npub use frame::{WHOLE, back, front};\n",
     ])
 
 

@@ -52,6 +52,8 @@ pub struct CommandChoice {
     pub out: Option<String>,
     /// Whether `--warn` is given.
     pub warns: bool,
+    /// Whether `--logs` is given.
+    pub has_logs: bool,
     /// What is said to `check` alone.
     pub check: CheckChoice,
 }
@@ -68,6 +70,7 @@ impl Drop for CommandChoice {
             until: _,
             out: _,
             warns: _,
+            has_logs: _,
             check: _,
         } = self;
     }
@@ -89,6 +92,7 @@ impl CommandChoice {
             until: _,
             out: _,
             warns: _,
+            has_logs: _,
             check: _,
         } = self;
         (subcommand, file, every)

@@ -83,9 +83,17 @@ const FILE_ALONE: [ArgumentRow; 1] = [FILE];
 const FILE_AND_EVERY: [ArgumentRow; 2] = [FILE, EVERY];
 
 #[rattlefmt::skip]
-const PAGE: [ArgumentRow; 3] = [
+const FROM: ArgumentRow = ArgumentRow { form: ArgumentForm::Value("LINE"), name: "from", help: "Shows the directives from the one at this line on" };
+
+#[rattlefmt::skip]
+const UNTIL: ArgumentRow = ArgumentRow { form: ArgumentForm::Value("LINE"), name: "until", help: "Shows the directives up to the one at this line" };
+
+#[rattlefmt::skip]
+const PAGE: [ArgumentRow; 5] = [
     FILE,
     EVERY_UNSEEN,
+    FROM,
+    UNTIL,
     ArgumentRow { form: ArgumentForm::Value("SITE"), name: "out", help: "Writes a page for each script of the folder FILE, with contents, into a new folder SITE" },
 ];
 
@@ -97,10 +105,12 @@ const REWRITE: [ArgumentRow; 3] = [
 ];
 
 #[rattlefmt::skip]
-const FILE_AND_LINES: [ArgumentRow; 3] = [
+const CHART: [ArgumentRow; 5] = [
     FILE,
-    ArgumentRow { form: ArgumentForm::Value("LINE"), name: "from", help: "Shows the directives from the one at this line on" },
-    ArgumentRow { form: ArgumentForm::Value("LINE"), name: "until", help: "Shows the directives up to the one at this line" },
+    FROM,
+    UNTIL,
+    ArgumentRow { form: ArgumentForm::Value("FORMAT"), name: "format", help: "Writes it as svg, or as mermaid, a sequence diagram [default: svg]" },
+    ArgumentRow { form: ArgumentForm::Flag, name: "logs", help: "Shows the logs at the end, as a table" },
 ];
 
 #[rattlefmt::skip]
@@ -154,10 +164,10 @@ pub(crate) static LINES: [Line; 10] = [
     },
     Line {
         name: "chart",
-        about: "Runs a script and writes a picture of what it does, as SVG",
+        about: "Runs a script and writes a picture of what it does",
         usage: "raftbench chart [OPTIONS] <FILE>",
         after: FILE_OR_INPUT,
-        rows: &FILE_AND_LINES,
+        rows: &CHART,
     },
     Line {
         name: "trace",

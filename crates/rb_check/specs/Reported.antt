@@ -10,13 +10,15 @@ use Rattle.rb_files.specs.declared.entry.FileId.{FileId}
 use Rattle.rb_files.specs.declared.entry.FolderId.{FolderId}
 use Rattle.rb_files.specs.declared.finding.Found.{Found}
 use Rattle.rb_files.specs.declared.path_error.PathError.{PathError}
-use Rattle.rb_script.specs.declared.fault.ScriptFault.{ScriptFault}
 use Rattle.rb_script.specs.Script.{PlainScript}
 use Rattle.rb_script.specs.Reading.{read_of, Refuses}
 use Rattle.rb_report.specs.declared.check.failure.Failure.TheVariants.{NotRead, OutOfMemory}
 use Rattle.rb_report.specs.declared.check.status.Status.{Status}
 use Rattle.rb_report.specs.declared.check.totals.Totals.{Totals}
 use Rattle.rb_report.specs.Counts.{nothing, status_of, together}
+use Rattle.rb_report.specs.declared.check.refusal.Refusal.{Refusal}
+use Rattle.rb_report.specs.declared.check.refusal.Refusal.TheVariants as refusals
+use Rattle.rb_report.specs.declared.check.refusal.TheConstants.{MAX_OUTPUTS}
 use Rattle.rb_script_report.specs.declared.layout.Layout.{Layout}
 use Rattle.rb_script_report.specs.Layouts.{IsLayout}
 use Rattle.rb_check.specs.declared.answer.HeardAnswer.{HeardAnswer}
@@ -34,6 +36,7 @@ use Rattle.rb_check.specs.declared.script_result.ScriptResult.{ScriptResult}
 use Rattle.rb_check.specs.Endings.{IsAnswered}
 use Rattle.rb_check.specs.Lost.{lost_results, lost_text}
 use Rattle.rb_bench.specs.Reasons.{asked_reasons}
+use Rattle.rb_bench.specs.Room.{IsPastAt}
 use Rattle.rb_check.specs.Results.{CheckedPath, checked_path, counts_of, listed_in}
 use Rattle.rb_check.specs.Reviews.{review_end}
 use Rattle.rb_check.specs.Shown.{Lists, Prints, begun_text, colors_in, lacks_memory, last_text, own_after, remark_text, shown_in, started}
@@ -50,12 +53,17 @@ pub record IsRun (asked : CheckRequest) (form : ReportForm) (path bytes : List �
   pub whys_are : c.whys ≡ asked_reasons asked.explains c.script
   pub colors_are : c.colors ≡ colors_in (shown_in form.format path (showing_of_lines c.layout.text)) asked.colors
 
--- the bytes that are read are a script, and its run is shown, with what happened to its outputs; or they are no script, and the reason is
+-- why the bytes are refused: they are no script, or its outputs have more bytes than a check holds
+abbrev pub TellsRefusal : List ℕ → Refusal → Type 0
+TellsRefusal bytes (refusals.Script fault) = Refuses fault (read_of bytes)
+TellsRefusal bytes (refusals.Outputs line) = IsPastAt (Some MAX_OUTPUTS) bytes line
+
+-- the bytes that are read are a script, and its run is shown, with what happened to its outputs; or they are refused, and the reason is
 pub data Reported (reads : List ℕ → List ℕ → Type 0) (tells : List ℕ → List ℕ → Bool → Type 0) (asked : CheckRequest) (is_known : Type 0) (coming : List HeardAnswer) (form : ReportForm) (path : List ℕ) (before after : Review) (found : PathResult) (text : List ℕ) : Type 0 where
   ran : (bytes : List ℕ) → (c : PlainChecked) → (r : ScriptResult) → reads path bytes → IsRun asked form path bytes c → IsAnswered tells asked is_known coming form c before after r text
       → found ≡ paths.Ran r → Reported reads tells asked is_known coming form path before after found text
-  refused : (bytes : List ℕ) → (fault : ScriptFault) → reads path bytes → Refuses fault (read_of bytes) → after ≡ before
-      → found ≡ paths.Refused fault → text ≡ remark_text form path (remarks.Refused fault) → Reported reads tells asked is_known coming form path before after found text
+  refused : (bytes : List ℕ) → (refusal : Refusal) → reads path bytes → TellsRefusal bytes refusal → after ≡ before
+      → found ≡ paths.Refused refusal → text ≡ remark_text form path (remarks.Refused refusal) → Reported reads tells asked is_known coming form path before after found text
 
 -- why a script's file can't be read: it can't be opened, reading it fails, or memory is refused
 pub data IsUnread (error : PathError) : Type 0 where

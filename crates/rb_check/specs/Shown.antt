@@ -20,7 +20,7 @@ use Rattle.rb_report.specs.Failures.{failure_sentence, failure_text}
 use Rattle.rb_report.specs.Names.{acts_in_line, shown_name}
 use Rattle.rb_report.specs.Notices.{unaccepted_text, warning_sentence, warning_text}
 use Rattle.rb_report.specs.Pieces.{noun}
-use Rattle.rb_report.specs.Refusals.{fault_line, refusal_text, sentence}
+use Rattle.rb_report.specs.Refusals.{refusal_line, refusal_sentence, refusal_text}
 use Rattle.rb_report.specs.Shown.{escape}
 use Rattle.rb_script_report.specs.declared.accept_options.AcceptFilter.{AcceptFilter}
 use Rattle.rb_script_report.specs.declared.view.Detail.{Detail}
@@ -155,7 +155,7 @@ abbrev pub accepted_sentence : ℕ → List ℕ
 accepted_sentence n = codes "accepted " ++ (decimal n ++ noun n (codes " output") (codes " outputs"))
 
 abbrev pub remark_sentence : Remark → List ℕ
-remark_sentence (remarks.Refused fault) = sentence fault
+remark_sentence (remarks.Refused refusal) = refusal_sentence refusal
 remark_sentence (remarks.Failed failure) = failure_sentence failure
 remark_sentence (remarks.Warning w) = warning_sentence w.doubt
 remark_sentence (remarks.Accepted n) = accepted_sentence n
@@ -166,7 +166,7 @@ remark_sentence (remarks.Matches line) = codes "there is nothing to accept: the 
 
 -- to people: a failure goes to the stream of errors, and a new error that is left is shown with its directive
 abbrev pub people_text : List ℕ → Remark → List ℕ
-people_text path (remarks.Refused fault) = refusal_text path fault
+people_text path (remarks.Refused refusal) = refusal_text path refusal
 people_text path (remarks.Failed failure) = []
 people_text path (remarks.Warning w) = warning_text path w.line w.doubt
 people_text path (remarks.Accepted n) = accepted_text path n
@@ -176,7 +176,7 @@ people_text path (remarks.Echoes line) = note_text path line (remark_sentence (r
 people_text path (remarks.Matches line) = note_text path line (remark_sentence (remarks.Matches line))
 
 abbrev pub remark_line : Remark → Option ℕ
-remark_line (remarks.Refused fault) = fault_line fault
+remark_line (remarks.Refused refusal) = refusal_line refusal
 remark_line (remarks.Failed failure) = None
 remark_line (remarks.Warning w) = Some w.line
 remark_line (remarks.Accepted n) = None
@@ -309,6 +309,11 @@ failure_lines path error words = failure_text path error.failure ++ cause_text (
 abbrev pub left_file_text : List ℕ → List ℕ
 left_file_text path = shown_name path ++ codes ": this new file could not be removed\n"
 
+-- a file that has the name of a new one
+abbrev pub taken_name_text : List ℕ → List ℕ
+taken_name_text path =
+    shown_name path ++ codes ": the new text of a script, which a call that was killed left, or one that runs is writing; remove it if none runs\n"
+
 -- a note about an output that no script can expect
 abbrev pub long_line_text : List ℕ → ℕ → List ℕ
 long_line_text path line = note_text path line (codes "this output has a line of more than 65,536 bytes, which no script can expect")
@@ -317,6 +322,7 @@ abbrev pub note_line : Note → List ℕ
 note_line (notes.Failure path failure) = failure_text path.now failure
 note_line (notes.Cause path words) = cause_line path.now words.now
 note_line (notes.LeftFile path) = left_file_text path.now
+note_line (notes.TakenName path) = taken_name_text path.now
 note_line (notes.LongLine path line) = long_line_text path.now line
 note_line (notes.Quit accepted left) = quit_text accepted left
 note_line (notes.Totals totals milliseconds) = totals_text totals milliseconds

@@ -4,7 +4,7 @@ ghost use Rattle.std.specs.Prelude.{◌≡◌, ℕ, List, false, IfOk, IfErr, So
 ghost use Rattle.rb_report.specs.declared.check.failure.Failure.TheVariants.{OutOfMemory};
 ghost use Rattle.rb_check.specs.Endings.{AcceptsSaid, AreWanted, IsAnswered};
 ghost use Rattle.rb_check.specs.Reported.{Fails, Reported};
-ghost use Rattle.rb_check.specs.Shown.{Prints, PrintsPart};
+ghost use Rattle.rb_check.specs.Shown.{Prints, PrintsPart, remark_text};
 ghost use Rattle.rb_check.specs.Subjects.{AreFindings, numbers_of, plain_of};
 ghost use Rattle.rb_check.specs.Targets.{AreNamedLines, AreNotFound, no_directive_failure};
 
@@ -21,11 +21,11 @@ use crate::review::{Reviewer, reviewed};
 use crate::script_result::{PathResult, ScriptResult};
 use crate::showing::tell;
 use crate::system::System;
-use rb_bench::{RunProgress, Runner};
+use rb_bench::{RunFault, RunProgress, Runner};
 use rb_files::PathError;
 use rb_machine::Machine;
-use rb_replay::{Session, StartFault};
-use rb_report::check::Failure;
+use rb_replay::Session;
+use rb_report::check::{Failure, MAX_OUTPUTS, Refusal};
 use rb_script_report::{AcceptFilter, AcceptOptions, Layout, summary_of, warnings};
 
 /// Checks the script at the path: shows its mismatches, and accepts them if that was asked for.
@@ -41,7 +41,7 @@ pub(crate) fn check_script<T: RunProgress, S: System, P: Person, W: ReportSink, 
     reviewer: &mut Reviewer<P>,
     report: &mut Report<W, E>,
 ) -> Result<PathResult, PathError>
-    // The report shows the script's run, or why the bytes are not a script.
+    // The report shows the script's run, or why the bytes are refused.
     ensures reported { IfOk result (λ found. (text : List ℕ)
         × Reported (S.has_read system.now) (S.tells_one system.now) asked.now (P.is_known reviewer.old.person) (P.left reviewer.old.person) report.old.state.form path.now reviewer.old.review reviewer.new.review found text
         × Prints W.held report.old report.new text) }
@@ -51,13 +51,11 @@ pub(crate) fn check_script<T: RunProgress, S: System, P: Person, W: ReportSink, 
 {
     report.heed(path.as_bytes(), None);
     let text = system.read(path)?;
-    let run = match runner.run_script(&text.bytes, asked.explains) {
+    let run = match runner.run_within(&text.bytes, asked.explains, MAX_OUTPUTS) {
         Ok(run) => run,
-        Err(StartFault::Script(fault)) => {
-            report.remark(path.as_bytes(), Remark::Refused(fault));
-            return Ok(PathResult::Refused(fault));
-        }
-        Err(_) => return Err(PathError::alone(Failure::OutOfMemory)),
+        Err(RunFault::Script(fault)) => return Ok(refused(path, Refusal::Script(fault), report)),
+        Err(RunFault::Outputs(line)) => return Ok(refused(path, Refusal::Outputs(line), report)),
+        Err(RunFault::OutOfMemory) => return Err(PathError::alone(Failure::OutOfMemory)),
     };
     report.heed(path.as_bytes(), Some(&run.layout.text));
     let found = warnings(system.alloc(), &run.session, &run.layout)?;
@@ -74,6 +72,19 @@ pub(crate) fn check_script<T: RunProgress, S: System, P: Person, W: ReportSink, 
     };
     let ran = answer(system, asked, &subject, reviewer, report)?;
     Ok(PathResult::Ran(ran))
+}
+
+// Says why a script is refused. That is its result.
+fn refused<W: ReportSink, E: ReportSink>(
+    path: &str,
+    refusal: Refusal,
+    report: &mut Report<W, E>,
+) -> PathResult
+    ensures result { result ≡ PathResult.Refused refusal }
+    ensures shown { Prints W.held report.old report.new (remark_text report.old.state.form path.now (Remark.Refused refusal)) }
+{
+    report.remark(path.as_bytes(), Remark::Refused(refusal));
+    PathResult::Refused(refusal)
 }
 
 // The result of a script that ran and has n warnings, if nothing of it is accepted.

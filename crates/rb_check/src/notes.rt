@@ -3,7 +3,7 @@
 ghost use Rattle.std.specs.Prelude.{IsOk};
 ghost use Rattle.rb_script.specs.Writes.{Writes};
 ghost use Rattle.rb_check.specs.Reviews.{quit_text};
-ghost use Rattle.rb_check.specs.Shown.{cause_line, left_file_text, note_line, note_text};
+ghost use Rattle.rb_check.specs.Shown.{cause_line, left_file_text, note_line, note_text, taken_name_text};
 
 use rb_report::check::{Failure, ReportPiece, Totals, put_failure, put_totals};
 use rb_script::{Sink, WriteFault};
@@ -18,6 +18,8 @@ pub(crate) enum Note<'a> {
     Cause(&'a [u8], &'a [u8]),
     /// A new file could be neither used nor removed.
     LeftFile(&'a [u8]),
+    /// There was a file that has the name of a new one.
+    TakenName(&'a [u8]),
     /// The output on this line can't be expected.
     LongLine(&'a [u8], usize),
     /// A review ended after this many accepted outputs, before this many scripts.
@@ -34,6 +36,7 @@ impl WrittenPiece for Note<'_> {
             Note::Failure(path, failure) => put_failure(sink, path, failure),
             Note::Cause(path, words) => put_cause(sink, path, words),
             Note::LeftFile(path) => put_left_file(sink, path),
+            Note::TakenName(path) => put_taken_name(sink, path),
             Note::LongLine(path, line) => {
                 let note =
                     b"this output has a line of more than 65,536 bytes, which no script can expect";
@@ -92,6 +95,21 @@ fn put_left_file<S: Sink>(sink: &mut S, path: &[u8]) -> Result<(), WriteFault>
         &[
             ReportPiece::Name(path),
             ReportPiece::Bytes(b": this new file could not be removed\n"),
+        ],
+    )
+}
+
+fn put_taken_name<S: Sink>(sink: &mut S, path: &[u8]) -> Result<(), WriteFault>
+    ensures wrote { Writes result (S.held sink.old) (S.held sink.new) (taken_name_text path.now) }
+    ensures all { S.takes_all sink.old → IsOk result × S.takes_all sink.new }
+{
+    put_pieces(
+        sink,
+        &[
+            ReportPiece::Name(path),
+            ReportPiece::Bytes(
+                b": the new text of a script, which a call that was killed left, or one that runs is writing; remove it if none runs\n",
+            ),
         ],
     )
 }

@@ -88,7 +88,7 @@ fn check_each<T: RunProgress, R: Files + Input + Clock + AllocGlobal, W: ReportS
 )
     ensures { Reports W.held check.old check.new (AreChecked asked.now check.old.report.state.form scripts.now check.new.results.counts) }
 {
-    let system = RuntimeSystem(rt);
+    let system = RuntimeSystem::new(rt);
     let person = TerminalPerson::new(rt, asked.gives_keys);
     let mut reviewer = Reviewer::new(rt.alloc(), person);
     let mut done = 0;

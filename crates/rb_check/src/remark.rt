@@ -9,10 +9,10 @@ use crate::kind::{NoticeKind, ScriptNotice};
 use crate::notes::put_note;
 use crate::notices::notice_of;
 use rb_report::check::{
-    Failure, failure_sentence, fault_line, put_accepted, put_refusal, put_unaccepted, put_warning,
-    sentence, warning_sentence,
+    Failure, Refusal, failure_sentence, put_accepted, put_refusal, put_unaccepted, put_warning,
+    refusal_line, refusal_sentence, warning_sentence,
 };
-use rb_script::{ScriptFault, Sink, WriteFault};
+use rb_script::{Sink, WriteFault};
 use rb_script_report::Warning;
 use rb_text::{Piece, WrittenPiece, add_pieces};
 use std::alloc::{AllocError, Global};
@@ -25,8 +25,8 @@ const MATCHES: &[u8] = b"there is nothing to accept: the output is the expected 
 /// What a report says of a script.
 #[derive(Clone, Copy)]
 pub(crate) enum Remark {
-    /// It is not a script.
-    Refused(ScriptFault),
+    /// It is not a script, or its outputs have too many bytes.
+    Refused(Refusal),
     /// It failed.
     Failed(Failure),
     /// A line looks like a slip.
@@ -49,7 +49,7 @@ impl Remark {
         ensures { result ≡ remark_line self }
     {
         match self {
-            Remark::Refused(fault) => fault_line(fault),
+            Remark::Refused(refusal) => refusal_line(refusal),
             Remark::Warning(warning) => Some(warning.line),
             Remark::Left(line) => Some(line),
             Remark::Echoes(line) => Some(line),
@@ -103,7 +103,7 @@ fn sentence_of(alloc: Global, remark: Remark) -> Result<Vec<u8>, AllocError>
     ensures { IfOk result (λ made. made.items ≡ remark_sentence remark) }
 {
     match remark {
-        Remark::Refused(fault) => Vec::from_slice(alloc, sentence(fault)),
+        Remark::Refused(refusal) => Vec::from_slice(alloc, refusal_sentence(refusal)),
         Remark::Failed(failure) => Vec::from_slice(alloc, failure_sentence(failure)),
         Remark::Warning(warning) => Vec::from_slice(alloc, warning_sentence(warning.doubt)),
         Remark::Accepted(n) => accepted_sentence(alloc, n),
@@ -156,7 +156,7 @@ impl WrittenPiece for RemarkLine<'_> {
 
     fn put<S: Sink>(&self, sink: &mut S) -> Result<(), WriteFault> {
         match self.remark {
-            Remark::Refused(fault) => put_refusal(sink, self.path, fault),
+            Remark::Refused(refusal) => put_refusal(sink, self.path, refusal),
             Remark::Warning(warning) => put_warning(sink, self.path, warning.line, warning.doubt),
             Remark::Accepted(n) => put_accepted(sink, self.path, n),
             Remark::Unaccepted => put_unaccepted(sink, self.path),

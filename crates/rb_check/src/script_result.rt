@@ -3,8 +3,7 @@
 ghost use Rattle.std.specs.Prelude.{◌≡◌, Some};
 ghost use Rattle.rb_check.specs.Results.{after_accepting, counts_with, outcome_of};
 
-use rb_report::check::{Failure, Outcome, Totals};
-use rb_script::ScriptFault;
+use rb_report::check::{Failure, Outcome, Refusal, Totals};
 
 /// The result of a script that ran.
 #[derive(Clone, Copy)]
@@ -68,8 +67,8 @@ impl ScriptResult {
 pub(crate) enum PathResult {
     /// The script ran.
     Ran(ScriptResult),
-    /// The bytes are no script.
-    Refused(ScriptFault),
+    /// The bytes are no script, or its outputs have too many bytes.
+    Refused(Refusal),
     /// It could not be checked.
     Failed(Failure),
 }
@@ -86,7 +85,7 @@ impl PathResult {
                     totals.add(Outcome::Failed(failure));
                 }
             }
-            PathResult::Refused(fault) => totals.add(Outcome::Refused(fault)),
+            PathResult::Refused(refusal) => totals.add(Outcome::Refused(refusal)),
             PathResult::Failed(failure) => totals.add(Outcome::Failed(failure)),
         }
     }

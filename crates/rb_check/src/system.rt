@@ -1,11 +1,11 @@
 //! The system calls of a check.
 
-ghost use Rattle.std.specs.Prelude.{◌≡◌, ◌≢◌, ◌+◌, ◌++◌, ℕ, ⊤, Bool, false, Err, IfErr, IfOk, IfSome, IsErr, IsOk, MatchOption, MatchResult, List, [], length, string_bytes, take};
+ghost use Rattle.std.specs.Prelude.{◌≡◌, ◌≢◌, ◌+◌, ◌++◌, ℕ, ⊤, Bool, false, true, Err, IfErr, IfOk, IfSome, IsErr, IsOk, MatchOption, MatchResult, List, [], length, string_bytes, take};
 ghost use Rattle.rb_script.specs.Reads.{Reads};
 ghost use Rattle.rb_script_report.specs.Accepting.{accepted};
 ghost use Rattle.rb_check.specs.AcceptTexts.{left_in};
 ghost use Rattle.rb_check.specs.Reported.{IsUnread};
-ghost use Rattle.rb_check.specs.Shown.{Prints, Tells, cleared, left_file_text};
+ghost use Rattle.rb_check.specs.Shown.{Prints, Tells, cleared, left_file_text, taken_name_text};
 ghost use Rattle.rb_check.specs.Subjects.{plain_of};
 ghost use Rattle.rb_report.specs.declared.check.failure.Failure.TheVariants.{NotRead, OutOfMemory};
 ghost use Rattle.rb_files.specs.PathErrors.{without_cause};
@@ -22,6 +22,7 @@ use rb_script::MAX_SCRIPT;
 use rb_script_report::AcceptOptions;
 use rb_text::{ReadFault, ReadSource, read_up_to};
 use std::alloc::Global;
+use std::cell::Cell;
 use std::fs::Metadata;
 use std::io::Read;
 use std::rt::Files;
@@ -77,7 +78,21 @@ pub(crate) trait System {
 
 /// The calls of a runtime.
 #[derive(Drop)]
-pub(crate) struct RuntimeSystem<'a, R>(pub(crate) &'a R);
+pub(crate) struct RuntimeSystem<'a, R> {
+    rt: &'a R,
+    // a file that has the name of a new one was named: once is enough
+    has_told: Cell<bool>,
+}
+
+impl<'a, R> RuntimeSystem<'a, R> {
+    /// Nothing was told yet.
+    pub(crate) fn new(rt: &'a R) -> RuntimeSystem<'a, R> {
+        RuntimeSystem {
+            rt,
+            has_told: Cell::new(false),
+        }
+    }
+}
 
 // What files hold, and where paths lead, is not known.
 impl<'a, R: Files + AllocGlobal> System for RuntimeSystem<'a, R> {
@@ -90,12 +105,12 @@ impl<'a, R: Files + AllocGlobal> System for RuntimeSystem<'a, R> {
     type Place = AtomicReplace<'a, R>;
 
     fn alloc(&self) -> Global {
-        self.0.alloc()
+        self.rt.alloc()
     }
 
     fn read(&self, path: &str) -> Result<Text, PathError> {
-        let (file, seen) = opened(self.0, path)?;
-        text_of(self.0.alloc(), file, seen)
+        let (file, seen) = opened(self.rt, path)?;
+        text_of(self.rt.alloc(), file, seen)
     }
 
     fn write<M: Machine, W: ReportSink, E: ReportSink>(
@@ -106,14 +121,16 @@ impl<'a, R: Files + AllocGlobal> System for RuntimeSystem<'a, R> {
         report: &mut Report<W, E>,
     ) -> Result<(), PathError> {
         let seen = subject.text.seen.clone()?;
-        let mut place = AtomicReplace::new(self.0, subject.path, seen)?;
+        let mut place = AtomicReplace::new(self.rt, subject.path, seen)?;
         let outcome = replace(&mut place, text);
-        told(outcome, &place, report)
+        let tells = place.taken().is_some() && !self.has_told.get();
+        self.has_told.set(self.has_told.get() || tells);
+        told(outcome, &place, tells, report)
     }
 
     fn is_one_script(&self, path: &str, other: &str) -> bool {
-        let one = file_at(self.0, path).ok().flatten();
-        let another = file_at(self.0, other).ok().flatten();
+        let one = file_at(self.rt, path).ok().flatten();
+        let another = file_at(self.rt, other).ok().flatten();
         are_one(&one, &another)
     }
 }
@@ -161,18 +178,26 @@ fn are_one<T: PartialEq>(one: &Option<T>, another: &Option<T>) -> bool
     }
 }
 
-// Gives the error of a text that was not put in its place. A new file that could be neither used nor removed is named.
+// Gives the error of a text that was not put in its place. A new file that could be neither used nor removed is named, and so, if it is to be, is a
+// file that had the new one's name.
 fn told<R: Files + AllocGlobal, W: ReportSink, E: ReportSink>(
     outcome: Result<(), Unreplaced>,
     place: &AtomicReplace<'_, R>,
+    tells: bool,
     report: &mut Report<W, E>,
 ) -> Result<(), PathError>
     ensures shown { Prints W.held report.old report.new [] }
     ensures outcome { MatchResult outcome (λ _. IsOk result) (λ why. result ≡ Err why.error) }
+    ensures taken { IsOk outcome → tells ≡ true → IfSome place.now.taken (λ path. Tells E.takes_all E.held report.old report.new (cleared report.old.errors.shows_progress ++ taken_name_text (string_bytes path))) }
     ensures left { IsErr outcome → IfSome place.now.new (λ new. Tells E.takes_all E.held report.old report.new (cleared report.old.errors.shows_progress ++ left_file_text (string_bytes new.path))) }
 {
     match outcome {
-        Ok(()) => Ok(()),
+        Ok(()) => {
+            if tells && let Some(taken) = place.taken() {
+                report.errors.tell(&Note::TakenName(taken.as_bytes()));
+            }
+            Ok(())
+        }
         Err(why) => {
             if let Some(left) = place.left() {
                 report.errors.tell(&Note::LeftFile(left.as_bytes()));

@@ -153,7 +153,7 @@ above line bytes = take (feed_start (line - 1) bytes) bytes
 -- the diagnostic that the run stopped at the directive on a line
 unfoldable pub stopped : ℕ → PlainDiagnostic
 stopped line =
-    record { line = line; kind = Stopped; message = codes "the script is not run from here on: an editor waits for 16,000,000 steps; raftbench check runs it all"; came = None }
+    record { line = line; kind = Stopped; message = codes "the script is not run from here on: an editor waits for 16,000,000 steps; raftbench run runs it all"; came = None }
 
 -- The diagnostics of a text. If its run stopped, those of the text above the stop, and one that says where it stopped.
 abbrev pub diagnosed : Option Stop → List ℕ → List PlainDiagnostic

@@ -54,6 +54,7 @@ none_there bytes word line (refusals.Script fault) below h = inl (io_kinds.OutOf
 none_there bytes word line (refusals.Unopened path error) below h = inl (io_kinds.OutOfMemory, h)
 none_there bytes word line refusals.ChartTooLarge below h = inl (io_kinds.OutOfMemory, h)
 none_there bytes word line refusals.PageTooLarge below h = inl (io_kinds.OutOfMemory, h)
+none_there bytes word line refusals.TraceTooLarge below h = inl (io_kinds.OutOfMemory, h)
 none_there bytes word line (refusals.Folder path) below h = inl (io_kinds.OutOfMemory, h)
 none_there bytes word line refusals.Io below h = inl (io_kinds.OutOfMemory, h)
 none_there bytes word line refusals.OutOfMemory below h = inl (io_kinds.OutOfMemory, h)

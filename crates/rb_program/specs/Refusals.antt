@@ -102,5 +102,6 @@ EndsWith (refusals.Unopened path error) status = status ≡ statuses.Failed
 EndsWith (refusals.Folder path) status = status ≡ statuses.Failed
 EndsWith refusals.ChartTooLarge status = status ≡ statuses.Refused
 EndsWith refusals.PageTooLarge status = status ≡ statuses.Refused
+EndsWith refusals.TraceTooLarge status = status ≡ statuses.Refused
 EndsWith refusals.Io status = status ≡ statuses.Failed
 EndsWith refusals.OutOfMemory status = status ≡ statuses.OutOfMemory

@@ -11,7 +11,7 @@ use crate::error_lines::say;
 use crate::program_error::ProgramError;
 use crate::shown::shown_text;
 use clap::error::ErrorKind;
-use rb_report::check::Status;
+use rb_report::check::{ShownName, Status};
 use std::alloc::{AllocError, Global};
 use std::fmt::Display;
 
@@ -27,7 +27,7 @@ pub(crate) fn tell_clap<C: Console>(alloc: Global, console: &mut C, error: &clap
         tell_mistake(alloc, console, error);
         true
     } else {
-        print_help(console, error)
+        print_help(alloc, console, error)
     };
     status_by_kind(error.kind(), went_out)
 }
@@ -53,14 +53,14 @@ fn shown<D: Display>(alloc: Global, text: &D) -> Result<String, AllocError>
 }
 
 // Writes a text on standard output, and returns whether it went out.
-fn print_help<C: Console, D: Display>(console: &mut C, help: &D) -> bool
+fn print_help<C: Console, D: Display>(alloc: Global, console: &mut C, help: &D) -> bool
     ensures printed { C.takes_all console.old → C.takes_all console.new × IsTrue result × IfSome (D.output help.now) (Appends (C.printed console.old) (C.printed console.new)) }
     ensures told { IsTrue result → Keeps (C.told console.old) (C.told console.new) }
     ensures lost { C.has_lost console.new ≡ C.has_lost console.old || not result }
 {
     let went_out = console.print(help);
     if !went_out {
-        say(console, &ProgramError::Io, "");
+        say(console, &ProgramError::Io, &ShownName::empty(alloc));
     }
     went_out
 }

@@ -11,10 +11,11 @@ use crate::console::Console;
 use crate::program_error::ProgramError;
 use crate::usage_error::UsageLine;
 use rb_bench::script_fault_name;
-use rb_report::check::fault_line;
+use rb_report::check::{ShownName, fault_line};
 use rb_script::ScriptFault;
 use rb_view::chart::MAX_EVENTS;
 use rb_view::steps::MAX_PAGE;
+use rb_view::trace::MAX_TRACE;
 use std::fmt;
 use std::fmt::Display;
 
@@ -22,7 +23,7 @@ use std::fmt::Display;
 #[derive(Clone, Copy)]
 pub(crate) struct FirstLine<'a> {
     pub(crate) refusal: &'a ProgramError,
-    pub(crate) word: &'a str,
+    pub(crate) word: &'a ShownName,
 }
 
 impl Display for FirstLine<'_> {
@@ -48,6 +49,10 @@ impl Display for FirstLine<'_> {
                 f,
                 "raftbench: a page has room for {MAX_PAGE} bytes of rows: divide the script, or see a part of it by chart\n"
             ),
+            ProgramError::TraceTooLarge => write!(
+                f,
+                "raftbench: a trace has room for {MAX_TRACE} bytes: it ends before the directive that has more\n"
+            ),
             ProgramError::Unopened(_, _) | ProgramError::Folder(_) | ProgramError::Io =>
                 f.write_str("raftbench: input or output failed\n"),
             ProgramError::OutOfMemory => f.write_str("raftbench: out of memory\n"),
@@ -67,7 +72,7 @@ fn write_fault<W: fmt::Write>(f: &mut fmt::Formatter<W>, fault: ScriptFault) -> 
 }
 
 /// Writes the line with the reason, in which the word is shown so.
-pub(crate) fn say<C: Console>(console: &mut C, refusal: &ProgramError, word: &str)
+pub(crate) fn say<C: Console>(console: &mut C, refusal: &ProgramError, word: &ShownName)
     ensures told { C.takes_all console.old → C.takes_all console.new × IfSome (first_line refusal.now word.now) (Appends (C.told console.old) (C.told console.new)) }
     ensures printed { Keeps (C.printed console.old) (C.printed console.new) }
     ensures lost { C.has_lost console.new ≡ C.has_lost console.old }
@@ -79,17 +84,20 @@ pub(crate) fn say<C: Console>(console: &mut C, refusal: &ProgramError, word: &st
 #[derive(Clone, Copy)]
 pub(crate) struct SecondLine<'a> {
     pub(crate) refusal: &'a ProgramError,
-    pub(crate) word: &'a str,
+    pub(crate) word: &'a ShownName,
 }
 
 impl Display for SecondLine<'_> {
     ghost output = { λ line. second_line line.refusal.now line.word.now };
 
     fn fmt<W: fmt::Write>(&self, f: &mut fmt::Formatter<W>) -> fmt::Result {
-        let word = self.word;
+        let word = self.word.as_str();
         match self.refusal {
             ProgramError::Usage(misuse) => {
-                let line = UsageLine { misuse, word };
+                let line = UsageLine {
+                    misuse,
+                    word: self.word,
+                };
                 write!(f, "{line}")
             }
             ProgramError::Unopened(_, error) => write!(f, "{word}: {error}\n"),
@@ -102,6 +110,7 @@ impl Display for SecondLine<'_> {
             | ProgramError::Script(_)
             | ProgramError::ChartTooLarge
             | ProgramError::PageTooLarge
+            | ProgramError::TraceTooLarge
             | ProgramError::Io
             | ProgramError::OutOfMemory => Ok(()),
         }

@@ -9,6 +9,7 @@
 
 mod arguments;
 mod chart;
+mod chart_format;
 mod chart_over;
 mod checking;
 mod clap_text;
@@ -24,6 +25,7 @@ mod limits;
 mod look;
 mod noting;
 mod page_over;
+mod page_part;
 mod path_kind;
 mod program_error;
 mod progress;

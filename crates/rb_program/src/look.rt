@@ -21,7 +21,7 @@ use crate::target::path_and_line;
 use crate::usage_error::UsageError;
 use rb_bench::Outlet;
 use rb_check::{VisibleSink, place_at};
-use rb_cluster::{Cluster, Meter};
+use rb_cluster::Meter;
 use rb_raftlog::SplitLog;
 use rb_report::check::{FileLine, Hint, Status, put_directive};
 use rb_script::{DirectiveRef, Lines, ScriptWithLines, Through, WriteFault};
@@ -99,7 +99,7 @@ fn seen(alloc: Global, read: &ScriptWithLines, line: usize) -> Result<Option<Loo
         return Ok(None);
     };
     let mut meter = Meter::new();
-    let lines = look::<Cluster<SplitLog>>(alloc, &read.script, place, &mut meter)?;
+    let lines = look::<SplitLog>(alloc, &read.script, place, &mut meter)?;
     Ok(Some(LookedAt { place, head, lines }))
 }
 

@@ -12,11 +12,11 @@ use crate::clap_text::tell_clap;
 use crate::console::Console;
 use crate::environment::{Environment, asks_for_explanations};
 use crate::error_lines::{SecondLine, say};
-use crate::shown::{shown_word, text_of};
+use crate::shown::or_nothing;
 use crate::usage_error::{UsageError, tell_help};
 use rb_args::ChoiceFault;
 use rb_bench::BenchFault;
-use rb_report::check::Status;
+use rb_report::check::{ShownName, Status};
 use rb_script::ScriptFault;
 use rb_text::ReadFault;
 use std::alloc::{AllocError, Global};
@@ -36,6 +36,8 @@ pub enum ProgramError {
     ChartTooLarge,
     /// A page has no room for the rows of what happens.
     PageTooLarge,
+    /// A trace has no room for all that happens.
+    TraceTooLarge,
     /// The file of this path is a folder, so it couldn't be read.
     Folder(String),
     Io,
@@ -54,6 +56,7 @@ impl Drop for ProgramError {
             | ProgramError::Script(_)
             | ProgramError::ChartTooLarge
             | ProgramError::PageTooLarge
+            | ProgramError::TraceTooLarge
             | ProgramError::Io
             | ProgramError::OutOfMemory => {}
         }
@@ -76,13 +79,13 @@ impl ProgramError {
         ensures lost { C.has_lost console.old ≡ false → EndsByOutput self.now (C.has_lost console.new) result }
     {
         let explained = is_explained(system, is_read);
-        let shown = shown_word(alloc, self.word());
-        let word = text_of(&shown);
-        let status = self.tell_why(alloc, console, word);
+        let shown = ShownName::of(alloc, self.word().as_bytes());
+        let word = or_nothing(alloc, shown);
+        let status = self.tell_why(alloc, console, &word);
         if !explained {
             return status;
         }
-        self.explain(alloc, console, word);
+        self.explain(alloc, console, &word);
         status
     }
 
@@ -99,13 +102,14 @@ impl ProgramError {
             | ProgramError::Script(_)
             | ProgramError::ChartTooLarge
             | ProgramError::PageTooLarge
+            | ProgramError::TraceTooLarge
             | ProgramError::Io
             | ProgramError::OutOfMemory => "",
         }
     }
 
     // Writes the line with the reason.
-    fn tell_why<C: Console>(&self, alloc: Global, console: &mut C, word: &str) -> Status
+    fn tell_why<C: Console>(&self, alloc: Global, console: &mut C, word: &ShownName) -> Status
         ensures ends { EndsWith self.now result }
         ensures told { C.takes_all console.old → C.takes_all console.new × IfSome (first_line self.now word.now) (Appends (C.told console.old) (C.told console.new)) }
         ensures lost { C.has_lost console.old ≡ false → EndsByOutput self.now (C.has_lost console.new) result }
@@ -116,7 +120,10 @@ impl ProgramError {
                 say(console, self, word);
                 Status::BadUsage
             }
-            ProgramError::Script(_) | ProgramError::ChartTooLarge | ProgramError::PageTooLarge => {
+            ProgramError::Script(_)
+            | ProgramError::ChartTooLarge
+            | ProgramError::PageTooLarge
+            | ProgramError::TraceTooLarge => {
                 say(console, self, word);
                 Status::Refused
             }
@@ -132,7 +139,7 @@ impl ProgramError {
     }
 
     // Writes the second line, if the first doesn't say enough to a person.
-    fn explain<C: Console>(&self, alloc: Global, console: &mut C, word: &str)
+    fn explain<C: Console>(&self, alloc: Global, console: &mut C, word: &ShownName)
         ensures told { C.takes_all console.old → IfSome (second_line self.now word.now) (Appends (C.told console.old) (C.told console.new)) }
         ensures lost { C.has_lost console.new ≡ C.has_lost console.old }
     {

@@ -7,7 +7,7 @@ ghost use Rattle.rb_program.specs.Scripts.{sources_of};
 
 use crate::chart::chart;
 use crate::checking::Terminals;
-use crate::document::{DocumentKind, page, write_document};
+use crate::document::{page, trace};
 use crate::look::look_at;
 use crate::program_error::ProgramError;
 use crate::progress::TerminalProgress;
@@ -132,7 +132,7 @@ fn done<R: Files + Input + Print + AllocGlobal, E: Write + Drop, P: RunProgress>
     progress: &P,
 ) -> Result<Status, ProgramError>
     ensures right { IfOk result (λ _. has_interval work ≡ true) }
-    ensures done { IsDone (sources_of R.Reader R.File R.Reader.remaining R.File.remaining) file.now (option_map string_bytes choice.now.from) (option_map string_bytes choice.now.until) work result }
+    ensures done { IsDone (sources_of R.Reader R.File R.Reader.remaining R.File.remaining) file.now choice.now work result }
 {
     match work {
         Work::Report(every) => run(rt, file, Mode::Run, every, progress),
@@ -140,8 +140,18 @@ fn done<R: Files + Input + Print + AllocGlobal, E: Write + Drop, P: RunProgress>
         Work::Noting => rewrite(rt, file, errors, progress),
         Work::Session(every) => session(rt, file, every),
         Work::Look => look_at(rt, file),
-        Work::Page => page(rt, file),
-        Work::Chart => chart(rt, file, choice.from.as_deref(), choice.until.as_deref()),
-        Work::Trace => write_document(rt, file, DocumentKind::Trace),
+        Work::Page => page(rt, file, choice.from.as_deref(), choice.until.as_deref()),
+        Work::Chart => {
+            let format = choice.check.format.as_deref();
+            chart(
+                rt,
+                file,
+                choice.from.as_deref(),
+                choice.until.as_deref(),
+                format,
+                choice.has_logs,
+            )
+        }
+        Work::Trace => trace(rt, file),
     }
 }

@@ -48,17 +48,19 @@ pub use hint::Hint;
 pub use laws::{
     colors_go_around, comparing_is_bounded, counts_are_sums, diffs_are, diffs_are_longest,
     diffs_are_their_stretches, diffs_tell_both_sides, highlights_are_least, highlights_need_colors,
-    highlights_take_nothing_away, lines_are_told_apart, reasons_stand_between,
+    highlights_take_nothing_away, lines_are_told_apart, outputs_are_bounded, reasons_stand_between,
     same_lines_are_plain, sentences_are_distinct, shown_diffs_tell_both_sides,
     shown_names_act_in_nothing, statuses_are_greatest,
 };
 pub use left::put_left;
 pub use line_range::LineRange;
 pub use mismatch::{MismatchView, Sides, put_directive, put_mismatch, put_note};
-pub use name::{acts_in_line, by_number, has_acting_char, put_name, shown_name};
+pub use name::{ShownName, acts_in_line, by_number, has_acting_char, put_name, shown_name};
 pub use outcome::Outcome;
 pub use piece::ReportPiece;
-pub use refusal::{fault_line, put_refusal, sentence};
+pub use refusal::{
+    MAX_OUTPUTS, Refusal, fault_line, put_refusal, refusal_line, refusal_sentence, sentence,
+};
 pub use side::Side;
 pub use status::Status;
 pub use steps::put_run;

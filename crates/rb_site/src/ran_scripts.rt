@@ -21,7 +21,7 @@ pub(crate) struct RanScripts;
 impl ChapterTexts for RanScripts {
     ghost is_page = { λ _ script name front back text. IsPage script name front back text };
 
-    ghost is_picture = { λ _ script name text. IsPicture script text };
+    ghost is_picture = { λ _ script name text. IsPicture script name text };
 
     fn page(
         &self,
@@ -80,15 +80,15 @@ fn picture_text(alloc: Global, chart: &Chart) -> Result<Vec<u8>, AllocError>
 
 // The picture of all directives of a script.
 fn chart(alloc: Global, bytes: &[u8], name: &[u8]) -> Result<Chart, BookFault>
-    ensures { IfOk result (λ chart. IsChart bytes.now chart) }
+    ensures { IfOk result (λ chart. IsChart bytes.now name.now chart) }
 {
     let ScriptWithLines {
         script,
-        lines: _,
+        lines,
         heads,
     } = read(alloc, bytes)?;
     let source = ChartScript {
-        bytes,
+        lines: &lines,
         script: &script,
         heads: heads.as_slice(),
     };
@@ -96,7 +96,7 @@ fn chart(alloc: Global, bytes: &[u8], name: &[u8]) -> Result<Chart, BookFault>
         from: None,
         until: None,
     };
-    match chart_of::<SplitLog>(alloc, name, source, part, &mut Meter::new()) {
+    match chart_of::<SplitLog>(alloc, name, source, part, false, &mut Meter::new()) {
         Ok(run) => Ok(run.chart),
         Err(ChartFault::TooLarge) => Err(BookFault::PictureTooLarge),
         Err(ChartFault::OutOfMemory) => Err(BookFault::OutOfMemory),

@@ -86,6 +86,8 @@ export class Model {
     this.source = new Source("");
     /** @type {Step[]} */
     this.steps = [];
+    // How many directives the script has: a page may show some of them.
+    this.count = 0;
     /** @type {Message[]} */
     this.messages = [];
     /** @type {Node[]} */
@@ -331,6 +333,7 @@ const READERS = {
   },
   end(reader) {
     const { model } = reader;
+    model.count = model.steps.length;
     model.tailLine = model.source.next + 1;
     model.tail = model.source.rest();
     reader.isWhole = true;

@@ -12,6 +12,12 @@ pub mod PendingArrows
 pub mod PicturesEnd
 pub mod ViewLaws
 pub mod PathLaws
+pub mod MeasureLaws
+pub mod NoteLaws
+pub mod ShownLaws
+pub mod FewLaws
+pub mod CanvasLaws
+pub mod PictureLaws
 pub mod LookLaws
 pub mod InertLaws
 pub mod PlainLaws

@@ -12,7 +12,10 @@ use Rattle.rb_view.specs.Json.{is_byte}
 use Rattle.rb_view.specs.Kept.{texts_of}
 use Rattle.rb_view.specs.PageRoom.{held_with}
 use Rattle.rb_view.specs.Rows.{Row, row, text}
+use Rattle.rb_machine.specs.declared.printed.PrintedLines.{PrintedLines}
 use Rattle.rb_machine.specs.Observations.{Observation, Shown, Settled}
+use Rattle.rb_machine.specs.Printing as printing
+use Rattle.rb_vocab.specs.declared.level.Level.{Level}
 use Rattle.rb_view.specs.States.{node_rows, node_since}
 
 -- what of a node is not as it was among these
@@ -71,6 +74,22 @@ with_node w id n = record w {
   nodes = rewritten w.nodes id n;
   of_bytes = w.of_bytes && list_all is_byte (content_end n.content);
 }
+
+-- ---- by an observer of lines, too
+
+-- lines are collected as long as a page has room for the rows
+abbrev pub printed_with : PrintedLines → Option (List Line) → PlainItem → PrintedLines
+printed_with p None item = p
+printed_with p (Some texts) item = printing.with_item p item
+
+abbrev pub at_level : PrintedLines × Watching → Level → PrintedLines × Watching
+at_level m level = (printing.at_level m.0 level, m.1)
+
+abbrev pub with_both : PrintedLines × Watching → PlainItem → PrintedLines × Watching
+with_both m item = (printed_with m.0 m.1.texts item, with_item m.1 item)
+
+abbrev pub with_node_of : PrintedLines × Watching → ℕ → PlainNode → PrintedLines × Watching
+with_node_of m id n = (m.0, with_node m.1 id n)
 
 -- ---- all of it
 

@@ -1,40 +1,38 @@
-//! A picture of a script's run, as a document of SVG that needs no scripts (docs/FORMATS.md).
+//! A picture of a script's run: a document of SVG that needs no scripts, or a diagram (docs/FORMATS.md).
 //!
-//! [`chart_of`] runs a script and observes each directive: nodes are next to each other, time goes down, and messages are
-//! arrows. The arrows are proved: one for each message that was sent, in order, with its ending; those that wait are of
-//! the messages that are pending. [`put_chart`] writes the document. Its text is the definition's text of the picture, in
-//! which each text of a script is a text of XML. Vertical positions are tested against another program.
+//! A picture is a value: a list of marks in the order in which things happen, and the arrows of its messages. [`chart_of`] runs a script and observes
+//! each directive: nodes are next to each other, time goes down, and messages are arrows. The picture is the definition's. Laws say of it that each
+//! message has its arrow, with its ending, and that those that wait are of the messages that are pending. [`put_chart`] and [`put_diagram`] write the
+//! marks, layer by layer, by one fold. Each text of a script is a text of XML, or of a diagram.
 
 mod arrow;
 mod arrows;
 mod builder;
 mod canvas;
-mod canvas_arrows;
+mod canvas_items;
+mod canvas_logs;
 mod chart;
 mod choice;
-mod columns;
 mod css_class;
+mod describe;
 mod draw;
+mod elements;
 mod escape;
 mod in_flight;
-mod labels;
 mod laws;
-mod marks;
+mod layers;
+mod mark;
 mod measure;
-mod messages;
-mod painting;
+mod notes;
 mod part;
 mod path;
 mod piece;
 mod row_layout;
-mod sentence;
-mod shape;
 mod shown;
 mod sizes;
-mod source;
 mod style;
-mod telling;
 mod title;
+mod words;
 mod writing;
 
 pub use arrow::{Arrow, ArrowPlace};
@@ -49,6 +47,5 @@ pub use laws::{
 };
 pub use part::{ChartPart, ChartPhase};
 pub use path::DrawnArrow;
-pub use shape::Shape;
 pub use style::STYLE;
-pub use writing::put_chart;
+pub use writing::{put_chart, put_diagram};

@@ -22,6 +22,7 @@ mod narrow_style;
 mod page;
 mod paint;
 mod paper_style;
+mod part;
 mod picture;
 mod picture_style;
 mod play;
@@ -41,4 +42,4 @@ mod text;
 mod words;
 mod wrap;
 
-pub use frame::{back, front};
+pub use frame::{WHOLE, back, front};

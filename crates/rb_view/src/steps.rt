@@ -13,6 +13,7 @@ mod log;
 mod meant;
 mod node;
 mod page;
+mod page_observer;
 mod room;
 mod rows;
 mod script;

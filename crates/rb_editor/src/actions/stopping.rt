@@ -76,7 +76,7 @@ fn stopped(alloc: Global, line: usize) -> Result<Diagnostic, AllocError>
     ensures { IfOk result (λ d. d ≡ stopped line) }
 {
     let sentence =
-        b"the script is not run from here on: an editor waits for 16,000,000 steps; raftbench check runs it all";
+        b"the script is not run from here on: an editor waits for 16,000,000 steps; raftbench run runs it all";
     Ok(Diagnostic {
         line,
         kind: DiagnosticKind::Stopped,

@@ -11,6 +11,7 @@ ghost use Rattle.rb_report.specs.Names.{acts_in_line, acts_past_ascii, by_number
 use rb_script::{Sink, Through, WriteFault};
 use rb_text::{Escape, hex_digit, put_escaped};
 use std::alloc::{AllocError, Global};
+use std::marker::Model;
 use std::str;
 
 /// A byte by its number.
@@ -64,6 +65,62 @@ pub fn shown_name(alloc: Global, name: &[u8]) -> Result<Vec<u8>, AllocError>
     match put_name(&mut sink, name) {
         Ok(()) => Ok(sink.0),
         Err(_) => Err(AllocError),
+    }
+}
+
+/// A name as it is shown. Nothing else has this type: a text that takes it takes nothing that ends a line or acts.
+#[derive(Drop)]
+pub struct ShownName {
+    text: String,
+}
+
+impl Model for ShownName {
+    ghost use Rattle.std.specs.Prelude.{◌≡◌, ℕ, List, false, string_bytes};
+    ghost use Rattle.rb_report.specs.Names.{acts_in_line};
+
+    ghost Value = { List ℕ };
+
+    ghost view = { λ name. string_bytes name.text };
+
+    ghost invariant = { λ name. acts_in_line (string_bytes name.text) ≡ false };
+}
+
+impl ShownName {
+    ghost use Rattle.std.specs.Prelude.{◌≡◌, [], false, IfOk, string_bytes};
+    ghost use Rattle.rb_report.specs.Names.{acts_in_line, shown_name};
+
+    /// The name of these bytes.
+    pub fn of(alloc: Global, name: &[u8]) -> Result<ShownName, AllocError>
+        ensures { IfOk result (λ shown. shown ≡ shown_name name.now) }
+    {
+        let shown = shown_name(alloc, name)?;
+        let text = String::from_utf8(shown).unwrap();
+        Ok(ShownName { text })
+    }
+
+    /// A name of no bytes, for which no memory is taken.
+    pub fn empty(alloc: Global) -> ShownName
+        ensures { result ≡ [] }
+    {
+        ShownName {
+            text: String::new(alloc),
+        }
+    }
+
+    /// The name as it is shown.
+    pub fn as_str(&self) -> &str
+        ensures text { result.now ≡ self.now }
+        ensures inert { acts_in_line result.now ≡ false }
+    {
+        self.text.as_str()
+    }
+
+    /// The same, for whoever takes texts.
+    pub fn into_string(self) -> String
+        ensures { string_bytes result ≡ self }
+    {
+        let ShownName { text } = self;
+        text
     }
 }
 

@@ -1,7 +1,7 @@
 //! The outcome of one path.
 
 use crate::check::failure::Failure;
-use rb_script::ScriptFault;
+use crate::check::refusal::Refusal;
 
 /// The outcome of one path.
 #[derive(Clone, Copy, Debug, PartialEq, Eq)]
@@ -20,7 +20,7 @@ pub enum Outcome {
         warnings: usize,
     },
     /// The script was refused, or there was no memory to read it.
-    Refused(ScriptFault),
+    Refused(Refusal),
     /// A file or a folder failed.
     Failed(Failure),
 }

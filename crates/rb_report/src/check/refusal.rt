@@ -2,12 +2,24 @@
 
 ghost use Rattle.std.specs.Prelude.{◌≡◌, IsOk};
 ghost use Rattle.rb_script.specs.Writes.{Writes};
-ghost use Rattle.rb_report.specs.Refusals.{sentence, fault_line, refusal_text};
+ghost use Rattle.rb_report.specs.Refusals.{sentence, fault_line, refusal_line, refusal_sentence, refusal_text};
 
 use crate::check::piece::{ReportPiece, put_pieces};
 use rb_script::{ScriptFault, Sink, WriteFault};
 
-/// What is wrong, and its usual cause.
+/// How many bytes the outputs of a script may have in a check: eight times the longest script, so no expectation has more.
+pub const MAX_OUTPUTS: usize = 33_554_432;
+
+/// Why a script is refused.
+#[derive(Clone, Copy, Debug, PartialEq, Eq)]
+pub enum Refusal {
+    /// The bytes are not a script, or there was no memory to read them.
+    Script(ScriptFault),
+    /// The outputs up to the directive on this line have more than [`MAX_OUTPUTS`] bytes.
+    Outputs(usize),
+}
+
+/// What is wrong with bytes that are not a script, and its usual cause.
 pub fn sentence(fault: ScriptFault) -> &'static [u8]
     ensures { result.now ≡ sentence fault }
 {
@@ -49,14 +61,35 @@ pub fn fault_line(fault: ScriptFault) -> Option<usize>
     }
 }
 
-/// Writes why a script is refused: `PATH:LINE: ` if the fault names a line, else `PATH: `, then what is wrong and its usual
+/// What is wrong, and its usual cause or what to do.
+pub fn refusal_sentence(refusal: Refusal) -> &'static [u8]
+    ensures { result.now ≡ refusal_sentence refusal }
+{
+    match refusal {
+        Refusal::Script(fault) => sentence(fault),
+        Refusal::Outputs(_) =>
+            b"the outputs up to this directive have more than 33,554,432 bytes; raftbench run writes them all",
+    }
+}
+
+/// The line that a refusal names, counted from 1.
+pub fn refusal_line(refusal: Refusal) -> Option<usize>
+    ensures { result ≡ refusal_line refusal }
+{
+    match refusal {
+        Refusal::Script(fault) => fault_line(fault),
+        Refusal::Outputs(line) => Some(line),
+    }
+}
+
+/// Writes why a script is refused: `PATH:LINE: ` if the refusal names a line, else `PATH: `, then what is wrong and its usual
 /// cause. On a failure a beginning of the text was written.
-pub fn put_refusal<S: Sink>(sink: &mut S, path: &[u8], fault: ScriptFault) -> Result<(), WriteFault>
-    ensures wrote { Writes result (S.held sink.old) (S.held sink.new) (refusal_text path.now fault) }
+pub fn put_refusal<S: Sink>(sink: &mut S, path: &[u8], refusal: Refusal) -> Result<(), WriteFault>
+    ensures wrote { Writes result (S.held sink.old) (S.held sink.new) (refusal_text path.now refusal) }
     ensures all { S.takes_all sink.old → IsOk result × S.takes_all sink.new }
 {
-    let sentence = sentence(fault);
-    match fault_line(fault) {
+    let sentence = refusal_sentence(refusal);
+    match refusal_line(refusal) {
         Some(line) => put_pieces(
             sink,
             &[

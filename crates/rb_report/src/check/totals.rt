@@ -7,6 +7,7 @@ ghost use Rattle.rb_report.specs.Counts.{nothing, one_run, one_refusal, one_fail
 use crate::check::failure::Failure;
 use crate::check::outcome::Outcome;
 use crate::check::piece::{ReportPiece, noun, put_pieces};
+use crate::check::refusal::Refusal;
 use crate::check::status::Status;
 use rb_script::{ScriptFault, Sink, WriteFault};
 
@@ -81,11 +82,11 @@ impl Totals {
         }
     }
 
-    fn of_refused(fault: ScriptFault) -> Totals
-        ensures { result ≡ of_refused fault }
+    fn of_refused(refusal: Refusal) -> Totals
+        ensures { result ≡ of_refused refusal }
     {
-        match fault {
-            ScriptFault::OutOfMemory => Totals::one_failure(1),
+        match refusal {
+            Refusal::Script(ScriptFault::OutOfMemory) => Totals::one_failure(1),
             _ => Totals {
                 scripts: 1,
                 refused: 1,
@@ -114,7 +115,7 @@ impl Totals {
                 errors,
                 warnings,
             } => Totals::one_run(directives, mismatches, accepted, errors, warnings),
-            Outcome::Refused(fault) => Totals::of_refused(fault),
+            Outcome::Refused(refusal) => Totals::of_refused(refusal),
             Outcome::Failed(failure) => Totals::of_failed(failure),
         }
     }

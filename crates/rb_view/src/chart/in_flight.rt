@@ -103,6 +103,13 @@ impl InFlight {
     }
 
     /// The messages.
+    pub(crate) fn messages(&self) -> &[Message]
+        ensures { result.now ≡ self.now.messages }
+    {
+        self.messages.as_slice()
+    }
+
+    /// The messages alone.
     pub(crate) fn into_messages(self) -> Vec<Message>
         ensures { result.items ≡ self.messages }
     {

@@ -1,32 +1,105 @@
-//! The pieces of elements.
+//! The pieces of elements, of sentences, and of the lines of diagrams.
 
-ghost use Rattle.std.specs.Prelude.{◌≡◌};
+ghost use Rattle.std.specs.Prelude.{◌≡◌, ◌++◌, IsOk, decimal};
+ghost use Rattle.std.specs.List.{flat_map};
+ghost use Rattle.rb_script.specs.Writes.{Writes};
+ghost use Rattle.rb_view.specs.Measure.{fitted};
+ghost use Rattle.rb_view.specs.Pieces.{aimed, has_meaning, mermaid};
+ghost use Rattle.rb_view.specs.XmlEscapes.{escaped};
 
 use crate::chart::escape::Xml;
+use crate::chart::measure::fitted;
 use rb_script::{Sink, WriteFault};
-use rb_text::{WrittenPiece, put_escaped, put_number};
+use rb_text::{Escape, WrittenPiece, put_escaped, put_number};
 
 /// A piece of an element.
 #[derive(Clone, Copy)]
-pub(crate) enum SvgPiece<'a> {
+pub(crate) enum ChartPiece<'a> {
     /// The bytes as they are.
     Bytes(&'a [u8]),
-    /// A number in decimal digits.
-    Number(u64),
+    /// The bytes as they are, and a number after them.
+    Field(&'a [u8], u64),
     /// Words, as text of XML.
     Words(&'a [u8]),
+    /// As many columns of the words as fit, as text of XML.
+    Cut(usize, &'a [u8]),
+    /// The receiver of a message, and its label, as text of XML.
+    Aimed(u64, &'a [u8]),
+    /// Words, as text of a diagram.
+    InDiagram(&'a [u8]),
 }
 
-impl WrittenPiece for SvgPiece<'_> {
+/// Writes bytes as they are, and a number after them.
+pub(crate) fn put_field<S: Sink>(sink: &mut S, before: &[u8], n: u64) -> Result<(), WriteFault>
+    ensures wrote { Writes result (S.held sink.old) (S.held sink.new) (before.now ++ decimal n) }
+    ensures all { S.takes_all sink.old → IsOk result × S.takes_all sink.new }
+{
+    sink.put(before)?;
+    put_number(sink, n)
+}
+
+fn put_cut<S: Sink>(sink: &mut S, most: usize, words: &[u8]) -> Result<(), WriteFault>
+    ensures wrote { Writes result (S.held sink.old) (S.held sink.new) (flat_map escaped (fitted most words.now)) }
+    ensures all { S.takes_all sink.old → IsOk result × S.takes_all sink.new }
+{
+    let (front, more) = fitted(words, most);
+    put_escaped(sink, &Xml, front)?;
+    put_escaped(sink, &Xml, more)
+}
+
+// The sign before the receiver of a message: `→`.
+const ARROW: &[u8] = b"\xe2\x86\x92";
+
+fn put_aimed<S: Sink>(sink: &mut S, to: u64, words: &[u8]) -> Result<(), WriteFault>
+    ensures wrote { Writes result (S.held sink.old) (S.held sink.new) (aimed to words.now) }
+    ensures all { S.takes_all sink.old → IsOk result × S.takes_all sink.new }
+{
+    put_field(sink, ARROW, to)?;
+    sink.put(b" ")?;
+    put_escaped(sink, &Xml, words)
+}
+
+impl WrittenPiece for ChartPiece<'_> {
     ghost use Rattle.rb_view.specs.Pieces.{piece_text};
 
     ghost text = { piece_text };
 
     fn put<S: Sink>(&self, sink: &mut S) -> Result<(), WriteFault> {
         match *self {
-            SvgPiece::Bytes(bytes) => sink.put(bytes),
-            SvgPiece::Number(n) => put_number(sink, n),
-            SvgPiece::Words(words) => put_escaped(sink, &Xml, words),
+            ChartPiece::Bytes(bytes) => sink.put(bytes),
+            ChartPiece::Field(before, n) => put_field(sink, before, n),
+            ChartPiece::Words(words) => put_escaped(sink, &Xml, words),
+            ChartPiece::Cut(most, words) => put_cut(sink, most, words),
+            ChartPiece::Aimed(to, words) => put_aimed(sink, to, words),
+            ChartPiece::InDiagram(words) => put_escaped(sink, &Mermaid, words),
+        }
+    }
+}
+
+// ---- diagrams
+
+// The bytes that have a meaning in a diagram.
+const WITH_MEANING: &[u8] = b"#;<>&%";
+
+fn has_meaning(b: u8) -> bool
+    ensures { result ≡ has_meaning b }
+{
+    WITH_MEANING.contains(&b)
+}
+
+/// Texts of diagrams.
+#[derive(Clone, Copy)]
+struct Mermaid;
+
+impl Escape for Mermaid {
+    ghost text = { λ _. mermaid };
+
+    fn put<S: Sink>(&self, sink: &mut S, b: u8) -> Result<(), WriteFault> {
+        if has_meaning(b) {
+            put_field(sink, b"#", u64::from(b))?;
+            sink.put(b";")
+        } else {
+            sink.put(&[b])
         }
     }
 }

@@ -1,8 +1,8 @@
 //! The titles of pictures.
 
-ghost use Rattle.std.specs.Prelude.{◌≡◌, ◌++◌, IfOk, OnOk, true};
-ghost use Rattle.std.specs.List.{list_all};
-ghost use Rattle.rb_view.specs.Titles.{from_text, is_printable, title_text, until_text};
+ghost use Rattle.std.specs.Prelude.{◌≡◌, ◌++◌, IfOk, OnOk};
+ghost use Rattle.rb_view.specs.Readable.{shown};
+ghost use Rattle.rb_view.specs.Titles.{from_text, title_text, until_text};
 
 use crate::chart::part::ChartPart;
 use crate::chart::shown::shown;
@@ -32,7 +32,7 @@ fn add_until(title: &mut Vec<u8>, until: Option<u64>) -> Result<(), AllocError>
 
 /// The title of the picture of a script with a name.
 pub(crate) fn title_of(alloc: Global, name: &[u8], part: ChartPart) -> Result<Vec<u8>, AllocError>
-    ensures { IfOk result (λ title. list_all is_printable name.now ≡ true → title.items ≡ title_text name.now part.from part.until) }
+    ensures { IfOk result (λ title. title.items ≡ title_text (shown name.now) part.from part.until) }
 {
     let mut title = shown(alloc, name)?;
     add_from(&mut title, part.from)?;

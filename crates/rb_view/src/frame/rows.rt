@@ -53,6 +53,8 @@ class Model {\n\
 \x20   this.name = \"\";\n\
 \x20   this.source = new Source(\"\");\n\
 \x20   this.steps = [];\n\
+\x20   // How many directives the script has: a page may show some of them.\n\
+\x20   this.count = 0;\n\
 \x20   this.messages = [];\n\
 \x20   this.nodes = [];\n\
 \x20   this.mismatches = [];\n\
@@ -267,6 +269,7 @@ const READERS = {\n\
 \x20 },\n\
 \x20 end(reader) {\n\
 \x20   const { model } = reader;\n\
+\x20   model.count = model.steps.length;\n\
 \x20   model.tailLine = model.source.next + 1;\n\
 \x20   model.tail = model.source.rest();\n\
 \x20   reader.isWhole = true;\n\

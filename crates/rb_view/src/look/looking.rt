@@ -8,9 +8,12 @@ ghost use Rattle.rb_view.specs.Looks.{answer_in, asked, question, of_node, of_no
 
 use crate::look::answer::{answer, question};
 use crate::look::nodes::Nodes;
+use crate::look::quiet::cluster_at;
 use crate::look::section::add_section;
 use itoa::Buffer;
+use rb_cluster::{Cluster, Meter};
 use rb_machine::{Count, Machine};
+use rb_raftlog::RaftLog;
 use rb_replay::Session;
 use rb_script::{Lines, Script};
 use std::alloc::{AllocError, Global};
@@ -195,19 +198,19 @@ pub fn look_in<M: Nodes>(
     Ok(lines)
 }
 
-/// Shows the machine after the first directives of a script, as [`look_in`] does. The meter rises by the directives that are run for it.
+/// Shows the cluster after the first directives of a script, as [`look_in`] does. What they print is not kept.
 #[tactic(auto, unfolding(crate::specs::Looks::looked))]
-pub fn look<M: Nodes>(
+pub fn look<L: RaftLog>(
     alloc: Global,
     script: &Script,
     place: usize,
-    meter: &mut M::Meter,
+    meter: &mut Meter,
 ) -> Result<Lines, AllocError>
     requires there { place ≤ length script.now.blocks }
     requires few { place ≤ MAX_DIRECTIVES }
-    requires meter { M.Meter.count_of meter.old ≤ 2 ^ 62 }
+    requires meter { meter.old ≤ 2 ^ 62 }
     ensures { IfOk result (λ lines. lines ≡ looked script.now place) }
 {
-    let machine: M = machine_at(alloc, script, place, meter)?;
-    look_in(alloc, &machine, meter)
+    let cluster: Cluster<L> = cluster_at(alloc, script, place, meter)?;
+    look_in(alloc, &cluster, meter)
 }

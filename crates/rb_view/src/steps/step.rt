@@ -17,13 +17,14 @@ use crate::rows::keep_texts;
 use crate::steps::committed::keeps_commits;
 use crate::steps::meant::keep_hint;
 use crate::steps::node::keep_states;
+use crate::steps::page_observer::PageObserver;
 use crate::steps::room::{has_room, held};
 use crate::steps::rows::EventRows;
 use crate::steps::script::keep_script;
 use crate::steps::shown::{DirectiveRun, StepMachine};
 use crate::steps::written::WrittenNode;
 use rb_cluster::{Cluster, Meter};
-use rb_machine::{Both, Machine, PrintedLines};
+use rb_machine::{Machine, PrintedLines};
 use rb_raftlog::RaftLog;
 use rb_report::check::Table;
 use rb_script::{Block, Lines};
@@ -48,7 +49,7 @@ struct WatchedRun<L: RaftLog> {
     keeps: bool,
 }
 
-// Runs a directive on a copy, with two observers: of its lines, and of its rows.
+// Runs a directive on a copy. Its output is whole only if a page has room for its rows.
 #[tactic(auto, unfolding(rb_machine::specs::Outcome::outcome))]
 fn run<L: RaftLog>(
     alloc: Global,
@@ -57,7 +58,7 @@ fn run<L: RaftLog>(
     meter: &mut Meter,
 ) -> Result<WatchedRun<L>, AllocError>
     ensures cluster { IfOk result (λ ran. ran.cluster ≡ (outcome cluster.now (directive_of block.now)).cluster) }
-    ensures output { IfOk result (λ ran. ran.output ≡ (outcome cluster.now (directive_of block.now)).output) }
+    ensures output { IfOk result (λ ran. IfSome ran.texts (λ _. ran.output ≡ (outcome cluster.now (directive_of block.now)).output)) }
     ensures texts { IfOk result (λ ran. ran.texts ≡ held (observed_texts cluster.now.nodes (execution cluster.now (directive_of block.now)).observed)) }
     ensures nodes { IfOk result (λ ran. ran.nodes.items ≡ written_last cluster.now.nodes (execution cluster.now (directive_of block.now)).observed) }
     ensures keeps { IfOk result (λ ran. ran.keeps ≡ keeps_commits cluster.now.nodes (directive_of block.now)) }
@@ -69,14 +70,11 @@ fn run<L: RaftLog>(
     let printed = PrintedLines::new(alloc);
     let keeps = keeps_commits(cluster, block);
     let rows = EventRows::new(alloc, cluster, keeps)?;
-    let mut both = Both {
-        first: printed,
-        second: rows,
-    };
-    after.run_counted(&block.directive(), &mut both, meter)?;
-    let Both { first, second } = both;
-    let output = first.or_ok()?;
-    let (texts, nodes) = second.into_parts();
+    let mut observer = PageObserver { printed, rows };
+    after.run_counted(&block.directive(), &mut observer, meter)?;
+    let PageObserver { printed, rows } = observer;
+    let output = printed.or_ok()?;
+    let (texts, nodes) = rows.into_parts();
     Ok(WatchedRun {
         cluster: after,
         output,

@@ -1,33 +1,31 @@
 //! Who makes an object of each thing that happens.
 
-ghost use Rattle.std.specs.Prelude.{◌≡◌, ◌+◌, ◌∷◌, [], IfOk, OnOk};
+ghost use Rattle.std.specs.Prelude.{◌≡◌, ◌+◌, ◌∷◌, [], IfOk, OnOk, length};
 ghost use Rattle.rb_texts.specs.Items.{plain_item};
-ghost use Rattle.rb_view.specs.Traces.{begun, counted, given_up, meeting, moving, nothing, numbered, ready_after, sending, shown, with_object};
+ghost use Rattle.rb_view.specs.Traces.{begun, counted, given_up, meeting, moving, nothing, numbered, ready_after, sending, shown, with_item, with_line, with_object};
 
 use crate::trace::mail::SentMessages;
 use crate::trace::objects::{Standing, node_of, object};
-use rb_machine::Observer;
 use rb_message::Message;
-use rb_node::Node;
-use rb_raftlog::RaftLog;
 use rb_script::Lines;
 use rb_texts::{Item, Verb};
-use rb_vocab::Level;
 use std::alloc::{AllocError, Global};
 
-/// The trace so far.
+/// A trace so far.
 #[derive(Drop)]
-pub struct Tracer {
+pub(crate) struct Tracer {
     /// The place of the directive that runs, from 1, and the line of its head.
-    pub place: u64,
-    pub line: u64,
+    pub(crate) place: u64,
+    pub(crate) line: u64,
     /// The node whose ready is shown.
-    pub ready: u64,
+    pub(crate) ready: u64,
     /// How many messages were sent, and those that are in flight.
-    pub sent: u64,
-    pub mail: SentMessages,
-    /// The objects.
-    pub lines: Lines,
+    pub(crate) sent: u64,
+    pub(crate) mail: SentMessages,
+    /// The objects of the directive.
+    pub(crate) lines: Lines,
+    /// How many bytes the objects of all directives have, with the ends of their lines.
+    pub(crate) size: usize,
 }
 
 // A message as it is shown, by which it is known again.
@@ -60,6 +58,7 @@ impl Tracer {
             sent: 0,
             mail: SentMessages::new(alloc),
             lines: Lines::new(alloc),
+            size: 0,
         }
     }
 
@@ -69,6 +68,7 @@ impl Tracer {
     {
         self.place = place;
         self.line = line;
+        self.lines = Lines::new(self.mail.allocator());
     }
 
     // The number of the next message that is sent.
@@ -150,33 +150,36 @@ impl Tracer {
         let node = node_of(self.ready, item);
         let text = object(self.mail.allocator(), at, node, number, item)?;
         self.ready = ready_after(self.ready, item);
-        self.lines.push(text.as_slice())
+        self.push(text.as_slice())
     }
-}
 
-impl<L: RaftLog> Observer<L> for Tracer {
-    ghost use Rattle.rb_view.specs.declared.trace.tracer.Tracer.{Tracer};
-    ghost use Rattle.rb_machine.specs.Observations.{passing};
-    ghost use Rattle.rb_view.specs.Traces.{at_level, with_item};
+    // Adds a line.
+    fn push(&mut self, line: &[u8]) -> Result<(), AllocError>
+        ensures { OnOk result (self.new ≡ with_line self.old line.now) }
+    {
+        self.lines.push(line)?;
+        self.size = size_with(self.size, line)?;
+        Ok(())
+    }
 
-    ghost Meaning = { Tracer };
-
-    ghost meaning = { λ t. t };
-
-    ghost starting = { at_level };
-
-    ghost taking = { with_item };
-
-    ghost settling = { passing };
-
-    fn start(&mut self, _level: Level) {}
-
-    fn observe(&mut self, item: &Item<'_>) -> Result<(), AllocError> {
+    /// Adds the object of an item.
+    pub(crate) fn observe(&mut self, item: &Item<'_>) -> Result<(), AllocError>
+        ensures { OnOk result (self.new ≡ with_item self.old (plain_item item.now)) }
+    {
         let number = self.number(item)?;
         self.add_object(number, item)
     }
+}
 
-    fn settle(&mut self, _id: u64, _node: &Node<L>) -> Result<(), AllocError> {
-        Ok(())
+// The size with that of a line and its end.
+fn size_with(size: usize, line: &[u8]) -> Result<usize, AllocError>
+    ensures { IfOk result (λ n. n ≡ size + (length line.now + 1)) }
+{
+    let Some(before) = size.checked_add(line.len()) else {
+        return Err(AllocError);
+    };
+    match before.checked_add(1) {
+        Some(after) => Ok(after),
+        None => Err(AllocError),
     }
 }

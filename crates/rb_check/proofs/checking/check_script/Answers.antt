@@ -1,8 +1,9 @@
-use Rattle.std.proofs.Common.{◌≡◌, ◌∙◌, ℕ, List, refl, subst, ap, sym}
+use Rattle.std.proofs.Common.{◌≡◌, ◌∙◌, ℕ, List, Some, refl, subst, ap, sym}
 use Rattle.std.proofs.lemmas.Result.{err_from_is_err_and}
-use Rattle.rb_script.specs.Reading.{read_of}
-use Rattle.rb_replay.specs.declared.fault.StartFault.{StartFault}
-use Rattle.rb_replay.specs.Start.{TellsStartFault}
+use Rattle.rb_report.specs.declared.check.refusal.Refusal.TheVariants as refusals
+use Rattle.rb_report.specs.declared.check.refusal.TheConstants.{MAX_OUTPUTS}
+use Rattle.rb_bench.specs.declared.run_fault.RunFault.{RunFault}
+use Rattle.rb_bench.specs.Room.{TellsRunFault}
 use Rattle.rb_check.specs.declared.remark.Remark.TheVariants as remarks
 use Rattle.rb_check.specs.declared.report_state.ReportState.{ReportState}
 use Rattle.rb_check.specs.declared.visible.Showing.{Showing}
@@ -19,12 +20,22 @@ pub returns-in-Err-Script-clause-reported : goal.returns-in-Err-Script-clause-re
 returns-in-Err-Script-clause-reported g c =
     let bytes = c.deref.result.now in
     let read = subst (λ (b : List ℕ). g.S.System.has_read c.args.system.now c.args.path.now b) (sym c.deref.ensures.value) c.in_ok-text.ensures.read in
-    let fault = c.in-Err-Script.fault in
+    let refusal = refusals.Script c.in-Err-Script.fault in
     let path = c.args.path.now in (
-      remark_text c.args.report.now.state.form path (remarks.Refused fault),
-      refused bytes fault read (subst (λ (f : StartFault). TellsStartFault f (read_of bytes)) c.in-Err-Script.field-0-is c.in-Err-Script.ensures.refused) refl refl refl,
-      along (ap (λ (p : List ℕ). remark_text c.heed.new.self.state.form p (remarks.Refused fault)) c.as_bytes-in-Err-Script.ensures.value ∙ ap (λ (v : ReportState). remark_text v.form path (remarks.Refused fault)) c.heed.ensures.state)
-          (goes_heeded c.heed.ensures.state c.heed.ensures.held c.remark.ensures.shown),
+      remark_text c.args.report.now.state.form path (remarks.Refused refusal),
+      refused bytes refusal read (subst (λ (f : RunFault). TellsRunFault (Some MAX_OUTPUTS) bytes f) c.in-Err-Script.field-0-is c.in-Err-Script.ensures.refused) refl c.refused.ensures.result refl,
+      along (ap (λ (v : ReportState). remark_text v.form path (remarks.Refused refusal)) c.heed.ensures.state) (goes_heeded c.heed.ensures.state c.heed.ensures.held c.refused.ensures.shown),
+    )
+
+pub returns-in-Err-Outputs-clause-reported : goal.returns-in-Err-Outputs-clause-reported
+returns-in-Err-Outputs-clause-reported g c =
+    let bytes = c.deref.result.now in
+    let read = subst (λ (b : List ℕ). g.S.System.has_read c.args.system.now c.args.path.now b) (sym c.deref.ensures.value) c.in_ok-text.ensures.read in
+    let refusal = refusals.Outputs c.in-Err-Outputs.line in
+    let path = c.args.path.now in (
+      remark_text c.args.report.now.state.form path (remarks.Refused refusal),
+      refused bytes refusal read (subst (λ (f : RunFault). TellsRunFault (Some MAX_OUTPUTS) bytes f) c.in-Err-Outputs.field-0-is c.in-Err-Outputs.ensures.refused) refl c.refused-in-Err-Outputs.ensures.result refl,
+      along (ap (λ (v : ReportState). remark_text v.form path (remarks.Refused refusal)) c.heed.ensures.state) (goes_heeded c.heed.ensures.state c.heed.ensures.held c.refused-in-Err-Outputs.ensures.shown),
     )
 
 pub returns-clause-reported : goal.returns-clause-reported

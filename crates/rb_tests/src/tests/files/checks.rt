@@ -2,7 +2,7 @@
 
 use crate::tests::is_text;
 use rb_report::check::{
-    Colors, Failure, FileLine, Hint, MismatchView, Outcome, Sides, Table, Totals, Why,
+    Colors, Failure, FileLine, Hint, MismatchView, Outcome, Refusal, Sides, Table, Totals, Why,
     put_directive, put_mismatch, put_totals,
 };
 use rb_script::{Block, Lines, ScriptFault, Through};
@@ -135,7 +135,7 @@ fn counts_what_came_of_paths(rt: HostRuntime) {
             errors: 0,
             warnings: 1,
         },
-        Outcome::Refused(ScriptFault::BadLine(3)),
+        Outcome::Refused(Refusal::Script(ScriptFault::BadLine(3))),
         Outcome::Failed(Failure::NotFound),
     ]);
     let mut out = Through(Vec::new(rt.alloc()));

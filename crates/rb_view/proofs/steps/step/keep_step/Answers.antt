@@ -24,7 +24,7 @@ returns-then-not-fits-clause-room g c =
     let front = c.args.texts.now ++ texts_of (script_rows left c.args.place.line b.expected ran.output) in
     let rows = c.in-Some.rows in
     ap has_room (sym (step_kept left c.args.place.line m b ran.output rows c.args.texts.now front (front ++ rows) c.keep_ran.new.texts
-    c.in_ok-ran.ensures.output (some_is (done_texts m (directive_of b)) rows ran.rows c.in_ok-ran.ensures.rows c.in-Some.is) refl refl c.in_ok-fits.ensures.texts))
+    (rw c.in-Some.is at c.in_ok-ran.ensures.output) (some_is (done_texts m (directive_of b)) rows ran.rows c.in_ok-ran.ensures.rows c.in-Some.is) refl refl c.in_ok-fits.ensures.texts))
     ∙ sym c.in_ok-fits.ensures.room ∙ c.if-not-fits.true
 
 pub returns-clause-texts : goal.returns-clause-texts
@@ -36,4 +36,4 @@ returns-clause-texts g c =
     let front = c.args.texts.now ++ texts_of (script_rows left c.args.place.line b.expected ran.output) in
     let rows = c.in-Some.rows in
     step_kept left c.args.place.line m b ran.output rows c.args.texts.now front (front ++ rows) c.keep_ran.new.texts
-    c.in_ok-ran.ensures.output (some_is (done_texts m (directive_of b)) rows ran.rows c.in_ok-ran.ensures.rows c.in-Some.is) refl refl c.in_ok-fits.ensures.texts
+    (rw c.in-Some.is at c.in_ok-ran.ensures.output) (some_is (done_texts m (directive_of b)) rows ran.rows c.in_ok-ran.ensures.rows c.in-Some.is) refl refl c.in_ok-fits.ensures.texts
