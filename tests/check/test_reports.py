@@ -314,10 +314,18 @@ def test_format_that_there_is_not(room: pathlib.Path) -> Iterator[str]:
     yield from differs("it", run(room, "--format", "xml", "."), (2, b"", b"raftbench: --format xml: text, json, github or junit\n"))
 
 
+SECONDS = re.compile(r"\d+\.\d{3}")
+
+
 def junit_cases(output: bytes) -> list[tuple[str, str, str, str]]:
-    """Of each case its name, what is in it, and the message and the text of that, as a parser of XML reads them."""
+    """Of each case its name, what is in it, and the message and the text of that, as a parser of XML reads them. The totals are sums, and the times of paths
+    are together at most the time of all."""
     root = ElementTree.fromstring(output)
     assert root.tag == "testsuites", root.tag
+    assert all(root.get(name) == str(sum(int(suite.get(name, "")) for suite in root)) for name in ("tests", "failures", "errors")), root.attrib
+    times = [(suite.get("time", ""), suite[0].get("time", "")) for suite in root]
+    assert all(SECONDS.fullmatch(of_suite) and of_suite == of_case for of_suite, of_case in times), times
+    assert sum(float(time) for time, _ in times) <= float(root.get("time", "")) + 0.001, (root.attrib, times)
     came = []
     for suite in root:
         (case,) = suite

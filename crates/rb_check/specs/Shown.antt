@@ -29,8 +29,9 @@ use Rattle.rb_script_report.specs.declared.warning.Warning.{Warning}
 use Rattle.rb_script_report.specs.Accepting.{is_picked}
 use Rattle.rb_check.specs.declared.check_request.CheckRequest.{CheckRequest}
 use Rattle.rb_check.specs.declared.differing.Differing.{Differing}
-use Rattle.rb_check.specs.declared.format.Format.{Format}
-use Rattle.rb_check.specs.declared.format.Format.TheVariants.{Json, Github, Junit}
+use Rattle.rb_check.specs.declared.error_stream.ErrorStream.{ErrorStream}
+use Rattle.rb_check.specs.declared.format.LineFormat.{LineFormat}
+use Rattle.rb_check.specs.declared.format.LineFormat.TheVariants.{Json, Github}
 use Rattle.rb_check.specs.declared.kind.NoticeKind.{NoticeKind}
 use Rattle.rb_check.specs.declared.kind.NoticeKind.TheVariants as kinds
 use Rattle.rb_check.specs.declared.notes.Note.{Note}
@@ -43,16 +44,22 @@ use Rattle.rb_check.specs.declared.report_state.ReportState.{ReportState}
 use Rattle.rb_check.specs.declared.visible.Showing.{Showing}
 use Rattle.rb_check.specs.declared.visible.Showing.TheVariants as showings
 use Rattle.rb_check.specs.Formats.{notice_text}
+use Rattle.rb_check.specs.Forms.{in_form, is_junit, line_format}
+use Rattle.rb_check.specs.Junit.{PlainSuites, document_text}
 use Rattle.rb_check.specs.Objects.{totals_object}
 use Rattle.rb_check.specs.Results.{ListedScript, listing}
 use Rattle.rb_check.specs.Reviews.{quit_text}
 
 -- ---- the state of a report
 
+-- suites are made, unless nothing is wanted
+abbrev pub form_of : CheckRequest → ReportForm
+form_of asked = record { format = line_format asked.format; has_suites = is_junit asked.format && not asked.is_quiet; is_strict = asked.is_strict }
+
 -- before it has written anything: if nothing is wanted, nothing goes to standard output
 abbrev pub started : CheckRequest → ReportState
 started asked = record {
-  form = record { format = asked.format; is_strict = asked.is_strict };
+  form = form_of asked;
   is_closed = asked.is_quiet;
   own = nothing;
 }
@@ -100,11 +107,6 @@ pub record GoesOutInPart (old new : ReportState) (before after : Option (List �
   pub text : List ℕ
   pub out : GoesOut old new before after text
 
--- the text went out; or the call failed, and some text did
-abbrev pub GoesOutIf : {X E : Type 0} → Result X E → ReportState → ReportState → Option (List ℕ) → Option (List ℕ) → List ℕ → Type 0
-GoesOutIf (Ok x) old new before after text = GoesOut old new before after text
-GoesOutIf (Err e) old new before after text = GoesOutInPart old new before after
-
 -- the text was written, if the stream takes all
 abbrev pub Told : Type 0 → Type 0 → Option (List ℕ) → Option (List ℕ) → List ℕ → Type 0
 Told takes_before takes_after before after text = takes_before → takes_after × Appends before after text
@@ -116,34 +118,24 @@ Prints held old new text = GoesOut old.state new.state (held old.output) (held n
 abbrev pub PrintsPart : {W E : Type 0} → (W → Option (List ℕ)) → Report W E → Report W E → Type 0
 PrintsPart held old new = GoesOutInPart old.state new.state (held old.output) (held new.output)
 
-abbrev pub PrintsIf : {X F W E : Type 0} → Result X F → (W → Option (List ℕ)) → Report W E → Report W E → List ℕ → Type 0
-PrintsIf r held old new text = GoesOutIf r old.state new.state (held old.output) (held new.output) text
-
--- of its stream of errors
-abbrev pub Tells : {W E : Type 0} → (E → Type 0) → (E → Option (List ℕ)) → Report W E → Report W E → List ℕ → Type 0
-Tells takes held old new text = Told (takes old.errors.sink) (takes new.errors.sink) (held old.errors.sink) (held new.errors.sink) text
-
--- the list of the scripts that differ grows by these, unless memory was refused for it
-abbrev pub Lists : ReportState → List Differing → List Differing → List ListedScript → Type 0
-Lists state before after scripts = lacks_memory state ≡ false → listing after ≡ listing before ++ scripts
-
--- neither memory nor standard output failed
-pub record LosesNothing (old new : ReportState) : Type 0 where
-  pub memory : lacks_memory new ≡ false
-  pub output : new.is_closed ≡ old.is_closed
+-- of the stream of errors
+abbrev pub Tells : {E : Type 0} → (E → Type 0) → (E → Option (List ℕ)) → ErrorStream E → ErrorStream E → List ℕ → Type 0
+Tells takes held old new text = Told (takes old.sink) (takes new.sink) (held old.sink) (held new.sink) text
 
 -- how what is about a script at a path goes out in a format; a workflow command has the path itself
-abbrev pub shown_in : Option Format → List ℕ → Showing → Showing
+abbrev pub shown_in : Option LineFormat → List ℕ → Showing → Showing
 shown_in None path showing = showing
 shown_in (Some Json) path showing = showings.Json
 shown_in (Some Github) path showing = if acts_in_line path then showings.Visible else showing
-shown_in (Some Junit) path showing = showings.AsIs
 
--- the chosen colours, if bytes go out as they are
+-- the chosen colours, if bytes go out as they are; none in a suite
 abbrev pub colors_in : Showing → Colors → Colors
 colors_in showings.AsIs wanted = wanted
 colors_in showings.Visible wanted = Off
 colors_in showings.Json wanted = Off
+
+abbrev pub colors_for : ReportForm → Showing → Colors → Colors
+colors_for form showing wanted = if form.has_suites then Off else colors_in showing wanted
 
 -- ---- what is said of a script
 
@@ -196,13 +188,8 @@ remark_kind (remarks.Echoes line) = kinds.Left
 remark_kind (remarks.Matches line) = kinds.Left
 
 -- to programs
-abbrev pub programs_text : Format → Bool → List ℕ → Remark → List ℕ
+abbrev pub programs_text : LineFormat → Bool → List ℕ → Remark → List ℕ
 programs_text format strict path remark = notice_text format strict path (remark_line remark) (remark_kind remark) (remark_sentence remark)
-
--- the text, to people or in the format for programs
-abbrev pub in_form : Option Format → List ℕ → (Format → List ℕ) → List ℕ
-in_form None people programs = people
-in_form (Some format) people programs = programs format
 
 abbrev pub remark_text : ReportForm → List ℕ → Remark → List ℕ
 remark_text form path remark = in_form form.format (people_text path remark) (λ format. programs_text format form.is_strict path remark)
@@ -218,18 +205,10 @@ left_one form path picked line = if is_picked picked line then remark_text form 
 abbrev pub left_text : ReportForm → List ℕ → AcceptFilter → List ℕ → List ℕ
 left_text form path picked left = flat_map (λ line. left_one form path picked line) left
 
--- ---- the beginning and the end
-
-abbrev pub beginning : Format → List ℕ
-beginning Json = []
-beginning Github = []
-beginning Junit = codes "<?xml version=\"1.0\" encoding=\"UTF-8\"?>\n<testsuites name=\"raftbench\">\n"
-
-abbrev pub begun_text : ReportForm → List ℕ
-begun_text form = in_form form.format [] beginning
+-- ---- the end
 
 abbrev pub differing_text : List Differing → List ℕ
-differing_text ds = flat_map (λ d. brief_text (string_bytes d.path) d.mismatches d.directives d.line) ds
+differing_text ds = flat_map (λ d. brief_text (d.path.items) d.mismatches d.directives d.line) ds
 
 -- the scripts that differ, if there are any, and an empty line
 abbrev pub list_text : List Differing → List ℕ
@@ -239,10 +218,9 @@ list_text ds = if length ds == 0 then [] else differing_text ds ++ codes "\n"
 abbrev pub listed_text : Bool → List Differing → List ℕ
 listed_text lists ds = if lists then list_text ds else []
 
-abbrev pub ending : Totals → Format → List ℕ
+abbrev pub ending : Totals → LineFormat → List ℕ
 ending t Json = totals_object t
 ending t Github = []
-ending t Junit = codes "</testsuites>\n"
 
 -- to people the list and the last line
 abbrev pub end_text : Bool → ReportForm → List Differing → Totals → ℕ → List ℕ
@@ -256,8 +234,12 @@ lists details.Differing n = nat_lt 1 n
 lists details.All n = nat_lt 1 n
 
 -- nothing is said at the end if there is no script, unless programs read it
-abbrev pub last_text : CheckRequest → ℕ → ReportForm → List Differing → Totals → ℕ → List ℕ
-last_text asked n form ds t milliseconds = if nat_lt 0 n || is_some form.format then end_text (lists asked.shown n) form ds t milliseconds else []
+abbrev pub lines_text : CheckRequest → ℕ → ReportForm → List Differing → Totals → ℕ → List ℕ
+lines_text asked n form ds t ms = if nat_lt 0 n || is_some form.format then end_text (lists asked.shown n) form ds t ms else []
+
+-- the suites are one document
+abbrev pub last_text : CheckRequest → ℕ → ReportForm → List Differing → PlainSuites → Totals → ℕ → List ℕ
+last_text asked n form ds suites t ms = if form.has_suites then document_text suites ms else lines_text asked n form ds t ms
 
 -- ---- the stream of errors
 

@@ -11,7 +11,7 @@ use rb_text::WrittenPiece;
 /// A script that differs.
 #[derive(Drop)]
 pub(crate) struct Differing {
-    pub(crate) path: String,
+    pub(crate) path: Vec<u8>,
     pub(crate) directives: usize,
     pub(crate) mismatches: usize,
     /// The line of the first mismatch's head.
@@ -40,10 +40,9 @@ fn put_each_differing<S: Sink>(sink: &mut S, scripts: &[Differing]) -> Result<()
     ensures all { S.takes_all sink.old → IsOk result × S.takes_all sink.new }
 {
     for script in scripts {
-        let path = script.path.as_bytes();
         put_brief(
             sink,
-            path,
+            &script.path,
             script.mismatches,
             script.directives,
             script.line,

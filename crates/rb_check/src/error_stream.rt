@@ -2,7 +2,7 @@
 
 ghost use Rattle.std.specs.Prelude.{◌≡◌, ℕ, List, ◌++◌, false, is_some, IsOk, IsSome};
 ghost use Rattle.rb_script.specs.Writes.{Writes};
-ghost use Rattle.rb_check.specs.Shown.{Told, cause_line, cleared, failure_lines, progress_text, says_cause, says_little};
+ghost use Rattle.rb_check.specs.Shown.{Tells, cause_line, cleared, failure_lines, progress_text, says_cause, says_little};
 
 use crate::notes::Note;
 use crate::report_sink::ReportSink;
@@ -41,7 +41,7 @@ impl<E: ReportSink> ErrorStream<E> {
     /// Removes the progress line.
     pub(crate) fn clear(&mut self)
         ensures shown { self.new.shows_progress ≡ false }
-        ensures told { Told (E.takes_all self.old.sink) (E.takes_all self.new.sink) (E.held self.old.sink) (E.held self.new.sink) (cleared self.old.shows_progress) }
+        ensures told { Tells E.takes_all E.held self.old self.new (cleared self.old.shows_progress) }
         ensures kept { self.old.shows_progress ≡ false → self.new ≡ self.old }
     {
         if !self.shows_progress {
@@ -55,7 +55,7 @@ impl<E: ReportSink> ErrorStream<E> {
     /// Writes the text in the place of the progress line. If that fails, it can't be reported.
     pub(crate) fn tell<T: WrittenPiece>(&mut self, text: &T)
         ensures shown { self.new.shows_progress ≡ false }
-        ensures told { Told (E.takes_all self.old.sink) (E.takes_all self.new.sink) (E.held self.old.sink) (E.held self.new.sink) (cleared self.old.shows_progress ++ T.text text.now) }
+        ensures told { Tells E.takes_all E.held self.old self.new (cleared self.old.shows_progress ++ T.text text.now) }
         ensures flushed { E.takes_all self.old.sink → E.is_flushed self.new.sink }
     {
         self.clear();
@@ -66,7 +66,7 @@ impl<E: ReportSink> ErrorStream<E> {
     /// Writes why a path failed, and what the system says of it, if the failure alone says too little.
     pub(crate) fn tell_failure(&mut self, path: &[u8], error: PathError)
         ensures shown { self.new.shows_progress ≡ false }
-        ensures told { (words : List ℕ) × Told (E.takes_all self.old.sink) (E.takes_all self.new.sink) (E.held self.old.sink) (E.held self.new.sink) (cleared self.old.shows_progress ++ failure_lines path.now error words) }
+        ensures told { (words : List ℕ) × Tells E.takes_all E.held self.old self.new (cleared self.old.shows_progress ++ failure_lines path.now error words) }
         ensures flushed { E.takes_all self.old.sink → E.is_flushed self.new.sink }
     {
         let failure = error.failure;
@@ -79,7 +79,7 @@ impl<E: ReportSink> ErrorStream<E> {
 
     fn tell_cause(&mut self, path: &[u8], cause: io::Error)
         ensures shown { self.new.shows_progress ≡ false }
-        ensures told { (words : List ℕ) × Told (E.takes_all self.old.sink) (E.takes_all self.new.sink) (E.held self.old.sink) (E.held self.new.sink) (cleared self.old.shows_progress ++ cause_line path.now words) }
+        ensures told { (words : List ℕ) × Tells E.takes_all E.held self.old self.new (cleared self.old.shows_progress ++ cause_line path.now words) }
         ensures flushed { E.takes_all self.old.sink → E.is_flushed self.new.sink }
     {
         let cause = cause.to_string(self.alloc);
@@ -88,7 +88,7 @@ impl<E: ReportSink> ErrorStream<E> {
 
     /// Shows how far the work is.
     pub(crate) fn show_progress(&mut self, done: usize, all: usize)
-        ensures told { Told (E.takes_all self.old.sink) (E.takes_all self.new.sink) (E.held self.old.sink) (E.held self.new.sink) (progress_text done all) }
+        ensures told { Tells E.takes_all E.held self.old self.new (progress_text done all) }
         ensures flushed { E.takes_all self.old.sink → E.is_flushed self.new.sink }
     {
         let _ = put_progress(&mut self.sink, done, all);

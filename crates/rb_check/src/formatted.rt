@@ -1,4 +1,4 @@
-//! What programs get of a script that ran: JSON objects, workflow commands, or a suite of JUnit's.
+//! What programs get of a script that ran: JSON objects, or workflow commands.
 
 ghost use Rattle.std.specs.Prelude.{◌≡◌, ◌++◌, ◌+◌, ◌-◌, ◌<◌, IfOk, length};
 ghost use Rattle.rb_replay.specs.Report.{mismatches};
@@ -8,8 +8,7 @@ ghost use Rattle.rb_check.specs.Subjects.{AreFindings, plain_of, plain_ran};
 
 use crate::checked_script::CheckedScript;
 use crate::command::{add_command, add_difference};
-use crate::format::Format;
-use crate::junit::script_suite;
+use crate::format::LineFormat;
 use crate::kind::severity;
 use crate::object::add_object;
 use crate::piece::CommandPiece;
@@ -40,16 +39,17 @@ fn add_directive(
 }
 
 // Adds the script's directives as objects.
-fn add_objects<M: Machine>(
+fn add_objects(
     alloc: Global,
     text: &mut Vec<u8>,
-    subject: &CheckedScript<'_, M>,
+    subject: &CheckedScript<'_>,
 ) -> Result<(), AllocError>
-    requires { length subject.now.layout.now.heads.items ≡ length subject.now.session.now.script.blocks }
+    requires { AreFindings subject.now }
     ensures { IfOk result (λ _. text.new.items ≡ text.old.items ++ objects_of (plain_of subject.now)) }
 {
-    for i in 0..subject.session.len() {
-        add_directive(alloc, text, &subject.layout.text, directive_at(subject, i))?;
+    let run = &subject.script.run;
+    for i in 0..run.session.len() {
+        add_directive(alloc, text, &run.layout.text, directive_at(subject, i))?;
     }
     Ok(())
 }
@@ -80,18 +80,24 @@ fn add_error(
 }
 
 // Adds the new errors that are expected, each as a command.
-fn add_errors<M: Machine>(
+fn add_errors(
     alloc: Global,
     text: &mut Vec<u8>,
-    is_strict: bool,
-    subject: &CheckedScript<'_, M>,
+    subject: &CheckedScript<'_>,
 ) -> Result<(), AllocError>
-    requires { length subject.now.layout.now.heads.items ≡ length subject.now.session.now.script.blocks }
-    ensures { IfOk result (λ _. text.new.items ≡ text.old.items ++ errors_of is_strict (plain_of subject.now)) }
+    requires { AreFindings subject.now }
+    ensures { IfOk result (λ _. text.new.items ≡ text.old.items ++ errors_of subject.now.form.is_strict (plain_of subject.now)) }
 {
-    let lines = &subject.layout.text;
-    for i in 0..subject.session.len() {
-        add_error(alloc, text, is_strict, lines, directive_at(subject, i))?;
+    let run = &subject.script.run;
+    let is_strict = subject.form.is_strict;
+    for i in 0..run.session.len() {
+        add_error(
+            alloc,
+            text,
+            is_strict,
+            &run.layout.text,
+            directive_at(subject, i),
+        )?;
     }
     Ok(())
 }
@@ -118,30 +124,30 @@ fn add_differing(
 }
 
 // Adds the mismatch at an index as a command.
-fn add_mismatch<M: Machine>(
+fn add_mismatch(
     alloc: Global,
     text: &mut Vec<u8>,
-    subject: &CheckedScript<'_, M>,
+    subject: &CheckedScript<'_>,
     index: usize,
 ) -> Result<(), AllocError>
-    requires count { length subject.now.layout.now.heads.items ≡ length subject.now.session.now.script.blocks }
-    requires within { index < length subject.now.session.now.script.blocks }
+    requires findings { AreFindings subject.now }
+    requires within { index < length (plain_of subject.now).script.blocks }
     ensures { IfOk result (λ _. text.new.items ≡ text.old.items ++ mismatch_command (plain_of subject.now) (index + 1)) }
 {
-    let others = others_of(subject.session);
+    let others = others_of(&subject.script.run.session);
     add_differing(alloc, text, directive_at(subject, index), others)
 }
 
 // Adds the first mismatch as a command.
-fn add_first<M: Machine>(
+fn add_first(
     alloc: Global,
     text: &mut Vec<u8>,
-    subject: &CheckedScript<'_, M>,
+    subject: &CheckedScript<'_>,
 ) -> Result<(), AllocError>
-    requires { length subject.now.layout.now.heads.items ≡ length subject.now.session.now.script.blocks }
-    ensures { IfOk result (λ _. text.new.items ≡ text.old.items ++ of_first (mismatch_command (plain_of subject.now)) (mismatches subject.now.session.now.script)) }
+    requires { AreFindings subject.now }
+    ensures { IfOk result (λ _. text.new.items ≡ text.old.items ++ of_first (mismatch_command (plain_of subject.now)) (mismatches (plain_of subject.now).script)) }
 {
-    match first_index(subject.session) {
+    match first_index(&subject.script.run.session) {
         Some(index) => add_mismatch(alloc, text, subject, index),
         None => Ok(()),
     }
@@ -152,23 +158,21 @@ fn add_first<M: Machine>(
 /// # Errors
 ///
 /// If memory was refused.
-pub(crate) fn formatted<M: Machine>(
+pub(crate) fn formatted(
     alloc: Global,
-    format: Format,
-    is_strict: bool,
-    subject: &CheckedScript<'_, M>,
+    format: LineFormat,
+    subject: &CheckedScript<'_>,
 ) -> Result<Vec<u8>, AllocError>
     requires { AreFindings subject.now }
-    ensures { IfOk result (λ made. made.items ≡ script_text format is_strict (plain_of subject.now)) }
+    ensures { IfOk result (λ made. made.items ≡ script_text format (plain_of subject.now)) }
 {
     let mut text = Vec::new(alloc);
     match format {
-        Format::Json => add_objects(alloc, &mut text, subject)?,
-        Format::Github => {
+        LineFormat::Json => add_objects(alloc, &mut text, subject)?,
+        LineFormat::Github => {
             add_first(alloc, &mut text, subject)?;
-            add_errors(alloc, &mut text, is_strict, subject)?;
+            add_errors(alloc, &mut text, subject)?;
         }
-        Format::Junit => return script_suite(alloc, subject, is_strict),
     }
     Ok(text)
 }

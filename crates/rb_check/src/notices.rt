@@ -5,8 +5,7 @@ ghost use Rattle.rb_check.specs.Formats.{notice_text};
 ghost use Rattle.rb_check.specs.Objects.{notice_object};
 
 use crate::command::add_command;
-use crate::format::Format;
-use crate::junit::add_notice_suite;
+use crate::format::LineFormat;
 use crate::kind::ScriptNotice;
 use crate::piece::CommandPiece;
 use rb_text::{Json, Piece, add_pieces};
@@ -53,9 +52,8 @@ fn add_object<'a>(
 }
 
 fn add_notice(
-    alloc: Global,
     text: &mut Vec<u8>,
-    format: Format,
+    format: LineFormat,
     is_strict: bool,
     notice: ScriptNotice<'_>,
 ) -> Result<(), AllocError>
@@ -63,14 +61,14 @@ fn add_notice(
 {
     let kind = notice.kind;
     match format {
-        Format::Json => add_object(
+        LineFormat::Json => add_object(
             text,
             notice.path,
             notice.line,
             kind.status(),
             notice.message,
         ),
-        Format::Github => {
+        LineFormat::Github => {
             let pieces = [
                 CommandPiece::Message(notice.message),
                 CommandPiece::Bytes(b"\n"),
@@ -84,7 +82,6 @@ fn add_notice(
                 &pieces,
             )
         }
-        Format::Junit => add_notice_suite(alloc, text, notice),
     }
 }
 
@@ -95,13 +92,13 @@ fn add_notice(
 /// If memory was refused.
 pub(crate) fn notice_of(
     alloc: Global,
-    format: Format,
+    format: LineFormat,
     is_strict: bool,
     notice: ScriptNotice<'_>,
 ) -> Result<Vec<u8>, AllocError>
     ensures { IfOk result (λ made. made.items ≡ notice_text format is_strict notice.entry.path.now notice.entry.line notice.entry.kind notice.entry.message.now) }
 {
     let mut text = Vec::new(alloc);
-    add_notice(alloc, &mut text, format, is_strict, notice)?;
+    add_notice(&mut text, format, is_strict, notice)?;
     Ok(text)
 }

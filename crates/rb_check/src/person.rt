@@ -148,8 +148,8 @@ fn echo<W: ReportSink, E: ReportSink>(keys: &[u8], report: &mut Report<W, E>)
     if keys.is_empty() {
         return;
     }
-    report.put(visible_key(keys));
-    report.put(b"\n");
+    report.say(visible_key(keys));
+    report.say(b"\n");
 }
 
 // What comes from a terminal is not known.
@@ -163,7 +163,8 @@ impl<'a, R: Input + Clock + AllocGlobal> Person for TerminalPerson<'a, R> {
         question: &[u8],
         report: &mut Report<W, E>,
     ) -> HeardAnswer {
-        if !report.say(question) {
+        report.say(question);
+        if report.state.is_closed {
             return HeardAnswer::End;
         }
         if self.gives_keys {
@@ -187,7 +188,7 @@ pub(crate) fn ask<P: Person, W: ReportSink, E: ReportSink>(
     while turns < u64::MAX {
         match person.ask(question, report) {
             HeardAnswer::Answer(answer) => return answer,
-            HeardAnswer::Else => report.put(help()),
+            HeardAnswer::Else => report.say(help()),
             HeardAnswer::End => return Answer::Quit,
         }
         turns += 1;

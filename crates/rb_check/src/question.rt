@@ -7,7 +7,6 @@ ghost use Rattle.rb_check.specs.Subjects.{AreFindings, plain_of, plain_ran};
 use crate::check_request::CheckRequest;
 use crate::checked_script::CheckedScript;
 use crate::ran_directive::{RanDirective, directive_at};
-use rb_machine::Machine;
 use rb_script::Lines;
 use rb_script_report::{AcceptFilter, is_picked, is_same, is_unexpected};
 use rb_text::{Piece, add_pieces};
@@ -25,18 +24,19 @@ pub(crate) struct ReviewQuestion {
 }
 
 /// The questions of a script: the directives that are picked, and whose output is not the expected one.
-pub(crate) fn questions_of<M: Machine>(
+pub(crate) fn questions_of(
     alloc: Global,
     asked: &CheckRequest<'_>,
     picked: AcceptFilter<'_>,
-    subject: &CheckedScript<'_, M>,
+    subject: &CheckedScript<'_>,
 ) -> Result<Vec<ReviewQuestion>, AllocError>
     requires { AreFindings subject.now }
     ensures { IfOk result (λ made. made.items ≡ questions_of asked.now picked.entry (plain_of subject.now)) }
 {
     let mut questions = Vec::new(alloc);
-    let lines = &subject.layout.text;
-    for i in 0..subject.session.len() {
+    let run = &subject.script.run;
+    let lines = &run.layout.text;
+    for i in 0..run.session.len() {
         let ran = directive_at(subject, i);
         add_question(&mut questions, asked.accepts_errors, picked, lines, ran)?;
     }

@@ -4,7 +4,7 @@ ghost use Rattle.std.specs.Prelude.{◌≡◌, IfOk, codes};
 ghost use Rattle.rb_report.specs.Pieces.{noun};
 ghost use Rattle.rb_check.specs.Shown.{accepted_sentence, people_text, programs_text, remark_kind, remark_line, remark_sentence};
 
-use crate::format::Format;
+use crate::format::LineFormat;
 use crate::kind::{NoticeKind, ScriptNotice};
 use crate::notes::put_note;
 use crate::notices::notice_of;
@@ -127,7 +127,7 @@ fn sentence_of(alloc: Global, remark: Remark) -> Result<Vec<u8>, AllocError>
 /// If memory was refused.
 pub(crate) fn programs_text(
     alloc: Global,
-    format: Format,
+    format: LineFormat,
     is_strict: bool,
     path: &[u8],
     remark: Remark,

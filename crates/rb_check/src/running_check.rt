@@ -1,25 +1,35 @@
 //! A check, as far as it has come: its report, and the results of its paths.
 
-ghost use Rattle.std.specs.Prelude.{◌≡◌, ◌≢◌, ◌++◌, [], IfOk, true};
+ghost use Rattle.std.specs.Prelude.{◌≡◌, ◌≢◌, ◌++◌, ℕ, [], List, true};
 ghost use Rattle.rb_report.specs.Counts.{nothing, status_of, together, totals_text};
-ghost use Rattle.rb_check.specs.declared.remark.Remark.TheVariants as remarks;
-ghost use Rattle.rb_check.specs.declared.script_result.PathResult.TheVariants as paths;
-ghost use Rattle.rb_check.specs.Results.{counts_with, listed_of};
-ghost use Rattle.rb_check.specs.Shown.{Lists, Prints, end_text, ending, lacks_memory, listed_text, remark_text, started};
+ghost use Rattle.rb_check.specs.Junit.{document_text, no_suites, plain_suites};
+ghost use Rattle.rb_check.specs.Reported.{Lists, Suits};
+ghost use Rattle.rb_check.specs.Results.{checked_path, counts_with, listed_of, out_beside};
+ghost use Rattle.rb_check.specs.Shown.{Prints, end_text, lacks_memory, last_text, lists, listed_text, started};
+ghost use Rattle.rb_check.specs.ShownTexts.{Holds};
 
 use crate::check_request::CheckRequest;
 use crate::differing::DifferingList;
 use crate::error_stream::ErrorStream;
-use crate::format::Format;
+use crate::format::LineFormat;
+use crate::junit::SuitesDocument;
 use crate::notes::Note;
 use crate::report::Report;
 use crate::report_sink::ReportSink;
 use crate::results::{Results, together};
 use crate::script_result::PathResult;
-use crate::totals_object::totals_object;
-use rb_files::PathError;
+use crate::shown_text::ShownText;
+use crate::totals_object::TotalsObject;
 use rb_report::check::{Status, Totals};
-use std::alloc::{AllocError, Global};
+use rb_script_report::Detail;
+use std::alloc::Global;
+
+/// What is known of a path once it is checked: its result, and what is shown of it.
+#[derive(Drop)]
+pub(crate) struct PathReport {
+    pub(crate) found: PathResult,
+    pub(crate) shown: ShownText,
+}
 
 /// A check, as far as it has come.
 #[derive(Drop)]
@@ -38,6 +48,7 @@ impl<W: ReportSink, E: ReportSink> RunningCheck<W, E> {
     ) -> RunningCheck<W, E>
         ensures counts { result.results.counts ≡ nothing }
         ensures listed { result.results.differing.items ≡ [] }
+        ensures suites { plain_suites result.results.suites ≡ no_suites }
         ensures state { result.report.state ≡ started asked.now }
         ensures output { result.report.output ≡ output }
     {
@@ -47,28 +58,49 @@ impl<W: ReportSink, E: ReportSink> RunningCheck<W, E> {
         }
     }
 
-    /// Adds the result of a path.
-    pub(crate) fn add(&mut self, path: &str, found: PathResult)
-        ensures counts { self.new.results.counts ≡ counts_with self.old.results.counts found }
-        ensures listed { Lists self.new.report.state self.old.results.differing.items self.new.results.differing.items (listed_of path.now found) }
+    /// Adds a path: it is counted and listed, and what is shown of it goes out, or into its suite.
+    pub(crate) fn add(&mut self, path: &[u8], checked: PathReport, milliseconds: u64)
+        ensures counts { self.new.results.counts ≡ counts_with self.old.results.counts checked.found }
+        ensures listed { Lists self.old self.new (listed_of path.now checked.found) }
+        ensures suites { (text : List ℕ) → Holds checked.shown text → Suits self.old self.new (checked_path path.now checked.found [] text milliseconds) }
+        ensures shown { (text : List ℕ) → Holds checked.shown text → Prints W.held self.old.report self.new.report (out_beside self.old.report.state.form.has_suites text) }
+    {
+        checked.found.count_in(&mut self.results.counts);
+        self.list(path, checked.found);
+        self.show(path, checked, milliseconds);
+    }
+
+    // Adds the path to the list, if it is a script that differs.
+    fn list(&mut self, path: &[u8], found: PathResult)
+        ensures counts { self.new.results.counts ≡ self.old.results.counts }
+        ensures suites { self.new.results.suites ≡ self.old.results.suites }
+        ensures listed { Lists self.old self.new (listed_of path.now found) }
         ensures shown { Prints W.held self.old.report self.new.report [] }
     {
-        found.count_in(&mut self.results.counts);
         match self.results.list(path, found) {
             Ok(()) => {}
-            Err(_) => self.report.fail_for_memory(path.as_bytes()),
+            Err(_) => self.report.fail_for_memory(path),
         }
     }
 
-    /// Reports that a path failed, and counts it.
-    pub(crate) fn fail(&mut self, path: &[u8], error: PathError)
-        ensures counts { self.new.results.counts ≡ counts_with self.old.results.counts (paths.Failed error.failure) }
-        ensures listed { self.new.results.differing.items ≡ self.old.results.differing.items }
-        ensures showing { self.new.report.showing ≡ self.old.report.showing }
-        ensures shown { Prints W.held self.old.report self.new.report (remark_text self.old.report.state.form path.now (remarks.Failed error.failure)) }
+    // Puts what is shown of the path out, or into its suite.
+    fn show(&mut self, path: &[u8], checked: PathReport, milliseconds: u64)
+        ensures counts { self.new.results.counts ≡ self.old.results.counts }
+        ensures listed { self.new.results.differing ≡ self.old.results.differing }
+        ensures suites { (text : List ℕ) → Holds checked.shown text → Suits self.old self.new (checked_path path.now checked.found [] text milliseconds) }
+        ensures shown { (text : List ℕ) → Holds checked.shown text → Prints W.held self.old.report self.new.report (out_beside self.old.report.state.form.has_suites text) }
     {
-        self.report.fail(path, error);
-        PathResult::Failed(error.failure).count_in(&mut self.results.counts);
+        let PathReport { found, shown } = checked;
+        let form = self.report.state.form;
+        if form.has_suites {
+            let suites = &mut self.results.suites;
+            match suites.add(form.is_strict, path, found, &shown, milliseconds) {
+                Ok(()) => {}
+                Err(_) => self.report.fail_for_memory(path),
+            }
+        } else {
+            self.report.put(path, &shown);
+        }
     }
 
     // The totals of all paths, and of the report's own failures.
@@ -89,27 +121,41 @@ impl<W: ReportSink, E: ReportSink> RunningCheck<W, E> {
         self.totals().status(is_strict)
     }
 
-    /// Writes the end of the report.
-    pub(crate) fn end(&mut self, lists_differing: bool, milliseconds: u64)
+    /// Writes the end of the report of n scripts: the suites; or, if there is something to end, the list of those that differ, and the totals.
+    pub(crate) fn end(&mut self, asked: &CheckRequest<'_>, n: usize, milliseconds: u64)
         ensures results { self.new.results ≡ self.old.results }
-        ensures shown { Prints W.held self.old.report self.new.report (end_text lists_differing self.old.report.state.form self.old.results.differing.items (together self.old.results.counts self.old.report.state.own) milliseconds) }
+        ensures shown { Prints W.held self.old.report self.new.report (last_text asked.now n self.old.report.state.form self.old.results.differing.items (plain_suites self.old.results.suites) (together self.old.results.counts self.old.report.state.own) milliseconds) }
     {
         self.report.errors.clear();
-        let totals = self.totals();
-        match self.report.state.form.format {
-            Some(format) => self.end_for_programs(format, &totals),
-            None => self.end_for_people(lists_differing, totals, milliseconds),
+        if self.report.state.form.has_suites {
+            self.end_suites(milliseconds);
+        } else if n > 0 || self.report.state.form.format.is_some() {
+            self.end_lines(lists(asked.shown, n), milliseconds);
         }
     }
 
-    // Writes the end of a report in the format.
-    fn end_for_programs(&mut self, format: Format, totals: &Totals)
+    // Writes the suites.
+    fn end_suites(&mut self, milliseconds: u64)
         ensures results { self.new.results ≡ self.old.results }
-        ensures shown { Prints W.held self.old.report self.new.report (ending totals.now format) }
+        ensures shown { Prints W.held self.old.report self.new.report (document_text (plain_suites self.old.results.suites) milliseconds) }
     {
-        match ending(self.report.alloc, format, totals) {
-            Ok(text) => self.report.put(&text),
-            Err(_) => self.report.fail_for_memory(b"raftbench"),
+        self.report.heed(b"raftbench", None);
+        self.report.show(&SuitesDocument {
+            suites: &self.results.suites,
+            milliseconds,
+        });
+    }
+
+    // Writes the last lines.
+    fn end_lines(&mut self, lists_differing: bool, milliseconds: u64)
+        ensures results { self.new.results ≡ self.old.results }
+        ensures shown { Prints W.held self.old.report self.new.report (end_text lists_differing self.old.report.state.form self.old.results.differing.items (together self.old.results.counts self.old.report.state.own) milliseconds) }
+    {
+        let totals = self.totals();
+        match self.report.state.form.format {
+            Some(LineFormat::Json) => self.report.show(&TotalsObject(totals)),
+            Some(LineFormat::Github) => {}
+            None => self.end_for_people(lists_differing, totals, milliseconds),
         }
     }
 
@@ -134,13 +180,12 @@ impl<W: ReportSink, E: ReportSink> RunningCheck<W, E> {
     }
 }
 
-// The end of a report for programs.
-fn ending(alloc: Global, format: Format, totals: &Totals) -> Result<Vec<u8>, AllocError>
-    ensures { IfOk result (λ made. made.items ≡ ending totals.now format) }
+// Whether the scripts that differ are listed at the end, of n scripts.
+fn lists(shown: Detail, n: usize) -> bool
+    ensures { result ≡ lists shown n }
 {
-    match format {
-        Format::Json => totals_object(alloc, totals),
-        Format::Github => Ok(Vec::new(alloc)),
-        Format::Junit => Vec::from_slice(alloc, b"</testsuites>\n"),
+    match shown {
+        Detail::Brief => false,
+        Detail::First | Detail::Differing | Detail::All => n > 1,
     }
 }

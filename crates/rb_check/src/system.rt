@@ -1,22 +1,21 @@
 //! The system calls of a check.
 
-ghost use Rattle.std.specs.Prelude.{◌≡◌, ◌≢◌, ◌+◌, ◌++◌, ℕ, ⊤, Bool, false, true, Err, IfErr, IfOk, IfSome, IsErr, IsOk, MatchOption, MatchResult, List, [], length, string_bytes, take};
+ghost use Rattle.std.specs.Prelude.{◌≡◌, ◌≢◌, ◌+◌, ◌++◌, ℕ, ⊤, Bool, false, true, Err, IfErr, IfOk, IfSome, IsErr, IsOk, MatchOption, MatchResult, List, length, string_bytes, take};
 ghost use Rattle.rb_script.specs.Reads.{Reads};
 ghost use Rattle.rb_script_report.specs.Accepting.{accepted};
 ghost use Rattle.rb_check.specs.AcceptTexts.{left_in};
 ghost use Rattle.rb_check.specs.Reported.{IsUnread};
-ghost use Rattle.rb_check.specs.Shown.{Prints, Tells, cleared, left_file_text, taken_name_text};
+ghost use Rattle.rb_check.specs.Shown.{Tells, cleared, left_file_text, taken_name_text};
 ghost use Rattle.rb_check.specs.Subjects.{plain_of};
 ghost use Rattle.rb_report.specs.declared.check.failure.Failure.TheVariants.{NotRead, OutOfMemory};
 ghost use Rattle.rb_files.specs.PathErrors.{without_cause};
 ghost use Rattle.rb_files.specs.Places.{WasPut};
 
 use crate::checked_script::CheckedScript;
+use crate::error_stream::ErrorStream;
 use crate::notes::Note;
-use crate::report::Report;
 use crate::report_sink::ReportSink;
 use rb_files::{AtomicReplace, FilePlace, PathError, Unreplaced, file_at, opened, replace};
-use rb_machine::Machine;
 use rb_report::check::Failure;
 use rb_script::MAX_SCRIPT;
 use rb_script_report::AcceptOptions;
@@ -58,17 +57,16 @@ pub(crate) trait System {
         ensures failed { IfErr result IsUnread };
 
     /// Puts the text in the place of the script's file: it is the script with the outputs that are wanted.
-    fn write<M: Machine, W: ReportSink, E: ReportSink>(
+    fn write<E: ReportSink>(
         &self,
-        subject: &CheckedScript<'_, M>,
+        subject: &CheckedScript<'_>,
         wanted: AcceptOptions<'_>,
         text: &[u8],
-        report: &mut Report<W, E>,
+        errors: &mut ErrorStream<E>,
     ) -> Result<(), PathError>
-        requires reads { Reads text.now (accepted wanted subject.now.layout.now.text subject.now.layout.now.heads.items subject.now.session.now.script) }
+        requires reads { Reads text.now (accepted wanted (plain_of subject.now).layout.text (plain_of subject.now).layout.heads.items (plain_of subject.now).script) }
         // Some output is accepted.
         requires changes { length (left_in wanted (plain_of subject.now)) ≢ subject.now.ran.left }
-        ensures shown { Prints W.held report.old report.new [] }
         ensures written { IfOk result (λ _. has_written self.now subject.now.path.now text.now × WasPut Self.Place.contents Self.Place.is_unchanged Self.Place.is_settled text.now) };
 
     /// Whether both paths lead to one script.
@@ -113,19 +111,19 @@ impl<'a, R: Files + AllocGlobal> System for RuntimeSystem<'a, R> {
         text_of(self.rt.alloc(), file, seen)
     }
 
-    fn write<M: Machine, W: ReportSink, E: ReportSink>(
+    fn write<E: ReportSink>(
         &self,
-        subject: &CheckedScript<'_, M>,
+        subject: &CheckedScript<'_>,
         _wanted: AcceptOptions<'_>,
         text: &[u8],
-        report: &mut Report<W, E>,
+        errors: &mut ErrorStream<E>,
     ) -> Result<(), PathError> {
-        let seen = subject.text.seen.clone()?;
+        let seen = subject.script.text.seen.clone()?;
         let mut place = AtomicReplace::new(self.rt, subject.path, seen)?;
         let outcome = replace(&mut place, text);
         let tells = place.taken().is_some() && !self.has_told.get();
         self.has_told.set(self.has_told.get() || tells);
-        told(outcome, &place, tells, report)
+        told(outcome, &place, tells, errors)
     }
 
     fn is_one_script(&self, path: &str, other: &str) -> bool {
@@ -180,27 +178,26 @@ fn are_one<T: PartialEq>(one: &Option<T>, another: &Option<T>) -> bool
 
 // Gives the error of a text that was not put in its place. A new file that could be neither used nor removed is named, and so, if it is to be, is a
 // file that had the new one's name.
-fn told<R: Files + AllocGlobal, W: ReportSink, E: ReportSink>(
+fn told<R: Files + AllocGlobal, E: ReportSink>(
     outcome: Result<(), Unreplaced>,
     place: &AtomicReplace<'_, R>,
     tells: bool,
-    report: &mut Report<W, E>,
+    errors: &mut ErrorStream<E>,
 ) -> Result<(), PathError>
-    ensures shown { Prints W.held report.old report.new [] }
     ensures outcome { MatchResult outcome (λ _. IsOk result) (λ why. result ≡ Err why.error) }
-    ensures taken { IsOk outcome → tells ≡ true → IfSome place.now.taken (λ path. Tells E.takes_all E.held report.old report.new (cleared report.old.errors.shows_progress ++ taken_name_text (string_bytes path))) }
-    ensures left { IsErr outcome → IfSome place.now.new (λ new. Tells E.takes_all E.held report.old report.new (cleared report.old.errors.shows_progress ++ left_file_text (string_bytes new.path))) }
+    ensures taken { IsOk outcome → tells ≡ true → IfSome place.now.taken (λ path. Tells E.takes_all E.held errors.old errors.new (cleared errors.old.shows_progress ++ taken_name_text (string_bytes path))) }
+    ensures left { IsErr outcome → IfSome place.now.new (λ new. Tells E.takes_all E.held errors.old errors.new (cleared errors.old.shows_progress ++ left_file_text (string_bytes new.path))) }
 {
     match outcome {
         Ok(()) => {
             if tells && let Some(taken) = place.taken() {
-                report.errors.tell(&Note::TakenName(taken.as_bytes()));
+                errors.tell(&Note::TakenName(taken.as_bytes()));
             }
             Ok(())
         }
         Err(why) => {
             if let Some(left) = place.left() {
-                report.errors.tell(&Note::LeftFile(left.as_bytes()));
+                errors.tell(&Note::LeftFile(left.as_bytes()));
             }
             Err(why.error)
         }

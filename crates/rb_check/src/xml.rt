@@ -2,12 +2,12 @@
 
 ghost use Rattle.std.specs.Prelude.{IsOk};
 ghost use Rattle.rb_script.specs.Writes.{Writes};
-ghost use Rattle.rb_check.specs.Xml.{byte_text, in_text, in_value, line_end, piece_text};
+ghost use Rattle.rb_check.specs.Xml.{byte_text, in_text, in_value, line_end, piece_text, seconds_text};
 
 use crate::piece::without_front;
 use crate::replaced::{Replaced, put_replaced};
 use crate::visible::visible_text;
-use rb_report::check::{by_number, put_name};
+use rb_report::check::by_number;
 use rb_script::{Sink, WriteFault};
 use rb_text::{Escape, Piece, WrittenPiece, put_escaped, put_number, put_pieces};
 
@@ -64,10 +64,10 @@ fn put_value_byte<S: Sink>(sink: &mut S, b: u8) -> Result<(), WriteFault>
 pub(crate) enum XmlPiece<'a> {
     /// The bytes as they are.
     Bytes(&'a [u8]),
-    /// A name as it is shown.
-    Name(&'a [u8]),
     /// A number in decimal digits.
     Number(u64),
+    /// Milliseconds, in seconds.
+    Seconds(u64),
     /// The bytes as they are in the text of an element.
     Text(&'a [u8]),
     /// The bytes as they are in the value of an attribute.
@@ -84,8 +84,8 @@ impl WrittenPiece for XmlPiece<'_> {
     fn put<S: Sink>(&self, sink: &mut S) -> Result<(), WriteFault> {
         match *self {
             XmlPiece::Bytes(bytes) => sink.put(bytes),
-            XmlPiece::Name(name) => put_name(sink, name),
             XmlPiece::Number(number) => put_number(sink, number),
+            XmlPiece::Seconds(milliseconds) => put_seconds(sink, milliseconds),
             XmlPiece::Text(bytes) => put_escaped(sink, &XmlPart::Text, bytes),
             XmlPiece::Value(bytes) => put_escaped(sink, &XmlPart::Value, bytes),
             XmlPiece::File(path) => {
@@ -94,6 +94,22 @@ impl WrittenPiece for XmlPiece<'_> {
             XmlPiece::LineEnd(line) => put_line_end(sink, line),
         }
     }
+}
+
+fn put_seconds<S: Sink>(sink: &mut S, milliseconds: u64) -> Result<(), WriteFault>
+    ensures wrote { Writes result (S.held sink.old) (S.held sink.new) (seconds_text milliseconds) }
+    ensures all { S.takes_all sink.old → IsOk result × S.takes_all sink.new }
+{
+    put_pieces(
+        sink,
+        &[
+            Piece::Number(milliseconds / 1000),
+            Piece::Bytes(b"."),
+            Piece::Number(milliseconds / 100 % 10),
+            Piece::Number(milliseconds / 10 % 10),
+            Piece::Number(milliseconds % 10),
+        ],
+    )
 }
 
 fn put_line_end<S: Sink>(sink: &mut S, line: Option<usize>) -> Result<(), WriteFault>

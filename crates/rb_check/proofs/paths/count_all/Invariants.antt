@@ -1,0 +1,7 @@
+-- The questions so far are counted.
+use Rattle.std.proofs.Common.{ℕ, drop}
+use Rattle.rb_check.specs.Reported.{AreCounted}
+use Rattle.rb_check.proofs.paths.count_all.Given as goal
+
+abbrev pub invariant-loop-i : goal.invariant-loop-i
+invariant-loop-i g l = (n : ℕ) → AreCounted l.asked l.form l.count (drop l.i l.scripts) n → AreCounted l.asked l.form 0 l.scripts n

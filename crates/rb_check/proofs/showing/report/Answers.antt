@@ -1,0 +1,17 @@
+use Rattle.std.proofs.Common.{ap, refl, sym}
+use Rattle.rb_check.specs.Subjects.{plain_of}
+use Rattle.rb_check.proofs.ExtendLaws.{extends_along, extends_none, extends_not}
+use Rattle.rb_check.proofs.QuietLaws.{report_none}
+use Rattle.rb_check.proofs.showing.report.Goals as goal
+
+pub returns-then-not-shown : goal.returns-then-not-shown
+returns-then-not-shown c = extends_not _ c.if-not-shown.true
+
+pub returns-then-is_quiet : goal.returns-then-is_quiet
+returns-then-is_quiet c = extends_along (sym (report_none c.args.asked.now (plain_of c.args.subject.now) (c.is_quiet.ensures c.if-is_quiet.true))) (extends_none _)
+
+pub returns-in-Some : goal.returns-in-Some
+returns-in-Some c = rw c.in-Some.is (c.add.ensures _ c.formatted.ensures)
+
+pub returns-in-None : goal.returns-in-None
+returns-in-None c = rw c.in-None.is (c.add-in-None.ensures _ c.people_report.ensures)
