@@ -15,4 +15,3 @@ mod table;
 
 pub use choice::{CheckChoice, ChoiceFault, CommandChoice, ScriptCommand, Subcommand};
 pub use choosing::chosen;
-pub use commands::VERSION;

@@ -61,7 +61,7 @@ const EVERY_UNSEEN: ArgumentRow = ArgumentRow {
 #[rattlefmt::skip]
 const CHECK: [ArgumentRow; 16] = [
     ArgumentRow { form: ArgumentForm::Paths, name: "path", help: "Script, or folder whose *.txt and those of its folders are the scripts" },
-    ArgumentRow { form: ArgumentForm::Flag, name: "accept", help: "Writes the actual outputs into the scripts, up to the first new error; of FILE:LINE that of one directive" },
+    ArgumentRow { form: ArgumentForm::Flag, name: "accept", help: "Writes the actual outputs into the scripts, up to the first new error; with FILE:LINE, of one directive only" },
     ArgumentRow { form: ArgumentForm::Flag, name: "accept-errors", help: "Accepts new errors too" },
     ArgumentRow { form: ArgumentForm::Flag, name: "force", help: "Accepts outputs of a script that has warnings too" },
     ArgumentRow { form: ArgumentForm::Flag, name: "review", help: "Asks about each output that differs, on a terminal, and accepts those that you say" },
@@ -143,7 +143,7 @@ pub(crate) static LINES: [Line; 10] = [
     },
     Line {
         name: "session",
-        about: "Keeps a script and answers the edits that standard input asks for",
+        about: "Keeps a script loaded, and answers edit commands from standard input",
         usage: "raftbench session [OPTIONS] <FILE>",
         after: "FILE is a script's file",
         rows: &FILE_AND_EVERY,

@@ -137,7 +137,6 @@ sizes_more output had has before after so_far next more =
     let parts : after ≡ before ++ output ∷ [] = sym next ∙ more ∙ ap (λ (os : List (List Line)). os ++ output ∷ []) so_far in
     ap sizes parts ∙ sum_by-append size_of before (output ∷ []) ∙ omega arith
 
-
 most_of : (left : Option ℕ) (k most : ℕ) → left ≡ Some k → IsMost left most → most ≡ k
 most_of left k most is m = subst (λ (l : Option ℕ). IsMost l most) is m
 

@@ -14,9 +14,9 @@ use rb_text::{first_word, number_of};
 /// The use of a command's lines.
 #[derive(Clone, Copy, Debug, PartialEq, Eq)]
 pub enum Purpose {
-    /// They are a block to put in.
+    /// They are a block to insert.
     Insert,
-    /// They are a block that takes another's place.
+    /// They are a block that replaces another.
     Replace,
     /// They are the expected output.
     Expect,

@@ -81,7 +81,7 @@ impl<'a, 'd, L: RaftLog, P: RunProgress> Observer<L> for DirectiveObserver<'a, '
     }
 
     fn observe(&mut self, item: &Item<'_>) -> Result<(), AllocError> {
-        self.progress.tell(self.directive);
+        self.progress.update(self.directive);
         if self.printed.lines.text().len() > self.most {
             return Ok(());
         }

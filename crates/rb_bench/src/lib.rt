@@ -36,8 +36,8 @@ pub use laws::{
     conversations_answer_as_one_run, conversations_are_one, names_are_distinct, runs_are_one,
     sessions_start_as_one,
 };
-pub use limits::{DEFAULT_CHECKPOINT_INTERVAL, MAX_GIVEN, MAX_READS, limits_are};
-pub use names::{edit_fault_name, script_fault_name};
+pub use limits::{DEFAULT_CHECKPOINT_INTERVAL, MAX_READS, limits_are};
+pub use names::script_fault_name;
 pub use outlet::Outlet;
 pub use progress::{NoProgress, RunProgress};
 pub use rb_args::{ChoiceFault, ScriptCommand, Subcommand};

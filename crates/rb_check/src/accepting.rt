@@ -25,12 +25,12 @@ use rb_report::check::Failure;
 use rb_script::Through;
 use rb_script_report::{
     AcceptFault, AcceptFilter, AcceptOptions, Accepted, accept as accepted, is_picked, number_at,
-    put_left_errors,
+    write_left_errors,
 };
 use std::alloc::{AllocError, Global};
 use std::io;
 
-/// Writes those outputs into the script's file that are accepted, and says which are not.
+/// Writes the accepted outputs into the script's file, and reports those that aren't accepted.
 pub(crate) fn accept<S: System, E: ReportSink>(
     system: &S,
     wanted: AcceptOptions<'_>,
@@ -47,13 +47,13 @@ pub(crate) fn accept<S: System, E: ReportSink>(
     match accepted(system.alloc(), &run.session, bytes, &run.layout, wanted) {
         Ok(made) => {
             leave(subject, wanted, &made.left, shown);
-            keep(system, wanted, &made, subject, shown, errors)
+            save(system, wanted, &made, subject, shown, errors)
         }
         Err(fault) => fail(subject, fault, shown, errors),
     }
 }
 
-// Says of the outputs of these heads that they are not accepted.
+// Reports that the outputs of these heads aren't accepted.
 fn leave(
     subject: &CheckedScript<'_>,
     wanted: AcceptOptions<'_>,
@@ -65,11 +65,11 @@ fn leave(
     ensures { Extends shown.old shown.new (leaving_text wanted.entry (plain_of subject.now)) }
 {
     leave_each(subject, wanted.picked, left, shown);
-    tell_left(subject, wanted, shown);
-    tell_echoes(subject, wanted.picked, left, shown);
+    write_left(subject, wanted, shown);
+    write_echoes(subject, wanted.picked, left, shown);
 }
 
-// Says to programs, of each of these heads that is picked, that its output is not accepted.
+// Reports to programs, for each of these heads that is picked, that its output isn't accepted.
 fn leave_each(
     subject: &CheckedScript<'_>,
     picked: AcceptFilter<'_>,
@@ -83,6 +83,7 @@ fn leave_each(
     }
 }
 
+// Reports to programs that an output isn't accepted, if its head is picked.
 fn leave_one(
     subject: &CheckedScript<'_>,
     picked: AcceptFilter<'_>,
@@ -96,8 +97,8 @@ fn leave_one(
     }
 }
 
-// Shows people the outputs that are not accepted.
-fn tell_left(subject: &CheckedScript<'_>, wanted: AcceptOptions<'_>, shown: &mut ShownText)
+// Reports to people which outputs aren't accepted.
+fn write_left(subject: &CheckedScript<'_>, wanted: AcceptOptions<'_>, shown: &mut ShownText)
     requires { AreFindings subject.now }
     ensures { Extends shown.old shown.new (left_shown wanted.entry (plain_of subject.now)) }
 {
@@ -118,14 +119,14 @@ fn left_errors(
     let mut sink = Through(Vec::new(alloc));
     let run = &subject.script.run;
     let path = subject.path.as_bytes();
-    match put_left_errors(&mut sink, &run.session, &run.layout, path, wanted) {
+    match write_left_errors(&mut sink, &run.session, &run.layout, path, wanted) {
         Ok(()) => Ok(sink.0),
         Err(_) => Err(AllocError),
     }
 }
 
-// Says that nothing below the first new error is accepted, if an output differs there.
-fn tell_echoes(
+// Reports that nothing below the first new error is accepted, if an output differs there.
+fn write_echoes(
     subject: &CheckedScript<'_>,
     picked: AcceptFilter<'_>,
     left: &[usize],
@@ -151,8 +152,8 @@ fn has_below(heads: &[usize], line: usize) -> bool
     heads.iter().any(|head| line < *head)
 }
 
-// Puts the new text in the file's place, unless nothing is accepted.
-fn keep<S: System, E: ReportSink>(
+// Replaces the script's file by the accepted text, unless nothing is accepted.
+fn save<S: System, E: ReportSink>(
     system: &S,
     wanted: AcceptOptions<'_>,
     made: &Accepted,
@@ -179,7 +180,7 @@ fn keep<S: System, E: ReportSink>(
             found
         }
         Err(error) => {
-            errors.tell_failure(path, error);
+            errors.write_failure(path, error);
             shown.remark(subject.form, path, Remark::Failed(error.failure));
             ran.failing(error.failure)
         }
@@ -199,17 +200,17 @@ fn fail<E: ReportSink>(
 {
     let path = subject.path.as_bytes();
     let error = error_of(fault);
-    errors.tell_failure(path, error);
+    errors.write_failure(path, error);
     shown.remark(subject.form, path, Remark::Failed(error.failure));
     match fault {
-        AcceptFault::BadOutput(line) => errors.tell(&Note::LongLine(path, line)),
+        AcceptFault::BadOutput(line) => errors.write(&Note::LongLine(path, line)),
         AcceptFault::TooLong => {}
         AcceptFault::OutOfMemory => {}
     }
     subject.ran.failing(error.failure)
 }
 
-// What is reported of a script that can't be written with what is accepted.
+// The error of a script whose accepted outputs can't be written.
 fn error_of(fault: AcceptFault) -> PathError
     ensures failure { result.failure ≡ refusal_failure fault }
     ensures says { says_cause result ≡ refusal_says fault }

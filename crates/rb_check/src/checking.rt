@@ -24,7 +24,7 @@ use crate::report_state::ReportForm;
 use crate::review::{Reviewer, reviewed};
 use crate::running_check::PathReport;
 use crate::script_result::{PathResult, ScriptResult};
-use crate::showing::tell;
+use crate::showing::push_script;
 use crate::shown_text::ShownText;
 use crate::system::System;
 use rb_bench::{RunFault, RunProgress, Runner};
@@ -174,7 +174,7 @@ fn subject_of<'a>(
     }
 }
 
-// The result of a script that ran and has n warnings, if nothing of it is accepted.
+// The result of a script that ran and has `n` warnings, if nothing is accepted.
 fn ran_of<M: Machine>(session: &Session<M>, layout: &Layout, n: usize) -> ScriptResult
     requires { length layout.now.heads.items ≡ length session.now.script.blocks }
     ensures { result ≡ numbers_of layout.now session.now.script n }
@@ -199,7 +199,7 @@ fn ending_at(asked: &CheckRequest<'_>, subject: &CheckedScript<'_>) -> CheckEndi
     ending_of(asked, !subject.script.warnings.is_empty(), subject.ran.left)
 }
 
-// Shows the run, and accepts outputs, asks about them or leaves them.
+// Writes the report of a run, and then accepts its outputs, reviews them or leaves them.
 fn answer<S: System, P: Person, W: ReportSink, E: ReportSink>(
     system: &S,
     asked: &CheckRequest<'_>,
@@ -220,7 +220,7 @@ fn answer<S: System, P: Person, W: ReportSink, E: ReportSink>(
     let named = named_directives(system, asked, subject)?;
     let picked = picked_of(system.alloc(), asked, subject, &named)?;
     let mut shown = ShownText::new(system.alloc(), !report.state.is_closed);
-    tell(asked, subject, &named, &mut shown);
+    push_script(asked, subject, &named, &mut shown);
     match ending_at(asked, subject) {
         CheckEnding::Kept => Ok(ran(subject.ran, shown)),
         CheckEnding::Refused => {
@@ -234,7 +234,7 @@ fn answer<S: System, P: Person, W: ReportSink, E: ReportSink>(
             Ok(ran(found, shown))
         }
         CheckEnding::Reviewed => {
-            report.put(subject.path.as_bytes(), &shown);
+            report.write_bytes(subject.path.as_bytes(), &shown);
             accept_reviewed(system, asked, picked, subject, reviewer, report)
         }
     }
@@ -273,7 +273,7 @@ fn accept_reviewed<S: System, P: Person, W: ReportSink, E: ReportSink>(
     Ok(ran(found, shown))
 }
 
-// What is said yes to is accepted, new errors too.
+// What a review accepts: the outputs that the reader said yes to, new errors too.
 fn wanted_of(said: &[usize]) -> AcceptOptions<'_>
     ensures { AreWanted said.now result }
 {

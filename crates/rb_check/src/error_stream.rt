@@ -1,4 +1,4 @@
-//! The stream of errors: failures, and how far the work is.
+//! Standard error: failures, and the progress line.
 
 ghost use Rattle.std.specs.Prelude.{◌≡◌, ℕ, List, ◌++◌, false, is_some, IsOk, IsSome};
 ghost use Rattle.rb_script.specs.Writes.{Writes};
@@ -9,7 +9,7 @@ use crate::report_sink::ReportSink;
 use rb_files::PathError;
 use rb_report::check::Failure;
 use rb_script::WriteFault;
-use rb_text::{Piece, WrittenPiece, put_pieces};
+use rb_text::{Piece, WrittenPiece, write_pieces};
 use std::alloc::{AllocError, Global};
 use std::io;
 
@@ -26,7 +26,7 @@ pub(crate) struct ErrorStream<E: ReportSink> {
 }
 
 impl<E: ReportSink> ErrorStream<E> {
-    /// There is no progress line on the terminal yet.
+    /// The stream has no progress line yet.
     pub(crate) fn new(alloc: Global, sink: E) -> ErrorStream<E>
         ensures sink { result.sink ≡ sink }
         ensures shown { result.shows_progress ≡ false }
@@ -47,51 +47,52 @@ impl<E: ReportSink> ErrorStream<E> {
         if !self.shows_progress {
             return;
         }
-        let _ = self.sink.put_acting(CLEARED);
+        let _ = self.sink.write_acting(CLEARED);
         let _ = self.sink.flush();
         self.shows_progress = false;
     }
 
-    /// Writes the text in the place of the progress line. If that fails, it can't be reported.
-    pub(crate) fn tell<T: WrittenPiece>(&mut self, text: &T)
+    /// Writes a text in place of the progress line. If that fails, it can't be reported.
+    pub(crate) fn write<T: WrittenPiece>(&mut self, text: &T)
         ensures shown { self.new.shows_progress ≡ false }
         ensures told { Tells E.takes_all E.held self.old self.new (cleared self.old.shows_progress ++ T.text text.now) }
         ensures flushed { E.takes_all self.old.sink → E.is_flushed self.new.sink }
     {
         self.clear();
-        let _ = text.put(&mut self.sink);
+        let _ = text.write_to(&mut self.sink);
         let _ = self.sink.flush();
     }
 
-    /// Writes why a path failed, and what the system says of it, if the failure alone says too little.
-    pub(crate) fn tell_failure(&mut self, path: &[u8], error: PathError)
+    /// Writes why a path failed, and the system's words, if the failure alone says too little.
+    pub(crate) fn write_failure(&mut self, path: &[u8], error: PathError)
         ensures shown { self.new.shows_progress ≡ false }
         ensures told { (words : List ℕ) × Tells E.takes_all E.held self.old self.new (cleared self.old.shows_progress ++ failure_lines path.now error words) }
         ensures flushed { E.takes_all self.old.sink → E.is_flushed self.new.sink }
     {
         let failure = error.failure;
-        self.tell(&Note::Failure(path, failure));
+        self.write(&Note::Failure(path, failure));
         match said_cause(error) {
-            Some(cause) => self.tell_cause(path, cause),
+            Some(cause) => self.write_cause(path, cause),
             None => {}
         }
     }
 
-    fn tell_cause(&mut self, path: &[u8], cause: io::Error)
+    // Writes the system's words about a failure.
+    fn write_cause(&mut self, path: &[u8], cause: io::Error)
         ensures shown { self.new.shows_progress ≡ false }
         ensures told { (words : List ℕ) × Tells E.takes_all E.held self.old self.new (cleared self.old.shows_progress ++ cause_line path.now words) }
         ensures flushed { E.takes_all self.old.sink → E.is_flushed self.new.sink }
     {
         let cause = cause.to_string(self.alloc);
-        self.tell(&Note::Cause(path, words_of(&cause)));
+        self.write(&Note::Cause(path, words_of(&cause)));
     }
 
-    /// Shows how far the work is.
-    pub(crate) fn show_progress(&mut self, done: usize, all: usize)
+    /// Shows the progress line.
+    pub(crate) fn write_progress(&mut self, done: usize, all: usize)
         ensures told { Tells E.takes_all E.held self.old self.new (progress_text done all) }
         ensures flushed { E.takes_all self.old.sink → E.is_flushed self.new.sink }
     {
-        let _ = put_progress(&mut self.sink, done, all);
+        let _ = write_progress_line(&mut self.sink, done, all);
         let _ = self.sink.flush();
         self.shows_progress = true;
     }
@@ -105,12 +106,16 @@ fn words_of(cause: &Result<String, AllocError>) -> &[u8] {
     }
 }
 
-fn put_progress<E: ReportSink>(sink: &mut E, done: usize, all: usize) -> Result<(), WriteFault>
+fn write_progress_line<E: ReportSink>(
+    sink: &mut E,
+    done: usize,
+    all: usize,
+) -> Result<(), WriteFault>
     ensures wrote { Writes result (E.held sink.old) (E.held sink.new) (progress_text done all) }
     ensures all { E.takes_all sink.old → IsOk result × E.takes_all sink.new }
 {
-    sink.put_acting(CLEARED)?;
-    put_pieces(
+    sink.write_acting(CLEARED)?;
+    write_pieces(
         sink,
         &[
             Piece::Number(done as u64),

@@ -7,10 +7,10 @@ ghost use Rattle.rb_check.specs.Formats.{differing_command, directive_object, er
 ghost use Rattle.rb_check.specs.Subjects.{AreFindings, plain_of, plain_ran};
 
 use crate::checked_script::CheckedScript;
-use crate::command::{add_command, add_difference};
+use crate::command::{push_command, push_difference};
 use crate::format::LineFormat;
 use crate::kind::severity;
-use crate::object::add_object;
+use crate::object::push_object;
 use crate::piece::CommandPiece;
 use crate::ran_directive::{RanDirective, directive_at, head_of};
 use rb_machine::Machine;
@@ -21,7 +21,7 @@ use rb_script_report::{first_index, first_line, is_same, is_unexpected};
 use std::alloc::{AllocError, Global};
 
 // Adds a directive as an object if its output is a mismatch or a new error.
-fn add_directive(
+fn push_directive(
     alloc: Global,
     text: &mut Vec<u8>,
     lines: &Lines,
@@ -30,16 +30,16 @@ fn add_directive(
     ensures { IfOk result (λ _. text.new.items ≡ text.old.items ++ directive_object lines.now ran.entry.place.path.now (plain_ran ran.entry)) }
 {
     if !is_same(ran.block.expected(), ran.output) {
-        return add_object(alloc, text, ran, b"mismatch");
+        return push_object(alloc, text, ran, b"mismatch");
     }
     if is_unexpected(lines, ran.place.line, ran.output) {
-        return add_object(alloc, text, ran, b"error");
+        return push_object(alloc, text, ran, b"error");
     }
     Ok(())
 }
 
 // Adds the script's directives as objects.
-fn add_objects(
+fn push_objects(
     alloc: Global,
     text: &mut Vec<u8>,
     subject: &CheckedScript<'_>,
@@ -49,13 +49,13 @@ fn add_objects(
 {
     let run = &subject.script.run;
     for i in 0..run.session.len() {
-        add_directive(alloc, text, &run.layout.text, directive_at(subject, i))?;
+        push_directive(alloc, text, &run.layout.text, directive_at(subject, i))?;
     }
     Ok(())
 }
 
-// Adds a directive that expects its output, a new error, as a command.
-fn add_error(
+// Appends the command of a new error that is the expected output.
+fn push_error(
     alloc: Global,
     text: &mut Vec<u8>,
     is_strict: bool,
@@ -75,12 +75,12 @@ fn add_error(
         CommandPiece::Bytes(b"\n"),
     ];
     let severity = severity(is_strict);
-    add_command(text, severity, place.path, Some(place.line), head, &pieces)?;
+    push_command(text, severity, place.path, Some(place.line), head, &pieces)?;
     Ok(())
 }
 
-// Adds the new errors that are expected, each as a command.
-fn add_errors(
+// Appends the commands of the new errors that are expected outputs.
+fn push_errors(
     alloc: Global,
     text: &mut Vec<u8>,
     subject: &CheckedScript<'_>,
@@ -91,7 +91,7 @@ fn add_errors(
     let run = &subject.script.run;
     let is_strict = subject.form.is_strict;
     for i in 0..run.session.len() {
-        add_error(
+        push_error(
             alloc,
             text,
             is_strict,
@@ -109,8 +109,8 @@ fn others_of<M: Machine>(session: &Session<M>) -> usize
     session.mismatches().len().saturating_sub(1)
 }
 
-// Adds a directive that expects other lines, as a command.
-fn add_differing(
+// Appends the command of a mismatch.
+fn push_differing(
     alloc: Global,
     text: &mut Vec<u8>,
     ran: RanDirective<'_>,
@@ -119,12 +119,12 @@ fn add_differing(
     ensures { IfOk result (λ _. text.new.items ≡ text.old.items ++ differing_command ran.entry.place.path.now others (plain_ran ran.entry)) }
 {
     let mut table = Table::new(alloc)?;
-    add_difference(alloc, text, ran, others, &mut table)?;
+    push_difference(alloc, text, ran, others, &mut table)?;
     Ok(())
 }
 
 // Adds the mismatch at an index as a command.
-fn add_mismatch(
+fn push_mismatch(
     alloc: Global,
     text: &mut Vec<u8>,
     subject: &CheckedScript<'_>,
@@ -135,11 +135,11 @@ fn add_mismatch(
     ensures { IfOk result (λ _. text.new.items ≡ text.old.items ++ mismatch_command (plain_of subject.now) (index + 1)) }
 {
     let others = others_of(&subject.script.run.session);
-    add_differing(alloc, text, directive_at(subject, index), others)
+    push_differing(alloc, text, directive_at(subject, index), others)
 }
 
 // Adds the first mismatch as a command.
-fn add_first(
+fn push_first_mismatch(
     alloc: Global,
     text: &mut Vec<u8>,
     subject: &CheckedScript<'_>,
@@ -148,7 +148,7 @@ fn add_first(
     ensures { IfOk result (λ _. text.new.items ≡ text.old.items ++ of_first (mismatch_command (plain_of subject.now)) (mismatches (plain_of subject.now).script)) }
 {
     match first_index(&subject.script.run.session) {
-        Some(index) => add_mismatch(alloc, text, subject, index),
+        Some(index) => push_mismatch(alloc, text, subject, index),
         None => Ok(()),
     }
 }
@@ -168,10 +168,10 @@ pub(crate) fn formatted(
 {
     let mut text = Vec::new(alloc);
     match format {
-        LineFormat::Json => add_objects(alloc, &mut text, subject)?,
+        LineFormat::Json => push_objects(alloc, &mut text, subject)?,
         LineFormat::Github => {
-            add_first(alloc, &mut text, subject)?;
-            add_errors(alloc, &mut text, subject)?;
+            push_first_mismatch(alloc, &mut text, subject)?;
+            push_errors(alloc, &mut text, subject)?;
         }
     }
     Ok(text)

@@ -9,10 +9,10 @@ use crate::script_result::PathResult;
 use crate::shown_text::ShownText;
 use crate::xml::XmlPiece;
 use rb_report::check::{
-    Failure, Status, Totals, failure_sentence, put_failure, refusal_line, refusal_sentence,
+    Failure, Status, Totals, failure_sentence, refusal_line, refusal_sentence, write_failure,
 };
 use rb_script::{Sink, Through, WriteFault};
-use rb_text::{WrittenPiece, add_pieces, put_pieces};
+use rb_text::{WrittenPiece, push_pieces, write_pieces};
 use std::alloc::{AllocError, Global};
 
 /// The verdict of a case.
@@ -136,7 +136,7 @@ fn message_with(
     ensures { IfOk result (λ made. made.items ≡ message_with mismatches errors warnings) }
 {
     let mut text = Vec::new(alloc);
-    add_pieces(
+    push_pieces(
         &mut text,
         &[
             XmlPiece::Bytes(b"mismatches: "),
@@ -164,14 +164,14 @@ fn details_of(
         return Ok(text);
     };
     let mut sink = Through(text);
-    match put_failure(&mut sink, path, failure) {
+    match write_failure(&mut sink, path, failure) {
         Ok(()) => Ok(sink.0),
         Err(_) => Err(AllocError),
     }
 }
 
-// Adds the suite up to what is in its case.
-fn add_front(
+// Appends the beginning of a suite, up to its case's content.
+fn push_front(
     text: &mut Vec<u8>,
     path: &[u8],
     line: Option<usize>,
@@ -180,7 +180,7 @@ fn add_front(
 ) -> Result<(), AllocError>
     ensures { OnOk result (text.new.items ≡ text.old.items ++ suite_front path.now line milliseconds verdict) }
 {
-    add_pieces(
+    push_pieces(
         text,
         &[
             XmlPiece::Bytes(b"<testsuite name=\""),
@@ -198,8 +198,8 @@ fn add_front(
     )
 }
 
-// Adds what is in its case.
-fn add_body<'a>(
+// Appends the content of a suite's case.
+fn push_body<'a>(
     text: &mut Vec<u8>,
     verdict: CaseVerdict,
     message: &'a [u8],
@@ -208,8 +208,8 @@ fn add_body<'a>(
     ensures { OnOk result (text.new.items ≡ text.old.items ++ body_of verdict message.now details.now) }
 {
     match verdict {
-        CaseVerdict::Passes => add_output(text, details),
-        CaseVerdict::Fails => add_pieces(
+        CaseVerdict::Passes => push_output(text, details),
+        CaseVerdict::Fails => push_pieces(
             text,
             &[
                 XmlPiece::Bytes(b"<failure type=\"mismatch\" message=\""),
@@ -219,7 +219,7 @@ fn add_body<'a>(
                 XmlPiece::Bytes(b"</failure>"),
             ],
         ),
-        CaseVerdict::Errs => add_pieces(
+        CaseVerdict::Errs => push_pieces(
             text,
             &[
                 XmlPiece::Bytes(b"<error type=\"refused\" message=\""),
@@ -232,14 +232,14 @@ fn add_body<'a>(
     }
 }
 
-// The element of a case that passes.
-fn add_output(text: &mut Vec<u8>, details: &[u8]) -> Result<(), AllocError>
+// Appends the output of a case that passes.
+fn push_output(text: &mut Vec<u8>, details: &[u8]) -> Result<(), AllocError>
     ensures { OnOk result (text.new.items ≡ text.old.items ++ body_of CaseVerdict.Passes [] details.now) }
 {
     if details.is_empty() {
         return Ok(());
     }
-    add_pieces(
+    push_pieces(
         text,
         &[
             XmlPiece::Bytes(b"<system-out>"),
@@ -272,7 +272,7 @@ impl Suites {
     /// # Errors
     ///
     /// If memory was refused.
-    pub(crate) fn add(
+    pub(crate) fn push(
         &mut self,
         is_strict: bool,
         path: &[u8],
@@ -290,9 +290,9 @@ impl Suites {
         let message = message_of(alloc, found)?;
         let details = details_of(alloc, path, &shown.bytes, failure_in(found))?;
         self.counts.add(verdict);
-        add_front(&mut self.text, path, line_of(found), milliseconds, verdict)?;
-        add_body(&mut self.text, verdict, &message, &details)?;
-        add_pieces(
+        push_front(&mut self.text, path, line_of(found), milliseconds, verdict)?;
+        push_body(&mut self.text, verdict, &message, &details)?;
+        push_pieces(
             &mut self.text,
             &[XmlPiece::Bytes(b"</testcase></testsuite>\n")],
         )
@@ -309,9 +309,9 @@ pub(crate) struct SuitesDocument<'a> {
 impl WrittenPiece for SuitesDocument<'_> {
     ghost text = { λ document. document_text (plain_suites document.suites.now) document.milliseconds };
 
-    fn put<S: Sink>(&self, sink: &mut S) -> Result<(), WriteFault> {
+    fn write_to<S: Sink>(&self, sink: &mut S) -> Result<(), WriteFault> {
         let counts = self.suites.counts;
-        put_pieces(
+        write_pieces(
             sink,
             &[
                 XmlPiece::Bytes(

@@ -63,4 +63,4 @@ pub use paths::check;
 pub use place::place_at;
 pub use progress::ProgressClock;
 pub use target::Target;
-pub use visible::{Showing, VisibleSink, shown_of_script};
+pub use visible::{VisibleSink, shown_of_script};

@@ -4,14 +4,14 @@ ghost use Rattle.std.specs.Prelude.{◌≡◌, ◌++◌, OnOk, IfOk};
 ghost use Rattle.rb_check.specs.Formats.{notice_text};
 ghost use Rattle.rb_check.specs.Objects.{notice_object};
 
-use crate::command::add_command;
+use crate::command::push_command;
 use crate::format::LineFormat;
 use crate::kind::ScriptNotice;
 use crate::piece::CommandPiece;
-use rb_text::{Json, Piece, add_pieces};
+use rb_text::{Json, Piece, push_pieces};
 use std::alloc::{AllocError, Global};
 
-fn add_object<'a>(
+fn push_object<'a>(
     text: &mut Vec<u8>,
     path: &'a [u8],
     line: Option<usize>,
@@ -21,7 +21,7 @@ fn add_object<'a>(
     ensures { OnOk result (text.new.items ≡ text.old.items ++ notice_object path.now line status.now message.now) }
 {
     match line {
-        Some(line) => add_pieces(
+        Some(line) => push_pieces(
             text,
             &[
                 Piece::Bytes(b"{\"script\":\""),
@@ -35,7 +35,7 @@ fn add_object<'a>(
                 Piece::Bytes(b"\"}\n"),
             ],
         ),
-        None => add_pieces(
+        None => push_pieces(
             text,
             &[
                 Piece::Bytes(b"{\"script\":\""),
@@ -51,7 +51,7 @@ fn add_object<'a>(
     }
 }
 
-fn add_notice(
+fn push_notice(
     text: &mut Vec<u8>,
     format: LineFormat,
     is_strict: bool,
@@ -61,7 +61,7 @@ fn add_notice(
 {
     let kind = notice.kind;
     match format {
-        LineFormat::Json => add_object(
+        LineFormat::Json => push_object(
             text,
             notice.path,
             notice.line,
@@ -73,7 +73,7 @@ fn add_notice(
                 CommandPiece::Message(notice.message),
                 CommandPiece::Bytes(b"\n"),
             ];
-            add_command(
+            push_command(
                 text,
                 kind.command(is_strict),
                 notice.path,
@@ -99,6 +99,6 @@ pub(crate) fn notice_of(
     ensures { IfOk result (λ made. made.items ≡ notice_text format is_strict notice.entry.path.now notice.entry.line notice.entry.kind notice.entry.message.now) }
 {
     let mut text = Vec::new(alloc);
-    add_notice(&mut text, format, is_strict, notice)?;
+    push_notice(&mut text, format, is_strict, notice)?;
     Ok(text)
 }

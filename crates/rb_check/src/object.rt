@@ -9,7 +9,7 @@ ghost use Rattle.rb_check.specs.Subjects.{plain_ran};
 use crate::ran_directive::{RanDirective, head_of};
 use rb_report::check::{FileLine, Why};
 use rb_script::Lines;
-use rb_text::{Json, Piece, add_pieces};
+use rb_text::{Json, Piece, push_pieces};
 use std::alloc::{AllocError, Global};
 
 // The text before the line at an index.
@@ -19,10 +19,11 @@ fn separator(index: usize) -> &'static [u8]
     if index == 0 { b"" } else { b"," }
 }
 
-fn add_string(text: &mut Vec<u8>, index: usize, line: &[u8]) -> Result<(), AllocError>
+// Appends a line between quotes, with a comma before it unless it is the first.
+fn push_string(text: &mut Vec<u8>, index: usize, line: &[u8]) -> Result<(), AllocError>
     ensures { OnOk result (text.new.items ≡ text.old.items ++ (before_value index ++ quoted line.now)) }
 {
-    add_pieces(
+    push_pieces(
         text,
         &[
             Piece::Bytes(separator(index)),
@@ -34,16 +35,17 @@ fn add_string(text: &mut Vec<u8>, index: usize, line: &[u8]) -> Result<(), Alloc
 }
 
 // Adds the lines, each between quotes.
-fn add_strings(text: &mut Vec<u8>, lines: &Lines) -> Result<(), AllocError>
+fn push_strings(text: &mut Vec<u8>, lines: &Lines) -> Result<(), AllocError>
     ensures { OnOk result (text.new.items ≡ text.old.items ++ strings_from 0 lines.now) }
 {
     for i in 0..lines.len() {
-        add_string(text, i, lines.line(i))?;
+        push_string(text, i, lines.line(i))?;
     }
     Ok(())
 }
 
-fn add_front<'a>(
+// Appends the members of an object about the directive: its file, line, head and status.
+fn push_front<'a>(
     text: &mut Vec<u8>,
     place: FileLine<'a>,
     head: &'a [u8],
@@ -51,7 +53,7 @@ fn add_front<'a>(
 ) -> Result<(), AllocError>
     ensures { OnOk result (text.new.items ≡ text.old.items ++ object_front place.entry.path.now place.entry.line head.now status.now) }
 {
-    add_pieces(
+    push_pieces(
         text,
         &[
             Piece::Bytes(b"{\"script\":\""),
@@ -68,7 +70,7 @@ fn add_front<'a>(
 }
 
 /// Adds a directive with its expected lines, its output and the reasons of that, in a line.
-pub(crate) fn add_object(
+pub(crate) fn push_object(
     alloc: Global,
     text: &mut Vec<u8>,
     ran: RanDirective<'_>,
@@ -78,7 +80,7 @@ pub(crate) fn add_object(
 {
     let head = head_of(alloc, ran.block)?;
     let expected = ran.block.expected();
-    add_lines(
+    push_lines(
         text,
         ran.place,
         head.as_slice(),
@@ -86,12 +88,12 @@ pub(crate) fn add_object(
         expected,
         ran.output,
     )?;
-    add_end(text, ran.why)?;
+    push_end(text, ran.why)?;
     Ok(())
 }
 
-// Adds the directive's members up to its output.
-fn add_lines(
+// Appends the object's members up to the output.
+fn push_lines(
     text: &mut Vec<u8>,
     place: FileLine<'_>,
     head: &[u8],
@@ -101,31 +103,32 @@ fn add_lines(
 ) -> Result<(), AllocError>
     ensures { IfOk result (λ _. text.new.items ≡ text.old.items ++ lines_members place.entry.path.now place.entry.line head.now status.now expected.now output.now) }
 {
-    add_front(text, place, head, status)?;
-    add_strings(text, expected)?;
-    add_pieces(text, &[Piece::Bytes(b"],\"output\":[")])?;
-    add_strings(text, output)?;
+    push_front(text, place, head, status)?;
+    push_strings(text, expected)?;
+    push_pieces(text, &[Piece::Bytes(b"],\"output\":[")])?;
+    push_strings(text, output)?;
     Ok(())
 }
 
 // Adds the reasons, a text for each line, if there are any, and the end of the object.
-fn add_end(text: &mut Vec<u8>, why: Why<'_>) -> Result<(), AllocError>
+fn push_end(text: &mut Vec<u8>, why: Why<'_>) -> Result<(), AllocError>
     ensures { IfOk result (λ _. text.new.items ≡ text.old.items ++ object_end (reasons_in why.entry)) }
 {
     if let Why::Given(reasons) = why {
-        add_reasons(text, reasons)?;
+        push_reasons(text, reasons)?;
     }
-    add_pieces(text, &[Piece::Bytes(b"]}\n")])?;
+    push_pieces(text, &[Piece::Bytes(b"]}\n")])?;
     Ok(())
 }
 
-fn add_reasons(text: &mut Vec<u8>, reasons: &Lines) -> Result<(), AllocError>
+// Appends the reasons, one for each line of the output.
+fn push_reasons(text: &mut Vec<u8>, reasons: &Lines) -> Result<(), AllocError>
     ensures { IfOk result (λ _. text.new.items ≡ text.old.items ++ reasons_member reasons.now) }
 {
     if reasons.is_empty() {
         return Ok(());
     }
-    add_pieces(text, &[Piece::Bytes(b"],\"reasons\":[")])?;
-    add_strings(text, reasons)?;
+    push_pieces(text, &[Piece::Bytes(b"],\"reasons\":[")])?;
+    push_strings(text, reasons)?;
     Ok(())
 }

@@ -72,7 +72,7 @@ fn report_on<T: RunProgress, R: Files + Input + Clock + AllocGlobal, W: ReportSi
     let mut progress = ProgressClock::from_now(rt, asked.wants_progress);
     let mut check = RunningCheck::new(rt.alloc(), output, errors, asked);
     let found = find(rt, asked.targets, asked.filters);
-    tell_lost(&found, &mut check);
+    write_lost(&found, &mut check);
     let scripts = found.scripts.as_slice();
     check_each(rt, runner, asked, scripts, &mut progress, &mut check);
     check.end(asked, scripts.len(), milliseconds(progress.elapsed(rt)));
@@ -97,7 +97,7 @@ fn check_each<T: RunProgress, R: Files + Input + Clock + AllocGlobal, W: ReportS
     let mut reviewer = Reviewer::new(rt.alloc(), person, count);
     let mut done = 0;
     'reports: while goes_on(reviewer.point.review, done, scripts.len()) {
-        tell_progress(rt, progress, done, scripts.len(), &mut check.report.errors);
+        write_progress(rt, progress, done, scripts.len(), &mut check.report.errors);
         let begun = progress.elapsed(rt);
         let path = scripts[done].as_str();
         let report = &mut check.report;
@@ -130,7 +130,7 @@ fn count_all<T: RunProgress, S: System>(
     count
 }
 
-// Whether a script is still to be checked, unless a review is over.
+// Whether another script is to be checked: one is left, and no review was ended.
 fn goes_on(review: Review, done: usize, all: usize) -> bool
     ensures within { IsTrue result → done < all }
     ensures ongoing { IsTrue result → review ≢ Review.Over }
@@ -143,7 +143,7 @@ fn goes_on(review: Review, done: usize, all: usize) -> bool
 }
 
 // Shows how far the work is, if it is time to.
-fn tell_progress<C: Clock, E: ReportSink>(
+fn write_progress<C: Clock, E: ReportSink>(
     clock: &C,
     progress: &mut ProgressClock,
     done: usize,
@@ -151,7 +151,7 @@ fn tell_progress<C: Clock, E: ReportSink>(
     errors: &mut ErrorStream<E>,
 ) {
     if progress.is_due(clock) {
-        errors.show_progress(done, all);
+        errors.write_progress(done, all);
     }
 }
 
@@ -166,7 +166,7 @@ fn end_review<W: ReportSink, E: ReportSink>(
 {
     if review == Review::Over {
         let note = Note::Quit(check.results.counts.accepted, left);
-        check.report.show(&note);
+        check.report.write(&note);
     }
 }
 
@@ -205,7 +205,7 @@ fn failed<W: ReportSink, E: ReportSink>(
     ensures held { Keeps (W.held report.old.output) (W.held report.new.output) }
 {
     report.heed(path, None);
-    report.errors.tell_failure(path, error);
+    report.errors.write_failure(path, error);
     let mut shown = ShownText::new(report.alloc, !report.state.is_closed);
     shown.remark(report.state.form, path, Remark::Failed(error.failure));
     PathReport {
@@ -215,12 +215,12 @@ fn failed<W: ReportSink, E: ReportSink>(
 }
 
 // Reports and counts the paths that could not be read.
-fn tell_lost<W: ReportSink, E: ReportSink>(found: &Found, check: &mut RunningCheck<W, E>)
+fn write_lost<W: ReportSink, E: ReportSink>(found: &Found, check: &mut RunningCheck<W, E>)
     ensures { Reports W.held check.old check.new (lost_results check.old.report.state.form found.now) }
 {
-    tell_each_lost(found.lost.as_slice(), check);
-    tell_if(found.is_cut, Failure::OutOfMemory, check);
-    tell_if(
+    write_each_lost(found.lost.as_slice(), check);
+    write_failure_if(found.is_cut, Failure::OutOfMemory, check);
+    write_failure_if(
         found.scripts.as_slice().is_empty(),
         Failure::NoScripts,
         check,
@@ -228,7 +228,10 @@ fn tell_lost<W: ReportSink, E: ReportSink>(found: &Found, check: &mut RunningChe
 }
 
 // Reports and counts the paths that failed.
-fn tell_each_lost<W: ReportSink, E: ReportSink>(lost: &[FailedPath], check: &mut RunningCheck<W, E>)
+fn write_each_lost<W: ReportSink, E: ReportSink>(
+    lost: &[FailedPath],
+    check: &mut RunningCheck<W, E>,
+)
     ensures { Reports W.held check.old check.new (map (lost_path check.old.report.state.form) lost.now) }
 {
     for i in 0..lost.len() {
@@ -237,7 +240,7 @@ fn tell_each_lost<W: ReportSink, E: ReportSink>(lost: &[FailedPath], check: &mut
 }
 
 // Reports and counts a failure of the check as a whole, if there is one.
-fn tell_if<W: ReportSink, E: ReportSink>(
+fn write_failure_if<W: ReportSink, E: ReportSink>(
     has_failed: bool,
     failure: Failure,
     check: &mut RunningCheck<W, E>,

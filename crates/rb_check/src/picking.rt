@@ -67,7 +67,7 @@ pub(crate) fn picked_of<'a>(
     }
 }
 
-// What is accepted where no directive is named.
+// The directives that may be accepted if none is named: with `--accept` those up to the first new error, else all.
 fn unnamed<'a>(
     alloc: Global,
     asked: &CheckRequest<'_>,
@@ -84,7 +84,7 @@ fn unnamed<'a>(
     }
 }
 
-// The lines that are named of the script, by whatever spelling of its path; none where all of it is.
+// The lines that the targets name of a script, however they spell its path; none if the whole script is a target.
 fn named_lines<S: System>(
     system: &S,
     targets: &[Target],
@@ -146,6 +146,7 @@ fn directives_at(
     })
 }
 
+// Appends a head.
 fn push(numbers: &mut Vec<usize>, number: usize) -> Result<(), AllocError>
     ensures { IfOk result (λ _. numbers.new.items ≡ numbers.old.items ++ number ∷ []) }
 {

@@ -1,4 +1,4 @@
-//! What is asked about in a review.
+//! The questions of a review.
 
 ghost use Rattle.std.specs.Prelude.{◌≡◌, ◌++◌, IfOk};
 ghost use Rattle.rb_check.specs.Reviews.{question_of, question_text, questions_of};
@@ -9,7 +9,7 @@ use crate::checked_script::CheckedScript;
 use crate::ran_directive::{RanDirective, directive_at};
 use rb_script::Lines;
 use rb_script_report::{AcceptFilter, is_picked, is_same, is_unexpected};
-use rb_text::{Piece, add_pieces};
+use rb_text::{Piece, push_pieces};
 use std::alloc::{AllocError, Global};
 
 /// A directive whose output is not the expected one.
@@ -23,7 +23,7 @@ pub(crate) struct ReviewQuestion {
     pub(crate) is_taken: bool,
 }
 
-/// The questions of a script: the directives that are picked, and whose output is not the expected one.
+/// The questions of a script: the picked directives whose outputs differ.
 pub(crate) fn questions_of(
     alloc: Global,
     asked: &CheckRequest<'_>,
@@ -38,13 +38,13 @@ pub(crate) fn questions_of(
     let lines = &run.layout.text;
     for i in 0..run.session.len() {
         let ran = directive_at(subject, i);
-        add_question(&mut questions, asked.accepts_errors, picked, lines, ran)?;
+        push_question(&mut questions, asked.accepts_errors, picked, lines, ran)?;
     }
     Ok(questions)
 }
 
-// Adds the question about the directive; nothing, where its output is the expected one, or it isn't picked.
-fn add_question(
+// Appends the question about a directive, if it is picked and its output differs.
+fn push_question(
     questions: &mut Vec<ReviewQuestion>,
     accepts_errors: bool,
     picked: AcceptFilter<'_>,
@@ -74,7 +74,7 @@ pub(crate) fn question_text(
     ensures { IfOk result (λ made. made.items ≡ question_text number count) }
 {
     let mut text = Vec::new(alloc);
-    add_pieces(
+    push_pieces(
         &mut text,
         &[
             Piece::Number(number as u64),

@@ -5,7 +5,7 @@ ghost use Rattle.rb_script_report.specs.Checked.{head_of};
 ghost use Rattle.rb_check.specs.Subjects.{plain_of, plain_ran, runs_of};
 
 use crate::checked_script::CheckedScript;
-use rb_report::check::{FileLine, Why, put_head};
+use rb_report::check::{FileLine, Why, write_head};
 use rb_script::{Block, Lines, Through};
 use rb_script_report::{block_at, number_at, output_at, why_at};
 use std::alloc::{AllocError, Global};
@@ -45,7 +45,7 @@ pub(crate) fn head_of(alloc: Global, block: &Block) -> Result<Vec<u8>, AllocErro
     ensures { IfOk result (λ made. made.items ≡ head_of block.now) }
 {
     let mut sink = Through(Vec::new(alloc));
-    match put_head(&mut sink, &block.directive()) {
+    match write_head(&mut sink, &block.directive()) {
         Ok(()) => Ok(sink.0),
         Err(_) => Err(AllocError),
     }

@@ -1,4 +1,4 @@
-//! What a report says of a script beside its run: a line to people, or a notice to programs.
+//! What a report says of a script besides its run: a line to people, or a notice to programs.
 
 ghost use Rattle.std.specs.Prelude.{◌≡◌, IfOk, codes};
 ghost use Rattle.rb_report.specs.Pieces.{noun};
@@ -6,15 +6,15 @@ ghost use Rattle.rb_check.specs.Shown.{accepted_sentence, people_text, programs_
 
 use crate::format::LineFormat;
 use crate::kind::{NoticeKind, ScriptNotice};
-use crate::notes::put_note;
+use crate::notes::write_note;
 use crate::notices::notice_of;
 use rb_report::check::{
-    Failure, Refusal, failure_sentence, put_accepted, put_refusal, put_unaccepted, put_warning,
-    refusal_line, refusal_sentence, warning_sentence,
+    Failure, Refusal, failure_sentence, refusal_line, refusal_sentence, warning_sentence,
+    write_accepted, write_refusal, write_unaccepted, write_warning,
 };
 use rb_script::{Sink, WriteFault};
 use rb_script_report::Warning;
-use rb_text::{Piece, WrittenPiece, add_pieces};
+use rb_text::{Piece, WrittenPiece, push_pieces};
 use std::alloc::{AllocError, Global};
 
 const ECHOES: &[u8] =
@@ -60,6 +60,7 @@ impl Remark {
         }
     }
 
+    // Its kind, for programs.
     fn kind(self) -> NoticeKind
         ensures { result ≡ remark_kind self }
     {
@@ -81,7 +82,7 @@ fn accepted_sentence(alloc: Global, n: usize) -> Result<Vec<u8>, AllocError>
     ensures { IfOk result (λ made. made.items ≡ accepted_sentence n) }
 {
     let mut text = Vec::new(alloc);
-    add_pieces(
+    push_pieces(
         &mut text,
         &[
             Piece::Bytes(b"accepted "),
@@ -154,16 +155,16 @@ pub(crate) struct RemarkLine<'a> {
 impl WrittenPiece for RemarkLine<'_> {
     ghost text = { λ line. people_text line.path.now line.remark };
 
-    fn put<S: Sink>(&self, sink: &mut S) -> Result<(), WriteFault> {
+    fn write_to<S: Sink>(&self, sink: &mut S) -> Result<(), WriteFault> {
         match self.remark {
-            Remark::Refused(refusal) => put_refusal(sink, self.path, refusal),
-            Remark::Warning(warning) => put_warning(sink, self.path, warning.line, warning.doubt),
-            Remark::Accepted(n) => put_accepted(sink, self.path, n),
-            Remark::Unaccepted => put_unaccepted(sink, self.path),
-            Remark::Echoes(line) => put_note(sink, self.path, line, ECHOES),
-            Remark::Matches(line) => put_note(sink, self.path, line, MATCHES),
-            Remark::Failed(_) => sink.put(b""),
-            Remark::Left(_) => sink.put(b""),
+            Remark::Refused(refusal) => write_refusal(sink, self.path, refusal),
+            Remark::Warning(warning) => write_warning(sink, self.path, warning.line, warning.doubt),
+            Remark::Accepted(n) => write_accepted(sink, self.path, n),
+            Remark::Unaccepted => write_unaccepted(sink, self.path),
+            Remark::Echoes(line) => write_note(sink, self.path, line, ECHOES),
+            Remark::Matches(line) => write_note(sink, self.path, line, MATCHES),
+            Remark::Failed(_) => sink.write_all(b""),
+            Remark::Left(_) => sink.write_all(b""),
         }
     }
 }

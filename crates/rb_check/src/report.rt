@@ -58,7 +58,7 @@ impl<W: ReportSink, E: ReportSink> Report<W, E> {
         }
     }
 
-    /// From here on the report is about the script at the path, with these lines if they are known. None of it acts in a terminal.
+    /// Begins the part about a script. If its path or its lines have something that acts in a terminal, the part is written by numbers.
     pub(crate) fn heed(&mut self, path: &[u8], lines: Option<&Lines>)
         ensures state { self.new.state ≡ self.old.state }
         ensures held { Keeps (W.held self.old.output) (W.held self.new.output) }
@@ -69,9 +69,9 @@ impl<W: ReportSink, E: ReportSink> Report<W, E> {
         ensures harmless { (showing : Showing) × (self.new.showing ≡ shown_in self.old.state.form.format path.now showing) × (E.shown_as self.new.errors.sink ≡ showing) × MatchOption lines.entry (showing ≡ Showing.AsIs) (λ ls. showing ≡ showing_of_lines ls.now) }
     {
         let showing = showing_for(lines);
-        self.errors.sink.show_as(showing);
+        self.errors.sink.set_showing(showing);
         self.showing = shown_in(self.state.form.format, path, showing);
-        self.output.show_as(self.showing);
+        self.output.set_showing(self.showing);
     }
 
     /// The chosen colours, if bytes are written as they are, and not in a suite.
@@ -119,7 +119,7 @@ impl<W: ReportSink, E: ReportSink> Report<W, E> {
         self.lose_output(&handed_on);
     }
 
-    // Nothing more goes to standard output.
+    // Records that standard output failed, so nothing more is written there.
     fn lose_output(&mut self, handed_on: &io::Result<()>)
         ensures showing { self.new.showing ≡ self.old.showing }
         ensures output { self.new.output ≡ self.old.output }
@@ -134,7 +134,7 @@ impl<W: ReportSink, E: ReportSink> Report<W, E> {
         self.state.close();
         if !is_reader_gone(handed_on) {
             self.errors
-                .tell(&Note::Failure(b"raftbench", Failure::NotShown));
+                .write(&Note::Failure(b"raftbench", Failure::NotShown));
         }
     }
 
@@ -146,11 +146,12 @@ impl<W: ReportSink, E: ReportSink> Report<W, E> {
         ensures state { self.new.state ≡ lacking self.old.state }
     {
         self.state.lack_memory();
-        self.errors.tell(&Note::Failure(path, Failure::OutOfMemory));
+        self.errors
+            .write(&Note::Failure(path, Failure::OutOfMemory));
     }
 
     /// Writes the text on standard output, in the place of the progress line.
-    pub(crate) fn show<T: WrittenPiece>(&mut self, text: &T)
+    pub(crate) fn write<T: WrittenPiece>(&mut self, text: &T)
         ensures showing { self.new.showing ≡ self.old.showing }
         ensures flushed { self.new.state.is_closed ≡ false → W.is_flushed self.new.output }
         ensures shown { Prints W.held self.old self.new (T.text text.now) }
@@ -159,7 +160,7 @@ impl<W: ReportSink, E: ReportSink> Report<W, E> {
         if !self.is_open() {
             return;
         }
-        let written = text.put(&mut self.output);
+        let written = text.write_to(&mut self.output);
         self.wrote(written);
     }
 
@@ -168,11 +169,11 @@ impl<W: ReportSink, E: ReportSink> Report<W, E> {
         ensures shown { Prints W.held self.old self.new text.now }
         ensures closed { self.old.state.is_closed ≡ true → self.new.state.is_closed ≡ true }
     {
-        self.show(&text);
+        self.write(&text);
     }
 
     /// Writes a text that was made about the path. If memory was refused for it, that is reported.
-    pub(crate) fn put(&mut self, path: &[u8], text: &ShownText)
+    pub(crate) fn write_bytes(&mut self, path: &[u8], text: &ShownText)
         ensures { (all : List ℕ) → Holds text.now all → Prints W.held self.old self.new all }
     {
         if self.state.is_closed {
@@ -189,7 +190,7 @@ impl<W: ReportSink, E: ReportSink> Report<W, E> {
     }
 }
 
-// How what is about a script goes out, with these lines if they are known.
+// How the part about a script with these lines is written: as it is, or by numbers.
 fn showing_for(lines: Option<&Lines>) -> Showing
     ensures { MatchOption lines.entry (result ≡ Showing.AsIs) (λ ls. result ≡ showing_of_lines ls.now) }
 {

@@ -13,7 +13,7 @@ ghost use Rattle.rb_check.specs.Subjects.{AreFindings, plain_of};
 use crate::answer::Answer;
 use crate::check_request::CheckRequest;
 use crate::checked_script::CheckedScript;
-use crate::comment::put_comment;
+use crate::comment::write_comment;
 use crate::person::{Person, ask};
 use crate::question::{ReviewQuestion, question_text, questions_of};
 use crate::report::Report;
@@ -86,7 +86,7 @@ impl<P: Person> Reviewer<P> {
         self.point.review = review_behind(self.point.review);
     }
 
-    // Asks the question, and does what is answered.
+    // Asks a question, and records the answer.
     fn ask<W: ReportSink, E: ReportSink>(
         &mut self,
         question: ReviewQuestion,
@@ -104,7 +104,7 @@ impl<P: Person> Reviewer<P> {
         Ok(())
     }
 
-    // Accepts an output that isn't asked about, if accepting takes it.
+    // Accepts an output without asking, unless it is a new error.
     fn take_rest(&mut self, question: ReviewQuestion) -> Result<(), AllocError>
         ensures said { IfOk result (λ _. self.new.said.items ≡ self.old.said.items ++ said_unasked question) }
         ensures point { self.new.point ≡ self.old.point }
@@ -117,7 +117,7 @@ impl<P: Person> Reviewer<P> {
     }
 }
 
-// What is asked of the next script.
+// How the review goes on at the next script.
 fn review_behind(review: Review) -> Review
     ensures { result ≡ review_behind review }
 {
@@ -127,7 +127,7 @@ fn review_behind(review: Review) -> Review
     }
 }
 
-/// The lines of the heads of the directives whose outputs are to be accepted, by what is answered.
+/// Reviews a script: returns the heads of the directives whose outputs the reader accepts.
 pub(crate) fn reviewed<P: Person, W: ReportSink, E: ReportSink>(
     asked: &CheckRequest<'_>,
     subject: &CheckedScript<'_>,
@@ -152,7 +152,7 @@ pub(crate) fn reviewed<P: Person, W: ReportSink, E: ReportSink>(
     Ok(mem::replace(&mut reviewer.said, none))
 }
 
-// Asks the questions, as far as they are still to be asked.
+// Asks the questions, until the reader ends the review or answers for all.
 fn go_over<P: Person, W: ReportSink, E: ReportSink>(
     subject: &CheckedScript<'_>,
     questions: &[ReviewQuestion],
@@ -231,6 +231,7 @@ fn ask_about<P: Person, W: ReportSink, E: ReportSink>(
     Ok(reviewer.ask(question, number, report)?)
 }
 
+// Appends a head.
 fn push(said: &mut Vec<usize>, head: usize) -> Result<(), AllocError>
     ensures { IfOk result (λ _. said.new.items ≡ said.old.items ++ head ∷ []) }
 {
@@ -238,7 +239,7 @@ fn push(said: &mut Vec<usize>, head: usize) -> Result<(), AllocError>
     Ok(())
 }
 
-// Does what is answered for the head, and gives what is still to be asked.
+// Records the answer about a head, and returns how the review goes on.
 fn take(said: &mut Vec<usize>, head: usize, answer: Answer) -> Result<Review, AllocError>
     ensures next { IfOk result (λ review. review ≡ next_review answer) }
     ensures said { IfOk result (λ _. said.new.items ≡ said.old.items ++ said_by answer head) }
@@ -278,7 +279,7 @@ fn comment_above(alloc: Global, lines: &Lines, head: usize) -> Result<Vec<u8>, A
     ensures { IfOk result (λ made. made.items ≡ comment_text lines.now head) }
 {
     let mut sink = Through(Vec::new(alloc));
-    match put_comment(&mut sink, lines, head) {
+    match write_comment(&mut sink, lines, head) {
         Ok(()) => Ok(sink.0),
         Err(_) => Err(AllocError),
     }

@@ -67,7 +67,7 @@ impl<W: ReportSink, E: ReportSink> RunningCheck<W, E> {
     {
         checked.found.count_in(&mut self.results.counts);
         self.list(path, checked.found);
-        self.show(path, checked, milliseconds);
+        self.write_shown(path, checked, milliseconds);
     }
 
     // Adds the path to the list, if it is a script that differs.
@@ -84,7 +84,7 @@ impl<W: ReportSink, E: ReportSink> RunningCheck<W, E> {
     }
 
     // Puts what is shown of the path out, or into its suite.
-    fn show(&mut self, path: &[u8], checked: PathReport, milliseconds: u64)
+    fn write_shown(&mut self, path: &[u8], checked: PathReport, milliseconds: u64)
         ensures counts { self.new.results.counts ≡ self.old.results.counts }
         ensures listed { self.new.results.differing ≡ self.old.results.differing }
         ensures suites { (text : List ℕ) → Holds checked.shown text → Suits self.old self.new (checked_path path.now checked.found [] text milliseconds) }
@@ -99,7 +99,7 @@ impl<W: ReportSink, E: ReportSink> RunningCheck<W, E> {
                 Err(_) => self.report.fail_for_memory(path),
             }
         } else {
-            self.report.put(path, &shown);
+            self.report.write_bytes(path, &shown);
         }
     }
 
@@ -140,7 +140,7 @@ impl<W: ReportSink, E: ReportSink> RunningCheck<W, E> {
         ensures shown { Prints W.held self.old.report self.new.report (document_text (plain_suites self.old.results.suites) milliseconds) }
     {
         self.report.heed(b"raftbench", None);
-        self.report.show(&SuitesDocument {
+        self.report.write(&SuitesDocument {
             suites: &self.results.suites,
             milliseconds,
         });
@@ -153,7 +153,7 @@ impl<W: ReportSink, E: ReportSink> RunningCheck<W, E> {
     {
         let totals = self.totals();
         match self.report.state.form.format {
-            Some(LineFormat::Json) => self.report.show(&TotalsObject(totals)),
+            Some(LineFormat::Json) => self.report.write(&TotalsObject(totals)),
             Some(LineFormat::Github) => {}
             None => self.end_for_people(lists_differing, totals, milliseconds),
         }
@@ -166,7 +166,7 @@ impl<W: ReportSink, E: ReportSink> RunningCheck<W, E> {
     {
         self.report.heed(b"raftbench", None);
         self.list_differing(lists_differing);
-        self.report.show(&Note::Totals(totals, milliseconds));
+        self.report.write(&Note::Totals(totals, milliseconds));
     }
 
     // Lists the scripts that differ, if they are to be listed.
@@ -175,12 +175,12 @@ impl<W: ReportSink, E: ReportSink> RunningCheck<W, E> {
         ensures shown { Prints W.held self.old.report self.new.report (listed_text lists_differing self.old.results.differing.items) }
     {
         if lists_differing {
-            self.report.show(&DifferingList(&self.results.differing));
+            self.report.write(&DifferingList(&self.results.differing));
         }
     }
 }
 
-// Whether the scripts that differ are listed at the end, of n scripts.
+// Whether the scripts that differ are listed at the end: there are several, and the detail asks for it.
 fn lists(shown: Detail, n: usize) -> bool
     ensures { result ≡ lists shown n }
 {

@@ -18,12 +18,12 @@ use rb_machine::Machine;
 use rb_replay::Session;
 use rb_script::Through;
 use rb_script_report::{
-    Detail, ShownScript, View, Warning, is_quiet, number_at, put_alone, put_checked,
+    Detail, ShownScript, View, Warning, is_quiet, number_at, write_alone, write_checked,
 };
 use std::alloc::{AllocError, Global};
 
 /// Shows the directives that are named, if outputs aren't accepted, or the whole script. Of those that are to be accepted it names the ones that match.
-pub(crate) fn tell(
+pub(crate) fn push_script(
     asked: &CheckRequest<'_>,
     subject: &CheckedScript<'_>,
     named: &Option<NamedDirectives>,
@@ -34,13 +34,13 @@ pub(crate) fn tell(
     ensures { Extends shown.old shown.new (shown_of asked.now (plain_of subject.now) (option_map (λ some. some.places.items) named.now)) }
 {
     match named {
-        Some(named) => tell_named(asked, subject, &named.places, shown),
-        None => show_whole(asked, subject, shown),
+        Some(named) => push_named(asked, subject, &named.places, shown),
+        None => push_whole(asked, subject, shown),
     }
 }
 
 // The same, where directives at these places are named.
-fn tell_named(
+fn push_named(
     asked: &CheckRequest<'_>,
     subject: &CheckedScript<'_>,
     places: &[usize],
@@ -51,15 +51,15 @@ fn tell_named(
     ensures { Extends shown.old shown.new (shown_of asked.now (plain_of subject.now) (Some places.now)) }
 {
     if asked.accepts {
-        show_whole(asked, subject, shown);
-        tell_matched(subject, places, shown);
+        push_whole(asked, subject, shown);
+        push_matched(subject, places, shown);
     } else {
-        show_each(subject, places, shown);
+        push_each(subject, places, shown);
     }
 }
 
 // Shows each of the directives alone: what differs, or its output.
-fn show_each(subject: &CheckedScript<'_>, places: &[usize], shown: &mut ShownText)
+fn push_each(subject: &CheckedScript<'_>, places: &[usize], shown: &mut ShownText)
     requires findings { AreFindings subject.now }
     requires places { ArePlaces places.now (length (plain_of subject.now).script.blocks) }
     ensures { Extends shown.old shown.new (flat_map (alone_text (plain_of subject.now)) places.now) }
@@ -71,16 +71,16 @@ fn show_each(subject: &CheckedScript<'_>, places: &[usize], shown: &mut ShownTex
 }
 
 // Says of each of the directives that its output is the expected one, if it is.
-fn tell_matched(subject: &CheckedScript<'_>, places: &[usize], shown: &mut ShownText)
+fn push_matched(subject: &CheckedScript<'_>, places: &[usize], shown: &mut ShownText)
     requires { ArePlaces places.now (length (plain_of subject.now).layout.heads.items) }
     ensures { Extends shown.old shown.new (flat_map (matched_text (plain_of subject.now)) places.now) }
 {
     for i in 0..places.len() {
-        tell_if_matched(subject, number_at(places, i), shown);
+        push_if_matched(subject, number_at(places, i), shown);
     }
 }
 
-fn tell_if_matched(subject: &CheckedScript<'_>, place: usize, shown: &mut ShownText)
+fn push_if_matched(subject: &CheckedScript<'_>, place: usize, shown: &mut ShownText)
     requires from_1 { 1 ≤ place }
     requires within { place ≤ length (plain_of subject.now).layout.heads.items }
     ensures { Extends shown.old shown.new (matched_text (plain_of subject.now) place) }
@@ -93,7 +93,7 @@ fn tell_if_matched(subject: &CheckedScript<'_>, place: usize, shown: &mut ShownT
 }
 
 // Shows the warnings and the report of a script.
-fn show_whole(asked: &CheckRequest<'_>, subject: &CheckedScript<'_>, shown: &mut ShownText)
+fn push_whole(asked: &CheckRequest<'_>, subject: &CheckedScript<'_>, shown: &mut ShownText)
     requires { AreFindings subject.now }
     ensures { Extends shown.old shown.new (whole_text asked.now (plain_of subject.now)) }
 {
@@ -111,7 +111,7 @@ fn warns<M: Machine>(asked: &CheckRequest<'_>, session: &Session<M>) -> bool
     may_accept || asked.is_strict || shows_warnings(asked.shown)
 }
 
-// With less detail than the mismatches only that is shown.
+// Whether a report of this detail has warnings: not if it has less than the mismatches.
 fn shows_warnings(shown: Detail) -> bool
     ensures { result ≡ shows_warnings shown }
 {
@@ -175,7 +175,7 @@ fn people_report(
         colors: subject.colors,
         shown,
     };
-    match put_checked(alloc, &mut sink, &run.session, &run.layout, view, &run.whys) {
+    match write_checked(alloc, &mut sink, &run.session, &run.layout, view, &run.whys) {
         Ok(()) => Ok(sink.0),
         Err(_) => Err(AllocError),
     }
@@ -204,7 +204,7 @@ pub(crate) fn alone(
         colors: subject.colors,
         shown,
     };
-    match put_alone(alloc, &mut sink, &shown_script, view, index) {
+    match write_alone(alloc, &mut sink, &shown_script, view, index) {
         Ok(()) => Ok(sink.0),
         Err(_) => Err(AllocError),
     }

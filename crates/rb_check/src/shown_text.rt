@@ -33,7 +33,7 @@ impl ShownText {
     }
 
     /// Adds a piece.
-    pub(crate) fn show<T: WrittenPiece>(&mut self, piece: &T)
+    pub(crate) fn push<T: WrittenPiece>(&mut self, piece: &T)
         ensures { Extends self.old self.new (T.text piece.now) }
     {
         if !self.is_whole {
@@ -46,11 +46,11 @@ impl ShownText {
     }
 
     /// Adds a text that was made, unless memory was refused for it.
-    pub(crate) fn add(&mut self, made: Result<Vec<u8>, AllocError>)
+    pub(crate) fn push_made(&mut self, made: Result<Vec<u8>, AllocError>)
         ensures { (text : List ℕ) → IfOk made (λ made. made.items ≡ text) → Extends self.old self.new text }
     {
         match made {
-            Ok(made) => self.show(&made.as_slice()),
+            Ok(made) => self.push(&made.as_slice()),
             Err(_) => self.is_whole = false,
         }
     }
@@ -62,9 +62,9 @@ impl ShownText {
         match form.format {
             Some(format) => {
                 let made = programs_text(self.alloc, format, form.is_strict, path, remark);
-                self.add(made);
+                self.push_made(made);
             }
-            None => self.show(&RemarkLine { path, remark }),
+            None => self.push(&RemarkLine { path, remark }),
         }
     }
 }
@@ -76,7 +76,7 @@ fn push_piece<T: WrittenPiece>(text: &mut Vec<u8>, piece: &T) -> Result<(), Allo
     // The text itself is the sink.
     let nothing = Vec::new(*text.allocator());
     let mut sink = Through(mem::replace(text, nothing));
-    let written = piece.put(&mut sink);
+    let written = piece.write_to(&mut sink);
     *text = sink.0;
     match written {
         Ok(()) => Ok(()),

@@ -143,7 +143,7 @@ fn text_of<F: Read + Drop>(alloc: Global, file: F, seen: Metadata) -> Result<Tex
     Ok(Text { bytes, seen })
 }
 
-// Reads all bytes of a file. Of a file longer than a script may be it reads one byte more than that.
+// Reads all bytes of a file; of one that is longer than a script may be, one byte more than that.
 fn first_bytes<F: Read + Drop>(alloc: Global, file: F) -> Result<Vec<u8>, PathError>
     ensures bytes { IfOk result (λ bytes. IfSome (F.remaining file) (λ all. bytes.items ≡ take (MAX_SCRIPT + 1) all)) }
     ensures failed { IfErr result IsUnread }
@@ -191,13 +191,13 @@ fn told<R: Files + AllocGlobal, E: ReportSink>(
     match outcome {
         Ok(()) => {
             if tells && let Some(taken) = place.taken() {
-                errors.tell(&Note::TakenName(taken.as_bytes()));
+                errors.write(&Note::TakenName(taken.as_bytes()));
             }
             Ok(())
         }
         Err(why) => {
             if let Some(left) = place.left() {
-                errors.tell(&Note::LeftFile(left.as_bytes()));
+                errors.write(&Note::LeftFile(left.as_bytes()));
             }
             Err(why.error)
         }

@@ -4,7 +4,7 @@ ghost use Rattle.rb_check.specs.Objects.{totals_object, totals_piece};
 
 use rb_report::check::Totals;
 use rb_script::{Sink, WriteFault};
-use rb_text::{Piece, WrittenPiece, put_pieces};
+use rb_text::{Piece, WrittenPiece, write_pieces};
 
 /// A piece of the object.
 #[derive(Clone, Copy)]
@@ -18,10 +18,10 @@ pub(crate) enum TotalsPiece<'a> {
 impl WrittenPiece for TotalsPiece<'_> {
     ghost text = { totals_piece };
 
-    fn put<S: Sink>(&self, sink: &mut S) -> Result<(), WriteFault> {
+    fn write_to<S: Sink>(&self, sink: &mut S) -> Result<(), WriteFault> {
         match *self {
-            TotalsPiece::Bytes(bytes) => sink.put(bytes),
-            TotalsPiece::Count(name, count) => put_pieces(
+            TotalsPiece::Bytes(bytes) => sink.write_all(bytes),
+            TotalsPiece::Count(name, count) => write_pieces(
                 sink,
                 &[
                     Piece::Bytes(b",\""),
@@ -41,9 +41,9 @@ pub(crate) struct TotalsObject(pub(crate) Totals);
 impl WrittenPiece for TotalsObject {
     ghost text = { λ object. totals_object object.0 };
 
-    fn put<S: Sink>(&self, sink: &mut S) -> Result<(), WriteFault> {
+    fn write_to<S: Sink>(&self, sink: &mut S) -> Result<(), WriteFault> {
         let totals = self.0;
-        put_pieces(
+        write_pieces(
             sink,
             &[
                 TotalsPiece::Bytes(b"{\"status\":\"totals\""),

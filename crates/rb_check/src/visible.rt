@@ -13,7 +13,7 @@ ghost use Rattle.rb_check.specs.Visible.{acts, stays, visible_byte, json_byte, b
 use rb_bench::Outlet;
 use rb_report::check::{by_number, has_acting_char};
 use rb_script::{Lines, Sink, Through, WriteFault};
-use rb_text::{Escape, put_escaped};
+use rb_text::{Escape, write_escaped};
 use std::alloc::{AllocError, Global};
 
 /// How bytes go out.
@@ -30,15 +30,16 @@ pub enum Showing {
 impl Escape for Showing {
     ghost text = { byte_shown };
 
-    fn put<S: Sink>(&self, sink: &mut S, b: u8) -> Result<(), WriteFault> {
+    fn write_byte<S: Sink>(&self, sink: &mut S, b: u8) -> Result<(), WriteFault> {
         match *self {
-            Showing::AsIs => sink.put(&[b]),
-            Showing::Visible => put_visible_byte(sink, b),
-            Showing::Json => put_json_byte(sink, b),
+            Showing::AsIs => sink.write_all(&[b]),
+            Showing::Visible => write_visible_byte(sink, b),
+            Showing::Json => write_json_byte(sink, b),
         }
     }
 }
 
+// Whether a byte is written as it is: printable ASCII but the backslash, a tab, or a line end.
 fn stays(b: u8) -> bool
     ensures { result ≡ stays b }
 {
@@ -52,31 +53,31 @@ pub(crate) fn visible_text<'a>(b: u8, itself: &'a [u8], number: &'a [u8]) -> &'a
     if stays(b) { itself } else { number }
 }
 
-fn put_visible_byte<S: Sink>(sink: &mut S, b: u8) -> Result<(), WriteFault>
+fn write_visible_byte<S: Sink>(sink: &mut S, b: u8) -> Result<(), WriteFault>
     ensures wrote { Writes result (S.held sink.old) (S.held sink.new) (visible_byte b) }
     ensures all { S.takes_all sink.old → IsOk result × S.takes_all sink.new }
 {
-    sink.put(visible_text(b, &[b], &by_number(b)))
+    sink.write_all(visible_text(b, &[b], &by_number(b)))
 }
 
-fn put_json_byte<S: Sink>(sink: &mut S, b: u8) -> Result<(), WriteFault>
+fn write_json_byte<S: Sink>(sink: &mut S, b: u8) -> Result<(), WriteFault>
     ensures wrote { Writes result (S.held sink.old) (S.held sink.new) (json_byte b) }
     ensures all { S.takes_all sink.old → IsOk result × S.takes_all sink.new }
 {
     if b == 127 {
-        sink.put(b"\\u007f")
+        sink.write_all(b"\\u007f")
     } else {
-        sink.put(&[b])
+        sink.write_all(&[b])
     }
 }
 
-fn put_shown<S: Sink>(sink: &mut S, showing: Showing, bytes: &[u8]) -> Result<(), WriteFault>
+fn write_showing<S: Sink>(sink: &mut S, showing: Showing, bytes: &[u8]) -> Result<(), WriteFault>
     ensures wrote { Writes result (S.held sink.old) (S.held sink.new) (text_shown showing bytes.now) }
     ensures all { S.takes_all sink.old → IsOk result × S.takes_all sink.new }
 {
     match showing {
-        Showing::AsIs => sink.put(bytes),
-        Showing::Visible | Showing::Json => put_escaped(sink, &showing, bytes),
+        Showing::AsIs => sink.write_all(bytes),
+        Showing::Visible | Showing::Json => write_escaped(sink, &showing, bytes),
     }
 }
 
@@ -91,7 +92,7 @@ impl<S> VisibleSink<S> {
     ghost use Rattle.std.specs.Prelude.{◌≡◌};
     ghost use Rattle.rb_check.specs.Visible.{showing_of_lines};
 
-    /// A screen for what is shown of a script with these lines. If a byte of them acts, bytes are put by their numbers.
+    /// A sink for texts about a script with these lines: by numbers if a line is harmful.
     pub fn of_script(sink: S, lines: &Lines) -> VisibleSink<S>
         ensures { result.showing ≡ showing_of_lines lines.now }
     {
@@ -106,8 +107,8 @@ impl<S: Sink> Sink for VisibleSink<S> {
 
     ghost takes_all = { λ _. ⊥ };
 
-    fn put(&mut self, bytes: &[u8]) -> Result<(), WriteFault> {
-        put_shown(&mut self.sink, self.showing, bytes)
+    fn write_all(&mut self, bytes: &[u8]) -> Result<(), WriteFault> {
+        write_showing(&mut self.sink, self.showing, bytes)
     }
 }
 
@@ -126,21 +127,21 @@ fn acts(b: u8) -> bool
     (b < b' ' && b != b'\t') || b == 127
 }
 
-// Whether a byte of the line does.
+// Whether a byte of a line acts in a terminal.
 fn has_control(line: &[u8]) -> bool
     ensures { result ≡ list_any acts line.now }
 {
     line.iter().any(|b| acts(*b))
 }
 
-// Whether a line has something that would act, or is no text.
+// Whether a line has something that acts in a terminal, or isn't UTF-8.
 fn is_harmful(line: &[u8]) -> bool
     ensures { result ≡ is_harmful line.now }
 {
     has_control(line) || has_acting_char(line)
 }
 
-// Whether one of the lines has.
+// Whether one of these lines is harmful.
 fn are_harmful(lines: &Lines) -> bool
     ensures { result ≡ list_any is_harmful lines.now }
 {
@@ -152,7 +153,7 @@ fn are_harmful(lines: &Lines) -> bool
     false
 }
 
-/// How what is shown of a script goes out, which has these lines.
+/// How texts about a script with these lines are written: as they are, or by numbers if a line is harmful.
 pub(crate) fn showing_of_lines(lines: &Lines) -> Showing
     ensures { result ≡ showing_of_lines lines.now }
 {
@@ -163,12 +164,12 @@ pub(crate) fn showing_of_lines(lines: &Lines) -> Showing
     }
 }
 
-/// Copies what is shown of a script with these lines. If a byte of them acts, bytes are there by their numbers.
+/// Copies a text about a script with these lines: by numbers if a line is harmful.
 pub fn shown_of_script(alloc: Global, lines: &Lines, bytes: &[u8]) -> Result<Vec<u8>, AllocError>
     ensures { IfOk result (λ shown. shown.items ≡ text_shown (showing_of_lines lines.now) bytes.now) }
 {
     let mut sink = Through(Vec::new(alloc));
-    match put_shown(&mut sink, showing_of_lines(lines), bytes) {
+    match write_showing(&mut sink, showing_of_lines(lines), bytes) {
         Ok(()) => Ok(sink.0),
         Err(_) => Err(AllocError),
     }

@@ -1,15 +1,15 @@
-//! Bytes as they are in XML.
+//! Bytes in XML.
 
 ghost use Rattle.std.specs.Prelude.{IsOk};
 ghost use Rattle.rb_script.specs.Writes.{Writes};
 ghost use Rattle.rb_check.specs.Xml.{byte_text, in_text, in_value, line_end, piece_text, seconds_text};
 
 use crate::piece::without_front;
-use crate::replaced::{Replaced, put_replaced};
+use crate::replaced::{Replaced, write_replaced};
 use crate::visible::visible_text;
 use rb_report::check::by_number;
 use rb_script::{Sink, WriteFault};
-use rb_text::{Escape, Piece, WrittenPiece, put_escaped, put_number, put_pieces};
+use rb_text::{Escape, Piece, WrittenPiece, write_escaped, write_number, write_pieces};
 
 /// Where bytes are in XML.
 #[derive(Clone, Copy)]
@@ -23,15 +23,15 @@ pub(crate) enum XmlPart {
 impl Escape for XmlPart {
     ghost text = { byte_text };
 
-    fn put<S: Sink>(&self, sink: &mut S, b: u8) -> Result<(), WriteFault> {
+    fn write_byte<S: Sink>(&self, sink: &mut S, b: u8) -> Result<(), WriteFault> {
         match *self {
-            XmlPart::Text => put_text_byte(sink, b),
-            XmlPart::Value => put_value_byte(sink, b),
+            XmlPart::Text => write_text_byte(sink, b),
+            XmlPart::Value => write_value_byte(sink, b),
         }
     }
 }
 
-fn put_text_byte<S: Sink>(sink: &mut S, b: u8) -> Result<(), WriteFault>
+fn write_text_byte<S: Sink>(sink: &mut S, b: u8) -> Result<(), WriteFault>
     ensures wrote { Writes result (S.held sink.old) (S.held sink.new) (in_text b) }
     ensures all { S.takes_all sink.old → IsOk result × S.takes_all sink.new }
 {
@@ -41,10 +41,10 @@ fn put_text_byte<S: Sink>(sink: &mut S, b: u8) -> Result<(), WriteFault>
         Replaced(b'>', b"&gt;"),
         Replaced(b'"', b"&quot;"),
     ];
-    put_replaced(sink, &table, b, visible_text(b, &[b], &by_number(b)))
+    write_replaced(sink, &table, b, visible_text(b, &[b], &by_number(b)))
 }
 
-fn put_value_byte<S: Sink>(sink: &mut S, b: u8) -> Result<(), WriteFault>
+fn write_value_byte<S: Sink>(sink: &mut S, b: u8) -> Result<(), WriteFault>
     ensures wrote { Writes result (S.held sink.old) (S.held sink.new) (in_value b) }
     ensures all { S.takes_all sink.old → IsOk result × S.takes_all sink.new }
 {
@@ -56,7 +56,7 @@ fn put_value_byte<S: Sink>(sink: &mut S, b: u8) -> Result<(), WriteFault>
         Replaced(b'>', b"&gt;"),
         Replaced(b'"', b"&quot;"),
     ];
-    put_replaced(sink, &table, b, visible_text(b, &[b], &by_number(b)))
+    write_replaced(sink, &table, b, visible_text(b, &[b], &by_number(b)))
 }
 
 /// A piece of XML.
@@ -81,26 +81,26 @@ pub(crate) enum XmlPiece<'a> {
 impl WrittenPiece for XmlPiece<'_> {
     ghost text = { piece_text };
 
-    fn put<S: Sink>(&self, sink: &mut S) -> Result<(), WriteFault> {
+    fn write_to<S: Sink>(&self, sink: &mut S) -> Result<(), WriteFault> {
         match *self {
-            XmlPiece::Bytes(bytes) => sink.put(bytes),
-            XmlPiece::Number(number) => put_number(sink, number),
-            XmlPiece::Seconds(milliseconds) => put_seconds(sink, milliseconds),
-            XmlPiece::Text(bytes) => put_escaped(sink, &XmlPart::Text, bytes),
-            XmlPiece::Value(bytes) => put_escaped(sink, &XmlPart::Value, bytes),
+            XmlPiece::Bytes(bytes) => sink.write_all(bytes),
+            XmlPiece::Number(number) => write_number(sink, number),
+            XmlPiece::Seconds(milliseconds) => write_seconds(sink, milliseconds),
+            XmlPiece::Text(bytes) => write_escaped(sink, &XmlPart::Text, bytes),
+            XmlPiece::Value(bytes) => write_escaped(sink, &XmlPart::Value, bytes),
             XmlPiece::File(path) => {
-                put_escaped(sink, &XmlPart::Value, without_front(b"./", path))
+                write_escaped(sink, &XmlPart::Value, without_front(b"./", path))
             }
-            XmlPiece::LineEnd(line) => put_line_end(sink, line),
+            XmlPiece::LineEnd(line) => write_line_end(sink, line),
         }
     }
 }
 
-fn put_seconds<S: Sink>(sink: &mut S, milliseconds: u64) -> Result<(), WriteFault>
+fn write_seconds<S: Sink>(sink: &mut S, milliseconds: u64) -> Result<(), WriteFault>
     ensures wrote { Writes result (S.held sink.old) (S.held sink.new) (seconds_text milliseconds) }
     ensures all { S.takes_all sink.old → IsOk result × S.takes_all sink.new }
 {
-    put_pieces(
+    write_pieces(
         sink,
         &[
             Piece::Number(milliseconds / 1000),
@@ -112,12 +112,12 @@ fn put_seconds<S: Sink>(sink: &mut S, milliseconds: u64) -> Result<(), WriteFaul
     )
 }
 
-fn put_line_end<S: Sink>(sink: &mut S, line: Option<usize>) -> Result<(), WriteFault>
+fn write_line_end<S: Sink>(sink: &mut S, line: Option<usize>) -> Result<(), WriteFault>
     ensures wrote { Writes result (S.held sink.old) (S.held sink.new) (line_end line) }
     ensures all { S.takes_all sink.old → IsOk result × S.takes_all sink.new }
 {
     match line {
-        Some(line) => put_pieces(
+        Some(line) => write_pieces(
             sink,
             &[
                 Piece::Bytes(b"\" line=\""),
@@ -125,6 +125,6 @@ fn put_line_end<S: Sink>(sink: &mut S, line: Option<usize>) -> Result<(), WriteF
                 Piece::Bytes(b"\">"),
             ],
         ),
-        None => sink.put(b"\">"),
+        None => sink.write_all(b"\">"),
     }
 }

@@ -68,7 +68,7 @@ fn take<'d>(given: &mut Arguments<'d>, argument: Argument, said: &ArgumentRef<'d
 }
 
 // Adds an option, if the directive has it.
-fn add_option<'d>(
+fn insert_option<'d>(
     row: &Row,
     said: &ArgumentRef<'d>,
     given: &mut Arguments<'d>,
@@ -86,7 +86,7 @@ fn add_option<'d>(
 }
 
 // Adds a word, if the directive has one at this position.
-fn add_word<'d>(
+fn insert_word<'d>(
     row: &Row,
     said: &ArgumentRef<'d>,
     given: &mut Arguments<'d>,
@@ -104,7 +104,7 @@ fn add_word<'d>(
 }
 
 // Adds an argument.
-fn add<'d>(
+fn insert_argument<'d>(
     row: &Row,
     said: &ArgumentRef<'d>,
     given: &mut Arguments<'d>,
@@ -112,9 +112,9 @@ fn add<'d>(
     ensures { MatchResult result (λ _. with_argument row.now said.now given.old ≡ Ok given.new) (λ e. with_argument row.now said.now given.old ≡ Err e) }
 {
     if said.has_equals() {
-        add_option(row, said, given)
+        insert_option(row, said, given)
     } else {
-        add_word(row, said, given)
+        insert_word(row, said, given)
     }
 }
 
@@ -128,7 +128,7 @@ pub(crate) fn read<'d>(
 {
     let mut given = Arguments::nothing();
     for place in 0..directive.args() {
-        add(row, &ArgumentRef::at(directive, place), &mut given)?;
+        insert_argument(row, &ArgumentRef::at(directive, place), &mut given)?;
     }
     Ok(given)
 }

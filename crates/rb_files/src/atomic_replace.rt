@@ -217,7 +217,7 @@ impl<F: Write + OpenFile + Drop> NewFile<F> {
     }
 
     // Appends the text, which is not stored then.
-    fn put(&mut self, text: &[u8]) -> io::Result<()>
+    fn write_all(&mut self, text: &[u8]) -> io::Result<()>
         ensures bytes { OnOk result (Appends (F.contents self.old.file) (F.contents self.new.file) text.now) }
         ensures left { self.new.is_stored ≡ false }
     {
@@ -272,14 +272,14 @@ fn without<F: Drop>(file: &mut Option<NewFile<F>>, outcome: io::Result<()>) -> R
     if outcome.is_ok() {
         *file = None;
     }
-    answered(outcome)
+    to_path_result(outcome)
 }
 
 fn missing() -> io::Error {
     io::Error::from(ErrorKind::NotFound)
 }
 
-fn answered(outcome: io::Result<()>) -> Result<(), PathError>
+fn to_path_result(outcome: io::Result<()>) -> Result<(), PathError>
     ensures { MatchResult outcome (λ _. IsOk result) (λ error. result ≡ Err (of_writing error)) }
 {
     match outcome {
@@ -305,7 +305,7 @@ impl<'a, R: Files + AllocGlobal> FilePlace for AtomicReplace<'a, R> {
         // What is in its way has its first name.
         ensures taken { IfOk result (λ _. IsOfFirstName (string_bytes self.exit.now.target) self.exit.now.taken) }
     {
-        answered(self.check_rights())?;
+        to_path_result(self.check_rights())?;
         match self.new_file() {
             Ok(new) => {
                 self.new = Some(new);
@@ -315,17 +315,17 @@ impl<'a, R: Files + AllocGlobal> FilePlace for AtomicReplace<'a, R> {
         }
     }
 
-    fn put(&mut self, text: &[u8]) -> Result<(), PathError> {
+    fn write_all(&mut self, text: &[u8]) -> Result<(), PathError> {
         match &mut self.new {
-            Some(new) => answered(new.put(text)),
-            None => answered(Err(missing())),
+            Some(new) => to_path_result(new.write_all(text)),
+            None => to_path_result(Err(missing())),
         }
     }
 
     fn settle(&mut self) -> Result<(), PathError> {
         match &mut self.new {
-            Some(new) => answered(new.settle(self.rt, &self.seen)),
-            None => answered(Err(missing())),
+            Some(new) => to_path_result(new.settle(self.rt, &self.seen)),
+            None => to_path_result(Err(missing())),
         }
     }
 

@@ -11,7 +11,7 @@ mod limits;
 mod line_table;
 mod position;
 
-pub use document::{Document, TextFault};
+pub(crate) use document::{Document, TextFault};
 pub use edit::{TextEdit, edit_between, is_within};
 pub use laws::{edits_make_the_new_text, places_return, replaces_part};
 pub use limits::MAX_TEXT;

@@ -16,7 +16,7 @@ use rb_bench::{BenchFault, Outlet};
 use rb_report::check::Status;
 use rb_script::{MAX_SCRIPT, WriteFault};
 use rb_text::{Source, read_up_to};
-use rb_view::chart::{Chart, ChartPart, put_chart, put_diagram};
+use rb_view::chart::{Chart, ChartPart, write_chart, write_diagram};
 use std::alloc::Global;
 
 /// What is asked of a picture: its name, the part of the script that it shows, its format, and whether a table of logs ends it.
@@ -82,30 +82,38 @@ pub(crate) fn chart_bytes<W: Outlet>(
     let Some(picture) = picture else {
         return Ok(Status::Refused);
     };
-    match put_out(writer, &picture.chart, asked.format) {
+    match write_out(writer, &picture.chart, asked.format) {
         Ok(()) => Ok(picture.status),
         Err(_) => Err(BenchFault::Io),
     }
 }
 
 // Writes a picture.
-fn put<W: Outlet>(writer: &mut W, chart: &Chart, format: ChartFormat) -> Result<(), WriteFault>
+fn write_chart_as<W: Outlet>(
+    writer: &mut W,
+    chart: &Chart,
+    format: ChartFormat,
+) -> Result<(), WriteFault>
     ensures wrote { Writes result (W.held writer.old) (W.held writer.new) (picture_text format chart.now) }
     ensures all { W.takes_all writer.old → IsOk result × W.takes_all writer.new }
 {
     match format {
-        ChartFormat::Svg => put_chart(writer, chart),
-        ChartFormat::Mermaid => put_diagram(writer, chart),
+        ChartFormat::Svg => write_chart(writer, chart),
+        ChartFormat::Mermaid => write_diagram(writer, chart),
     }
 }
 
 // Writes a picture, and hands it on.
-fn put_out<W: Outlet>(writer: &mut W, chart: &Chart, format: ChartFormat) -> Result<(), WriteFault>
+fn write_out<W: Outlet>(
+    writer: &mut W,
+    chart: &Chart,
+    format: ChartFormat,
+) -> Result<(), WriteFault>
     ensures wrote { Writes result (W.held writer.old) (W.held writer.new) (picture_text format chart.now) }
     ensures handed { OnOk result (IsHandedOn (W.handed writer.new) (W.held writer.new)) }
     ensures all { W.takes_all writer.old → IsOk result × W.takes_all writer.new }
 {
-    match put(writer, chart, format) {
+    match write_chart_as(writer, chart, format) {
         Ok(()) => writer.flush(),
         Err(fault) => Err(fault),
     }

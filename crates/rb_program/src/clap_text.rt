@@ -17,14 +17,18 @@ use std::fmt::Display;
 
 /// Help was asked for, and goes to standard output: if that fails, what was asked for wasn't done. What is wrong with the arguments goes to
 /// standard error, and they are wrong whether or not it gets there.
-pub(crate) fn tell_clap<C: Console>(alloc: Global, console: &mut C, error: &clap::Error) -> Status
+pub(crate) fn write_clap_text<C: Console>(
+    alloc: Global,
+    console: &mut C,
+    error: &clap::Error,
+) -> Status
     ensures ends { EndsByKind (kind_of error.now) result }
     ensures lost { C.has_lost console.old ≡ false → result ≡ status_by_kind (kind_of error.now) (not (C.has_lost console.new)) }
     ensures mistake { IsMistake (kind_of error.now) → Keeps (C.printed console.old) (C.printed console.new) }
     ensures takes { C.takes_all console.old → C.takes_all console.new }
 {
     let went_out = if error.use_stderr() {
-        tell_mistake(alloc, console, error);
+        write_mistake(alloc, console, error);
         true
     } else {
         print_help(alloc, console, error)
@@ -33,19 +37,19 @@ pub(crate) fn tell_clap<C: Console>(alloc: Global, console: &mut C, error: &clap
 }
 
 // Writes a text on standard error. No byte of an argument in it acts, unless memory was refused.
-fn tell_mistake<C: Console, D: Display>(alloc: Global, console: &mut C, text: &D)
+fn write_mistake<C: Console, D: Display>(alloc: Global, console: &mut C, text: &D)
     ensures told { C.takes_all console.old → C.takes_all console.new × IfSome (D.output text.now) (λ bytes. TellsText bytes (C.told console.old) (C.told console.new)) }
     ensures printed { Keeps (C.printed console.old) (C.printed console.new) }
     ensures lost { C.has_lost console.new ≡ C.has_lost console.old }
 {
-    match shown(alloc, text) {
-        Ok(shown) => console.tell(shown),
-        Err(_) => console.tell(text),
+    match visible_text(alloc, text) {
+        Ok(shown) => console.eprint(shown),
+        Err(_) => console.eprint(text),
     }
 }
 
 // A text for a terminal.
-fn shown<D: Display>(alloc: Global, text: &D) -> Result<String, AllocError>
+fn visible_text<D: Display>(alloc: Global, text: &D) -> Result<String, AllocError>
     ensures { IfOk result (λ shown. IsOutputShown (D.output text.now) (string_bytes shown)) }
 {
     let text = text.to_string(alloc)?;

@@ -77,7 +77,7 @@ pub(crate) fn say<C: Console>(console: &mut C, refusal: &ProgramError, word: &Sh
     ensures printed { Keeps (C.printed console.old) (C.printed console.new) }
     ensures lost { C.has_lost console.new ≡ C.has_lost console.old }
 {
-    console.tell(FirstLine { refusal, word });
+    console.eprint(FirstLine { refusal, word });
 }
 
 /// The line that says more to a person, or nothing; a usage error's word, or a path, is shown so.

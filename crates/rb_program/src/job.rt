@@ -7,7 +7,7 @@ ghost use Rattle.rb_program.specs.Refusals.{EndsAs};
 ghost use Rattle.rb_program.specs.Scripts.{IsOfFile, IsOfScript, sources_of};
 
 use crate::program_error::ProgramError;
-use crate::running::{ended, explained, opened};
+use crate::running::{explained, opened, to_program_result};
 use rb_bench::{BenchFault, Outlet};
 use rb_report::check::Status;
 use rb_script::Through;
@@ -80,5 +80,5 @@ pub(crate) fn run_from<R: Print + AllocGlobal, S: Source, J: Job>(
 {
     let alloc = rt.alloc();
     let mut writer = Through(BufWriter::new(alloc, FailFast(Through(io::writer(rt))))?);
-    ended(job.run(alloc, source, &mut writer))
+    to_program_result(job.run(alloc, source, &mut writer))
 }

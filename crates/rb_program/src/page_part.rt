@@ -3,7 +3,7 @@
 ghost use Rattle.std.specs.Prelude.{◌≡◌, IfOk};
 ghost use Rattle.rb_program.specs.Documents.{part_text};
 
-use rb_text::{Piece, add_pieces};
+use rb_text::{Piece, push_pieces};
 use rb_view::chart::ChartPart;
 use std::alloc::{AllocError, Global};
 
@@ -19,6 +19,6 @@ pub(crate) fn part_text(alloc: Global, part: ChartPart) -> Result<Vec<u8>, Alloc
         Piece::Number(part.until.unwrap_or(0)),
         Piece::Bytes(b"]"),
     ];
-    add_pieces(&mut text, &pieces)?;
+    push_pieces(&mut text, &pieces)?;
     Ok(text)
 }

@@ -8,12 +8,12 @@ ghost use Rattle.rb_program.specs.Refusals.{EndsWith, of_bench, of_choice, of_ki
 ghost use Rattle.rb_program.specs.Sentences.{first_line, refused_word, second_line};
 ghost use Rattle.rb_program.specs.Told.{EndsByOutput, IsExplained, TellsWhy};
 
-use crate::clap_text::tell_clap;
+use crate::clap_text::write_clap_text;
 use crate::console::Console;
 use crate::environment::{Environment, asks_for_explanations};
 use crate::error_lines::{SecondLine, say};
 use crate::shown::or_nothing;
-use crate::usage_error::{UsageError, tell_help};
+use crate::usage_error::{UsageError, write_help};
 use rb_args::ChoiceFault;
 use rb_bench::BenchFault;
 use rb_report::check::{ShownName, Status};
@@ -66,7 +66,7 @@ impl Drop for ProgramError {
 impl ProgramError {
     /// Writes the one line with the reason, and returns the status. If a person reads standard error, or the environment asks for it, a second
     /// line says more.
-    pub fn tell<C: Console, S: Environment>(
+    pub fn write_to<C: Console, S: Environment>(
         &self,
         alloc: Global,
         console: &mut C,
@@ -81,7 +81,7 @@ impl ProgramError {
         let explained = is_explained(system, is_read);
         let shown = ShownName::of(alloc, self.word().as_bytes());
         let word = or_nothing(alloc, shown);
-        let status = self.tell_why(alloc, console, &word);
+        let status = self.write_reason(alloc, console, &word);
         if !explained {
             return status;
         }
@@ -109,13 +109,13 @@ impl ProgramError {
     }
 
     // Writes the line with the reason.
-    fn tell_why<C: Console>(&self, alloc: Global, console: &mut C, word: &ShownName) -> Status
+    fn write_reason<C: Console>(&self, alloc: Global, console: &mut C, word: &ShownName) -> Status
         ensures ends { EndsWith self.now result }
         ensures told { C.takes_all console.old → C.takes_all console.new × IfSome (first_line self.now word.now) (Appends (C.told console.old) (C.told console.new)) }
         ensures lost { C.has_lost console.old ≡ false → EndsByOutput self.now (C.has_lost console.new) result }
     {
         match self {
-            ProgramError::Clap(error) => tell_clap(alloc, console, error),
+            ProgramError::Clap(error) => write_clap_text(alloc, console, error),
             ProgramError::Usage(_) | ProgramError::OwnUsage(_) => {
                 say(console, self, word);
                 Status::BadUsage
@@ -144,10 +144,10 @@ impl ProgramError {
         ensures lost { C.has_lost console.new ≡ C.has_lost console.old }
     {
         if let ProgramError::Usage(UsageError::NoCommand) = self {
-            return tell_help(alloc, console);
+            return write_help(alloc, console);
         }
         let refusal = self;
-        console.tell(SecondLine { refusal, word });
+        console.eprint(SecondLine { refusal, word });
     }
 }
 

@@ -12,7 +12,7 @@ ghost use Rattle.rb_program.specs.Scripts.{AreRead, IsOfBytes, IsOfInput, source
 
 use crate::noting::notes_of;
 use crate::program_error::ProgramError;
-use crate::running::{ended, script};
+use crate::running::{script, to_program_result};
 use rb_bench::{BenchFault, Mode, Outlet, RunProgress, Runner, write_run};
 use rb_report::check::Status;
 use rb_script::{MAX_SCRIPT, Through};
@@ -77,11 +77,11 @@ fn rewrite_noted<R: Print + AllocGlobal, E: Write + Drop, P: RunProgress>(
     let alloc = rt.alloc();
     let mut writer = Through(BufWriter::new(alloc, FailFast(Through(io::writer(rt))))?);
     let rewritten = rewrite_bytes(alloc, name.as_bytes(), bytes, &mut writer, progress);
-    ended(put_notes(rewritten, errors))
+    to_program_result(write_notes(rewritten, errors))
 }
 
 // Writes the notes, if there are any, and gives the status.
-fn put_notes<E: Write + Drop>(
+fn write_notes<E: Write + Drop>(
     rewritten: Result<Rewritten, BenchFault>,
     errors: E,
 ) -> Result<Status, BenchFault>

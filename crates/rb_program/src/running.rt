@@ -65,7 +65,7 @@ impl<'p, P: RunProgress> Job for Running<'p, P> {
 }
 
 /// What it came to, or why it came to nothing. It stands by itself so that what was opened is closed on one way out.
-pub(crate) fn ended(status: Result<Status, BenchFault>) -> Result<Status, ProgramError>
+pub(crate) fn to_program_result(status: Result<Status, BenchFault>) -> Result<Status, ProgramError>
     ensures { result ≡ of_run status }
 {
     Ok(status?)

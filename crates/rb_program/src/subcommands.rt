@@ -50,7 +50,7 @@ pub fn carry_out<R: Files + Input + Print + Eprint + Clock + AllocGlobal, E: Wri
     carried(rt, task, file, choice, errors, &progress)
 }
 
-// Whether a person is to read notes: on a terminal, or asked for.
+// Whether to write notes: on a terminal, or with `--warn`.
 fn wants_notes(choice: &CommandChoice, is_read: bool) -> bool
     ensures { result ≡ is_read || choice.now.warns }
 {
@@ -92,7 +92,7 @@ fn worked<R: Files + Input + Print + AllocGlobal, E: Write + Drop, P: RunProgres
     ensures done { IsWorked (sources_of R.Reader R.File R.Reader.remaining R.File.remaining) choice.now file.now work result }
     ensures taken { IfOk result (λ _. has_interval work ≡ true) }
 {
-    let ended = done(rt, work, file, choice, errors, progress);
+    let ended = run_subcommand(rt, work, file, choice, errors, progress);
     let every = choice.every.as_deref();
     ended_with_every(rt.alloc(), every, ended)
 }
@@ -123,7 +123,7 @@ fn with_every(alloc: Global, every: Option<&str>, refusal: ProgramError) -> Prog
 }
 
 #[tactic(auto, unfolding(crate::specs::Done::IsDone))]
-fn done<R: Files + Input + Print + AllocGlobal, E: Write + Drop, P: RunProgress>(
+fn run_subcommand<R: Files + Input + Print + AllocGlobal, E: Write + Drop, P: RunProgress>(
     rt: &R,
     work: Work,
     file: &str,

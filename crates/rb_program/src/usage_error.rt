@@ -173,12 +173,12 @@ pub(crate) fn misused(alloc: Global, word: Option<&str>) -> Option<String>
 }
 
 /// Writes the help of the whole program on standard error.
-pub(crate) fn tell_help<C: Console>(alloc: Global, console: &mut C)
+pub(crate) fn write_help<C: Console>(alloc: Global, console: &mut C)
     ensures takes { C.takes_all console.old → C.takes_all console.new }
     ensures lost { C.has_lost console.new ≡ C.has_lost console.old }
 {
     if let Some(help) = help(alloc) {
-        console.tell(help);
+        console.eprint(help);
     }
 }
 

@@ -37,13 +37,13 @@ mod totals;
 mod warning_kind;
 mod why;
 
-pub use accepted::put_accepted;
-pub use brief::put_brief;
+pub use accepted::write_accepted;
+pub use brief::write_brief;
 pub use colors::Colors;
-pub use diff::{put_diff_within, put_explained_diff};
-pub use failure::{Failure, failure_sentence, put_failure};
+pub use diff::{write_diff_within, write_explained_diff};
+pub use failure::{Failure, failure_sentence, write_failure};
 pub use file_line::FileLine;
-pub use head::put_head;
+pub use head::write_head;
 pub use hint::Hint;
 pub use laws::{
     colors_go_around, comparing_is_bounded, counts_are_sums, diffs_are, diffs_are_longest,
@@ -52,20 +52,19 @@ pub use laws::{
     same_lines_are_plain, sentences_are_distinct, shown_diffs_tell_both_sides,
     shown_names_act_in_nothing, statuses_are_greatest,
 };
-pub use left::put_left;
+pub use left::write_left;
 pub use line_range::LineRange;
-pub use mismatch::{MismatchView, Sides, put_directive, put_mismatch, put_note};
-pub use name::{ShownName, acts_in_line, by_number, has_acting_char, put_name, shown_name};
+pub use mismatch::{MismatchView, Sides, write_directive, write_mismatch, write_note};
+pub use name::{ShownName, acts_in_line, by_number, has_acting_char, shown_name};
 pub use outcome::Outcome;
 pub use piece::ReportPiece;
 pub use refusal::{
-    MAX_OUTPUTS, Refusal, fault_line, put_refusal, refusal_line, refusal_sentence, sentence,
+    MAX_OUTPUTS, Refusal, fault_line, refusal_line, refusal_sentence, sentence, write_refusal,
 };
-pub use side::Side;
 pub use status::Status;
-pub use steps::put_run;
+pub use steps::write_run;
 pub use stretch::{StretchObserver, show_diff};
 pub use table::{MAX_CELLS, MAX_SCRIPT_CELLS, Table};
-pub use totals::{Totals, put_totals};
-pub use warning_kind::{WarningKind, put_unaccepted, put_warning, warning_sentence};
+pub use totals::{Totals, write_totals};
+pub use warning_kind::{WarningKind, warning_sentence, write_unaccepted, write_warning};
 pub use why::Why;

@@ -27,7 +27,7 @@ pub use laws::{
     pages_are_of_the_table, suggestions_are_near,
 };
 pub use nearest::{Known, nearest_name};
-pub use page::{page_of, put_manual};
+pub use page::{page_of, write_manual};
 pub use pages::PAGES;
 pub use suggest::{suggested, suggested_word, wrong_word};
 pub use values::{option_line, value_line};

@@ -249,7 +249,7 @@ fn write_line<W: WrittenLine>(
     ensures text { OnOk result (text.new ≡ text.old ++ line_text (W.bytes line.now)) }
     ensures ends { OnOk result (ends.new.items ≡ ends.old.items ++ length text.new ∷ []) }
 {
-    line.add_to(text)?;
+    line.push_to(text)?;
     text.push(b'\n')?;
     ends.push(text.len())?;
     Ok(())

@@ -48,7 +48,7 @@ pub use laws::{
     head_lines_are, heads_are_joined, lead_lines_are, plain_expectations_end, read_is_valid,
     reads_once, refusals_are, separators_are, solid_lines_can_be_expected, text_reads_back,
 };
-pub use limits::{MAX_ARGUMENTS, MAX_DIRECTIVES, MAX_LINE, MAX_SCRIPT, MAX_VALUES, limits_are};
+pub use limits::{MAX_ARGUMENTS, MAX_DIRECTIVES, MAX_LINE, MAX_SCRIPT, limits_are};
 pub use line_text::LineText;
 pub use lines::{Lines, lines_of, next_line, without_returns};
 pub use marks::{
@@ -56,7 +56,6 @@ pub use marks::{
 };
 pub use script::Script;
 pub use sink::{Sink, Through, WriteFault, Writer};
-pub use span::Span;
 pub use with_lines::ScriptWithLines;
 pub use writing::needs_double;
 pub use written_line::WrittenLine;

@@ -10,8 +10,8 @@ use rb_book::{BookFault, ChapterTexts};
 use rb_cluster::Meter;
 use rb_raftlog::SplitLog;
 use rb_script::{Lines, ScriptWithLines, Through};
-use rb_view::chart::{Chart, ChartFault, ChartPart, ChartScript, STYLE, chart_of, put_chart};
-use rb_view::steps::put_steps;
+use rb_view::chart::{Chart, ChartFault, ChartPart, ChartScript, STYLE, chart_of, write_chart};
+use rb_view::steps::write_steps;
 use std::alloc::{AllocError, Global};
 
 /// The page and the picture of a script, by running it.
@@ -62,7 +62,7 @@ fn rows_text(alloc: Global, name: &[u8], rows: &Lines) -> Result<Vec<u8>, AllocE
     ensures { IfOk result (λ text. text.items ≡ rows_joined name.now rows.now) }
 {
     let mut sink = Through(Vec::new(alloc));
-    match put_steps(&mut sink, name, rows) {
+    match write_steps(&mut sink, name, rows) {
         Ok(()) => Ok(sink.0),
         Err(_) => Err(AllocError),
     }
@@ -72,7 +72,7 @@ fn picture_text(alloc: Global, chart: &Chart) -> Result<Vec<u8>, AllocError>
     ensures { IfOk result (λ text. text.items ≡ chart_text STYLE.now chart.now) }
 {
     let mut sink = Through(Vec::new(alloc));
-    match put_chart(&mut sink, chart) {
+    match write_chart(&mut sink, chart) {
         Ok(()) => Ok(sink.0),
         Err(_) => Err(AllocError),
     }

@@ -4,7 +4,7 @@ ghost use Rattle.std.specs.Prelude.{◌≡◌, false, IfOk, List};
 ghost use Rattle.rb_book.specs.declared.chapter.Chapter.{Chapter};
 ghost use Rattle.rb_site.specs.Shown.{differs, has_differing, is_for_memory, lacks_memory, status_of};
 
-use crate::chapters::add_chapters;
+use crate::chapters::push_chapters;
 use crate::fault::{SiteFault, lost};
 use crate::folder::SiteFolder;
 use crate::ran_scripts::RanScripts;
@@ -44,7 +44,7 @@ pub fn write_site<R: Files + AllocGlobal, S: AsStr>(
         let path = path.as_str();
         let found = found(rt, path, request.only_differing)?;
         let root = root_of(path, request.paths.len());
-        add_chapters(
+        push_chapters(
             rt,
             &mut chapters,
             root,

@@ -1,4 +1,4 @@
-//! What can be looked at: a place of a script, a run step by step, its picture, its trace, and the page around the steps.
+//! Views of a run: the cluster after a directive, a page, a picture, a trace.
 #![tactic(auto)]
 
 pub mod chart;

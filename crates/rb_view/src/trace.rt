@@ -13,4 +13,4 @@ mod tracer;
 
 pub use directive_trace::MAX_TRACE;
 pub use fault::TraceFault;
-pub use trace::{FORMAT, write_trace};
+pub use trace::write_trace;

@@ -1,4 +1,4 @@
-//! Code actions: corrections, and edits that accept outputs.
+//! Code actions: quick fixes, and edits that accept actual outputs.
 
 ghost use Rattle.std.specs.Prelude.{◌≡◌, ◌≤◌, ◌^◌, ◌++◌, ◌||◌, None, Some, IfOk, OnOk, length};
 ghost use Rattle.rb_script.specs.Lines.{lines};
@@ -11,11 +11,11 @@ ghost use Rattle.rb_editor.specs.Actions.{accepting, action_head, action_if, act
 use crate::actions::correction::corrections;
 use crate::actions::document::AskedDocument;
 use crate::actions::extent::{Extent, LineSpan, extent_of, has_line};
-use crate::actions::fix::{add_fixes, first_within};
+use crate::actions::fix::{first_within, push_fixes};
 use crate::actions::layout::{ScriptLayout, line_at};
 use crate::actions::replacement::new_text;
 use crate::actions::run::{DocumentRun, kept_of};
-use crate::offers::add_range_member;
+use crate::offers::push_range_member;
 use rb_lsp::document::{Encoding, LineTable, Range};
 use rb_machine::{Count, Machine};
 use rb_replay::Session;
@@ -23,7 +23,7 @@ use rb_script::{Block, Lines};
 use rb_script_report::{
     AcceptFilter, block_at, is_picked, is_same, is_unexpected, number_at, output_at, picked_unnamed,
 };
-use rb_text::{Json, Piece, add_pieces};
+use rb_text::{Json, Piece, push_pieces};
 use std::alloc::{AllocError, Global};
 
 /// Whether the directive is picked, and its output differs and is no new error.
@@ -51,6 +51,7 @@ fn is_among(span: Option<LineSpan>, extent: Extent) -> bool
     }
 }
 
+// Whether a directive's output is to be accepted: it is picked, differs, isn't a new error, and has one of the lines.
 #[tactic(auto, unfolding(crate::specs::Actions::is_wanted))]
 fn is_wanted(
     picked: AcceptFilter<'_>,
@@ -66,9 +67,9 @@ fn is_wanted(
     is_accepted(picked, lines, line, block, output) && is_among(span, extent_of(lines, line, block))
 }
 
-// Adds an edit that replaces an expectation.
+// Appends the edit that replaces a directive's expectation by a text.
 #[tactic(auto, unfolding(crate::specs::Actions::edit_text))]
-pub(crate) fn add_edit(
+pub(crate) fn push_edit(
     out: &mut Vec<u8>,
     encoding: Encoding,
     text: &[u8],
@@ -81,8 +82,8 @@ pub(crate) fn add_edit(
 {
     let start = table.start_of(extent.expected);
     let end = table.start_of(extent.end);
-    add_range_member(out, start, end)?;
-    add_pieces(
+    push_range_member(out, start, end)?;
+    push_pieces(
         out,
         &[
             Piece::Bytes(b",\"newText\":\""),
@@ -92,6 +93,7 @@ pub(crate) fn add_edit(
     )
 }
 
+// A comma if an item comes before; else nothing.
 fn comma_if(later: bool) -> &'static [u8]
     ensures { result.now ≡ comma_if later }
 {
@@ -116,9 +118,9 @@ pub(crate) struct RanBlock<'a> {
     pub(crate) output: &'a Lines,
 }
 
-// Adds the edit of a directive after others, if it is wanted.
+// Appends the edit that accepts a directive's output, if it is wanted. Returns whether any edit was appended so far.
 #[tactic(auto, unfolding(crate::specs::Actions::one_edit))]
-fn add_one(
+fn push_edit_if_wanted(
     alloc: Global,
     out: &mut Vec<u8>,
     selected: Selection<'_>,
@@ -146,7 +148,7 @@ fn add_one(
     let extent = extent_of(&layout.script.text, ran.line, ran.block);
     let new = new_text(alloc, text, &layout.script.text, extent, ran.output)?;
     out.extend_from_slice(comma_if(later))?;
-    add_edit(
+    push_edit(
         out,
         selected.encoding,
         text,
@@ -157,7 +159,7 @@ fn add_one(
     Ok(true)
 }
 
-// Makes the edits of the directives on the selected lines.
+// The edits that accept the outputs of the selected directives, as JSON.
 fn edits<M: Machine>(
     alloc: Global,
     session: &Session<M>,
@@ -174,11 +176,12 @@ fn edits<M: Machine>(
             block: block_at(session, i),
             output: output_at(session, i),
         };
-        later = add_one(alloc, &mut out, selected, later, ran)?;
+        later = push_edit_if_wanted(alloc, &mut out, selected, later, ran)?;
     }
     Ok(out)
 }
 
+// The title and kind of an action: for some lines, or for all directives.
 #[tactic(auto, unfolding(crate::specs::Actions::action_head))]
 fn action_head(span: Option<LineSpan>) -> &'static [u8]
     ensures { result.now ≡ action_head span }
@@ -193,8 +196,9 @@ fn action_head(span: Option<LineSpan>) -> &'static [u8]
     }
 }
 
+// Appends the action that makes these edits.
 #[tactic(auto, unfolding(crate::specs::Actions::action_text))]
-fn add_action<'a>(
+fn push_action<'a>(
     out: &mut Vec<u8>,
     uri: &'a [u8],
     span: Option<LineSpan>,
@@ -202,7 +206,7 @@ fn add_action<'a>(
 ) -> Result<(), AllocError>
     ensures { OnOk result (out.new.items ≡ out.old.items ++ action_text uri.now span edits.now) }
 {
-    add_pieces(
+    push_pieces(
         out,
         &[
             Piece::Bytes(action_head(span)),
@@ -214,8 +218,8 @@ fn add_action<'a>(
     )
 }
 
-// Adds an action of these edits after others, if there are any.
-fn add_if(
+// Appends the action that makes these edits, unless there are none.
+fn push_action_of_edits(
     out: &mut Vec<u8>,
     uri: &[u8],
     span: Option<LineSpan>,
@@ -228,12 +232,12 @@ fn add_if(
         return Ok(());
     }
     out.extend_from_slice(comma_if(later))?;
-    add_action(out, uri, span, edits)
+    push_action(out, uri, span, edits)
 }
 
-// Adds a list of actions: the correction, and those that accept the edits of some lines and those of all.
+// Appends the list of actions: the quick fix, the one that accepts on some lines, and the one that accepts everywhere.
 #[tactic(auto, unfolding(crate::specs::Actions::actions_text))]
-fn add_list(
+fn push_action_list(
     out: &mut Vec<u8>,
     uri: &[u8],
     correction: &[u8],
@@ -246,12 +250,12 @@ fn add_list(
     let later = !correction.is_empty();
     out.extend_from_slice(b"[")?;
     out.extend_from_slice(correction)?;
-    add_if(out, uri, Some(span), later, here)?;
-    add_if(out, uri, None, later || !here.is_empty(), all)?;
+    push_action_of_edits(out, uri, Some(span), later, here)?;
+    push_action_of_edits(out, uri, None, later || !here.is_empty(), all)?;
     out.extend_from_slice(b"]")
 }
 
-/// Finds the lines on which a range begins and ends.
+/// The lines on which a range begins and ends.
 pub(crate) fn span_of(encoding: Encoding, range: Range, text: &[u8]) -> LineSpan
     ensures { result ≡ span_of encoding range text.now }
 {
@@ -272,9 +276,9 @@ fn picked_of<M: Machine>(
     picked_unnamed(alloc, run.session(), &run.layout().script, false)
 }
 
-// Adds the correction of these lines, and the actions that accept outputs.
+// Appends the actions for some lines of a script without warnings: a quick fix, and those that accept outputs.
 #[tactic(auto, using(crate::proofs::RunLaws::layout_by))]
-fn add_accepting<M: Machine>(
+fn push_accepting_actions<M: Machine>(
     alloc: Global,
     out: &mut Vec<u8>,
     encoding: Encoding,
@@ -311,7 +315,7 @@ fn add_accepting<M: Machine>(
     let correction = corrections(alloc, document, session, layout, span)?;
     let here = edits(alloc, session, selected)?;
     let all = edits(alloc, session, everywhere)?;
-    add_list(
+    push_action_list(
         out,
         uri,
         correction.as_slice(),
@@ -321,9 +325,9 @@ fn add_accepting<M: Machine>(
     )
 }
 
-// Adds the actions for a range of a script that ran: if a line looks like a mistake, its quick fix alone.
+// Appends the actions for a range of a script that ran. If lines of the script look like mistakes, only their quick fix is offered.
 #[tactic(auto, using(crate::proofs::ActionLaws::of_run, crate::proofs::ActionLaws::of_slips, crate::proofs::RunLaws::table_by))]
-fn add_of_run<M: Machine>(
+fn push_actions_of_run<M: Machine>(
     alloc: Global,
     out: &mut Vec<u8>,
     encoding: Encoding,
@@ -340,15 +344,15 @@ fn add_of_run<M: Machine>(
     let span = span_of(encoding, range, text);
     let slips = layout.slips.as_slice();
     if slips.is_empty() {
-        return add_accepting(alloc, out, encoding, uri, run, span);
+        return push_accepting_actions(alloc, out, encoding, uri, run, span);
     }
     let found = first_within(span, slips);
-    add_fixes(out, encoding, uri, text, &layout.table, found)
+    push_fixes(out, encoding, uri, text, &layout.table, found)
 }
 
-/// Adds the actions for a range of a document, by the kept run if it is that of its text: none if the text isn't a script.
+/// Appends the actions for a range of a document: none if the text isn't a script. The kept run is used if it is that of the text.
 #[tactic(auto, using(crate::proofs::ActionLaws::of_text, crate::proofs::ActionLaws::of_none))]
-pub(crate) fn add_actions<M: Machine>(
+pub(crate) fn push_actions<M: Machine>(
     alloc: Global,
     out: &mut Vec<u8>,
     document: AskedDocument<'_, '_>,
@@ -363,10 +367,10 @@ pub(crate) fn add_actions<M: Machine>(
     let encoding = document.encoding;
     let uri = document.uri;
     if let Some(run) = kept_of(kept, encoding, document.text) {
-        return add_of_run(alloc, out, encoding, range, uri, run);
+        return push_actions_of_run(alloc, out, encoding, range, uri, run);
     }
     match DocumentRun::<M>::fresh(alloc, encoding, document.text, meter)? {
-        Some(run) => add_of_run(alloc, out, encoding, range, uri, &run),
+        Some(run) => push_actions_of_run(alloc, out, encoding, range, uri, &run),
         None => out.extend_from_slice(b"[]"),
     }
 }

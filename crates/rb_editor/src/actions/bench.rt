@@ -1,4 +1,4 @@
-//! The language server of scripts.
+//! The language server's service for scripts: it answers each request, and makes the diagnostics of each text.
 
 ghost use Rattle.std.specs.Prelude.{◌≡◌, ◌≢◌, ◌≤◌, ◌++◌, ◌||◌, not, is_some, Err, None, Some, true, IfOk, OnErr, OnOk, length};
 ghost use Rattle.rb_lsp.specs.declared.document.limits.TheConstants.{MAX_TEXT};
@@ -11,22 +11,22 @@ ghost use Rattle.rb_editor.specs.Served.{text_for};
 ghost use Rattle.rb_editor.specs.Stops.{needs_run};
 ghost use Rattle.rb_editor.specs.LastStops.{refused_by};
 
-use crate::actions::action::add_actions;
+use crate::actions::action::push_actions;
 use crate::actions::bounded::BoundedCluster;
-use crate::actions::completing::{AskedPlace, add_completions};
+use crate::actions::completing::{AskedPlace, push_completions};
 use crate::actions::document::AskedDocument;
-use crate::actions::hover::add_hover;
-use crate::actions::inlay_hint::add_hints;
-use crate::actions::lens::add_lenses;
-use crate::actions::message_places::{add_definition, add_highlights, add_references};
-use crate::actions::publishing::add_list;
-use crate::actions::range_formatting::add_range_formatting;
-use crate::actions::selection_range::add_selection;
-use crate::actions::served::{shown, text_for};
-use crate::actions::some_rows::add_rows;
+use crate::actions::hover::push_hover;
+use crate::actions::inlay_hint::push_hints;
+use crate::actions::lens::push_lenses;
+use crate::actions::message_places::{push_definition, push_highlights, push_references};
+use crate::actions::publishing::push_diagnostic_list;
+use crate::actions::range_formatting::push_range_formatting;
+use crate::actions::selection_range::push_selection;
+use crate::actions::served::{diagnostics_of_served, text_for};
+use crate::actions::some_rows::push_rows;
 use crate::actions::stopping::KeptRun;
 use crate::actions::work_meter::WorkMeter;
-use crate::offers::{add_folds, add_formatting, add_symbols};
+use crate::offers::{push_folds, push_formatting, push_symbols};
 use rb_lsp::server::{
     Client, DocumentQuery, ExitStatus, MAX_WORK, Query, ServeFault, Service, Stop, serve,
 };
@@ -61,7 +61,7 @@ impl Service for Bench {
         KeptRun::none()
     }
 
-    fn add_diagnostics(
+    fn push_diagnostics(
         &mut self,
         client: Client,
         uri: &[u8],
@@ -76,13 +76,13 @@ impl Service for Bench {
             uri,
             text,
         };
-        let found = shown(alloc, document, &mut self.table, kept, &mut meter)?;
-        add_list(alloc, out, client, uri, text, found.list.as_slice())?;
+        let found = diagnostics_of_served(alloc, document, &mut self.table, kept, &mut meter)?;
+        push_diagnostic_list(alloc, out, client, uri, text, found.list.as_slice())?;
         Ok(found.stop)
     }
 
     #[tactic(auto, using(crate::proofs::ServedLaws::stop_above))]
-    fn add_answer(
+    fn push_answer(
         &mut self,
         asked: DocumentQuery<'_, '_>,
         kept: &KeptRun<BoundedCluster>,
@@ -106,12 +106,12 @@ impl Service for Bench {
             uri: asked.uri,
             text,
         };
-        self.add_result(front, kept, out)?;
+        self.push_result(front, kept, out)?;
         Ok(None)
     }
 }
 
-// Says whether the run of the text is needed for what is asked.
+// Whether a request needs the run of its text.
 fn needs_run(asked: Query) -> bool
     ensures { result ≡ needs_run asked }
 {
@@ -126,8 +126,8 @@ fn needs_run(asked: Query) -> bool
 }
 
 impl Bench {
-    // Adds the result of a request by a text that was run whole. Showing a directive takes some more work.
-    fn add_result(
+    // Appends the result of a request about a text whose run ended.
+    fn push_result(
         &self,
         asked: DocumentQuery<'_, '_>,
         kept: &KeptRun<BoundedCluster>,
@@ -149,34 +149,34 @@ impl Bench {
         };
         match asked.query {
             Query::CodeAction(range) => {
-                add_actions(alloc, out, document, range, run, &mut meter)
+                push_actions(alloc, out, document, range, run, &mut meter)
             }
-            Query::Formatting => add_formatting(alloc, out, encoding, text),
+            Query::Formatting => push_formatting(alloc, out, encoding, text),
             Query::RangeFormatting(range) => {
-                add_range_formatting(alloc, out, encoding, text, range)
+                push_range_formatting(alloc, out, encoding, text, range)
             }
-            Query::Hover(position) => add_hover(alloc, out, document, position, run, &mut meter),
+            Query::Hover(position) => push_hover(alloc, out, document, position, run, &mut meter),
             Query::Completion(position) => {
                 let place = AskedPlace {
                     client,
                     text,
                     position,
                 };
-                add_completions(alloc, out, place, run, &mut meter)
+                push_completions(alloc, out, place, run, &mut meter)
             }
-            Query::FoldingRange => add_folds(alloc, out, text),
-            Query::DocumentSymbol => add_symbols(alloc, out, encoding, text),
-            Query::Definition(position) => add_definition(alloc, out, document, position),
+            Query::FoldingRange => push_folds(alloc, out, text),
+            Query::DocumentSymbol => push_symbols(alloc, out, encoding, text),
+            Query::Definition(position) => push_definition(alloc, out, document, position),
             Query::References(position, includes) => {
-                add_references(alloc, out, document, position, includes)
+                push_references(alloc, out, document, position, includes)
             }
-            Query::DocumentHighlight(position) => add_highlights(alloc, out, document, position),
-            Query::CodeLens => add_lenses(alloc, out, client, document, run, &mut meter),
+            Query::DocumentHighlight(position) => push_highlights(alloc, out, document, position),
+            Query::CodeLens => push_lenses(alloc, out, client, document, run, &mut meter),
             Query::InlayHint(range) => {
-                add_hints(alloc, out, client, (text, range), run, &mut meter)
+                push_hints(alloc, out, client, (text, range), run, &mut meter)
             }
-            Query::SelectionRange(position) => add_selection(alloc, out, encoding, text, position),
-            Query::Rows(span) => add_rows(alloc, out, document, span, run, &mut meter),
+            Query::SelectionRange(position) => push_selection(alloc, out, encoding, text, position),
+            Query::Rows(span) => push_rows(alloc, out, document, span, run, &mut meter),
         }
     }
 }

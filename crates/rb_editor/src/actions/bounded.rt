@@ -77,6 +77,7 @@ impl<L: RaftLog> Observer<L> for CountedLines {
         Ok(())
     }
 
+    // Counts nothing: a node's state is no item.
     fn settle(&mut self, _id: u64, _node: &Node<L>) -> Result<(), AllocError> {
         Ok(())
     }
@@ -104,7 +105,7 @@ impl BoundedCluster {
     ghost use Rattle.rb_machine.specs.Outcome.{execution, lines_at, shown_items};
     ghost use Rattle.rb_editor.specs.Work.{work_after};
 
-    /// The cluster alone.
+    /// Gives up the bound.
     pub(crate) fn into_cluster(self) -> Cluster<SplitLog>
         ensures { result ≡ self.cluster }
     {

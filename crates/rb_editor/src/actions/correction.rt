@@ -13,14 +13,14 @@ ghost use Rattle.rb_editor.specs.Layouts.{IsLayout};
 use crate::actions::document::AskedDocument;
 use crate::actions::extent::{LineSpan, extent_of, has_line};
 use crate::actions::layout::ScriptLayout;
-use crate::offers::add_range_member;
+use crate::offers::push_range_member;
 use rb_lsp::document::{LineTable, Position, offset, position_of};
 use rb_machine::Machine;
 use rb_replay::Session;
 use rb_report::help::{suggested_word, wrong_word};
 use rb_script::{Block, DirectiveRef, Lines, is_space};
 use rb_script_report::{block_at, number_at};
-use rb_text::{Json, Piece, add_pieces};
+use rb_text::{Json, Piece, push_pieces};
 use std::alloc::{AllocError, Global};
 
 /// Whether the byte ends a word of a head.
@@ -30,7 +30,7 @@ pub(crate) fn ends_word(b: u8) -> bool
     is_space(b) || b == b'=' || b == b'(' || b == b')' || b == b','
 }
 
-// Finds where the word begins in a line.
+// The column at which a word begins in a line, if it is in it.
 fn word_column(word: &[u8], line: &[u8]) -> Option<usize>
     ensures { result ≡ word_column word.now line.now }
 {
@@ -66,9 +66,9 @@ fn column_at(
     position_of(document.encoding, at, document.text)
 }
 
-// Adds the edit that puts a word in place of another, which begins at a column of a line.
+// Appends the edit that replaces the text between two positions by a word.
 #[tactic(auto, unfolding(crate::specs::Corrections::replacement_edit))]
-fn add_replacement(
+fn push_replacement(
     out: &mut Vec<u8>,
     start: Position,
     end: Position,
@@ -76,8 +76,8 @@ fn add_replacement(
 ) -> Result<(), AllocError>
     ensures { OnOk result (out.new.items ≡ out.old.items ++ replacement_edit start end word.now) }
 {
-    add_range_member(out, start, end)?;
-    add_pieces(
+    push_range_member(out, start, end)?;
+    push_pieces(
         out,
         &[
             Piece::Bytes(b",\"newText\":\""),
@@ -87,7 +87,7 @@ fn add_replacement(
     )
 }
 
-// Makes the action that puts a word in place of another of a line.
+// The action that replaces the text between two positions by a word.
 #[tactic(auto, unfolding(crate::specs::Corrections::replacement_text))]
 fn replacement<'a>(
     alloc: Global,
@@ -99,7 +99,7 @@ fn replacement<'a>(
     ensures { IfOk result (λ text. text.items ≡ replacement_text document.entry.uri.now start end word.now) }
 {
     let mut out = Vec::new(alloc);
-    add_pieces(
+    push_pieces(
         &mut out,
         &[
             Piece::Bytes(b"{\"title\":\"Replace with "),
@@ -109,11 +109,11 @@ fn replacement<'a>(
             Piece::Bytes(b"\":["),
         ],
     )?;
-    add_replacement(&mut out, start, end, word)?;
+    push_replacement(&mut out, start, end, word)?;
     Ok(out)
 }
 
-// Makes the quick fix of a directive whose head begins on a line, counted from 0, with these bytes; empty if there is none.
+// The quick fix of a directive: it replaces a wrong word by the one that was probably meant. Empty if there is none.
 fn directive_correction(
     alloc: Global,
     document: AskedDocument<'_, '_>,
@@ -138,7 +138,7 @@ fn directive_correction(
     replacement(alloc, document, start, end, word)
 }
 
-// Makes the quick fix of a block whose head begins on the line, which counts from 1, if it has one of the lines; else empty.
+// The quick fix of a block, if it has one of the lines; else empty.
 fn correction(
     alloc: Global,
     document: AskedDocument<'_, '_>,
@@ -179,7 +179,7 @@ fn line_or_none(lines: &Lines, index: usize) -> &[u8]
     }
 }
 
-/// Makes the quick fix of the first refused directive on these lines of which a word that was probably meant is known; empty if there is none.
+/// The quick fix of the first directive on these lines that has one; empty if none has.
 pub(crate) fn corrections<M: Machine>(
     alloc: Global,
     document: AskedDocument<'_, '_>,

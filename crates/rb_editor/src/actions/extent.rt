@@ -1,4 +1,4 @@
-//! The lines of a directive.
+//! The lines that a directive takes in its text.
 
 ghost use Rattle.std.specs.Prelude.{◌≡◌};
 ghost use Rattle.rb_editor.specs.BlockLines.{StandsIn};

@@ -9,18 +9,18 @@ ghost use Rattle.rb_editor.specs.Layouts.{IsLayout};
 ghost use Rattle.rb_editor.specs.Texts.{list_text, listed};
 ghost use Rattle.rb_editor.specs.Lenses.{accept_head, accept_if, accept_lens, accept_text, command_text, lens_text, lenses, lenses_at, lenses_by, lenses_in, page_if, page_text};
 
-use crate::actions::action::{RanBlock, add_edit, is_accepted};
+use crate::actions::action::{RanBlock, is_accepted, push_edit};
 use crate::actions::document::AskedDocument;
 use crate::actions::extent::{Extent, extent_of};
 use crate::actions::replacement::new_text;
 use crate::actions::run::{DocumentRun, RunView, kept_of};
-use crate::offers::add_range_member;
+use crate::offers::push_range_member;
 use rb_lsp::document::LineTable;
 use rb_lsp::server::Client;
 use rb_machine::{Count, Machine};
 use rb_script::Lines;
 use rb_script_report::{AcceptFilter, block_at, is_same, number_at, output_at};
-use rb_text::{Json, Piece, add_pieces};
+use rb_text::{Json, Piece, push_pieces};
 use std::alloc::{AllocError, Global};
 use std::marker::Model;
 
@@ -82,8 +82,8 @@ fn accept_lens(
     })
 }
 
-// Adds it, if it is wanted, and the output differs and is no new error.
-fn add_accept_if(
+// Appends the lens that accepts a directive's output, if the client takes it, and the output differs and isn't a new error.
+fn push_accept_lens(
     alloc: Global,
     list: &mut Vec<Lens>,
     accepts: bool,
@@ -101,8 +101,8 @@ fn add_accept_if(
     Ok(())
 }
 
-// Adds the lens that opens the page, if it is wanted and the output differs.
-fn add_page_if(list: &mut Vec<Lens>, opens: bool, ran: RanBlock<'_>) -> Result<(), AllocError>
+// Appends the lens that opens the page at a directive, if the client takes it, and the output differs.
+fn push_page_lens(list: &mut Vec<Lens>, opens: bool, ran: RanBlock<'_>) -> Result<(), AllocError>
     ensures { OnOk result (list.new.items ≡ list.old.items ++ page_if opens ran.entry.line ran.entry.block.now ran.entry.output.now) }
 {
     if opens && !is_same(ran.block.expected(), ran.output) {
@@ -115,7 +115,7 @@ fn add_page_if(list: &mut Vec<Lens>, opens: bool, ran: RanBlock<'_>) -> Result<(
 }
 
 // Adds the lenses of a directive.
-fn add_at(
+fn push_lenses_of_directive(
     alloc: Global,
     list: &mut Vec<Lens>,
     wanted: WantedLenses,
@@ -127,11 +127,11 @@ fn add_at(
     requires stands { StandsIn all.now ran.line ran.block.now }
     ensures { OnOk result (list.new.items ≡ list.old.items ++ lenses_at wanted.accepts wanted.opens text.now ran.entry.line ran.entry.block.now ran.entry.output.now) }
 {
-    add_accept_if(alloc, list, wanted.accepts, text, all, ran)?;
-    add_page_if(list, wanted.opens, ran)
+    push_accept_lens(alloc, list, wanted.accepts, text, all, ran)?;
+    push_page_lens(list, wanted.opens, ran)
 }
 
-// Makes the lenses of the directives of a script that ran.
+// The lenses of a script's directives, of the wanted kinds.
 fn lenses_by<M: Machine>(
     alloc: Global,
     wanted: WantedLenses,
@@ -148,12 +148,12 @@ fn lenses_by<M: Machine>(
             block: block_at(run.session, i),
             output: output_at(run.session, i),
         };
-        add_at(alloc, &mut list, wanted, run.text, &all.text, ran)?;
+        push_lenses_of_directive(alloc, &mut list, wanted, run.text, &all.text, ran)?;
     }
     Ok(list)
 }
 
-// Makes the lenses of the text of a run that a client takes.
+// The lenses of a script's directives, of the kinds whose commands the client runs.
 #[tactic(auto, using(crate::proofs::LensLaws::wanted_by))]
 fn lenses_in<M: Machine>(
     alloc: Global,
@@ -183,7 +183,7 @@ fn accept_head() -> &'static [u8]
 
 // Adds the command that accepts an output.
 #[tactic(auto, unfolding(crate::specs::Lenses::accept_text))]
-fn add_accept(
+fn push_accept_command(
     out: &mut Vec<u8>,
     document: AskedDocument<'_, '_>,
     table: &LineTable,
@@ -192,7 +192,7 @@ fn add_accept(
     requires { IsTable document.encoding document.text.now table.now }
     ensures { OnOk result (out.new.items ≡ out.old.items ++ accept_text document.entry.encoding document.entry.uri.now document.entry.text.now acceptance.now) }
 {
-    add_pieces(
+    push_pieces(
         out,
         &[
             Piece::Bytes(accept_head()),
@@ -201,7 +201,7 @@ fn add_accept(
         ],
     )?;
     let new = acceptance.new.as_slice();
-    add_edit(
+    push_edit(
         out,
         document.encoding,
         document.text,
@@ -214,10 +214,10 @@ fn add_accept(
 
 // Adds the command that opens the page of a document at a head.
 #[tactic(auto, unfolding(crate::specs::Lenses::page_text))]
-fn add_page(out: &mut Vec<u8>, uri: &[u8], line: usize) -> Result<(), AllocError>
+fn push_page_command(out: &mut Vec<u8>, uri: &[u8], line: usize) -> Result<(), AllocError>
     ensures { OnOk result (out.new.items ≡ out.old.items ++ page_text uri.now line) }
 {
-    add_pieces(
+    push_pieces(
         out,
         &[
             Piece::Bytes(
@@ -232,7 +232,7 @@ fn add_page(out: &mut Vec<u8>, uri: &[u8], line: usize) -> Result<(), AllocError
 }
 
 // Adds the command of a lens.
-fn add_command(
+fn push_command(
     out: &mut Vec<u8>,
     document: AskedDocument<'_, '_>,
     table: &LineTable,
@@ -242,14 +242,14 @@ fn add_command(
     ensures { OnOk result (out.new.items ≡ out.old.items ++ command_text document.entry.encoding document.entry.uri.now document.entry.text.now lens.now.line lens.now.accepts) }
 {
     match &lens.accepts {
-        Some(acceptance) => add_accept(out, document, table, acceptance),
-        None => add_page(out, document.uri, lens.line),
+        Some(acceptance) => push_accept_command(out, document, table, acceptance),
+        None => push_page_command(out, document.uri, lens.line),
     }
 }
 
 // Adds a lens of a document, whose lines are in the table.
 #[tactic(auto, unfolding(crate::specs::Lenses::lens_text))]
-fn add_lens(
+fn push_lens(
     out: &mut Vec<u8>,
     document: AskedDocument<'_, '_>,
     table: &LineTable,
@@ -259,12 +259,12 @@ fn add_lens(
     ensures { OnOk result (out.new.items ≡ out.old.items ++ lens_text document.entry.encoding document.entry.uri.now document.entry.text.now lens.now) }
 {
     let place = table.start_of(lens.line.saturating_sub(1));
-    add_range_member(out, place, place)?;
-    add_command(out, document, table, lens)
+    push_range_member(out, place, place)?;
+    push_command(out, document, table, lens)
 }
 
-// Adds lenses, separated by commas, and the end of the list.
-fn add_all(
+// Appends lenses with commas between them, and the end of their list.
+fn push_each_lens(
     out: &mut Vec<u8>,
     document: AskedDocument<'_, '_>,
     table: &LineTable,
@@ -276,16 +276,16 @@ fn add_all(
     let mut lead: &[u8] = b"";
     for lens in list {
         out.extend_from_slice(lead)?;
-        add_lens(out, document, table, lens)?;
+        push_lens(out, document, table, lens)?;
         lead = b",";
     }
     out.extend_from_slice(b"]")?;
     Ok(())
 }
 
-// Adds lenses of a document, as a list.
+// Appends lenses as a list.
 #[tactic(auto, unfolding(crate::specs::Texts::list_text))]
-fn add_list(
+fn push_lens_list(
     out: &mut Vec<u8>,
     document: AskedDocument<'_, '_>,
     table: &LineTable,
@@ -295,12 +295,12 @@ fn add_list(
     ensures { OnOk result (out.new.items ≡ out.old.items ++ list_text (lens_text document.entry.encoding document.entry.uri.now document.entry.text.now) list.now) }
 {
     out.extend_from_slice(b"[")?;
-    add_all(out, document, table, list)
+    push_each_lens(out, document, table, list)
 }
 
 // Adds the lenses of a script that ran.
 #[tactic(auto, using(crate::proofs::LensLaws::of_run, crate::proofs::RunLaws::layout_by))]
-fn add_of_run<M: Machine>(
+fn push_lenses_of_run<M: Machine>(
     alloc: Global,
     out: &mut Vec<u8>,
     client: Client,
@@ -326,7 +326,7 @@ fn add_of_run<M: Machine>(
         uri,
         text,
     };
-    add_list(out, document, &layout.table, list.as_slice())?;
+    push_lens_list(out, document, &layout.table, list.as_slice())?;
     Ok(())
 }
 
@@ -336,7 +336,7 @@ fn add_of_run<M: Machine>(
 ///
 /// If memory was refused. A part of the result may have been added then.
 #[tactic(auto, using(crate::proofs::LensLaws::of_text, crate::proofs::LensLaws::of_none))]
-pub(crate) fn add_lenses<M: Machine>(
+pub(crate) fn push_lenses<M: Machine>(
     alloc: Global,
     out: &mut Vec<u8>,
     client: Client,
@@ -350,10 +350,10 @@ pub(crate) fn add_lenses<M: Machine>(
 {
     let encoding = client.encoding;
     if let Some(run) = kept_of(kept, encoding, document.text) {
-        return add_of_run(alloc, out, client, document.uri, run);
+        return push_lenses_of_run(alloc, out, client, document.uri, run);
     }
     match DocumentRun::<M>::fresh(alloc, encoding, document.text, meter)? {
-        Some(run) => add_of_run(alloc, out, client, document.uri, &run),
+        Some(run) => push_lenses_of_run(alloc, out, client, document.uri, &run),
         None => out.extend_from_slice(b"[]"),
     }
 }

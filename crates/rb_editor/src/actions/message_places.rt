@@ -1,4 +1,4 @@
-//! What is sent of the message that a line is about: where it is sent, and where it arrives or is lost.
+//! The answers on the message of a line: its definition, its references, and its highlights.
 
 ghost use Rattle.std.specs.Prelude.{◌≡◌, ◌≤◌, ◌<◌, ◌-◌, ◌^◌, ◌++◌, true, false, IfOk, IfSome, OnOk, length};
 ghost use Rattle.rb_lsp.specs.declared.document.limits.TheConstants.{MAX_TEXT};
@@ -8,17 +8,17 @@ ghost use Rattle.rb_editor.specs.MessagePlaces.{both, definition, highlight_text
 use crate::actions::document::AskedDocument;
 use crate::actions::layout::line_at;
 use crate::actions::message_lines::{MessageLines, message_lines};
-use crate::offers::{add_range, add_range_member};
+use crate::offers::{push_range, push_range_member};
 use rb_lsp::document::{Encoding, LineTable, Position};
 use rb_script::lines_of;
-use rb_text::{Json, Piece, add_pieces};
+use rb_text::{Json, Piece, push_pieces};
 use std::alloc::{AllocError, Global};
 
 // ---- a line
 
-// Adds a line of a document.
+// Appends the location of a line.
 #[tactic(auto, unfolding(crate::specs::MessagePlaces::location_text))]
-fn add_location(
+fn push_location(
     out: &mut Vec<u8>,
     document: AskedDocument<'_, '_>,
     table: &LineTable,
@@ -28,7 +28,7 @@ fn add_location(
     requires few { n < 2 ^ 64 - 1 }
     ensures { OnOk result (out.new.items ≡ out.old.items ++ location_text document.entry.encoding document.entry.uri.now document.entry.text.now n) }
 {
-    add_pieces(
+    push_pieces(
         out,
         &[
             Piece::Bytes(b"{\"uri\":\""),
@@ -36,11 +36,12 @@ fn add_location(
             Piece::Bytes(b"\",\"range\":"),
         ],
     )?;
-    add_range(out, table.start_of(n), table.start_of(n + 1))?;
+    push_range(out, table.start_of(n), table.start_of(n + 1))?;
     out.extend_from_slice(b"}")?;
     Ok(())
 }
 
+// The kind of a highlight: a write where the message is sent, else a read.
 fn kind_text(is_sent: bool) -> &'static [u8]
     ensures { result.now ≡ kind_text is_sent }
 {
@@ -51,9 +52,9 @@ fn kind_text(is_sent: bool) -> &'static [u8]
     }
 }
 
-// Adds a line to highlight, on which a message is sent or isn't.
+// Appends the highlight of a line.
 #[tactic(auto, unfolding(crate::specs::MessagePlaces::highlight_text))]
-fn add_highlight(
+fn push_highlight(
     out: &mut Vec<u8>,
     encoding: Encoding,
     text: &[u8],
@@ -65,15 +66,15 @@ fn add_highlight(
     requires few { n < 2 ^ 64 - 1 }
     ensures { OnOk result (out.new.items ≡ out.old.items ++ highlight_text encoding text.now is_sent n) }
 {
-    add_range_member(out, table.start_of(n), table.start_of(n + 1))?;
+    push_range_member(out, table.start_of(n), table.start_of(n + 1))?;
     out.extend_from_slice(kind_text(is_sent))?;
     Ok(())
 }
 
 // ---- lines
 
-// Adds the first of two lines of a document, a comma, and the other, as far as there are two.
-fn add_both(
+// Appends the locations of a message: the line that sends it and the line that ends it, as far as they are known.
+fn push_both_locations(
     out: &mut Vec<u8>,
     document: AskedDocument<'_, '_>,
     table: &LineTable,
@@ -87,18 +88,18 @@ fn add_both(
 {
     match (sent, ended) {
         (None, None) => Ok(()),
-        (None, Some(n)) => add_location(out, document, table, n),
-        (Some(m), None) => add_location(out, document, table, m),
+        (None, Some(n)) => push_location(out, document, table, n),
+        (Some(m), None) => push_location(out, document, table, m),
         (Some(m), Some(n)) => {
-            add_location(out, document, table, m)?;
+            push_location(out, document, table, m)?;
             out.extend_from_slice(b",")?;
-            add_location(out, document, table, n)
+            push_location(out, document, table, n)
         }
     }
 }
 
-// Adds a list of these lines of a document.
-fn add_locations(
+// Appends the locations of a message as a list.
+fn push_locations(
     out: &mut Vec<u8>,
     document: AskedDocument<'_, '_>,
     table: &LineTable,
@@ -111,13 +112,13 @@ fn add_locations(
     ensures { OnOk result (out.new.items ≡ out.old.items ++ locations document.entry.encoding document.entry.uri.now document.entry.text.now sent ended) }
 {
     out.extend_from_slice(b"[")?;
-    add_both(out, document, table, sent, ended)?;
+    push_both_locations(out, document, table, sent, ended)?;
     out.extend_from_slice(b"]")?;
     Ok(())
 }
 
-// Adds the lines of a message to highlight, as far as there are two.
-fn add_both_highlights(
+// Appends the highlights of a message: the line that sends it and the line that ends it, as far as they are known.
+fn push_both_highlights(
     out: &mut Vec<u8>,
     encoding: Encoding,
     text: &[u8],
@@ -131,12 +132,12 @@ fn add_both_highlights(
 {
     match (found.sent, found.ended) {
         (None, None) => Ok(()),
-        (None, Some(n)) => add_highlight(out, encoding, text, table, false, n),
-        (Some(m), None) => add_highlight(out, encoding, text, table, true, m),
+        (None, Some(n)) => push_highlight(out, encoding, text, table, false, n),
+        (Some(m), None) => push_highlight(out, encoding, text, table, true, m),
         (Some(m), Some(n)) => {
-            add_highlight(out, encoding, text, table, true, m)?;
+            push_highlight(out, encoding, text, table, true, m)?;
             out.extend_from_slice(b",")?;
-            add_highlight(out, encoding, text, table, false, n)
+            push_highlight(out, encoding, text, table, false, n)
         }
     }
 }
@@ -159,7 +160,7 @@ fn message_at(
 }
 
 // Adds a line of a document, or `null`.
-fn add_location_or_null(
+fn push_location_or_null(
     out: &mut Vec<u8>,
     document: AskedDocument<'_, '_>,
     table: &LineTable,
@@ -170,7 +171,7 @@ fn add_location_or_null(
     ensures { OnOk result (out.new.items ≡ out.old.items ++ location_or_null document.entry.encoding document.entry.uri.now document.entry.text.now line) }
 {
     match line {
-        Some(n) => add_location(out, document, table, n),
+        Some(n) => push_location(out, document, table, n),
         None => Ok(out.extend_from_slice(b"null")?),
     }
 }
@@ -181,7 +182,7 @@ fn add_location_or_null(
 ///
 /// If memory was refused. A part of the result may have been added then.
 #[tactic(auto, unfolding(crate::specs::MessagePlaces::definition))]
-pub(crate) fn add_definition(
+pub(crate) fn push_definition(
     alloc: Global,
     out: &mut Vec<u8>,
     document: AskedDocument<'_, '_>,
@@ -192,9 +193,10 @@ pub(crate) fn add_definition(
 {
     let found = message_at(alloc, document.encoding, position, document.text)?;
     let table = LineTable::new(alloc, document.encoding, document.text)?;
-    add_location_or_null(out, document, &table, found.sent)
+    push_location_or_null(out, document, &table, found.sent)
 }
 
+// The line, if it is asked for.
 fn kept_if(is_kept: bool, line: Option<usize>) -> Option<usize>
     ensures value { result ≡ kept_if is_kept line }
     ensures few { IfSome line (λ n. n < 2 ^ 64 - 1) → IfSome result (λ n. n < 2 ^ 64 - 1) }
@@ -208,7 +210,7 @@ fn kept_if(is_kept: bool, line: Option<usize>) -> Option<usize>
 ///
 /// If memory was refused. A part of the result may have been added then.
 #[tactic(auto, unfolding(crate::specs::MessagePlaces::references))]
-pub(crate) fn add_references(
+pub(crate) fn push_references(
     alloc: Global,
     out: &mut Vec<u8>,
     document: AskedDocument<'_, '_>,
@@ -221,7 +223,7 @@ pub(crate) fn add_references(
     let found = message_at(alloc, document.encoding, position, document.text)?;
     let table = LineTable::new(alloc, document.encoding, document.text)?;
     let sent = kept_if(includes, found.sent);
-    add_locations(out, document, &table, sent, found.ended)
+    push_locations(out, document, &table, sent, found.ended)
 }
 
 /// Adds the lines of the message at a position, as the result of `textDocument/documentHighlight`.
@@ -230,7 +232,7 @@ pub(crate) fn add_references(
 ///
 /// If memory was refused. A part of the result may have been added then.
 #[tactic(auto, unfolding(crate::specs::MessagePlaces::highlighted))]
-pub(crate) fn add_highlights(
+pub(crate) fn push_highlights(
     alloc: Global,
     out: &mut Vec<u8>,
     document: AskedDocument<'_, '_>,
@@ -243,7 +245,7 @@ pub(crate) fn add_highlights(
     let found = message_at(alloc, encoding, position, document.text)?;
     let table = LineTable::new(alloc, encoding, document.text)?;
     out.extend_from_slice(b"[")?;
-    add_both_highlights(out, encoding, document.text, &table, found)?;
+    push_both_highlights(out, encoding, document.text, &table, found)?;
     out.extend_from_slice(b"]")?;
     Ok(())
 }

@@ -1,4 +1,4 @@
-//! Pieces of a line: words, and arguments.
+//! The word or the argument around a column of a line.
 
 ghost use Rattle.std.specs.Prelude.{◌≡◌, ◌+◌, ◌≤◌, false, drop, if◌then◌else◌, length, take};
 ghost use Rattle.rb_lsp.specs.declared.document.limits.TheConstants.{MAX_TEXT};
@@ -23,7 +23,7 @@ pub(crate) struct OffsetSpan {
     pub(crate) to: usize,
 }
 
-// Whether a byte ends a piece, which is within parentheses or isn't.
+// Whether a byte ends a word or an argument. Within parentheses a blank doesn't end an argument.
 fn ends(kind: PieceKind, inside: bool, b: u8) -> bool
     ensures { result ≡ ends kind inside b }
 {
@@ -55,14 +55,14 @@ fn inside_of(bytes: &[u8]) -> bool
     inside
 }
 
-// Gives where the piece of the next byte begins, by whether this one ends the piece that began here.
+// Where the next byte's piece begins: after this byte if it ends a piece, else where the current one began.
 fn next_start(is_end: bool, start: usize, next: usize) -> usize
     ensures { result ≡ (if is_end then next else start) }
 {
     if is_end { next } else { start }
 }
 
-// Finds where the piece begins that these bytes end in.
+// Where the piece begins that contains the end of these bytes.
 fn piece_start(kind: PieceKind, bytes: &[u8]) -> usize
     ensures value { result ≡ piece_start kind 0 0 false bytes.now }
     ensures within { result ≤ length bytes.now }
@@ -76,7 +76,7 @@ fn piece_start(kind: PieceKind, bytes: &[u8]) -> usize
     start
 }
 
-// Finds where a piece of a line ends that goes on at a column, within parentheses or not.
+// Where the piece ends that contains this column.
 fn piece_end(kind: PieceKind, column: usize, begins_inside: bool, line: &[u8]) -> usize
     requires { column ≤ length line.now }
     ensures value { result ≡ piece_end kind column begins_inside (drop column line.now) }
@@ -93,7 +93,7 @@ fn piece_end(kind: PieceKind, column: usize, begins_inside: bool, line: &[u8]) -
     line.len()
 }
 
-/// Finds the piece of a line around a column, where the line begins at an offset of its text.
+/// The piece around a column of a line, as offsets of the text. `begin` is the line's offset.
 pub(crate) fn piece_span(kind: PieceKind, begin: usize, column: usize, line: &[u8]) -> OffsetSpan
     requires begin { begin ≤ MAX_TEXT }
     requires within { column ≤ length line.now }

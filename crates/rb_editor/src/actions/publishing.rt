@@ -1,4 +1,4 @@
-//! Diagnostics as an editor is sent them.
+//! Diagnostics as JSON.
 
 ghost use Rattle.std.specs.Prelude.{◌≡◌, ◌≤◌, ◌++◌, [], OnOk, length, option_map};
 ghost use Rattle.rb_lsp.specs.Tables.{IsTable};
@@ -10,14 +10,16 @@ ghost use Rattle.rb_editor.specs.Published.{diagnostic_text, kind_text, message_
 use crate::actions::actual_output::ActualOutput;
 use crate::actions::diagnostic::{Diagnostic, DiagnosticKind};
 use crate::actions::shown_message::shown_message;
-use crate::actions::told::{BoundedDiagnostic, MAX_TOLD, left_behind, told_came, told_message};
-use crate::offers::add_range_member;
+use crate::actions::told::{
+    BoundedDiagnostic, MAX_TOLD, bounded_message, bounded_output, left_for_next,
+};
+use crate::offers::push_range_member;
 use rb_lsp::document::{Encoding, LineTable};
 use rb_lsp::server::Client;
-use rb_text::{Json, Piece, add_pieces};
+use rb_text::{Json, Piece, push_pieces};
 use std::alloc::{AllocError, Global};
 
-// Gives what begins a diagnostic after its range: its severity and its code.
+// The members of a diagnostic between its range and its message: severity, code and source.
 #[tactic(auto, unfolding(crate::specs::Published::kind_text))]
 fn kind_text(softens_later: bool, kind: DiagnosticKind) -> &'static [u8]
     ensures { result.now ≡ kind_text softens_later kind }
@@ -48,9 +50,10 @@ fn kind_text(softens_later: bool, kind: DiagnosticKind) -> &'static [u8]
     }
 }
 
-// Adds the severity of a diagnostic, its code, and its message as far as it is told, in which only ends of lines act.
+// Appends the severity, the code and the message of a diagnostic. The message is cut to the bytes that are left, and has no control characters but
+// line ends.
 #[tactic(auto, unfolding(crate::specs::Published::message_text))]
-fn add_message(
+fn push_message(
     out: &mut Vec<u8>,
     softens_later: bool,
     bounded: BoundedDiagnostic<'_>,
@@ -59,10 +62,10 @@ fn add_message(
 {
     let alloc = *out.allocator();
     let diagnostic = bounded.diagnostic;
-    let message = told_message(alloc, bounded)?;
+    let message = bounded_message(alloc, bounded)?;
     let shown = shown_message(alloc, message.as_slice())?;
     out.extend_from_slice(kind_text(softens_later, diagnostic.kind))?;
-    add_pieces(
+    push_pieces(
         out,
         &[
             Piece::Escaped(Json::Utf8, shown.as_slice()),
@@ -71,9 +74,9 @@ fn add_message(
     )
 }
 
-// Adds the range from one line of a text up to another.
+// Appends the beginning of related information: the range of the lines that expect another output.
 #[tactic(auto, unfolding(crate::specs::Published::place_text))]
-fn add_place(
+fn push_related_range(
     out: &mut Vec<u8>,
     encoding: Encoding,
     text: &[u8],
@@ -87,16 +90,20 @@ fn add_place(
     let start = table.start_of(first);
     let end = table.start_of(behind);
     out.extend_from_slice(b",\"relatedInformation\":[{\"location\":")?;
-    add_range_member(out, start, end)?;
+    push_range_member(out, start, end)?;
     Ok(())
 }
 
-// Adds the document in which it is, and the actual output.
+// Appends the rest of related information: the document, and the actual output as its message.
 #[tactic(auto, unfolding(crate::specs::Published::shown_text))]
-fn add_shown<'a>(out: &mut Vec<u8>, uri: &'a [u8], shown: &'a [u8]) -> Result<(), AllocError>
+fn push_related_message<'a>(
+    out: &mut Vec<u8>,
+    uri: &'a [u8],
+    shown: &'a [u8],
+) -> Result<(), AllocError>
     ensures { OnOk result (out.new.items ≡ out.old.items ++ shown_text uri.now shown.now) }
 {
-    add_pieces(
+    push_pieces(
         out,
         &[
             Piece::Bytes(b",\"uri\":\""),
@@ -108,9 +115,9 @@ fn add_shown<'a>(out: &mut Vec<u8>, uri: &'a [u8], shown: &'a [u8]) -> Result<()
     )
 }
 
-// Adds the actual output, at the lines of a text that expect another.
+// Appends the actual output of a mismatch as related information.
 #[tactic(auto, unfolding(crate::specs::Published::related_text))]
-fn add_related(
+fn push_related_info(
     out: &mut Vec<u8>,
     encoding: Encoding,
     uri: &[u8],
@@ -121,12 +128,12 @@ fn add_related(
     requires { IsTable encoding text.now table.now }
     ensures { OnOk result (out.new.items ≡ out.old.items ++ related_text encoding uri.now text.now came.now) }
 {
-    add_place(out, encoding, text, table, came.first, came.behind)?;
-    add_shown(out, uri, came.shown.as_slice())
+    push_related_range(out, encoding, text, table, came.first, came.behind)?;
+    push_related_message(out, uri, came.shown.as_slice())
 }
 
-// Adds the actual output of a mismatch, if there is one, and the client takes it.
-fn add_if(
+// Appends the actual output of a mismatch as related information, if there is one, and the client shows such.
+fn push_related_info_if_taken(
     out: &mut Vec<u8>,
     client: Client,
     uri: &[u8],
@@ -141,14 +148,14 @@ fn add_if(
         return Ok(());
     }
     match came {
-        Some(came) => add_related(out, client.encoding, uri, text, table, came),
+        Some(came) => push_related_info(out, client.encoding, uri, text, table, came),
         None => Ok(()),
     }
 }
 
-// Adds a diagnostic of a text, whose lines are in the table, as far as it is told.
+// Appends a diagnostic, cut to the bytes that are left.
 #[tactic(auto, unfolding(crate::specs::Published::diagnostic_text))]
-fn add_diagnostic(
+fn push_diagnostic(
     out: &mut Vec<u8>,
     client: Client,
     uri: &[u8],
@@ -163,14 +170,14 @@ fn add_diagnostic(
     let line = diagnostic.line;
     let start = table.start_of(line.saturating_sub(1));
     let end = table.start_of(line);
-    add_range_member(out, start, end)?;
-    add_message(out, client.softens_later, bounded)?;
-    add_if(out, client, uri, text, table, told_came(bounded))?;
+    push_range_member(out, start, end)?;
+    push_message(out, client.softens_later, bounded)?;
+    push_related_info_if_taken(out, client, uri, text, table, bounded_output(bounded))?;
     out.extend_from_slice(b"}")
 }
 
-// Adds the diagnostics as far as they are told, separated by commas, and the end of the list.
-fn add_all(
+// Appends diagnostics with commas between them, and the end of their list. Together their diffs and outputs have at most [`MAX_TOLD`] bytes.
+fn push_each_diagnostic(
     out: &mut Vec<u8>,
     client: Client,
     uri: &[u8],
@@ -186,18 +193,18 @@ fn add_all(
     for diagnostic in list {
         let bounded = BoundedDiagnostic { diagnostic, left };
         out.extend_from_slice(lead)?;
-        add_diagnostic(out, client, uri, text, table, bounded)?;
+        push_diagnostic(out, client, uri, text, table, bounded)?;
         lead = b",";
-        left = left_behind(bounded);
+        left = left_for_next(bounded);
     }
     out.extend_from_slice(b"]")?;
     Ok(())
 }
 
-/// Adds the diagnostics of a text, as a list. Each mismatch has its actual output, if the client takes it. Of diffs and actual outputs [`MAX_TOLD`] bytes
-/// are told.
+/// Appends the diagnostics of a text as a list. Each mismatch has its actual output, if the client shows related information. Diffs and actual
+/// outputs together have at most [`MAX_TOLD`] bytes.
 #[tactic(auto, unfolding(crate::specs::Texts::list_text), using(crate::proofs::QuietLaws::none_listed))]
-pub(crate) fn add_list(
+pub(crate) fn push_diagnostic_list(
     alloc: Global,
     out: &mut Vec<u8>,
     client: Client,
@@ -213,5 +220,5 @@ pub(crate) fn add_list(
     }
     let table = LineTable::new(alloc, client.encoding, text)?;
     out.extend_from_slice(b"[")?;
-    add_all(out, client, uri, text, &table, list)
+    push_each_diagnostic(out, client, uri, text, &table, list)
 }

@@ -7,14 +7,14 @@ ghost use Rattle.rb_editor.specs.Selections.{block_spans, block_with, chain_text
 use crate::actions::above::line_start;
 use crate::actions::piece::{OffsetSpan, PieceKind, piece_span};
 use crate::actions::served::served;
-use crate::offers::{BlockLines, add_range_member, blocks_of, line_at};
+use crate::offers::{BlockLines, blocks_of, line_at, push_range_member};
 use rb_lsp::document::{Encoding, Position, offset, position_of};
 use rb_script::lines_of;
 use std::alloc::{AllocError, Global};
 
 // ---- lines
 
-// Gives the text of some lines.
+// The span of some lines.
 fn lines_span(text: &[u8], first: usize, behind: usize) -> OffsetSpan
     ensures { result ≡ lines_span text.now first behind }
 {
@@ -43,7 +43,7 @@ fn block_with(n: usize, blocks: &[BlockLines]) -> Option<BlockLines>
     None
 }
 
-// Gives the head of a block, what is between the head and the output, or the output: the one that has this line.
+// The span of the part of a block that has a line: its head, its input and separator, or its expectation.
 fn part_span(text: &[u8], n: usize, block: BlockLines) -> OffsetSpan
     ensures { result ≡ part_span text.now n block }
 {
@@ -56,8 +56,8 @@ fn part_span(text: &[u8], n: usize, block: BlockLines) -> OffsetSpan
     }
 }
 
-// Adds the part of a block that has a line, and the block.
-fn add_block_spans(
+// Appends the spans of the block that has a line: of the part with the line, and of the block.
+fn push_block_spans(
     list: &mut Vec<OffsetSpan>,
     text: &[u8],
     n: usize,
@@ -75,8 +75,8 @@ fn add_block_spans(
 
 // ---- around a place
 
-// Adds the word and the argument at an offset, and the line, which begins at another.
-fn add_line_spans(
+// Appends the spans on a line around an offset: of the word, of the argument, and of the line. `begin` is the line's offset.
+fn push_line_spans(
     list: &mut Vec<OffsetSpan>,
     at: usize,
     begin: usize,
@@ -95,7 +95,7 @@ fn add_line_spans(
     Ok(())
 }
 
-// Makes the spans around an offset of a line, from the smallest.
+// The spans around an offset on line `n`, smallest first.
 fn spans_on(alloc: Global, text: &[u8], at: usize, n: usize) -> Result<Vec<OffsetSpan>, AllocError>
     requires { length text.now ≤ MAX_TEXT }
     ensures { IfOk result (λ list. list.items ≡ spans_on text.now at n) }
@@ -103,9 +103,9 @@ fn spans_on(alloc: Global, text: &[u8], at: usize, n: usize) -> Result<Vec<Offse
     let mut list = Vec::new(alloc);
     let begin = line_start(text, n);
     let all = lines_of(alloc, text)?;
-    add_line_spans(&mut list, at, begin, line_at(&all, n))?;
+    push_line_spans(&mut list, at, begin, line_at(&all, n))?;
     let blocks = blocks_of(alloc, served(alloc, text)?)?;
-    add_block_spans(&mut list, text, n, block_with(n, blocks.as_slice()))?;
+    push_block_spans(&mut list, text, n, block_with(n, blocks.as_slice()))?;
     list.push(OffsetSpan {
         from: 0,
         to: text.len(),
@@ -121,7 +121,7 @@ fn is_around(inner: OffsetSpan, span: OffsetSpan) -> bool
     contains && (span.from < inner.from || inner.to < span.to)
 }
 
-// Whether a span is larger than the last one and contains it; if there is none, whether it isn't empty.
+// Whether a span can follow the last one: it contains it and is larger. The first one must not be empty.
 fn is_next(last: Option<OffsetSpan>, span: OffsetSpan) -> bool
     ensures { result ≡ is_next last span }
 {
@@ -131,7 +131,7 @@ fn is_next(last: Option<OffsetSpan>, span: OffsetSpan) -> bool
     }
 }
 
-// Takes a span, if it is next after the last one that was taken. Gives the last one then.
+// Appends a span if it can follow the last one. Returns the span that is last then.
 fn take_next(
     list: &mut Vec<OffsetSpan>,
     last: Option<OffsetSpan>,
@@ -147,7 +147,7 @@ fn take_next(
     Ok(Some(span))
 }
 
-// Takes each span that contains the last one and is larger.
+// Those spans of which each contains the one before it, and is larger.
 fn nested(alloc: Global, spans: &[OffsetSpan]) -> Result<Vec<OffsetSpan>, AllocError>
     ensures { IfOk result (λ list. list.items ≡ nested None spans.now) }
 {
@@ -159,7 +159,7 @@ fn nested(alloc: Global, spans: &[OffsetSpan]) -> Result<Vec<OffsetSpan>, AllocE
     Ok(list)
 }
 
-// Counts the lines that end before an offset.
+// How many lines end before an offset.
 fn lines_above(at: usize, text: &[u8]) -> usize
     requires { at ≤ length text.now }
     ensures { result ≡ lines_above at text.now }
@@ -167,7 +167,7 @@ fn lines_above(at: usize, text: &[u8]) -> usize
     text[..at].iter().filter(|b| **b == b'\n').count()
 }
 
-// Makes the spans around an offset, each in the next.
+// The spans around an offset, each within the next.
 #[tactic(auto, unfolding(crate::specs::Selections::spans_at))]
 fn spans_at(alloc: Global, text: &[u8], at: usize) -> Result<Vec<OffsetSpan>, AllocError>
     requires within { at ≤ length text.now }
@@ -180,9 +180,9 @@ fn spans_at(alloc: Global, text: &[u8], at: usize) -> Result<Vec<OffsetSpan>, Al
 
 // ---- as they are sent
 
-// Adds the beginning of the range of a span.
+// Appends the beginning of a selection range: the range of a span.
 #[tactic(auto, unfolding(crate::specs::Selections::span_text))]
-fn add_span(
+fn push_span(
     out: &mut Vec<u8>,
     encoding: Encoding,
     text: &[u8],
@@ -193,11 +193,11 @@ fn add_span(
 {
     let start = position_of(encoding, span.from.min(text.len()), text);
     let end = position_of(encoding, span.to.min(text.len()), text);
-    add_range_member(out, start, end)
+    push_range_member(out, start, end)
 }
 
-// Adds the beginnings of spans, each with the next as its parent.
-fn add_fronts(
+// Appends the beginnings of selection ranges, each as the parent of the one before it.
+fn push_fronts(
     out: &mut Vec<u8>,
     encoding: Encoding,
     text: &[u8],
@@ -209,14 +209,14 @@ fn add_fronts(
     let mut lead: &[u8] = b"";
     for span in spans {
         out.extend_from_slice(lead)?;
-        add_span(out, encoding, text, *span)?;
+        push_span(out, encoding, text, *span)?;
         lead = b",\"parent\":";
     }
     Ok(())
 }
 
-// Adds their ends.
-fn add_closings(out: &mut Vec<u8>, spans: &[OffsetSpan]) -> Result<(), AllocError>
+// Appends the ends of these selection ranges.
+fn push_closings(out: &mut Vec<u8>, spans: &[OffsetSpan]) -> Result<(), AllocError>
     ensures { OnOk result (out.new.items ≡ out.old.items ++ closings spans.now) }
 {
     for _closing in 0..spans.len() {
@@ -225,8 +225,8 @@ fn add_closings(out: &mut Vec<u8>, spans: &[OffsetSpan]) -> Result<(), AllocErro
     Ok(())
 }
 
-// Adds spans, each with the next as its parent.
-fn add_chain(
+// Appends a selection range whose parents are the later spans.
+fn push_chain(
     out: &mut Vec<u8>,
     encoding: Encoding,
     text: &[u8],
@@ -235,18 +235,17 @@ fn add_chain(
     requires { length text.now ≤ MAX_TEXT }
     ensures { OnOk result (out.new.items ≡ out.old.items ++ chain_text encoding text.now spans.now) }
 {
-    add_fronts(out, encoding, text, spans)?;
-    add_closings(out, spans)
+    push_fronts(out, encoding, text, spans)?;
+    push_closings(out, spans)
 }
 
-/// Adds what can be selected around a position of a text, as an item of the result of `textDocument/selectionRange`. If there is nothing, that is the
-/// empty text.
+/// Appends the selection range of a position, as an item of the result of `textDocument/selectionRange`. An empty text has the empty range.
 ///
 /// # Errors
 ///
 /// If memory was refused. A part of the item may have been added then.
 #[tactic(auto, unfolding(crate::specs::Selections::selection))]
-pub(crate) fn add_selection(
+pub(crate) fn push_selection(
     alloc: Global,
     out: &mut Vec<u8>,
     encoding: Encoding,
@@ -262,7 +261,7 @@ pub(crate) fn add_selection(
             from: 0,
             to: text.len(),
         };
-        return add_chain(out, encoding, text, &[whole]);
+        return push_chain(out, encoding, text, &[whole]);
     }
-    add_chain(out, encoding, text, spans.as_slice())
+    push_chain(out, encoding, text, spans.as_slice())
 }

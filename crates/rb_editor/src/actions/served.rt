@@ -10,8 +10,8 @@ use crate::actions::above::above;
 use crate::actions::bounded::Bounded;
 use crate::actions::diagnostic::Diagnostic;
 use crate::actions::document::AskedDocument;
-use crate::actions::findings::{or_first, refused};
-use crate::actions::stopping::{BoundedFindings, KeptRun, of_text};
+use crate::actions::findings::{fault_diagnostic, line_or_first};
+use crate::actions::stopping::{BoundedFindings, KeptRun, diagnostics_of_text};
 use crate::offers::begun_lines;
 use rb_lsp::server::Query;
 use rb_report::check::{Table, fault_line};
@@ -38,7 +38,7 @@ fn block_line(alloc: Global, line: usize, text: &[u8]) -> Result<usize, AllocErr
     Ok(line.saturating_sub(begun_lines(&lines)))
 }
 
-// Gives the text above the block with this fault; all of it if there is none.
+// The text above the block with a fault; all of it if there is no fault.
 fn above_fault<'t>(
     alloc: Global,
     text: &'t [u8],
@@ -50,13 +50,13 @@ fn above_fault<'t>(
     match fault {
         None => Ok(text),
         Some(fault) => {
-            let line = block_line(alloc, or_first(fault_line(fault)), text)?;
+            let line = block_line(alloc, line_or_first(fault_line(fault)), text)?;
             Ok(above(text, line))
         }
     }
 }
 
-/// Gives the text that is served.
+/// The text that is served: all of it, or the text above the block with the first fault.
 ///
 /// # Errors
 ///
@@ -91,8 +91,8 @@ pub(crate) fn text_for(alloc: Global, asked: Query, text: &[u8]) -> Result<&[u8]
     }
 }
 
-// Adds the mark of a fault, if there is one.
-fn add_mark(
+// Appends the diagnostic of a fault, if there is one.
+fn push_mark(
     alloc: Global,
     list: &mut Vec<Diagnostic>,
     fault: Option<ScriptFault>,
@@ -101,17 +101,17 @@ fn add_mark(
 {
     match fault {
         None => Ok(()),
-        Some(fault) => Ok(list.push(refused(alloc, fault)?)?),
+        Some(fault) => Ok(list.push(fault_diagnostic(alloc, fault)?)?),
     }
 }
 
-/// Makes the diagnostics of the text of a document, as far as one fresh run of it goes: those of the text that is served, and the mark of the fault.
+/// The diagnostics of a document's text, as far as one fresh run of it goes: those of the text that is served, and that of the fault.
 ///
 /// # Errors
 ///
 /// If memory was refused.
 #[tactic(auto, using(crate::proofs::ServedLaws::shown_by, crate::proofs::ServedLaws::may_stop_by))]
-pub(crate) fn shown<M: Bounded>(
+pub(crate) fn diagnostics_of_served<M: Bounded>(
     alloc: Global,
     document: AskedDocument<'_, '_>,
     table: &mut Table,
@@ -128,7 +128,7 @@ pub(crate) fn shown<M: Bounded>(
         uri: document.uri,
         text: above_fault(alloc, document.text, fault)?,
     };
-    let mut found = of_text(alloc, front, table, kept, meter)?;
-    add_mark(alloc, &mut found.list, fault)?;
+    let mut found = diagnostics_of_text(alloc, front, table, kept, meter)?;
+    push_mark(alloc, &mut found.list, fault)?;
     Ok(found)
 }

@@ -1,4 +1,4 @@
-//! The lines of a script's blocks.
+//! Where each block of a script is in its text: its head, its separator, its expectation.
 
 ghost use Rattle.std.specs.Prelude.{◌≡◌, ◌≢◌, ◌≤◌, ◌<◌, ◌^◌, ◌-◌, length, drop, slice_get, IfOk, IfSome, OnOk, Some};
 ghost use Rattle.rb_script.specs.declared.fault.ScriptFault.TheVariants.{OutOfMemory};
@@ -25,8 +25,8 @@ pub struct BlockLines {
 /// The lines that mark the double form of an expectation: one above it, and two after it.
 const DOUBLE_LINES: usize = 3;
 
-// Finds the line after the head that begins on a line.
-fn behind_head(text: &Lines, from: usize) -> usize
+// The line after the head that begins on a line.
+fn after_head(text: &Lines, from: usize) -> usize
     requires { from ≤ length text.now }
     ensures value { result ≡ behind_head text.now from }
     ensures within { result ≤ length text.now }
@@ -41,14 +41,14 @@ fn behind_head(text: &Lines, from: usize) -> usize
     count
 }
 
-/// Whether there is a line after this many, and it is `----`.
+/// Whether the line at this index is `----`.
 pub fn begins_rule(text: &Lines, below: usize) -> bool
     ensures { result ≡ begins_rule (drop below text.now) }
 {
     below < text.len() && is_rule(text.line(below))
 }
 
-// Counts the lines that mark the form of the expectation that begins on a line.
+// How many lines mark the form of the expectation that begins on a line: two for the double form, else none.
 fn mark_lines(text: &Lines, below: usize) -> usize
     ensures { result ≡ mark_lines text.now below }
 {
@@ -63,13 +63,13 @@ impl BlockLines {
     ghost use Rattle.std.specs.Prelude.{◌≡◌};
     ghost use Rattle.rb_editor.specs.BlockLines.{StandsIn, block_lines};
 
-    /// Finds the lines of a block whose head begins on this line, counted from 1.
+    /// The lines of a block whose head begins on this line, counted from 1.
     pub fn of_block(text: &Lines, head: usize, block: &Block) -> BlockLines
         requires { StandsIn text.now head block.now }
         ensures { result ≡ block_lines text.now head block.now }
     {
         let from = head - 1;
-        let body = behind_head(text, from);
+        let body = after_head(text, from);
         let below = body + block.directive().inputs() + 1;
         let end = below + block.expected().len() + mark_lines(text, below);
         BlockLines {
@@ -107,7 +107,7 @@ pub(crate) fn all_lines(
     Ok(all)
 }
 
-// Says that the bytes were refused, or fails if memory was.
+// Fails if memory was refused. Any other fault says that the bytes aren't a script.
 fn refused(fault: ScriptFault) -> Result<(), AllocError>
     ensures { OnOk result (fault ≢ OutOfMemory) }
 {
@@ -117,7 +117,7 @@ fn refused(fault: ScriptFault) -> Result<(), AllocError>
     }
 }
 
-/// Reads the bytes as a script, if they are one.
+/// The script that the bytes are, if they are one.
 pub(crate) fn script_of(alloc: Global, bytes: &[u8]) -> Result<Option<Script>, AllocError>
     ensures value { IfOk result (λ found. found ≡ script_of bytes.now) }
     ensures reads { IfOk result (λ found. IfSome found (λ s. Reads bytes.now s)) }

@@ -1,4 +1,4 @@
-//! What a text can continue with at a place.
+//! Completion: what a text can continue with at an offset.
 
 ghost use Rattle.std.specs.Prelude.{◌≡◌, ◌≤◌, ◌++◌, [], IfOk, OnOk, drop, length};
 ghost use Rattle.rb_lsp.specs.declared.document.limits.TheConstants.{MAX_TEXT};
@@ -8,16 +8,16 @@ ghost use Rattle.rb_editor.specs.Ids.{id_offers};
 ghost use Rattle.rb_editor.specs.Offers.{offers};
 ghost use Rattle.rb_editor.specs.Texts.{list_text, listed};
 
-use crate::offers::ids::{add_changes, add_ids, change_wanted};
+use crate::offers::ids::{change_wanted, push_changes, push_ids};
 use crate::offers::offer::{Offer, OfferKind, offers};
 use crate::offers::place::CompletionPlace;
 use crate::offers::symbols::line_at;
 use crate::offers::unfinished::{UnfinishedWord, wanted_of};
-use crate::offers::writing::add_range;
+use crate::offers::writing::push_range;
 use rb_lsp::document::{Position, position_of};
 use rb_lsp::server::Client;
 use rb_script::{Lines, is_blank, lines_of};
-use rb_text::{Json, Piece, add_pieces};
+use rb_text::{Json, Piece, push_pieces};
 use std::alloc::{AllocError, Global};
 
 /// Where words are put: in place of the text between two positions. A name has its block there if nothing is behind it.
@@ -39,7 +39,7 @@ fn kind_number(kind: OfferKind) -> u64
     }
 }
 
-// The mark after a word.
+// What a word is followed by: `=` after a key.
 fn mark(kind: OfferKind) -> &'static [u8]
     ensures { result.now ≡ mark kind }
 {
@@ -49,12 +49,12 @@ fn mark(kind: OfferKind) -> &'static [u8]
     }
 }
 
-// Adds an item up to the range of its edit.
+// Appends an item up to the range that it replaces.
 #[tactic(auto, unfolding(crate::specs::Completion::front_text))]
-fn add_front(out: &mut Vec<u8>, offer: &Offer) -> Result<(), AllocError>
+fn push_item_front(out: &mut Vec<u8>, offer: &Offer) -> Result<(), AllocError>
     ensures { OnOk result (out.new.items ≡ out.old.items ++ front_text offer.now) }
 {
-    add_pieces(
+    push_pieces(
         out,
         &[
             Piece::Bytes(b"{\"label\":\""),
@@ -69,7 +69,7 @@ fn add_front(out: &mut Vec<u8>, offer: &Offer) -> Result<(), AllocError>
     )
 }
 
-// The end of an item. A name may come with the line `----` and an empty line below it, as a snippet.
+// The end of an item. A name that begins a block ends with its `----` and an empty line, as a snippet.
 fn end_text(has_block: bool, kind: OfferKind) -> &'static [u8]
     ensures { result.now ≡ end_text has_block kind }
 {
@@ -79,12 +79,12 @@ fn end_text(has_block: bool, kind: OfferKind) -> &'static [u8]
     }
 }
 
-// Adds the rest of an item.
+// Appends an item after the range that it replaces.
 #[tactic(auto, unfolding(crate::specs::Completion::back_text))]
-fn add_back(out: &mut Vec<u8>, has_block: bool, offer: &Offer) -> Result<(), AllocError>
+fn push_item_back(out: &mut Vec<u8>, has_block: bool, offer: &Offer) -> Result<(), AllocError>
     ensures { OnOk result (out.new.items ≡ out.old.items ++ back_text has_block offer.now) }
 {
-    add_pieces(
+    push_pieces(
         out,
         &[
             Piece::Bytes(b",\"newText\":\""),
@@ -95,25 +95,25 @@ fn add_back(out: &mut Vec<u8>, has_block: bool, offer: &Offer) -> Result<(), All
     )
 }
 
-// Adds an item: a word in a place.
+// Appends an offered word as an item.
 #[tactic(auto, unfolding(crate::specs::Completion::item_text))]
-fn add_item(out: &mut Vec<u8>, place: ItemPlace, offer: &Offer) -> Result<(), AllocError>
+fn push_item(out: &mut Vec<u8>, place: ItemPlace, offer: &Offer) -> Result<(), AllocError>
     ensures { OnOk result (out.new.items ≡ out.old.items ++ item_text place offer.now) }
 {
-    add_front(out, offer)?;
-    add_range(out, place.start, place.end)?;
-    add_back(out, place.has_block, offer)?;
+    push_item_front(out, offer)?;
+    push_range(out, place.start, place.end)?;
+    push_item_back(out, place.has_block, offer)?;
     Ok(())
 }
 
-// Adds the items, separated by commas, and the end of the list.
-fn add_all(out: &mut Vec<u8>, place: ItemPlace, list: &[Offer]) -> Result<(), AllocError>
+// Appends offers with commas between them, and the end of their list.
+fn push_each_item(out: &mut Vec<u8>, place: ItemPlace, list: &[Offer]) -> Result<(), AllocError>
     ensures { OnOk result (out.new.items ≡ out.old.items ++ listed (item_text place) [] list.now) }
 {
     let mut lead: &[u8] = b"";
     for offer in list {
         out.extend_from_slice(lead)?;
-        add_item(out, place, offer)?;
+        push_item(out, place, offer)?;
         lead = b",";
     }
     out.extend_from_slice(b"]")?;
@@ -128,7 +128,7 @@ fn is_blank_at(index: usize, _text: &[u8], all: &Lines) -> bool
     is_blank(line_at(all, index))
 }
 
-// Whether a name at an offset has its block: the client takes snippets, and nothing is behind it, nor on the line below.
+// Whether a name is offered with its `----`: the client takes snippets, and nothing follows on the line or the next one.
 fn has_block(alloc: Global, client: Client, text: &[u8], at: usize) -> Result<bool, AllocError>
     requires { at ≤ length text.now }
     ensures { IfOk result (λ has. has ≡ has_block client text.now at) }
@@ -141,7 +141,7 @@ fn has_block(alloc: Global, client: Client, text: &[u8], at: usize) -> Result<bo
     Ok(is_blank_at(0, below, &all) && is_blank_at(1, below, &all))
 }
 
-// Gives the place of a prefix that ends at an offset.
+// What the items replace: a prefix that ends at an offset.
 fn items_place(
     alloc: Global,
     client: Client,
@@ -161,16 +161,16 @@ fn items_place(
     })
 }
 
-// Adds words, each in a place.
+// Appends offers as a list of items.
 #[tactic(auto, unfolding(crate::specs::Texts::list_text))]
-fn add_items(out: &mut Vec<u8>, place: ItemPlace, list: &[Offer]) -> Result<(), AllocError>
+fn push_items(out: &mut Vec<u8>, place: ItemPlace, list: &[Offer]) -> Result<(), AllocError>
     ensures { OnOk result (out.new.items ≡ out.old.items ++ list_text (item_text place) list.now) }
 {
     out.extend_from_slice(b"[")?;
-    add_all(out, place, list)
+    push_each_item(out, place, list)
 }
 
-// Finds the words that a head can continue with, in a cluster with this many nodes.
+// The words that a head can continue with, in a cluster with this many nodes.
 fn head_offers(
     alloc: Global,
     head: &[u8],
@@ -180,7 +180,7 @@ fn head_offers(
     ensures { IfOk result (λ list. list.items ≡ offers head.now wanted.now ++ id_offers nodes head.now wanted.now) }
 {
     let mut list = offers(alloc, head, wanted)?;
-    add_ids(&mut list, nodes, head, wanted)?;
+    push_ids(&mut list, nodes, head, wanted)?;
     Ok(list)
 }
 
@@ -191,7 +191,7 @@ fn head_offers(
 ///
 /// If memory was refused. A part of the result may have been added then.
 #[tactic(auto, unfolding(crate::specs::Completion::completion, crate::specs::Completion::of_head, crate::specs::Completion::of_change))]
-pub fn add_completion(
+pub fn push_completion(
     alloc: Global,
     out: &mut Vec<u8>,
     client: Client,
@@ -207,14 +207,14 @@ pub fn add_completion(
         let wanted = wanted_of(head.as_slice());
         let list = head_offers(alloc, head.as_slice(), &wanted, nodes)?;
         let at = items_place(alloc, client, text, place.at, wanted.prefix)?;
-        return add_items(out, at, list.as_slice());
+        return push_items(out, at, list.as_slice());
     }
     let Some(front) = &place.change else {
         return out.extend_from_slice(b"[]");
     };
     let wanted = change_wanted(front.as_slice());
     let mut list = Vec::new(alloc);
-    add_changes(&mut list, nodes, front.as_slice())?;
+    push_changes(&mut list, nodes, front.as_slice())?;
     let at = items_place(alloc, client, text, place.at, wanted.prefix)?;
-    add_items(out, at, list.as_slice())
+    push_items(out, at, list.as_slice())
 }

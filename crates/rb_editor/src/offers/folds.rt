@@ -10,10 +10,10 @@ ghost use Rattle.rb_editor.specs.Texts.{listed};
 use crate::offers::block_lines::{BlockLines, blocks_of};
 use crate::offers::writing::start_of;
 use rb_lsp::document::{Encoding, LineTable, Position};
-use rb_text::{Piece, add_pieces};
+use rb_text::{Piece, push_pieces};
 use std::alloc::{AllocError, Global};
 
-// Finds the line that ends at a position.
+// The last line before a position: the line above if it is at the beginning of a line.
 fn ended_line(position: Position) -> u64
     ensures { result ≡ ended_line position }
 {
@@ -24,12 +24,12 @@ fn ended_line(position: Position) -> u64
     }
 }
 
-// Adds a fold of an editor's lines.
+// Appends a fold from one line to another, counted as the editor does.
 #[tactic(auto, unfolding(crate::specs::Folds::lines_text))]
-fn add_lines(out: &mut Vec<u8>, first: u64, last: u64) -> Result<(), AllocError>
+fn push_line_range(out: &mut Vec<u8>, first: u64, last: u64) -> Result<(), AllocError>
     ensures { OnOk result (out.new.items ≡ out.old.items ++ lines_text first last) }
 {
-    add_pieces(
+    push_pieces(
         out,
         &[
             Piece::Bytes(b"{\"startLine\":"),
@@ -41,8 +41,8 @@ fn add_lines(out: &mut Vec<u8>, first: u64, last: u64) -> Result<(), AllocError>
     )
 }
 
-// Adds the fold of a script's lines from one up to the one before another.
-fn add_fold(
+// Appends the fold of the lines from `from` up to, but without, `end`.
+fn push_fold(
     out: &mut Vec<u8>,
     text: &[u8],
     table: &LineTable,
@@ -54,12 +54,12 @@ fn add_fold(
 {
     let start = start_of(Encoding::Utf8, text, table, from);
     let stop = start_of(Encoding::Utf8, text, table, end);
-    add_lines(out, start.line, ended_line(stop))
+    push_line_range(out, start.line, ended_line(stop))
 }
 
 // Adds the fold of a block's expectation, if that has more than one line.
 #[tactic(auto, unfolding(crate::specs::Folds::expectation_fold))]
-fn add_expectation(
+fn push_expectation(
     out: &mut Vec<u8>,
     text: &[u8],
     table: &LineTable,
@@ -72,12 +72,12 @@ fn add_expectation(
         return Ok(());
     }
     out.extend_from_slice(b",")?;
-    add_fold(out, text, table, block.below, block.end)
+    push_fold(out, text, table, block.below, block.end)
 }
 
 // Adds the folds of a block.
 #[tactic(auto, unfolding(crate::specs::Folds::block_folds))]
-fn add_block(
+fn push_block(
     out: &mut Vec<u8>,
     text: &[u8],
     table: &LineTable,
@@ -86,12 +86,12 @@ fn add_block(
     requires { IsTable Utf8 text.now table.now }
     ensures { OnOk result (out.new.items ≡ out.old.items ++ block_folds text.now block) }
 {
-    add_fold(out, text, table, block.from, block.end)?;
-    add_expectation(out, text, table, block)
+    push_fold(out, text, table, block.from, block.end)?;
+    push_expectation(out, text, table, block)
 }
 
-// Adds the folds of the blocks, separated by commas.
-fn add_all(
+// Appends the folds of blocks with commas between them, and the end of the list.
+fn push_each_block(
     out: &mut Vec<u8>,
     text: &[u8],
     table: &LineTable,
@@ -103,7 +103,7 @@ fn add_all(
     let mut lead: &[u8] = b"";
     for block in blocks {
         out.extend_from_slice(lead)?;
-        add_block(out, text, table, *block)?;
+        push_block(out, text, table, *block)?;
         lead = b",";
     }
     out.extend_from_slice(b"]")?;
@@ -116,12 +116,12 @@ fn add_all(
 ///
 /// If memory was refused. A part of the result may have been added then.
 #[tactic(auto, unfolding(crate::specs::Folds::folds, crate::specs::Texts::list_text))]
-pub fn add_folds(alloc: Global, out: &mut Vec<u8>, text: &[u8]) -> Result<(), AllocError>
+pub fn push_folds(alloc: Global, out: &mut Vec<u8>, text: &[u8]) -> Result<(), AllocError>
     requires { length text.now ≤ MAX_TEXT }
     ensures { OnOk result (out.new.items ≡ out.old.items ++ folds text.now) }
 {
     let blocks = blocks_of(alloc, text)?;
     let table = LineTable::new(alloc, Encoding::Utf8, text)?;
     out.extend_from_slice(b"[")?;
-    add_all(out, text, &table, blocks.as_slice())
+    push_each_block(out, text, &table, blocks.as_slice())
 }

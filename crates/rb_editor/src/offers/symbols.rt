@@ -8,17 +8,17 @@ ghost use Rattle.rb_editor.specs.Symbols.{first_characters, name_of, name_text, 
 ghost use Rattle.rb_editor.specs.Texts.{listed};
 
 use crate::offers::block_lines::{BlockLines, blocks_of};
-use crate::offers::writing::{add_range, start_of};
+use crate::offers::writing::{push_range, start_of};
 use rb_lsp::document::{Encoding, LineTable, Position, is_within};
 use rb_report::check::shown_name;
 use rb_script::{Lines, lines_of, trim_blanks};
-use rb_text::{Json, Piece, add_pieces};
+use rb_text::{Json, Piece, push_pieces};
 use std::alloc::{AllocError, Global};
 
 /// The most characters of a head's first line that the name of a symbol has.
 pub const MAX_NAME: usize = 80;
 
-// Cuts bytes in UTF-8 after their first characters.
+// The first `most` characters of a text in UTF-8.
 fn first_characters(most: usize, bytes: &[u8]) -> &[u8]
     ensures { result.now ≡ first_characters most bytes.now }
 {
@@ -41,20 +41,20 @@ pub(crate) fn line_at(text: &Lines, n: usize) -> &[u8]
     if n < text.len() { text.line(n) } else { b"" }
 }
 
-// Gives the name of the directive whose head begins on a line.
+// The name of a directive's symbol: the first characters of the line on which its head begins.
 fn name_of(text: &Lines, from: usize) -> &[u8]
     ensures { result.now ≡ name_of text.now from }
 {
     first_characters(MAX_NAME, trim_blanks(line_at(text, from)))
 }
 
-// Adds the name, in which nothing acts, and the kind of the symbol of a block whose head begins on a line.
+// Appends the name and the kind of a symbol. Control characters in the name are shown by numbers.
 #[tactic(auto, unfolding(crate::specs::Symbols::name_text))]
-fn add_name(out: &mut Vec<u8>, text_lines: &Lines, from: usize) -> Result<(), AllocError>
+fn push_name(out: &mut Vec<u8>, text_lines: &Lines, from: usize) -> Result<(), AllocError>
     ensures { OnOk result (out.new.items ≡ out.old.items ++ name_text text_lines.now from) }
 {
     let name = shown_name(*out.allocator(), name_of(text_lines, from))?;
-    add_pieces(
+    push_pieces(
         out,
         &[
             Piece::Bytes(b"{\"name\":\""),
@@ -64,9 +64,9 @@ fn add_name(out: &mut Vec<u8>, text_lines: &Lines, from: usize) -> Result<(), Al
     )
 }
 
-// Adds the symbol of a block whose head begins on a line, between these positions.
+// Appends the symbol of a block: its name, the range of the block, and that of its head.
 #[tactic(auto, unfolding(crate::specs::Symbols::symbol_at))]
-fn add_symbol_at(
+fn push_symbol_at(
     out: &mut Vec<u8>,
     text_lines: &Lines,
     from: usize,
@@ -76,16 +76,16 @@ fn add_symbol_at(
 ) -> Result<(), AllocError>
     ensures { OnOk result (out.new.items ≡ out.old.items ++ symbol_at text_lines.now from start behind_head end) }
 {
-    add_name(out, text_lines, from)?;
-    add_range(out, start, end)?;
+    push_name(out, text_lines, from)?;
+    push_range(out, start, end)?;
     out.extend_from_slice(b",\"selectionRange\":")?;
-    add_range(out, start, behind_head)?;
+    push_range(out, start, behind_head)?;
     out.extend_from_slice(b"}")?;
     Ok(())
 }
 
 // Adds the symbol of a block.
-fn add_symbol(
+fn push_symbol(
     out: &mut Vec<u8>,
     encoding: Encoding,
     text: &[u8],
@@ -100,11 +100,11 @@ fn add_symbol(
     let start = start_of(encoding, text, table, block.from);
     let behind_head = start_of(encoding, text, table, block.body);
     let end = start_of(encoding, text, table, block.end);
-    add_symbol_at(out, text_lines, block.from, start, behind_head, end)
+    push_symbol_at(out, text_lines, block.from, start, behind_head, end)
 }
 
-// Adds the symbols of the blocks, separated by commas.
-fn add_all(
+// Appends symbols with commas between them, and the end of their list.
+fn push_each_symbol(
     out: &mut Vec<u8>,
     encoding: Encoding,
     text: &[u8],
@@ -119,7 +119,7 @@ fn add_all(
     let mut lead: &[u8] = b"";
     for block in blocks {
         out.extend_from_slice(lead)?;
-        add_symbol(out, encoding, text, text_lines, table, *block)?;
+        push_symbol(out, encoding, text, text_lines, table, *block)?;
         lead = b",";
     }
     out.extend_from_slice(b"]")?;
@@ -132,7 +132,7 @@ fn add_all(
 ///
 /// If memory was refused. A part of the result may have been added then.
 #[tactic(auto, unfolding(crate::specs::Symbols::symbols, crate::specs::Texts::list_text))]
-pub fn add_symbols(
+pub fn push_symbols(
     alloc: Global,
     out: &mut Vec<u8>,
     encoding: Encoding,
@@ -145,5 +145,5 @@ pub fn add_symbols(
     let text_lines = lines_of(alloc, text)?;
     let table = LineTable::new(alloc, encoding, text)?;
     out.extend_from_slice(b"[")?;
-    add_all(out, encoding, text, &text_lines, &table, blocks.as_slice())
+    push_each_symbol(out, encoding, text, &text_lines, &table, blocks.as_slice())
 }

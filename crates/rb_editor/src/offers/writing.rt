@@ -5,15 +5,15 @@ ghost use Rattle.rb_lsp.specs.Tables.{IsTable, start_of};
 ghost use Rattle.rb_editor.specs.Texts.{position_text, range_member, range_text};
 
 use rb_lsp::document::{Encoding, LineTable, Position};
-use rb_text::{Piece, add_pieces};
+use rb_text::{Piece, push_pieces};
 use std::alloc::AllocError;
 
-/// Adds a position.
+/// Appends a position as JSON.
 #[tactic(auto, unfolding(crate::specs::Texts::position_text))]
-pub(crate) fn add_position(out: &mut Vec<u8>, position: Position) -> Result<(), AllocError>
+pub(crate) fn push_position(out: &mut Vec<u8>, position: Position) -> Result<(), AllocError>
     ensures { OnOk result (out.new.items ≡ out.old.items ++ position_text position) }
 {
-    add_pieces(
+    push_pieces(
         out,
         &[
             Piece::Bytes(b"{\"line\":"),
@@ -25,33 +25,41 @@ pub(crate) fn add_position(out: &mut Vec<u8>, position: Position) -> Result<(), 
     )
 }
 
-/// Adds the range between two positions.
+/// Appends a range as JSON.
 #[tactic(auto, unfolding(crate::specs::Texts::range_text))]
-pub(crate) fn add_range(out: &mut Vec<u8>, start: Position, end: Position) -> Result<(), AllocError>
+pub(crate) fn push_range(
+    out: &mut Vec<u8>,
+    start: Position,
+    end: Position,
+) -> Result<(), AllocError>
     ensures { OnOk result (out.new.items ≡ out.old.items ++ range_text start end) }
 {
     out.extend_from_slice(b"{\"start\":")?;
-    add_position(out, start)?;
+    push_position(out, start)?;
     out.extend_from_slice(b",\"end\":")?;
-    add_position(out, end)?;
+    push_position(out, end)?;
     out.extend_from_slice(b"}")?;
     Ok(())
 }
 
-/// Adds the beginning of an object whose first member is the range between two positions.
+/// Appends the beginning of an object whose first member is a range.
 ///
 /// # Errors
 ///
 /// If memory was refused. A part of it may have been added then.
 #[tactic(auto, unfolding(crate::specs::Texts::range_member))]
-pub fn add_range_member(out: &mut Vec<u8>, start: Position, end: Position) -> Result<(), AllocError>
+pub fn push_range_member(
+    out: &mut Vec<u8>,
+    start: Position,
+    end: Position,
+) -> Result<(), AllocError>
     ensures { OnOk result (out.new.items ≡ out.old.items ++ range_member start end) }
 {
     out.extend_from_slice(b"{\"range\":")?;
-    add_range(out, start, end)
+    push_range(out, start, end)
 }
 
-/// Finds where a line of a text begins, by the table of its lines.
+/// The position at which a line begins.
 pub(crate) fn start_of(_encoding: Encoding, _text: &[u8], table: &LineTable, n: usize) -> Position
     requires { IsTable _encoding _text.now table.now }
     ensures { result ≡ start_of _encoding n _text.now }

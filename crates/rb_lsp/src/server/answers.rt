@@ -17,7 +17,7 @@ use crate::server::documents::Documents;
 use crate::server::method::Method;
 use crate::server::outgoing::{OutgoingText, framed_answer};
 use crate::server::phase::Phase;
-use crate::server::question::question_told;
+use crate::server::question::answer_question;
 use crate::server::reach::Reach;
 use crate::server::request::ClientRequest;
 use crate::server::service::Service;
@@ -112,7 +112,7 @@ pub(crate) fn answer_told<V: Service>(
     ensures cancelled { IfOk result (λ told. IsCancelled (view request.now.id.now) (waiting request.now.reader.now) → told.out.items ≡ frame (body_in V.meaning (undone told.reach) documents.old phase method (option_map (λ v. view v.now) request.now.params) (view request.now.id.now))) }
 {
     match (phase, method) {
-        (Phase::Running(client), Method::Asks(question)) => question_told(
+        (Phase::Running(client), Method::Asks(question)) => answer_question(
             alloc, service, documents, client, question, request,
         ),
         _ => Ok(OutgoingText::whole(own_answer(alloc, phase, method, request.params, request.id)?)),

@@ -143,7 +143,7 @@ impl<K: Drop> Documents<K> {
     }
 
     /// Keeps the document of this version under this URI, if there is one, and room for it.
-    pub(crate) fn keep(
+    pub(crate) fn insert(
         &mut self,
         uri: &[u8],
         version: Option<u64>,

@@ -25,7 +25,7 @@ use crate::server::report::report;
 use crate::server::request::{ClientRequest, DocumentRequest};
 use crate::server::selection::selected;
 use crate::server::service::{DocumentQuery, Service};
-use rb_text::{Piece, add_pieces};
+use rb_text::{Piece, push_pieces};
 use serde_json::Value;
 use std::alloc::{AllocError, Global};
 
@@ -102,12 +102,12 @@ fn cancelled_for(alloc: Global, id: &Value) -> Result<OutgoingText, AllocError>
 }
 
 /// Adds the beginning of an answer, up to its result.
-pub(crate) fn add_front(alloc: Global, out: &mut Vec<u8>, id: &Value) -> Result<(), AllocError>
+pub(crate) fn push_front(alloc: Global, out: &mut Vec<u8>, id: &Value) -> Result<(), AllocError>
     requires { has_float (view id.now) ≡ false }
     ensures { OnOk result (out.new.items ≡ out.old.items ++ answer_front (view id.now)) }
 {
     let text = text_of(alloc, id)?;
-    add_pieces(
+    push_pieces(
         out,
         &[
             Piece::Bytes(b"{\"id\":"),
@@ -140,8 +140,8 @@ fn queried<V: Service>(
         text,
     };
     let mut body = Vec::new(alloc);
-    add_front(alloc, &mut body, request.id)?;
-    let stop = service.add_answer(asked, kept, &mut body)?;
+    push_front(alloc, &mut body, request.id)?;
+    let stop = service.push_answer(asked, kept, &mut body)?;
     if let Some(stop) = stop {
         return Ok(OutgoingText {
             out: stopped_for(alloc, request.id)?,
@@ -153,7 +153,7 @@ fn queried<V: Service>(
 }
 
 // Makes the answer about an open document.
-fn answered<V: Service>(
+fn answer_inquiry<V: Service>(
     alloc: Global,
     service: &mut V,
     request: &DocumentRequest<'_>,
@@ -184,7 +184,7 @@ fn unless_cancelled<V: Service>(
     requires plain { has_float (view request.now.id.now) ≡ false }
     requires bounded { length text.now ≤ MAX_TEXT }
     ensures said { IfOk result (λ told. told.out.items ≡ frame (text_by V.meaning told.reach request.now.client (inquiry_of request.now.inquiry) request.now.uri.now (view request.now.id.now) text.now)) }
-    // It is left undone as stopped only if it needs the run of the text, and that may stop there.
+    // It is refused as stopped only if it needs a run that may stop there.
     ensures stops { IfOk result (λ told. can_reach V.meaning (inquiry_run V.meaning (inquiry_of request.now.inquiry) (Some text.now)) told.reach ≡ true) }
     // It isn't done exactly if it is cancelled.
     ensures cancelled { IfOk result (λ told. told.reach ≡ Reach.Cancelled ↔ IsCancelled (view request.now.id.now) (waiting request.now.reader.now)) }
@@ -193,12 +193,12 @@ fn unless_cancelled<V: Service>(
     if request.reader.has_cancel(alloc, id.as_bytes())? {
         return cancelled_for(alloc, request.id);
     }
-    answered(alloc, service, request, text, kept)
+    answer_inquiry(alloc, service, request, text, kept)
 }
 
 // Makes the answer about an open document, or the error that the request was cancelled, or that memory was refused. If that was refused for a report,
 // drops what the service kept of the document first, so that there is memory to say so.
-fn of_text<V: Service>(
+fn answer_of_text<V: Service>(
     alloc: Global,
     service: &mut V,
     request: &DocumentRequest<'_>,
@@ -227,7 +227,7 @@ fn of_text<V: Service>(
 }
 
 // The answer to a request about the document with this URI.
-fn of_document<V: Service>(
+fn answer_of_document<V: Service>(
     alloc: Global,
     service: &mut V,
     documents: &mut Documents<V::Kept>,
@@ -242,7 +242,7 @@ fn of_document<V: Service>(
 {
     let mut kept = documents.take_kept(request.uri, service.nothing());
     let told = match documents.text(request.uri) {
-        Some(text) => of_text(alloc, service, request, text, &mut kept),
+        Some(text) => answer_of_text(alloc, service, request, text, &mut kept),
         None => not_open(alloc, request.id),
     };
     documents.set_kept(request.uri, kept);
@@ -250,7 +250,7 @@ fn of_document<V: Service>(
 }
 
 /// The answer to what is asked of a document, by the method's parameters. It is not done if one of the next messages cancels it, and only then.
-pub(crate) fn question_told<V: Service>(
+pub(crate) fn answer_question<V: Service>(
     alloc: Global,
     service: &mut V,
     documents: &mut Documents<V::Kept>,
@@ -281,5 +281,5 @@ pub(crate) fn question_told<V: Service>(
         id: request.id,
         reader: request.reader,
     };
-    of_document(alloc, service, documents, &asked)
+    answer_of_document(alloc, service, documents, &asked)
 }

@@ -37,7 +37,7 @@ pub trait Service {
 
     /// Adds the diagnostics of the text of a document, and keeps what it found out about the text. Returns where the run of the text stopped, if
     /// it had done [`crate::server::MAX_WORK`].
-    fn add_diagnostics(
+    fn push_diagnostics(
         &mut self,
         client: Client,
         uri: &[u8],
@@ -50,7 +50,7 @@ pub trait Service {
         ensures stops { IfOk result (λ stop. can_reach (meaning) (Some text.now) (reach_of stop) ≡ true) };
 
     /// Adds the result of a query about a document. If it needs a run of the text and that stopped, returns where instead.
-    fn add_answer(
+    fn push_answer(
         &mut self,
         asked: DocumentQuery<'_, '_>,
         kept: &Self::Kept,

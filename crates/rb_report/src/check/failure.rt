@@ -4,7 +4,7 @@ ghost use Rattle.std.specs.Prelude.{◌≡◌, IsOk};
 ghost use Rattle.rb_script.specs.Writes.{Writes};
 ghost use Rattle.rb_report.specs.Failures.{failure_sentence, failure_text};
 
-use crate::check::piece::{ReportPiece, put_pieces};
+use crate::check::piece::{ReportPiece, write_pieces};
 use rb_script::{Sink, WriteFault};
 
 /// Why a path could not be checked.
@@ -60,11 +60,11 @@ pub fn failure_sentence(failure: Failure) -> &'static [u8]
 }
 
 /// Writes why a path could not be checked: `PATH: ` and a sentence. On a failure a beginning of the text was written.
-pub fn put_failure<S: Sink>(sink: &mut S, path: &[u8], failure: Failure) -> Result<(), WriteFault>
+pub fn write_failure<S: Sink>(sink: &mut S, path: &[u8], failure: Failure) -> Result<(), WriteFault>
     ensures wrote { Writes result (S.held sink.old) (S.held sink.new) (failure_text path.now failure) }
     ensures all { S.takes_all sink.old → IsOk result × S.takes_all sink.new }
 {
-    put_pieces(
+    write_pieces(
         sink,
         &[
             ReportPiece::Name(path),

@@ -6,8 +6,8 @@ ghost use Rattle.rb_script.specs.Writes.{Writes};
 ghost use Rattle.rb_report.specs.Heads.{head_text};
 ghost use Rattle.rb_report.specs.Headings.{heading_text};
 
-use crate::check::head::put_head;
-use crate::check::piece::{ReportPiece, put_pieces};
+use crate::check::head::write_head;
+use crate::check::piece::{ReportPiece, write_pieces};
 use rb_script::{DirectiveRef, Sink, WriteFault};
 
 /// A line of a file.
@@ -20,7 +20,7 @@ pub struct FileLine<'a> {
 }
 
 /// Writes the place of a directive, and its head.
-pub(crate) fn put_heading<'a, S: Sink>(
+pub(crate) fn write_heading<'a, S: Sink>(
     sink: &mut S,
     place: FileLine<'a>,
     directive: &DirectiveRef<'a>,
@@ -28,7 +28,7 @@ pub(crate) fn put_heading<'a, S: Sink>(
     ensures wrote { Writes result (S.held sink.old) (S.held sink.new) (heading_text place.entry.path.now place.entry.line (head_text (plain directive.now))) }
     ensures all { S.takes_all sink.old → IsOk result × S.takes_all sink.new }
 {
-    put_pieces(
+    write_pieces(
         sink,
         &[
             ReportPiece::Name(place.path),
@@ -37,5 +37,5 @@ pub(crate) fn put_heading<'a, S: Sink>(
             ReportPiece::Bytes(b": "),
         ],
     )?;
-    put_head(sink, directive)
+    write_head(sink, directive)
 }

@@ -1,14 +1,14 @@
-//! Common lines, of which many are folded.
+//! Equal lines of a diff. If there are many, the middle ones are folded.
 
 ghost use Rattle.std.specs.Prelude.{◌+◌, ◌^◌, ◌<◌, IsOk, length};
 ghost use Rattle.rb_script.specs.Writes.{Writes};
 ghost use Rattle.rb_report.specs.LineRanges.{in_range};
 ghost use Rattle.rb_report.specs.Whys.{reasons_in, told_same};
 
-use crate::check::line::put_explained_lines;
+use crate::check::line::write_explained_lines;
 use crate::check::line_range::LineRange;
 use crate::check::line_view::LineView;
-use crate::check::piece::{ReportPiece, noun, put_pieces};
+use crate::check::piece::{ReportPiece, noun, write_pieces};
 use crate::check::position::DiffPosition;
 use crate::check::side::Side;
 use rb_script::{Sink, WriteFault};
@@ -18,7 +18,7 @@ const KEPT: usize = 3;
 
 /// Writes common lines from a position on, with their reasons. If there are more than six, the first three and the last
 /// three are shown, and how many are between.
-pub(crate) fn put_same<S: Sink>(
+pub(crate) fn write_same<S: Sink>(
     sink: &mut S,
     view: LineView<'_>,
     lines: LineRange<'_>,
@@ -30,11 +30,11 @@ pub(crate) fn put_same<S: Sink>(
 {
     let count = lines.len();
     if count <= 2 * KEPT {
-        return put_explained_lines(sink, view, Side::Both, lines, position);
+        return write_explained_lines(sink, view, Side::Both, lines, position);
     }
     let folded = (count - 2 * KEPT) as u64;
-    put_explained_lines(sink, view, Side::Both, lines.front(KEPT), position)?;
-    put_pieces(
+    write_explained_lines(sink, view, Side::Both, lines.front(KEPT), position)?;
+    write_pieces(
         sink,
         &[
             ReportPiece::Bytes(b"  .. "),
@@ -45,5 +45,5 @@ pub(crate) fn put_same<S: Sink>(
     )?;
     let last = count - KEPT;
     let next = position.after(Side::Both, lines.front(last));
-    put_explained_lines(sink, view, Side::Both, lines.behind(last), next)
+    write_explained_lines(sink, view, Side::Both, lines.behind(last), next)
 }

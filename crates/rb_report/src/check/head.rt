@@ -6,7 +6,7 @@ ghost use Rattle.rb_script.specs.Tokens.{plain};
 ghost use Rattle.rb_script.specs.Writes.{Writes};
 ghost use Rattle.rb_report.specs.Heads.{before_value, listed, values_text, argument_text, arguments_text, head_text};
 
-use crate::check::piece::{ReportPiece, put_pieces};
+use crate::check::piece::{ReportPiece, write_pieces};
 use rb_script::{DirectiveRef, Sink, WriteFault};
 
 // The text before the value at an index.
@@ -17,7 +17,7 @@ fn before_value(index: usize) -> &'static [u8]
 }
 
 // Writes the values of an argument, separated by commas.
-fn put_listed<S: Sink>(
+fn write_listed<S: Sink>(
     sink: &mut S,
     directive: &DirectiveRef<'_>,
     argument: usize,
@@ -27,7 +27,7 @@ fn put_listed<S: Sink>(
     ensures all { S.takes_all sink.old → IsOk result × S.takes_all sink.new }
 {
     for i in 0..directive.values(argument) {
-        put_pieces(
+        write_pieces(
             sink,
             &[
                 ReportPiece::Bytes(before_value(i)),
@@ -39,7 +39,7 @@ fn put_listed<S: Sink>(
 }
 
 // Writes the text after the `=` of an argument.
-fn put_values<S: Sink>(
+fn write_values<S: Sink>(
     sink: &mut S,
     directive: &DirectiveRef<'_>,
     argument: usize,
@@ -49,15 +49,15 @@ fn put_values<S: Sink>(
     ensures all { S.takes_all sink.old → IsOk result × S.takes_all sink.new }
 {
     if directive.values(argument) == 1 {
-        return sink.put(directive.value(argument, 0));
+        return sink.write_all(directive.value(argument, 0));
     }
-    sink.put(b"(")?;
-    put_listed(sink, directive, argument)?;
-    sink.put(b")")
+    sink.write_all(b"(")?;
+    write_listed(sink, directive, argument)?;
+    sink.write_all(b")")
 }
 
 // Writes an argument, after a blank.
-fn put_argument<S: Sink>(
+fn write_argument<S: Sink>(
     sink: &mut S,
     directive: &DirectiveRef<'_>,
     argument: usize,
@@ -68,9 +68,9 @@ fn put_argument<S: Sink>(
 {
     let key = directive.key(argument);
     if !directive.has_equals(argument) {
-        return put_pieces(sink, &[ReportPiece::Bytes(b" "), ReportPiece::Bytes(key)]);
+        return write_pieces(sink, &[ReportPiece::Bytes(b" "), ReportPiece::Bytes(key)]);
     }
-    put_pieces(
+    write_pieces(
         sink,
         &[
             ReportPiece::Bytes(b" "),
@@ -78,25 +78,25 @@ fn put_argument<S: Sink>(
             ReportPiece::Bytes(b"="),
         ],
     )?;
-    put_values(sink, directive, argument)
+    write_values(sink, directive, argument)
 }
 
 // Writes the arguments, each after a blank.
-fn put_arguments<S: Sink>(sink: &mut S, directive: &DirectiveRef<'_>) -> Result<(), WriteFault>
+fn write_arguments<S: Sink>(sink: &mut S, directive: &DirectiveRef<'_>) -> Result<(), WriteFault>
     ensures wrote { Writes result (S.held sink.old) (S.held sink.new) (arguments_text (plain directive.now).args) }
     ensures all { S.takes_all sink.old → IsOk result × S.takes_all sink.new }
 {
     for i in 0..directive.args() {
-        put_argument(sink, directive, i)?;
+        write_argument(sink, directive, i)?;
     }
     Ok(())
 }
 
 /// Writes the name and the arguments. On a failure a beginning of the text was written.
-pub fn put_head<S: Sink>(sink: &mut S, directive: &DirectiveRef<'_>) -> Result<(), WriteFault>
+pub fn write_head<S: Sink>(sink: &mut S, directive: &DirectiveRef<'_>) -> Result<(), WriteFault>
     ensures wrote { Writes result (S.held sink.old) (S.held sink.new) (head_text (plain directive.now)) }
     ensures all { S.takes_all sink.old → IsOk result × S.takes_all sink.new }
 {
-    sink.put(directive.name())?;
-    put_arguments(sink, directive)
+    sink.write_all(directive.name())?;
+    write_arguments(sink, directive)
 }

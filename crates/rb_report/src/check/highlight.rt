@@ -13,14 +13,14 @@ ghost use Rattle.rb_report.specs.Whys.{reasons_in, told_beside, told_paired, tol
 
 use crate::check::colors::Colors;
 use crate::check::end::End;
-use crate::check::line::{end_mark, put_explained_lines, put_line};
+use crate::check::line::{end_mark, write_explained_lines, write_line};
 use crate::check::line_range::LineRange;
 use crate::check::line_view::LineView;
-use crate::check::piece::{ReportPiece, put_pieces};
+use crate::check::piece::{ReportPiece, write_pieces};
 use crate::check::position::DiffPosition;
 use crate::check::side::{Side, after, before};
 use crate::check::steps::{gap_above, indent_of};
-use crate::check::why::{Why, put_reason_on};
+use crate::check::why::{Why, write_reason_on};
 use rb_script::{Sink, WriteFault};
 
 // The byte at an index that counts from this end.
@@ -64,7 +64,7 @@ fn parts_beside<'a>(line: &'a [u8], other: &[u8]) -> (&'a [u8], &'a [u8], &'a [u
 }
 
 // Writes a line, with the part that differs in reverse video if not all of it differs. The last line above it belongs to a delivery or not.
-fn put_beside<S: Sink>(
+fn write_beside<S: Sink>(
     sink: &mut S,
     side: Side,
     delivered: bool,
@@ -76,9 +76,9 @@ fn put_beside<S: Sink>(
 {
     let (front, differs, back) = parts_beside(line, other);
     if differs.len() == line.len() {
-        return put_line(sink, Colors::On, side, delivered, line);
+        return write_line(sink, Colors::On, side, delivered, line);
     }
-    put_pieces(
+    write_pieces(
         sink,
         &[
             ReportPiece::Bytes(gap_above(delivered, line)),
@@ -97,7 +97,7 @@ fn put_beside<S: Sink>(
 }
 
 // Writes a line compared with its counterpart, in its position, and its reason below it.
-fn put_explained_beside<S: Sink>(
+fn write_explained_beside<S: Sink>(
     sink: &mut S,
     side: Side,
     line: &[u8],
@@ -108,12 +108,12 @@ fn put_explained_beside<S: Sink>(
     ensures wrote { Writes result (S.held sink.old) (S.held sink.new) (told_beside side (reasons_in why.entry) position line.now other.now) }
     ensures all { S.takes_all sink.old → IsOk result × S.takes_all sink.new }
 {
-    put_beside(sink, side, position.is_below_delivery(side), line, other)?;
-    put_reason_on(sink, side, why, position)
+    write_beside(sink, side, position.is_below_delivery(side), line, other)?;
+    write_reason_on(sink, side, why, position)
 }
 
 // Writes lines compared with their counterparts from a position on, each with its reason below it.
-fn put_paired<S: Sink>(
+fn write_paired<S: Sink>(
     sink: &mut S,
     side: Side,
     lines: LineRange<'_>,
@@ -129,12 +129,13 @@ fn put_paired<S: Sink>(
     let mut here = position;
     for i in 0..lines.len() {
         let line = lines.line(i);
-        put_explained_beside(sink, side, line, others.line(i), why, here)?;
+        write_explained_beside(sink, side, line, others.line(i), why, here)?;
         here = here.after_line(side, line);
     }
     Ok(())
 }
 
+// Whether lines are compared with their counterparts: with colours, if both sides have as many.
 fn is_paired(colors: Colors, count: usize, other_count: usize) -> bool
     ensures { result ≡ is_paired colors count other_count }
 {
@@ -145,7 +146,7 @@ fn is_paired(colors: Colors, count: usize, other_count: usize) -> bool
 }
 
 /// Writes lines that replace those of the other side from a position on, each with its reason below it.
-pub(crate) fn put_changed<S: Sink>(
+pub(crate) fn write_changed<S: Sink>(
     sink: &mut S,
     view: LineView<'_>,
     side: Side,
@@ -158,7 +159,7 @@ pub(crate) fn put_changed<S: Sink>(
     ensures all { S.takes_all sink.old → IsOk result × S.takes_all sink.new }
 {
     if is_paired(view.colors, lines.len(), others.len()) {
-        return put_paired(sink, side, lines, others, view.why, position);
+        return write_paired(sink, side, lines, others, view.why, position);
     }
-    put_explained_lines(sink, view, side, lines, position)
+    write_explained_lines(sink, view, side, lines, position)
 }

@@ -1,10 +1,10 @@
-//! What was probably meant.
+//! The hint below a mismatch: what was probably meant.
 
 ghost use Rattle.std.specs.Prelude.{IsOk};
 ghost use Rattle.rb_script.specs.Writes.{Writes};
 ghost use Rattle.rb_report.specs.Hints.{hint_text, plain_hint, question, sentence_line};
 
-use crate::check::piece::{ReportPiece, put_pieces};
+use crate::check::piece::{ReportPiece, write_pieces};
 use rb_script::{Sink, WriteFault};
 
 /// What the writer of a directive probably meant.
@@ -18,11 +18,12 @@ pub enum Hint<'a> {
     Sentence(&'a [u8]),
 }
 
-fn put_question<S: Sink>(sink: &mut S, word: &[u8]) -> Result<(), WriteFault>
+// Writes the question whether a word was meant.
+fn write_question<S: Sink>(sink: &mut S, word: &[u8]) -> Result<(), WriteFault>
     ensures wrote { Writes result (S.held sink.old) (S.held sink.new) (question word.now) }
     ensures all { S.takes_all sink.old → IsOk result × S.takes_all sink.new }
 {
-    put_pieces(
+    write_pieces(
         sink,
         &[
             ReportPiece::Bytes(b"did you mean \""),
@@ -32,21 +33,22 @@ fn put_question<S: Sink>(sink: &mut S, word: &[u8]) -> Result<(), WriteFault>
     )
 }
 
-fn put_sentence<S: Sink>(sink: &mut S, text: &[u8]) -> Result<(), WriteFault>
+// Writes a hint's sentence.
+fn write_sentence<S: Sink>(sink: &mut S, text: &[u8]) -> Result<(), WriteFault>
     ensures wrote { Writes result (S.held sink.old) (S.held sink.new) (sentence_line text.now) }
     ensures all { S.takes_all sink.old → IsOk result × S.takes_all sink.new }
 {
-    put_pieces(sink, &[ReportPiece::Bytes(text), ReportPiece::Bytes(b"\n")])
+    write_pieces(sink, &[ReportPiece::Bytes(text), ReportPiece::Bytes(b"\n")])
 }
 
 /// Writes a hint on a line of its own.
-pub(crate) fn put_hint<S: Sink>(sink: &mut S, hint: Hint<'_>) -> Result<(), WriteFault>
+pub(crate) fn write_hint<S: Sink>(sink: &mut S, hint: Hint<'_>) -> Result<(), WriteFault>
     ensures wrote { Writes result (S.held sink.old) (S.held sink.new) (hint_text (plain_hint hint.entry)) }
     ensures all { S.takes_all sink.old → IsOk result × S.takes_all sink.new }
 {
     match hint {
         Hint::Unknown => Ok(()),
-        Hint::Meant(word) => put_question(sink, word),
-        Hint::Sentence(text) => put_sentence(sink, text),
+        Hint::Meant(word) => write_question(sink, word),
+        Hint::Sentence(text) => write_sentence(sink, text),
     }
 }

@@ -6,13 +6,13 @@ ghost use Rattle.rb_script.specs.Writes.{Writes};
 ghost use Rattle.rb_report.specs.Heads.{head_text};
 ghost use Rattle.rb_report.specs.Notices.{left_text};
 
-use crate::check::file_line::{FileLine, put_heading};
-use crate::check::piece::{ReportPiece, put_pieces};
+use crate::check::file_line::{FileLine, write_heading};
+use crate::check::piece::{ReportPiece, write_pieces};
 use rb_script::{DirectiveRef, Sink, WriteFault};
 
 /// Writes that a directive's error was not accepted: `PATH:LINE: HEAD: `, and the error. On a failure a beginning
 /// of the text was written.
-pub fn put_left<S: Sink>(
+pub fn write_left<S: Sink>(
     sink: &mut S,
     place: FileLine<'_>,
     directive: &DirectiveRef<'_>,
@@ -21,8 +21,8 @@ pub fn put_left<S: Sink>(
     ensures wrote { Writes result (S.held sink.old) (S.held sink.new) (left_text place.entry.path.now place.entry.line (head_text (plain directive.now)) error.now) }
     ensures all { S.takes_all sink.old → IsOk result × S.takes_all sink.new }
 {
-    put_heading(sink, place, directive)?;
-    put_pieces(
+    write_heading(sink, place, directive)?;
+    write_pieces(
         sink,
         &[
             ReportPiece::Bytes(b": "),

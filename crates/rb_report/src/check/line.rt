@@ -10,11 +10,11 @@ ghost use Rattle.rb_report.specs.Whys.{reasons_in, told_lines};
 use crate::check::colors::Colors;
 use crate::check::line_range::LineRange;
 use crate::check::line_view::LineView;
-use crate::check::piece::{ReportPiece, put_pieces};
+use crate::check::piece::{ReportPiece, write_pieces};
 use crate::check::position::DiffPosition;
 use crate::check::side::{Side, after, before};
 use crate::check::steps::{gap_above, indent_of};
-use crate::check::why::put_explained_line;
+use crate::check::why::write_explained_line;
 use rb_script::{Sink, WriteFault, is_space};
 
 // Whether the line looks like a fold.
@@ -24,6 +24,7 @@ fn begins_fold(line: &[u8]) -> bool
     line.len() >= 3 && &line[..3] == b".. ".as_slice()
 }
 
+// Whether a line ends like a mark, or looks like a fold.
 fn is_mark(last: u8, line: &[u8]) -> bool
     ensures { result ≡ (last == dollar_sign || begins_fold line.now) }
 {
@@ -48,7 +49,7 @@ pub(crate) fn end_mark(line: &[u8]) -> &'static [u8]
 }
 
 /// Writes a line of a side, if the last line above it belongs to a delivery or not.
-pub(crate) fn put_line<S: Sink>(
+pub(crate) fn write_line<S: Sink>(
     sink: &mut S,
     colors: Colors,
     side: Side,
@@ -58,7 +59,7 @@ pub(crate) fn put_line<S: Sink>(
     ensures wrote { Writes result (S.held sink.old) (S.held sink.new) (step_text colors side delivered line.now) }
     ensures all { S.takes_all sink.old → IsOk result × S.takes_all sink.new }
 {
-    put_pieces(
+    write_pieces(
         sink,
         &[
             ReportPiece::Bytes(gap_above(delivered, line)),
@@ -73,7 +74,7 @@ pub(crate) fn put_line<S: Sink>(
 }
 
 /// Writes the lines of a side from a position on, each with its reason below it.
-pub(crate) fn put_explained_lines<S: Sink>(
+pub(crate) fn write_explained_lines<S: Sink>(
     sink: &mut S,
     view: LineView<'_>,
     side: Side,
@@ -87,7 +88,7 @@ pub(crate) fn put_explained_lines<S: Sink>(
     let mut here = position;
     for i in 0..lines.len() {
         let line = lines.line(i);
-        put_explained_line(sink, view, side, line, here)?;
+        write_explained_line(sink, view, side, line, here)?;
         here = here.after_line(side, line);
     }
     Ok(())

@@ -10,13 +10,13 @@ ghost use Rattle.rb_report.specs.Hints.{hint_text, plain_hint};
 ghost use Rattle.rb_report.specs.Whys.{reasons_in, told_mismatch};
 
 use crate::check::colors::Colors;
-use crate::check::diff::put_laid_out_diff;
-use crate::check::file_line::{FileLine, put_heading};
-use crate::check::hint::{Hint, put_hint};
-use crate::check::line::put_explained_lines;
+use crate::check::diff::write_laid_out_diff;
+use crate::check::file_line::{FileLine, write_heading};
+use crate::check::hint::{Hint, write_hint};
+use crate::check::line::write_explained_lines;
 use crate::check::line_range::LineRange;
 use crate::check::line_view::LineView;
-use crate::check::piece::{ReportPiece, put_pieces};
+use crate::check::piece::{ReportPiece, write_pieces};
 use crate::check::position::DiffPosition;
 use crate::check::side::Side;
 use crate::check::table::Table;
@@ -49,7 +49,7 @@ pub struct MismatchView<'a> {
 /// Writes a mismatch: `PATH:LINE: HEAD`, with the line on which the directive's head begins and the head on one line; then what
 /// differs: `- ` before a line that is expected, `+ ` before one of the output, and two blanks before one that is both, and below each line
 /// of the output its reason, after `^ `; the hint; last an empty line. On a failure a beginning of the text was written.
-pub fn put_mismatch<S: Sink>(
+pub fn write_mismatch<S: Sink>(
     sink: &mut S,
     table: &mut Table,
     place: FileLine<'_>,
@@ -61,18 +61,18 @@ pub fn put_mismatch<S: Sink>(
     ensures all { S.takes_all sink.old → IsOk result × S.takes_all sink.new }
     ensures left { OnOk result (table.new.left ≡ left_after table.old.left sides.entry.expected.now sides.entry.output.now) }
 {
-    put_heading(sink, place, directive)?;
-    sink.put(b"\n")?;
+    write_heading(sink, place, directive)?;
+    sink.write_all(b"\n")?;
     let MismatchView { colors, why, .. } = view;
     let lines = LineView { colors, why };
     let Sides { expected, output } = sides;
-    put_laid_out_diff(sink, table, expected, output, lines, view.grouped)?;
-    put_hint(sink, view.hint)?;
-    sink.put(b"\n")
+    write_laid_out_diff(sink, table, expected, output, lines, view.grouped)?;
+    write_hint(sink, view.hint)?;
+    sink.write_all(b"\n")
 }
 
 /// Writes a directive with its output, each line after two blanks, and the hint. On a failure a beginning of the text was written.
-pub fn put_directive<S: Sink>(
+pub fn write_directive<S: Sink>(
     sink: &mut S,
     place: FileLine<'_>,
     directive: &DirectiveRef<'_>,
@@ -82,22 +82,22 @@ pub fn put_directive<S: Sink>(
     ensures wrote { Writes result (S.held sink.old) (S.held sink.new) (directive_text place.entry.path.now place.entry.line (head_text (plain directive.now)) output.now (hint_text (plain_hint hint.entry))) }
     ensures all { S.takes_all sink.old → IsOk result × S.takes_all sink.new }
 {
-    put_heading(sink, place, directive)?;
-    sink.put(b"\n")?;
+    write_heading(sink, place, directive)?;
+    sink.write_all(b"\n")?;
     let colors = Colors::Off;
     let why = Why::Unasked;
-    put_explained_lines(
+    write_explained_lines(
         sink,
         LineView { colors, why },
         Side::Both,
         LineRange::whole(output),
         DiffPosition::start(false),
     )?;
-    put_hint(sink, hint)
+    write_hint(sink, hint)
 }
 
 /// Writes a note on a directive, `PATH:LINE: HEAD: ` and the note, and the hint. On a failure a beginning of the text was written.
-pub fn put_note<S: Sink>(
+pub fn write_note<S: Sink>(
     sink: &mut S,
     place: FileLine<'_>,
     directive: &DirectiveRef<'_>,
@@ -107,8 +107,8 @@ pub fn put_note<S: Sink>(
     ensures wrote { Writes result (S.held sink.old) (S.held sink.new) (note_text place.entry.path.now place.entry.line (head_text (plain directive.now)) note.now (hint_text (plain_hint hint.entry))) }
     ensures all { S.takes_all sink.old → IsOk result × S.takes_all sink.new }
 {
-    put_heading(sink, place, directive)?;
-    put_pieces(
+    write_heading(sink, place, directive)?;
+    write_pieces(
         sink,
         &[
             ReportPiece::Bytes(b": "),
@@ -116,5 +116,5 @@ pub fn put_note<S: Sink>(
             ReportPiece::Bytes(b"\n"),
         ],
     )?;
-    put_hint(sink, hint)
+    write_hint(sink, hint)
 }

@@ -9,7 +9,7 @@ ghost use Rattle.rb_script.specs.Writes.{Writes};
 ghost use Rattle.rb_report.specs.Names.{acts_in_line, acts_past_ascii, by_number, has_acting_char, is_control, is_printable, name_byte, shown_name};
 
 use rb_script::{Sink, Through, WriteFault};
-use rb_text::{Escape, hex_digit, put_escaped};
+use rb_text::{Escape, hex_digit, write_escaped};
 use std::alloc::{AllocError, Global};
 use std::marker::Model;
 use std::str;
@@ -27,8 +27,8 @@ struct InAscii;
 impl Escape for InAscii {
     ghost text = { λ _ b. name_byte b };
 
-    fn put<S: Sink>(&self, sink: &mut S, b: u8) -> Result<(), WriteFault> {
-        sink.put(name_text(b, &[b], &by_number(b)))
+    fn write_byte<S: Sink>(&self, sink: &mut S, b: u8) -> Result<(), WriteFault> {
+        sink.write_all(name_text(b, &[b], &by_number(b)))
     }
 }
 
@@ -45,24 +45,24 @@ fn is_printable(b: u8) -> bool
     b' ' <= b && b <= b'~' && b != b'\\'
 }
 
-/// Writes a name as it is shown.
-pub fn put_name<S: Sink>(sink: &mut S, name: &[u8]) -> Result<(), WriteFault>
+/// Writes a name. If something of it acts, all but printable ASCII is shown by numbers.
+pub fn write_name<S: Sink>(sink: &mut S, name: &[u8]) -> Result<(), WriteFault>
     ensures wrote { Writes result (S.held sink.old) (S.held sink.new) (shown_name name.now) }
     ensures all { S.takes_all sink.old → IsOk result × S.takes_all sink.new }
 {
     if acts_in_line(name) {
-        put_escaped(sink, &InAscii, name)
+        write_escaped(sink, &InAscii, name)
     } else {
-        sink.put(name)
+        sink.write_all(name)
     }
 }
 
-/// Copies a name as it is shown.
+/// Copies a name as [`write_name`] writes it.
 pub fn shown_name(alloc: Global, name: &[u8]) -> Result<Vec<u8>, AllocError>
     ensures { IfOk result (λ shown. shown.items ≡ shown_name name.now) }
 {
     let mut sink = Through(Vec::new(alloc));
-    match put_name(&mut sink, name) {
+    match write_name(&mut sink, name) {
         Ok(()) => Ok(sink.0),
         Err(_) => Err(AllocError),
     }
@@ -124,7 +124,7 @@ impl ShownName {
     }
 }
 
-/// Whether something of a name acts.
+/// Whether a name has something that acts: a control character, or one that turns or hides text.
 pub fn acts_in_line(name: &[u8]) -> bool
     ensures { result ≡ acts_in_line name.now }
 {

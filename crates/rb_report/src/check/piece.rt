@@ -4,10 +4,10 @@ ghost use Rattle.std.specs.Prelude.{◌≡◌, IsOk, decimal};
 ghost use Rattle.rb_script.specs.Writes.{Writes};
 ghost use Rattle.rb_report.specs.Pieces.{count_text, noun, piece_text};
 
-use crate::check::name::put_name;
+use crate::check::name::write_name;
 use rb_script::{Sink, WriteFault};
-pub(crate) use rb_text::put_pieces;
-use rb_text::{Piece, WrittenPiece, put_number};
+pub(crate) use rb_text::write_pieces;
+use rb_text::{Piece, WrittenPiece, write_number};
 
 /// A piece of a text.
 #[derive(Clone, Copy)]
@@ -32,24 +32,24 @@ pub(crate) fn noun<'a>(n: u64, one: &'a [u8], many: &'a [u8]) -> &'a [u8]
 impl WrittenPiece for ReportPiece<'_> {
     ghost text = { piece_text };
 
-    fn put<S: Sink>(&self, sink: &mut S) -> Result<(), WriteFault> {
+    fn write_to<S: Sink>(&self, sink: &mut S) -> Result<(), WriteFault> {
         match *self {
-            ReportPiece::Bytes(bytes) => sink.put(bytes),
-            ReportPiece::Name(name) => put_name(sink, name),
-            ReportPiece::Number(n) => put_number(sink, n),
-            ReportPiece::Count(n, word) => put_count(sink, n, word),
+            ReportPiece::Bytes(bytes) => sink.write_all(bytes),
+            ReportPiece::Name(name) => write_name(sink, name),
+            ReportPiece::Number(n) => write_number(sink, n),
+            ReportPiece::Count(n, word) => write_count(sink, n, word),
         }
     }
 }
 
-fn put_count<S: Sink>(sink: &mut S, n: u64, word: &[u8]) -> Result<(), WriteFault>
+fn write_count<S: Sink>(sink: &mut S, n: u64, word: &[u8]) -> Result<(), WriteFault>
     ensures wrote { Writes result (S.held sink.old) (S.held sink.new) (count_text n word.now) }
     ensures all { S.takes_all sink.old → IsOk result × S.takes_all sink.new }
 {
     if n == 0 {
         return Ok(());
     }
-    put_pieces(
+    write_pieces(
         sink,
         &[Piece::Bytes(b", "), Piece::Number(n), Piece::Bytes(word)],
     )

@@ -1,4 +1,4 @@
-//! What is above the next line of a diff.
+//! What is above the next line of a diff: whether a delivery is, on each side.
 
 use crate::check::line_range::LineRange;
 use crate::check::side::Side;

@@ -4,7 +4,7 @@ ghost use Rattle.std.specs.Prelude.{◌≡◌, IsOk};
 ghost use Rattle.rb_script.specs.Writes.{Writes};
 ghost use Rattle.rb_report.specs.Refusals.{sentence, fault_line, refusal_line, refusal_sentence, refusal_text};
 
-use crate::check::piece::{ReportPiece, put_pieces};
+use crate::check::piece::{ReportPiece, write_pieces};
 use rb_script::{ScriptFault, Sink, WriteFault};
 
 /// How many bytes the outputs of a script may have in a check: eight times the longest script, so no expectation has more.
@@ -84,13 +84,13 @@ pub fn refusal_line(refusal: Refusal) -> Option<usize>
 
 /// Writes why a script is refused: `PATH:LINE: ` if the refusal names a line, else `PATH: `, then what is wrong and its usual
 /// cause. On a failure a beginning of the text was written.
-pub fn put_refusal<S: Sink>(sink: &mut S, path: &[u8], refusal: Refusal) -> Result<(), WriteFault>
+pub fn write_refusal<S: Sink>(sink: &mut S, path: &[u8], refusal: Refusal) -> Result<(), WriteFault>
     ensures wrote { Writes result (S.held sink.old) (S.held sink.new) (refusal_text path.now refusal) }
     ensures all { S.takes_all sink.old → IsOk result × S.takes_all sink.new }
 {
     let sentence = refusal_sentence(refusal);
     match refusal_line(refusal) {
-        Some(line) => put_pieces(
+        Some(line) => write_pieces(
             sink,
             &[
                 ReportPiece::Name(path),
@@ -101,7 +101,7 @@ pub fn put_refusal<S: Sink>(sink: &mut S, path: &[u8], refusal: Refusal) -> Resu
                 ReportPiece::Bytes(b"\n"),
             ],
         ),
-        None => put_pieces(
+        None => write_pieces(
             sink,
             &[
                 ReportPiece::Name(path),

@@ -12,9 +12,9 @@ ghost use Rattle.rb_report.specs.Steps.{is_delivery, is_event, is_ready, is_deli
 ghost use Rattle.rb_report.specs.Whys.{reasons_in, told_run};
 
 use crate::check::colors::Colors;
-use crate::check::file_line::{FileLine, put_heading};
-use crate::check::hint::{Hint, put_hint};
-use crate::check::line::put_explained_lines;
+use crate::check::file_line::{FileLine, write_heading};
+use crate::check::hint::{Hint, write_hint};
+use crate::check::line::write_explained_lines;
 use crate::check::line_range::LineRange;
 use crate::check::line_view::LineView;
 use crate::check::position::DiffPosition;
@@ -22,12 +22,14 @@ use crate::check::side::Side;
 use crate::check::why::Why;
 use rb_script::{DirectiveRef, Lines, Sink, WriteFault};
 
+// Whether a line is that of a delivery.
 fn is_delivery(line: &[u8]) -> bool
     ensures { result ≡ is_delivery line.now }
 {
     line.len() >= 8 && &line[..8] == b"deliver ".as_slice()
 }
 
+// Whether a line is that of an event.
 fn is_event(line: &[u8]) -> bool
     ensures { result ≡ is_event line.now }
 {
@@ -37,6 +39,7 @@ fn is_event(line: &[u8]) -> bool
     }
 }
 
+// Whether a line is the first one of a ready.
 fn is_ready(line: &[u8]) -> bool
     ensures { result ≡ is_ready line.now }
 {
@@ -77,7 +80,7 @@ pub(crate) fn indent_of(delivered: bool, line: &[u8]) -> &'static [u8]
 
 /// Writes a directive with its output step by step, each line after two blanks and with its reason below it; and the hint. On a failure
 /// a beginning of the text was written.
-pub fn put_run<S: Sink>(
+pub fn write_run<S: Sink>(
     sink: &mut S,
     place: FileLine<'_>,
     directive: &DirectiveRef<'_>,
@@ -88,15 +91,15 @@ pub fn put_run<S: Sink>(
     ensures wrote { Writes result (S.held sink.old) (S.held sink.new) (told_run place.entry.path.now place.entry.line (head_text (plain directive.now)) output.now (reasons_in why.entry) (hint_text (plain_hint hint.entry))) }
     ensures all { S.takes_all sink.old → IsOk result × S.takes_all sink.new }
 {
-    put_heading(sink, place, directive)?;
-    sink.put(b"\n")?;
+    write_heading(sink, place, directive)?;
+    sink.write_all(b"\n")?;
     let colors = Colors::Off;
-    put_explained_lines(
+    write_explained_lines(
         sink,
         LineView { colors, why },
         Side::Both,
         LineRange::whole(output),
         DiffPosition::start(true),
     )?;
-    put_hint(sink, hint)
+    write_hint(sink, hint)
 }

@@ -6,7 +6,7 @@ ghost use Rattle.rb_report.specs.Counts.{nothing, one_run, one_refusal, one_fail
 
 use crate::check::failure::Failure;
 use crate::check::outcome::Outcome;
-use crate::check::piece::{ReportPiece, noun, put_pieces};
+use crate::check::piece::{ReportPiece, noun, write_pieces};
 use crate::check::refusal::Refusal;
 use crate::check::status::Status;
 use rb_script::{ScriptFault, Sink, WriteFault};
@@ -52,6 +52,7 @@ impl Totals {
         }
     }
 
+    // The totals of one script that ran.
     fn one_run(
         directives: usize,
         mismatches: usize,
@@ -72,6 +73,7 @@ impl Totals {
         }
     }
 
+    // The totals of one path that failed.
     fn one_failure(without_memory: u64) -> Totals
         ensures { result ≡ one_failure without_memory }
     {
@@ -82,6 +84,7 @@ impl Totals {
         }
     }
 
+    // The totals of one refused script.
     fn of_refused(refusal: Refusal) -> Totals
         ensures { result ≡ of_refused refusal }
     {
@@ -95,6 +98,7 @@ impl Totals {
         }
     }
 
+    // The totals of one path that failed, by why.
     fn of_failed(failure: Failure) -> Totals
         ensures { result ≡ of_failed failure }
     {
@@ -104,6 +108,7 @@ impl Totals {
         }
     }
 
+    // The totals of one path.
     fn of_outcome(outcome: Outcome) -> Totals
         ensures { result ≡ of_outcome outcome }
     {
@@ -173,7 +178,7 @@ impl Default for Totals {
 
 /// Writes the last line: how many scripts, directives, mismatches and refused scripts there were; the errors, the warnings, what was accepted and
 /// what failed, if there is any; and the time in seconds. On a failure a beginning of the text was written.
-pub fn put_totals<S: Sink>(
+pub fn write_totals<S: Sink>(
     sink: &mut S,
     totals: &Totals,
     milliseconds: u64,
@@ -181,7 +186,7 @@ pub fn put_totals<S: Sink>(
     ensures wrote { Writes result (S.held sink.old) (S.held sink.new) (totals_text totals.now milliseconds) }
     ensures all { S.takes_all sink.old → IsOk result × S.takes_all sink.new }
 {
-    put_pieces(
+    write_pieces(
         sink,
         &[
             ReportPiece::Number(totals.scripts),

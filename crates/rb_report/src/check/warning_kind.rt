@@ -4,7 +4,7 @@ ghost use Rattle.std.specs.Prelude.{◌≡◌, IsOk};
 ghost use Rattle.rb_script.specs.Writes.{Writes};
 ghost use Rattle.rb_report.specs.Notices.{warning_sentence, warning_text, unaccepted_text};
 
-use crate::check::piece::{ReportPiece, put_pieces};
+use crate::check::piece::{ReportPiece, write_pieces};
 use rb_script::{Sink, WriteFault};
 
 /// Why a line is probably a mistake.
@@ -33,7 +33,7 @@ pub fn warning_sentence(doubt: WarningKind) -> &'static [u8]
 }
 
 /// Writes a warning: `PATH:LINE: warning: ` and a sentence. On a failure a beginning of the text was written.
-pub fn put_warning<S: Sink>(
+pub fn write_warning<S: Sink>(
     sink: &mut S,
     path: &[u8],
     line: usize,
@@ -42,7 +42,7 @@ pub fn put_warning<S: Sink>(
     ensures wrote { Writes result (S.held sink.old) (S.held sink.new) (warning_text path.now line doubt) }
     ensures all { S.takes_all sink.old → IsOk result × S.takes_all sink.new }
 {
-    put_pieces(
+    write_pieces(
         sink,
         &[
             ReportPiece::Name(path),
@@ -56,11 +56,11 @@ pub fn put_warning<S: Sink>(
 }
 
 /// Writes that nothing was accepted in a script because it has warnings. On a failure a beginning of the text was written.
-pub fn put_unaccepted<S: Sink>(sink: &mut S, path: &[u8]) -> Result<(), WriteFault>
+pub fn write_unaccepted<S: Sink>(sink: &mut S, path: &[u8]) -> Result<(), WriteFault>
     ensures wrote { Writes result (S.held sink.old) (S.held sink.new) (unaccepted_text path.now) }
     ensures all { S.takes_all sink.old → IsOk result × S.takes_all sink.new }
 {
-    put_pieces(
+    write_pieces(
         sink,
         &[
             ReportPiece::Name(path),

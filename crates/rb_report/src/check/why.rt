@@ -6,9 +6,9 @@ ghost use Rattle.std.specs.Prelude.{◌≡◌, IsOk};
 ghost use Rattle.rb_script.specs.Writes.{Writes};
 ghost use Rattle.rb_report.specs.Whys.{reasons_in, below, reason_at, reason_on, told_line};
 
-use crate::check::line::put_line;
+use crate::check::line::write_line;
 use crate::check::line_view::LineView;
-use crate::check::piece::{ReportPiece, put_pieces};
+use crate::check::piece::{ReportPiece, write_pieces};
 use crate::check::position::DiffPosition;
 use crate::check::side::Side;
 use rb_script::{Lines, Sink, WriteFault};
@@ -34,7 +34,7 @@ fn reason_of<'a>(why: Why<'a>, at: usize) -> &'a [u8]
 }
 
 // Writes the reason of the line at an index of an output, if there is one.
-fn put_reason<S: Sink>(sink: &mut S, why: Why<'_>, at: usize) -> Result<(), WriteFault>
+fn write_reason<S: Sink>(sink: &mut S, why: Why<'_>, at: usize) -> Result<(), WriteFault>
     ensures wrote { Writes result (S.held sink.old) (S.held sink.new) (reason_at (reasons_in why.entry) at) }
     ensures all { S.takes_all sink.old → IsOk result × S.takes_all sink.new }
 {
@@ -42,7 +42,7 @@ fn put_reason<S: Sink>(sink: &mut S, why: Why<'_>, at: usize) -> Result<(), Writ
     if reason.is_empty() {
         return Ok(());
     }
-    put_pieces(
+    write_pieces(
         sink,
         &[
             ReportPiece::Bytes(b"^ "),
@@ -53,7 +53,7 @@ fn put_reason<S: Sink>(sink: &mut S, why: Why<'_>, at: usize) -> Result<(), Writ
 }
 
 /// Writes the reason below a line of a side, in its position, if there is one.
-pub(crate) fn put_reason_on<S: Sink>(
+pub(crate) fn write_reason_on<S: Sink>(
     sink: &mut S,
     side: Side,
     why: Why<'_>,
@@ -64,12 +64,12 @@ pub(crate) fn put_reason_on<S: Sink>(
 {
     match side {
         Side::Expected => Ok(()),
-        Side::Both | Side::Output => put_reason(sink, why, position.at),
+        Side::Both | Side::Output => write_reason(sink, why, position.at),
     }
 }
 
 /// Writes a line of a side in its position, and its reason below it.
-pub(crate) fn put_explained_line<S: Sink>(
+pub(crate) fn write_explained_line<S: Sink>(
     sink: &mut S,
     view: LineView<'_>,
     side: Side,
@@ -80,6 +80,6 @@ pub(crate) fn put_explained_line<S: Sink>(
     ensures all { S.takes_all sink.old → IsOk result × S.takes_all sink.new }
 {
     let delivered = position.is_below_delivery(side);
-    put_line(sink, view.colors, side, delivered, line)?;
-    put_reason_on(sink, side, view.why, position)
+    write_line(sink, view.colors, side, delivered, line)?;
+    write_reason_on(sink, side, view.why, position)
 }

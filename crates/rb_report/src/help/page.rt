@@ -28,21 +28,21 @@ pub fn page_of(name: &[u8]) -> Option<&'static [u8]>
 }
 
 // Writes the line of each page.
-fn put_lines<S: Sink>(sink: &mut S, pages: &[(&[u8], &[u8], &[u8])]) -> Result<(), WriteFault>
+fn write_lines<S: Sink>(sink: &mut S, pages: &[(&[u8], &[u8], &[u8])]) -> Result<(), WriteFault>
     ensures wrote { Writes result (S.held sink.old) (S.held sink.new) (lines_text (map (λ p. (p.0.now, p.1.now, p.2.now)) pages.now)) }
     ensures all { S.takes_all sink.old → IsOk result × S.takes_all sink.new }
 {
     for page in pages {
-        sink.put(page.1)?;
+        sink.write_all(page.1)?;
     }
     Ok(())
 }
 
 /// Writes the overview: each directive's usage, and what it does. If it fails, a beginning of the text was written.
-pub fn put_manual<S: Sink>(sink: &mut S) -> Result<(), WriteFault>
+pub fn write_manual<S: Sink>(sink: &mut S) -> Result<(), WriteFault>
     ensures wrote { Writes result (S.held sink.old) (S.held sink.new) manual_text }
     ensures all { S.takes_all sink.old → IsOk result × S.takes_all sink.new }
 {
-    put_lines(sink, &PAGES)?;
-    sink.put(CLOSING)
+    write_lines(sink, &PAGES)?;
+    sink.write_all(CLOSING)
 }

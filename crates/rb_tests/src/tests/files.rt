@@ -68,7 +68,7 @@ impl FilePlace for Shelf {
         Ok(())
     }
 
-    fn put(&mut self, bytes: &[u8]) -> Result<(), PathError> {
+    fn write_all(&mut self, bytes: &[u8]) -> Result<(), PathError> {
         if self.fails[1] {
             let error = PathError::alone(Failure::NotWritten);
             self.told = first_told(self.told, error);

@@ -21,7 +21,7 @@ use rb_message::Message;
 use rb_node::Node;
 use rb_raftlog::RaftLog;
 use rb_script::Lines;
-use rb_text::add_pieces;
+use rb_text::push_pieces;
 use rb_texts::Item;
 use rb_vocab::Level;
 use std::alloc::{AllocError, Global};
@@ -80,7 +80,7 @@ fn told(alloc: Global, marks: &[Mark]) -> Result<Vec<u8>, AllocError>
     ensures { IfOk result (λ text. text.items ≡ layer_text Layer.Told [] marks.now) }
 {
     let mut text = Vec::new(alloc);
-    add_pieces(&mut text, &[ChartSection::Layer(Layer::Told, &[], marks)])?;
+    push_pieces(&mut text, &[ChartSection::Layer(Layer::Told, &[], marks)])?;
     Ok(text)
 }
 
@@ -183,7 +183,7 @@ impl<'a> ChartBuilder<'a> {
         ensures { OnOk result (self.new ≡ record self.old { canvas = left_at self.old.phase phase nodes.now self.old.canvas }) }
     {
         if let (ChartPhase::Within, ChartPhase::Below) = (self.phase, phase) {
-            self.canvas.add_logs(nodes)?;
+            self.canvas.draw_logs(nodes)?;
         }
         Ok(())
     }

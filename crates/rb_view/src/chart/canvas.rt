@@ -9,7 +9,7 @@ ghost use Rattle.rb_view.specs.Canvas.{has_grown, more_saves, raised};
 use crate::chart::arrow::ArrowPlace;
 use crate::chart::css_class::CssClass;
 use crate::chart::mark::{Mark, MarkKind};
-use crate::chart::notes::{add_notes, line_at};
+use crate::chart::notes::{line_at, push_notes};
 use crate::chart::row_layout::RowLayout;
 use crate::chart::shown::shown;
 use crate::chart::sizes::{HALF_GAP, HEADING};
@@ -332,7 +332,7 @@ impl<'a> Canvas<'a> {
         ensures { OnOk result (self.new ≡ begun line self.old) }
     {
         let words = shown(self.alloc, line_at(self.lines, line))?;
-        add_notes(&mut self.marks, self.lines, self.head, line)?;
+        push_notes(&mut self.marks, self.lines, self.head, line)?;
         let y = self.row.bottom();
         self.row = RowLayout::new(line, y);
         self.head = line;

@@ -7,7 +7,7 @@ use crate::chart::arrow::ArrowPlace;
 use crate::chart::canvas::Canvas;
 use crate::chart::css_class::CssClass;
 use crate::chart::mark::{Ending, MarkKind, Route};
-use crate::chart::notes::add_notes;
+use crate::chart::notes::push_notes;
 use crate::chart::part::ChartPhase;
 use crate::chart::sizes::{DOWN, SLOT};
 use crate::chart::words::{event_look, event_words, label_words, message_words};
@@ -149,7 +149,7 @@ impl<'a> Canvas<'a> {
         }
     }
 
-    fn show_event(&mut self, event: &Event) -> Result<(), AllocError>
+    fn draw_shown_event(&mut self, event: &Event) -> Result<(), AllocError>
         ensures { OnOk result (self.new ≡ shown_event event.now self.old) }
     {
         let form = event_form(event);
@@ -167,14 +167,14 @@ impl<'a> Canvas<'a> {
     {
         match &event.kind {
             EventKind::Started { .. } => self.start(event.id),
-            _ => self.show_event(event),
+            _ => self.draw_shown_event(event),
         }
     }
 
     // ---- items
 
     // Entries that are saved one after another have one mark, which other items end.
-    fn keep_saves(&mut self, item: &Item<'_>) -> Result<(), AllocError>
+    fn end_saves_before(&mut self, item: &Item<'_>) -> Result<(), AllocError>
         ensures { OnOk result (self.new ≡ saves_kept (plain_item item.now) self.old) }
     {
         match item {
@@ -183,7 +183,7 @@ impl<'a> Canvas<'a> {
         }
     }
 
-    fn add(&mut self, item: &Item<'_>, arrow: Option<usize>) -> Result<(), AllocError>
+    fn draw_item(&mut self, item: &Item<'_>, arrow: Option<usize>) -> Result<(), AllocError>
         ensures { OnOk result (self.new ≡ item_added arrow (plain_item item.now) self.old) }
     {
         match item {
@@ -215,8 +215,8 @@ impl<'a> Canvas<'a> {
     pub(crate) fn draw(&mut self, item: &Item<'_>, arrow: Option<usize>) -> Result<(), AllocError>
         ensures { OnOk result (self.new ≡ item_drawn arrow (plain_item item.now) self.old) }
     {
-        self.keep_saves(item)?;
-        self.add(item, arrow)
+        self.end_saves_before(item)?;
+        self.draw_item(item, arrow)
     }
 
     // ---- the end
@@ -256,17 +256,17 @@ impl<'a> Canvas<'a> {
         ensures { OnOk result (self.new ≡ with_tail phase self.old) }
     {
         match phase {
-            ChartPhase::Above | ChartPhase::Within => self.add_tail(),
+            ChartPhase::Above | ChartPhase::Within => self.draw_tail(),
             ChartPhase::Below => Ok(()),
         }
     }
 
     // Describes the notes after the last directive.
-    fn add_tail(&mut self) -> Result<(), AllocError>
+    fn draw_tail(&mut self) -> Result<(), AllocError>
         ensures { OnOk result (self.new ≡ tail_added self.old) }
     {
         let end = (self.lines.len() as u64).saturating_add(1);
-        add_notes(&mut self.marks, self.lines, self.head, end)?;
+        push_notes(&mut self.marks, self.lines, self.head, end)?;
         Ok(())
     }
 

@@ -66,7 +66,7 @@ impl<'a> Canvas<'a> {
     ghost use Rattle.rb_view.specs.LogTables.{cell_added, celled, end_index, entry_celled, entry_of, first_index, logs_added, row_added, rows_added, table_begun};
 
     // Adds something that a node has, in the last row.
-    fn add_cell(&mut self, id: u64, look: CssClass, words: Vec<u8>) -> Result<(), AllocError>
+    fn draw_cell(&mut self, id: u64, look: CssClass, words: Vec<u8>) -> Result<(), AllocError>
         ensures { OnOk result (self.new ≡ celled id look words.items self.old) }
     {
         let y = self.row.slot_y();
@@ -74,7 +74,7 @@ impl<'a> Canvas<'a> {
     }
 
     // Adds a node's entry at an index, if there is one.
-    fn add_entry<L: RaftLog>(&mut self, index: u64, state: &State<L>) -> Result<(), AllocError>
+    fn draw_entry<L: RaftLog>(&mut self, index: u64, state: &State<L>) -> Result<(), AllocError>
         requires { state.now.log.base < index }
         ensures { OnOk result (self.new ≡ entry_celled (entry_of state.now.log index) index state.now self.old) }
     {
@@ -84,37 +84,41 @@ impl<'a> Canvas<'a> {
         let is_durable = index <= state.log.durable();
         let is_committed = index <= state.commit;
         let words = entry_words(self.alloc, index, entry, is_durable, is_committed)?;
-        self.add_cell(state.id, entry_look(is_durable, is_committed), words)
+        self.draw_cell(state.id, entry_look(is_durable, is_committed), words)
     }
 
     // Adds what a node has at an index: the last entry before its log, or an entry of it.
-    fn add_cell_of<L: RaftLog>(&mut self, index: u64, state: &State<L>) -> Result<(), AllocError>
+    fn draw_cell_of<L: RaftLog>(&mut self, index: u64, state: &State<L>) -> Result<(), AllocError>
         ensures { OnOk result (self.new ≡ cell_added index self.old state.now) }
     {
         let base = base_of(state);
         if index == base {
             let words = base_words(self.alloc, state.log.base_term(), index)?;
-            return self.add_cell(state.id, CssClass::Installed, words);
+            return self.draw_cell(state.id, CssClass::Installed, words);
         }
         if base < index {
-            return self.add_entry(index, state);
+            return self.draw_entry(index, state);
         }
         Ok(())
     }
 
     // Adds the row of an index.
-    fn add_row<L: RaftLog>(&mut self, index: u64, nodes: &[SharedNode<L>]) -> Result<(), AllocError>
+    fn draw_row<L: RaftLog>(
+        &mut self,
+        index: u64,
+        nodes: &[SharedNode<L>],
+    ) -> Result<(), AllocError>
         ensures { OnOk result (self.new ≡ row_added index nodes.now self.old) }
     {
         self.row.next_slot();
         for shared in nodes {
-            self.add_cell_of(index, shared.node().status())?;
+            self.draw_cell_of(index, shared.node().status())?;
         }
         Ok(())
     }
 
     // Adds the rows from an index up to another.
-    fn add_rows<L: RaftLog>(
+    fn draw_rows<L: RaftLog>(
         &mut self,
         first: u64,
         end: u64,
@@ -123,7 +127,7 @@ impl<'a> Canvas<'a> {
         ensures { OnOk result (self.new ≡ rows_added (end - first) first nodes.now self.old) }
     {
         for index in first..end {
-            self.add_row(index, nodes)?;
+            self.draw_row(index, nodes)?;
         }
         Ok(())
     }
@@ -139,13 +143,16 @@ impl<'a> Canvas<'a> {
 
     /// Adds the table of the logs of these nodes, if it is asked for.
     #[tactic(auto, unfolding(crate::specs::LogTables::logs_added))]
-    pub(crate) fn add_logs<L: RaftLog>(&mut self, nodes: &[SharedNode<L>]) -> Result<(), AllocError>
+    pub(crate) fn draw_logs<L: RaftLog>(
+        &mut self,
+        nodes: &[SharedNode<L>],
+    ) -> Result<(), AllocError>
         ensures { OnOk result (self.new ≡ logs_added nodes.now self.old) }
     {
         if !self.has_logs || nodes.is_empty() {
             return Ok(());
         }
         self.begin_table()?;
-        self.add_rows(first_index(nodes), end_index(nodes), nodes)
+        self.draw_rows(first_index(nodes), end_index(nodes), nodes)
     }
 }

@@ -8,11 +8,11 @@ ghost use Rattle.rb_view.specs.Pieces.{piece_text};
 
 use crate::chart::mark::{Ending, MarkKind, Route};
 use crate::chart::piece::ChartPiece::{self, Bytes, Field, InDiagram};
-use crate::chart::piece::put_field;
+use crate::chart::piece::write_field;
 use crate::chart::sizes::LOGS;
 use crate::rows::role_name;
 use rb_script::{Sink, WriteFault};
-use rb_text::put_pieces;
+use rb_text::write_pieces;
 
 // ---- sentences
 
@@ -29,16 +29,16 @@ fn ending_words(ending: Ending) -> &'static [u8]
 }
 
 // Writes the number of a line, and these pieces after it.
-fn put_at<S: Sink>(sink: &mut S, line: u64, pieces: &[ChartPiece<'_>]) -> Result<(), WriteFault>
+fn write_at<S: Sink>(sink: &mut S, line: u64, pieces: &[ChartPiece<'_>]) -> Result<(), WriteFault>
     ensures wrote { Writes result (S.held sink.old) (S.held sink.new) (at_line line (flat_map piece_text pieces.now)) }
     ensures all { S.takes_all sink.old → IsOk result × S.takes_all sink.new }
 {
-    put_field(sink, b"Line ", line)?;
-    put_pieces(sink, pieces)
+    write_field(sink, b"Line ", line)?;
+    write_pieces(sink, pieces)
 }
 
 /// Writes the sentence of a mark, with the number of its line. A later line of a note has none.
-pub(crate) fn put_sentence<S: Sink>(
+pub(crate) fn write_sentence<S: Sink>(
     sink: &mut S,
     line: u64,
     kind: MarkKind,
@@ -49,39 +49,39 @@ pub(crate) fn put_sentence<S: Sink>(
 {
     let words = Bytes(words);
     match kind {
-        MarkKind::Note(true) => put_at(sink, line, &[Bytes(b": note: "), words, Bytes(b"\n")]),
-        MarkKind::Note(false) => put_pieces(sink, &[words, Bytes(b"\n")]),
+        MarkKind::Note(true) => write_at(sink, line, &[Bytes(b": note: "), words, Bytes(b"\n")]),
+        MarkKind::Note(false) => write_pieces(sink, &[words, Bytes(b"\n")]),
         MarkKind::Row(_) | MarkKind::Remark(_, _) => {
-            put_at(sink, line, &[Bytes(b": "), words, Bytes(b".\n")])
+            write_at(sink, line, &[Bytes(b": "), words, Bytes(b".\n")])
         }
-        MarkKind::Logs(_) => put_at(sink, line, &[Bytes(b": the logs.\n")]),
+        MarkKind::Logs(_) => write_at(sink, line, &[Bytes(b": the logs.\n")]),
         MarkKind::Known(id, role) => {
             let role = Bytes(role_name(role));
             let pieces = [Field(b": node ", id), Bytes(b" is "), role, Bytes(b".\n")];
-            put_at(sink, line, &pieces)
+            write_at(sink, line, &pieces)
         }
         MarkKind::Event(id, _, _) => {
             let pieces = [Field(b": node ", id), Bytes(b": "), words, Bytes(b".\n")];
-            put_at(sink, line, &pieces)
+            write_at(sink, line, &pieces)
         }
         MarkKind::Sent(Route { from, to }) => {
             let (from, to) = (Field(b": node ", from), Field(b" to node ", to));
             let pieces = [from, Bytes(b" sends "), words, to, Bytes(b".\n")];
-            put_at(sink, line, &pieces)
+            write_at(sink, line, &pieces)
         }
         MarkKind::Ended(Route { from, to }, ending) => {
             let (from, to) = (Field(b" from node ", from), Field(b" to node ", to));
             let pieces = [Bytes(b": "), words, from, to, Bytes(ending_words(ending))];
-            put_at(sink, line, &pieces)
+            write_at(sink, line, &pieces)
         }
-        _ => sink.put(b""),
+        _ => sink.write_all(b""),
     }
 }
 
 // ---- diagrams
 
 // Writes a note over all of so many nodes; none where there is no node.
-fn put_over_all<S: Sink>(
+fn write_over_all<S: Sink>(
     sink: &mut S,
     nodes: u64,
     pieces: &[ChartPiece<'_>],
@@ -90,14 +90,14 @@ fn put_over_all<S: Sink>(
     ensures all { S.takes_all sink.old → IsOk result × S.takes_all sink.new }
 {
     match nodes {
-        0 => sink.put(b""),
-        1 => put_over(sink, Bytes(b"1"), pieces),
-        _ => put_over(sink, Field(b"1,n", nodes), pieces),
+        0 => sink.write_all(b""),
+        1 => write_over(sink, Bytes(b"1"), pieces),
+        _ => write_over(sink, Field(b"1,n", nodes), pieces),
     }
 }
 
 // Writes a note over one node, or over several.
-fn put_over<S: Sink>(
+fn write_over<S: Sink>(
     sink: &mut S,
     nodes: ChartPiece<'_>,
     pieces: &[ChartPiece<'_>],
@@ -105,9 +105,9 @@ fn put_over<S: Sink>(
     ensures wrote { Writes result (S.held sink.old) (S.held sink.new) (over (piece_text nodes.entry) (flat_map piece_text pieces.now)) }
     ensures all { S.takes_all sink.old → IsOk result × S.takes_all sink.new }
 {
-    put_pieces(sink, &[Bytes(b"Note over n"), nodes, Bytes(b": ")])?;
-    put_pieces(sink, pieces)?;
-    sink.put(b"\n")
+    write_pieces(sink, &[Bytes(b"Note over n"), nodes, Bytes(b": ")])?;
+    write_pieces(sink, pieces)?;
+    sink.write_all(b"\n")
 }
 
 // The line of a message, up to its receiver.
@@ -122,7 +122,7 @@ fn line_to(ending: Ending) -> &'static [u8]
 }
 
 /// Writes the line of a mark in a diagram of so many nodes. Messages are level there, where they end.
-pub(crate) fn put_line<S: Sink>(
+pub(crate) fn write_line<S: Sink>(
     sink: &mut S,
     nodes: u64,
     line: u64,
@@ -134,15 +134,15 @@ pub(crate) fn put_line<S: Sink>(
 {
     let words = InDiagram(words);
     match kind {
-        MarkKind::Row(_) => put_over_all(sink, nodes, &[Field(b"", line), Bytes(b": "), words]),
-        MarkKind::Remark(_, _) => put_over_all(sink, nodes, &[words]),
-        MarkKind::Logs(_) => put_over_all(sink, nodes, &[Bytes(LOGS)]),
-        MarkKind::Known(id, role) => put_over(sink, Field(b"", id), &[Bytes(role_name(role))]),
-        MarkKind::Event(id, _, _) => put_over(sink, Field(b"", id), &[words]),
+        MarkKind::Row(_) => write_over_all(sink, nodes, &[Field(b"", line), Bytes(b": "), words]),
+        MarkKind::Remark(_, _) => write_over_all(sink, nodes, &[words]),
+        MarkKind::Logs(_) => write_over_all(sink, nodes, &[Bytes(LOGS)]),
+        MarkKind::Known(id, role) => write_over(sink, Field(b"", id), &[Bytes(role_name(role))]),
+        MarkKind::Event(id, _, _) => write_over(sink, Field(b"", id), &[words]),
         MarkKind::Ended(Route { from, to }, ending) => {
             let (from, to) = (Field(b"n", from), Field(line_to(ending), to));
-            put_pieces(sink, &[from, to, Bytes(b": "), words, Bytes(b"\n")])
+            write_pieces(sink, &[from, to, Bytes(b": "), words, Bytes(b"\n")])
         }
-        _ => sink.put(b""),
+        _ => sink.write_all(b""),
     }
 }

@@ -17,12 +17,12 @@ use crate::chart::sizes::{
 use crate::rows::role_name;
 use rb_message::Role;
 use rb_script::{Sink, WriteFault};
-use rb_text::put_pieces;
+use rb_text::write_pieces;
 use rb_vocab::MessageClass;
 
 // ---- below the arrows
 
-fn put_edge<S: Sink>(sink: &mut S, y: u64) -> Result<(), WriteFault>
+fn write_edge<S: Sink>(sink: &mut S, y: u64) -> Result<(), WriteFault>
     ensures wrote { Writes result (S.held sink.old) (S.held sink.new) (edge_text y) }
     ensures all { S.takes_all sink.old → IsOk result × S.takes_all sink.new }
 {
@@ -30,7 +30,7 @@ fn put_edge<S: Sink>(sink: &mut S, y: u64) -> Result<(), WriteFault>
         Field(b"<rect class=\"edge\" y=\"", y),
         Bytes(b"\" width=\"100%\" height=\"1\"/>\n"),
     ];
-    put_pieces(sink, &pieces)
+    write_pieces(sink, &pieces)
 }
 
 // Half of a node's band.
@@ -46,7 +46,7 @@ fn half_of(role: Role) -> u64
 }
 
 // Writes a node in one role.
-fn put_band<S: Sink>(
+fn write_band<S: Sink>(
     sink: &mut S,
     id: u64,
     role: Role,
@@ -66,25 +66,25 @@ fn put_band<S: Sink>(
         Field(b"\" height=\"", bottom.saturating_sub(top)),
         Bytes(b"\"/>\n"),
     ];
-    put_pieces(sink, &pieces)
+    write_pieces(sink, &pieces)
 }
 
 /// Writes what of a mark is below the arrows.
-pub(crate) fn put_under<S: Sink>(sink: &mut S, kind: MarkKind) -> Result<(), WriteFault>
+pub(crate) fn write_under<S: Sink>(sink: &mut S, kind: MarkKind) -> Result<(), WriteFault>
     ensures wrote { Writes result (S.held sink.old) (S.held sink.new) (under_text kind) }
     ensures all { S.takes_all sink.old → IsOk result × S.takes_all sink.new }
 {
     match kind {
-        MarkKind::Row(y) | MarkKind::RowAbove(y) | MarkKind::Logs(y) => put_edge(sink, y),
-        MarkKind::Band(id, role, top, bottom) => put_band(sink, id, role, top, bottom),
-        _ => sink.put(b""),
+        MarkKind::Row(y) | MarkKind::RowAbove(y) | MarkKind::Logs(y) => write_edge(sink, y),
+        MarkKind::Band(id, role, top, bottom) => write_band(sink, id, role, top, bottom),
+        _ => sink.write_all(b""),
     }
 }
 
 // ---- words
 
 // Writes words at a place.
-fn put_words<S: Sink>(
+fn write_words<S: Sink>(
     sink: &mut S,
     look: CssClass,
     x: u64,
@@ -103,31 +103,31 @@ fn put_words<S: Sink>(
         words,
         Bytes(b"</text>\n"),
     ];
-    put_pieces(sink, &pieces)
+    write_pieces(sink, &pieces)
 }
 
 // Writes the number of a directive's line, and its head.
-fn put_head<S: Sink>(sink: &mut S, line: u64, y: u64, head: &[u8]) -> Result<(), WriteFault>
+fn write_head<S: Sink>(sink: &mut S, line: u64, y: u64, head: &[u8]) -> Result<(), WriteFault>
     ensures wrote { Writes result (S.held sink.old) (S.held sink.new) (head_text line y head.now) }
     ensures all { S.takes_all sink.old → IsOk result × S.takes_all sink.new }
 {
-    put_words(sink, CssClass::LineNumber, LINE_X, y, Field(b"", line))?;
-    put_words(sink, CssClass::Head, HEAD_X, y, Cut(MOST_HEAD, head))
+    write_words(sink, CssClass::LineNumber, LINE_X, y, Field(b"", line))?;
+    write_words(sink, CssClass::Head, HEAD_X, y, Cut(MOST_HEAD, head))
 }
 
 // Writes the words of a row without a directive.
-fn put_title<S: Sink>(sink: &mut S, y: u64, words: &[u8]) -> Result<(), WriteFault>
+fn write_title<S: Sink>(sink: &mut S, y: u64, words: &[u8]) -> Result<(), WriteFault>
     ensures wrote { Writes result (S.held sink.old) (S.held sink.new) (words_text CssClass.Quiet 50 y words.now) }
     ensures all { S.takes_all sink.old → IsOk result × S.takes_all sink.new }
 {
-    put_words(sink, CssClass::Quiet, HEAD_X, y, Bytes(words))
+    write_words(sink, CssClass::Quiet, HEAD_X, y, Bytes(words))
 }
 
-fn put_name<S: Sink>(sink: &mut S, id: u64) -> Result<(), WriteFault>
+fn write_name<S: Sink>(sink: &mut S, id: u64) -> Result<(), WriteFault>
     ensures wrote { Writes result (S.held sink.old) (S.held sink.new) (name_text id) }
     ensures all { S.takes_all sink.old → IsOk result × S.takes_all sink.new }
 {
-    put_words(
+    write_words(
         sink,
         CssClass::Name,
         middle(id),
@@ -168,7 +168,7 @@ fn label<'a>(arrives: bool, to: u64, words: &'a [u8]) -> ChartPiece<'a>
 }
 
 /// Writes the words of a mark that are above the arrows, which are these.
-pub(crate) fn put_texts<S: Sink>(
+pub(crate) fn write_texts<S: Sink>(
     sink: &mut S,
     arrows: &[DrawnArrow],
     line: u64,
@@ -179,14 +179,14 @@ pub(crate) fn put_texts<S: Sink>(
     ensures all { S.takes_all sink.old → IsOk result × S.takes_all sink.new }
 {
     match kind {
-        MarkKind::Row(y) => put_head(sink, line, y.saturating_add(HEAD_DOWN), words),
-        MarkKind::RowAbove(y) => put_title(sink, y.saturating_add(HEAD_DOWN), ABOVE),
-        MarkKind::Logs(y) => put_title(sink, y.saturating_add(HEAD_DOWN), LOGS),
-        MarkKind::Node(id) => put_name(sink, id),
-        MarkKind::Known(id, _) => put_name(sink, id),
+        MarkKind::Row(y) => write_head(sink, line, y.saturating_add(HEAD_DOWN), words),
+        MarkKind::RowAbove(y) => write_title(sink, y.saturating_add(HEAD_DOWN), ABOVE),
+        MarkKind::Logs(y) => write_title(sink, y.saturating_add(HEAD_DOWN), LOGS),
+        MarkKind::Node(id) => write_name(sink, id),
+        MarkKind::Known(id, _) => write_name(sink, id),
         MarkKind::Event(id, look, y) => {
             let x = middle(id).saturating_add(ASIDE);
-            put_words(
+            write_words(
                 sink,
                 look,
                 x,
@@ -194,13 +194,13 @@ pub(crate) fn put_texts<S: Sink>(
                 Cut(MOST_MARK, words),
             )
         }
-        MarkKind::Remark(look, y) => put_words(sink, look, HEAD_X, y, Cut(MOST_NOTE, words)),
+        MarkKind::Remark(look, y) => write_words(sink, look, HEAD_X, y, Cut(MOST_NOTE, words)),
         MarkKind::Label(Route { from, to }, class, y, arrow) => {
             let x = beside(middle(from), to < from, ASIDE);
             let label = label(arrives(arrows, arrow), to, words);
             let y = y.saturating_sub(LABEL_UP);
-            put_words(sink, label_look(to < from, class), x, y, label)
+            write_words(sink, label_look(to < from, class), x, y, label)
         }
-        _ => sink.put(b""),
+        _ => sink.write_all(b""),
     }
 }

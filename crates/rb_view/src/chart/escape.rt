@@ -13,15 +13,15 @@ pub(crate) struct Xml;
 impl Escape for Xml {
     ghost text = { λ _. escaped };
 
-    fn put<S: Sink>(&self, sink: &mut S, b: u8) -> Result<(), WriteFault> {
+    fn write_byte<S: Sink>(&self, sink: &mut S, b: u8) -> Result<(), WriteFault> {
         if b == b'&' {
-            sink.put(b"&amp;")
+            sink.write_all(b"&amp;")
         } else if b == b'<' {
-            sink.put(b"&lt;")
+            sink.write_all(b"&lt;")
         } else if b == b'>' {
-            sink.put(b"&gt;")
+            sink.write_all(b"&gt;")
         } else {
-            sink.put(&[b])
+            sink.write_all(&[b])
         }
     }
 }

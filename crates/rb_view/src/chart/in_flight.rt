@@ -136,7 +136,7 @@ impl InFlight {
     }
 
     // Adds a message.
-    fn add(&mut self, message: &Message) -> Result<MessageChange, AllocError>
+    fn push(&mut self, message: &Message) -> Result<MessageChange, AllocError>
         ensures { IfOk result (λ change. taken self.new change ≡ added self.old message.now) }
     {
         self.messages.push(message.try_copy()?)?;
@@ -183,7 +183,7 @@ impl InFlight {
                 self.is_ready = true;
                 Ok(MessageChange::Nothing)
             }
-            Item::Send(message) | Item::Moved(Verb::Queue, message) => self.add(message),
+            Item::Send(message) | Item::Moved(Verb::Queue, message) => self.push(message),
             Item::Moved(Verb::Deliver, message) => {
                 let at = self.next_met(message.to);
                 Ok(self.end(DeliveryState::Delivered, at))

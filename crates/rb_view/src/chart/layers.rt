@@ -4,8 +4,8 @@ ghost use Rattle.std.specs.Prelude.{◌≡◌, IsOk};
 ghost use Rattle.rb_script.specs.Writes.{Writes};
 ghost use Rattle.rb_view.specs.Marks.{kind_right, label_right, layer_text, mark_text, width};
 
-use crate::chart::describe::{put_line, put_sentence};
-use crate::chart::elements::{put_texts, put_under};
+use crate::chart::describe::{write_line, write_sentence};
+use crate::chart::elements::{write_texts, write_under};
 use crate::chart::mark::{Layer, Mark, MarkKind, Route};
 use crate::chart::measure::{WIDTH, cut_width, width_of};
 use crate::chart::path::DrawnArrow;
@@ -17,7 +17,7 @@ use itoa::Buffer;
 use rb_script::{Sink, WriteFault};
 
 // Writes what a layer has of a mark.
-fn put_mark<S: Sink>(
+fn write_mark<S: Sink>(
     sink: &mut S,
     layer: Layer,
     arrows: &[DrawnArrow],
@@ -28,16 +28,16 @@ fn put_mark<S: Sink>(
 {
     let words = mark.words.as_slice();
     match layer {
-        Layer::Under => put_under(sink, mark.kind),
-        Layer::Texts => put_texts(sink, arrows, mark.line, mark.kind, words),
-        Layer::Told => put_sentence(sink, mark.line, mark.kind, words),
-        Layer::Diagram(nodes) => put_line(sink, nodes, mark.line, mark.kind, words),
+        Layer::Under => write_under(sink, mark.kind),
+        Layer::Texts => write_texts(sink, arrows, mark.line, mark.kind, words),
+        Layer::Told => write_sentence(sink, mark.line, mark.kind, words),
+        Layer::Diagram(nodes) => write_line(sink, nodes, mark.line, mark.kind, words),
     }
 }
 
 /// Writes a layer of these marks, where these are the arrows.
 #[tactic(auto, unfolding(crate::specs::Marks::layer_text))]
-pub(crate) fn put_layer<S: Sink>(
+pub(crate) fn write_layer<S: Sink>(
     sink: &mut S,
     layer: Layer,
     arrows: &[DrawnArrow],
@@ -47,7 +47,7 @@ pub(crate) fn put_layer<S: Sink>(
     ensures all { S.takes_all sink.old → IsOk result × S.takes_all sink.new }
 {
     for mark in marks {
-        put_mark(sink, layer, arrows, mark)?;
+        write_mark(sink, layer, arrows, mark)?;
     }
     Ok(())
 }

@@ -128,7 +128,7 @@ fn has_words(words: &[u8]) -> bool
 }
 
 // Adds the words of a note.
-fn add_note(
+fn push_note(
     marks: &mut Vec<Mark>,
     line: u64,
     words: &[u8],
@@ -149,7 +149,7 @@ fn add_note(
 }
 
 /// Adds the notes among the lines from a head, or from the beginning, up to a line.
-pub(crate) fn add_notes(
+pub(crate) fn push_notes(
     marks: &mut Vec<Mark>,
     lines: &Lines,
     head: u64,
@@ -162,7 +162,7 @@ pub(crate) fn add_notes(
     for n in head.max(1)..until {
         let line = line_at(lines, n);
         let words = part.note_words(line);
-        add_note(marks, n, words, !is_in_note)?;
+        push_note(marks, n, words, !is_in_note)?;
         is_in_note = has_words(words);
         part = part.below(line);
     }

@@ -14,7 +14,7 @@ use crate::chart::css_class::DeliveryState;
 use crate::chart::piece::ChartPiece::{self, Bytes, Field};
 use crate::chart::sizes::{HALF_BAND, LEAD, OUT, TO_BAND, WAITING, beside, middle};
 use rb_script::{Sink, WriteFault};
-use rb_text::{WrittenPiece, put_pieces};
+use rb_text::{WrittenPiece, write_pieces};
 
 // How far a cross is from the middle of a band, and from where an arrow bends.
 const TO_CROSS: u64 = HALF_BAND + 19;
@@ -98,7 +98,11 @@ impl Arrow {
 }
 
 // Writes the element of an arrow that goes along a path.
-fn put_line<S: Sink>(sink: &mut S, arrow: Arrow, path: &[ChartPiece<'_>]) -> Result<(), WriteFault>
+fn write_line<S: Sink>(
+    sink: &mut S,
+    arrow: Arrow,
+    path: &[ChartPiece<'_>],
+) -> Result<(), WriteFault>
     ensures wrote { Writes result (S.held sink.old) (S.held sink.new) (line_text (class_of arrow.message_type) arrow.state (flat_map piece_text path.now)) }
     ensures all { S.takes_all sink.old → IsOk result × S.takes_all sink.new }
 {
@@ -109,13 +113,13 @@ fn put_line<S: Sink>(sink: &mut S, arrow: Arrow, path: &[ChartPiece<'_>]) -> Res
         Bytes(arrow.state.name()),
         Bytes(b"\" d=\""),
     ];
-    put_pieces(sink, &pieces)?;
-    put_pieces(sink, path)?;
-    sink.put(b"\"/>\n")
+    write_pieces(sink, &pieces)?;
+    write_pieces(sink, path)?;
+    sink.write_all(b"\"/>\n")
 }
 
 // Writes the line of a message: out to the right and back, if it is to the node that sends it.
-fn put_path<S: Sink>(sink: &mut S, arrow: Arrow, place: ArrowPlace) -> Result<(), WriteFault>
+fn write_path<S: Sink>(sink: &mut S, arrow: Arrow, place: ArrowPlace) -> Result<(), WriteFault>
     ensures wrote { Writes result (S.held sink.old) (S.held sink.new) (path_text arrow place) }
     ensures all { S.takes_all sink.old → IsOk result × S.takes_all sink.new }
 {
@@ -132,7 +136,7 @@ fn put_path<S: Sink>(sink: &mut S, arrow: Arrow, place: ArrowPlace) -> Result<()
             Field(b" ", x),
             Field(b" ", to),
         ];
-        return put_line(sink, arrow, &path);
+        return write_line(sink, arrow, &path);
     }
     let path = [
         Field(b"M", arrow.start()),
@@ -141,23 +145,23 @@ fn put_path<S: Sink>(sink: &mut S, arrow: Arrow, place: ArrowPlace) -> Result<()
         Field(b"L", arrow.end(place.is_short)),
         Field(b" ", to),
     ];
-    put_line(sink, arrow, &path)
+    write_line(sink, arrow, &path)
 }
 
 // Writes a cross where a message is lost.
-fn put_cross<S: Sink>(sink: &mut S, arrow: Arrow, place: ArrowPlace) -> Result<(), WriteFault>
+fn write_cross<S: Sink>(sink: &mut S, arrow: Arrow, place: ArrowPlace) -> Result<(), WriteFault>
     ensures wrote { Writes result (S.held sink.old) (S.held sink.new) (cross_at arrow.state arrow place) }
     ensures all { S.takes_all sink.old → IsOk result × S.takes_all sink.new }
 {
     let DeliveryState::Lost = arrow.state else {
-        return sink.put(b"");
+        return sink.write_all(b"");
     };
     let pieces = [
         Field(b"<path class=\"cross\" d=\"M", arrow.cross(place.is_short)),
         Field(b" ", place.end),
         Bytes(b"m-4 -4l8 8m0 -8l-8 8\"/>\n"),
     ];
-    put_pieces(sink, &pieces)
+    write_pieces(sink, &pieces)
 }
 
 // Its line, and a cross where it is lost.
@@ -166,8 +170,8 @@ impl WrittenPiece for DrawnArrow {
 
     ghost text = { drawn_text };
 
-    fn put<S: Sink>(&self, sink: &mut S) -> Result<(), WriteFault> {
-        put_path(sink, self.arrow, self.place)?;
-        put_cross(sink, self.arrow, self.place)
+    fn write_to<S: Sink>(&self, sink: &mut S) -> Result<(), WriteFault> {
+        write_path(sink, self.arrow, self.place)?;
+        write_cross(sink, self.arrow, self.place)
     }
 }

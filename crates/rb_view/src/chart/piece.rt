@@ -10,7 +10,7 @@ ghost use Rattle.rb_view.specs.XmlEscapes.{escaped};
 use crate::chart::escape::Xml;
 use crate::chart::measure::fitted;
 use rb_script::{Sink, WriteFault};
-use rb_text::{Escape, WrittenPiece, put_escaped, put_number};
+use rb_text::{Escape, WrittenPiece, write_escaped, write_number};
 
 /// A piece of an element.
 #[derive(Clone, Copy)]
@@ -30,33 +30,33 @@ pub(crate) enum ChartPiece<'a> {
 }
 
 /// Writes bytes as they are, and a number after them.
-pub(crate) fn put_field<S: Sink>(sink: &mut S, before: &[u8], n: u64) -> Result<(), WriteFault>
+pub(crate) fn write_field<S: Sink>(sink: &mut S, before: &[u8], n: u64) -> Result<(), WriteFault>
     ensures wrote { Writes result (S.held sink.old) (S.held sink.new) (before.now ++ decimal n) }
     ensures all { S.takes_all sink.old → IsOk result × S.takes_all sink.new }
 {
-    sink.put(before)?;
-    put_number(sink, n)
+    sink.write_all(before)?;
+    write_number(sink, n)
 }
 
-fn put_cut<S: Sink>(sink: &mut S, most: usize, words: &[u8]) -> Result<(), WriteFault>
+fn write_cut<S: Sink>(sink: &mut S, most: usize, words: &[u8]) -> Result<(), WriteFault>
     ensures wrote { Writes result (S.held sink.old) (S.held sink.new) (flat_map escaped (fitted most words.now)) }
     ensures all { S.takes_all sink.old → IsOk result × S.takes_all sink.new }
 {
     let (front, more) = fitted(words, most);
-    put_escaped(sink, &Xml, front)?;
-    put_escaped(sink, &Xml, more)
+    write_escaped(sink, &Xml, front)?;
+    write_escaped(sink, &Xml, more)
 }
 
 // The sign before the receiver of a message: `→`.
 const ARROW: &[u8] = b"\xe2\x86\x92";
 
-fn put_aimed<S: Sink>(sink: &mut S, to: u64, words: &[u8]) -> Result<(), WriteFault>
+fn write_aimed<S: Sink>(sink: &mut S, to: u64, words: &[u8]) -> Result<(), WriteFault>
     ensures wrote { Writes result (S.held sink.old) (S.held sink.new) (aimed to words.now) }
     ensures all { S.takes_all sink.old → IsOk result × S.takes_all sink.new }
 {
-    put_field(sink, ARROW, to)?;
-    sink.put(b" ")?;
-    put_escaped(sink, &Xml, words)
+    write_field(sink, ARROW, to)?;
+    sink.write_all(b" ")?;
+    write_escaped(sink, &Xml, words)
 }
 
 impl WrittenPiece for ChartPiece<'_> {
@@ -64,14 +64,14 @@ impl WrittenPiece for ChartPiece<'_> {
 
     ghost text = { piece_text };
 
-    fn put<S: Sink>(&self, sink: &mut S) -> Result<(), WriteFault> {
+    fn write_to<S: Sink>(&self, sink: &mut S) -> Result<(), WriteFault> {
         match *self {
-            ChartPiece::Bytes(bytes) => sink.put(bytes),
-            ChartPiece::Field(before, n) => put_field(sink, before, n),
-            ChartPiece::Words(words) => put_escaped(sink, &Xml, words),
-            ChartPiece::Cut(most, words) => put_cut(sink, most, words),
-            ChartPiece::Aimed(to, words) => put_aimed(sink, to, words),
-            ChartPiece::InDiagram(words) => put_escaped(sink, &Mermaid, words),
+            ChartPiece::Bytes(bytes) => sink.write_all(bytes),
+            ChartPiece::Field(before, n) => write_field(sink, before, n),
+            ChartPiece::Words(words) => write_escaped(sink, &Xml, words),
+            ChartPiece::Cut(most, words) => write_cut(sink, most, words),
+            ChartPiece::Aimed(to, words) => write_aimed(sink, to, words),
+            ChartPiece::InDiagram(words) => write_escaped(sink, &Mermaid, words),
         }
     }
 }
@@ -94,12 +94,12 @@ struct Mermaid;
 impl Escape for Mermaid {
     ghost text = { λ _. mermaid };
 
-    fn put<S: Sink>(&self, sink: &mut S, b: u8) -> Result<(), WriteFault> {
+    fn write_byte<S: Sink>(&self, sink: &mut S, b: u8) -> Result<(), WriteFault> {
         if has_meaning(b) {
-            put_field(sink, b"#", u64::from(b))?;
-            sink.put(b";")
+            write_field(sink, b"#", u64::from(b))?;
+            sink.write_all(b";")
         } else {
-            sink.put(&[b])
+            sink.write_all(&[b])
         }
     }
 }

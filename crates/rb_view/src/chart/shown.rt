@@ -44,42 +44,42 @@ fn is_unseen(c: char) -> bool
 }
 
 // Adds a hexadecimal digit: the last one of a number.
-fn add_digit(text: &mut String, n: u32) -> Result<(), AllocError>
+fn push_digit(text: &mut String, n: u32) -> Result<(), AllocError>
     ensures { OnOk result (string_bytes text.new ≡ string_bytes text.old ++ hex_digit (n % 16) ∷ []) }
 {
     text.push(char::from(hex_digit((n % 16) as u8)))
 }
 
 // Adds a character by its number.
-fn add_number(text: &mut String, code: u32) -> Result<(), AllocError>
+fn push_number(text: &mut String, code: u32) -> Result<(), AllocError>
     ensures { OnOk result (string_bytes text.new ≡ string_bytes text.old ++ by_number code) }
 {
     text.push_str("\\u")?;
-    add_digit(text, code / 4096)?;
-    add_digit(text, code / 256)?;
-    add_digit(text, code / 16)?;
-    add_digit(text, code)
+    push_digit(text, code / 4096)?;
+    push_digit(text, code / 256)?;
+    push_digit(text, code / 16)?;
+    push_digit(text, code)
 }
 
-fn add_char(text: &mut String, c: char) -> Result<(), AllocError>
+fn push_char(text: &mut String, c: char) -> Result<(), AllocError>
     ensures { OnOk result (string_bytes text.new ≡ string_bytes text.old ++ shown_char c) }
 {
     if is_unseen(c) {
-        add_number(text, c as u32)
+        push_number(text, c as u32)
     } else {
         text.push(c)
     }
 }
 
-fn add_byte(text: &mut String, b: u8) -> Result<(), AllocError>
+fn push_byte(text: &mut String, b: u8) -> Result<(), AllocError>
     ensures { OnOk result (string_bytes text.new ≡ string_bytes text.old ++ shown_byte b) }
 {
     if b < 128 {
-        return add_char(text, char::from(b));
+        return push_char(text, char::from(b));
     }
     text.push_str("\\x")?;
-    add_digit(text, u32::from(b) / 16)?;
-    add_digit(text, u32::from(b))
+    push_digit(text, u32::from(b) / 16)?;
+    push_digit(text, u32::from(b))
 }
 
 fn shown_text(alloc: Global, text: &str) -> Result<Vec<u8>, AllocError>
@@ -87,7 +87,7 @@ fn shown_text(alloc: Global, text: &str) -> Result<Vec<u8>, AllocError>
 {
     let mut shown = String::new(alloc);
     for c in text.chars() {
-        add_char(&mut shown, c)?;
+        push_char(&mut shown, c)?;
     }
     Ok(shown.into_bytes())
 }
@@ -98,7 +98,7 @@ fn shown_bytes(alloc: Global, bytes: &[u8]) -> Result<Vec<u8>, AllocError>
 {
     let mut shown = String::new(alloc);
     for b in bytes {
-        add_byte(&mut shown, *b)?;
+        push_byte(&mut shown, *b)?;
     }
     Ok(shown.into_bytes())
 }

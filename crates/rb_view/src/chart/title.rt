@@ -6,23 +6,23 @@ ghost use Rattle.rb_view.specs.Titles.{from_text, title_text, until_text};
 
 use crate::chart::part::ChartPart;
 use crate::chart::shown::shown;
-use rb_text::{Piece, add_pieces};
+use rb_text::{Piece, push_pieces};
 use std::alloc::{AllocError, Global};
 
-fn add_from(title: &mut Vec<u8>, from: Option<u64>) -> Result<(), AllocError>
+fn push_from(title: &mut Vec<u8>, from: Option<u64>) -> Result<(), AllocError>
     ensures { OnOk result (title.new.items ≡ title.old.items ++ from_text from) }
 {
     match from {
-        Some(line) => add_pieces(title, &[Piece::Bytes(b", from line "), Piece::Number(line)]),
+        Some(line) => push_pieces(title, &[Piece::Bytes(b", from line "), Piece::Number(line)]),
         None => Ok(()),
     }
 }
 
-fn add_until(title: &mut Vec<u8>, until: Option<u64>) -> Result<(), AllocError>
+fn push_until(title: &mut Vec<u8>, until: Option<u64>) -> Result<(), AllocError>
     ensures { OnOk result (title.new.items ≡ title.old.items ++ until_text until) }
 {
     match until {
-        Some(line) => add_pieces(
+        Some(line) => push_pieces(
             title,
             &[Piece::Bytes(b", up to line "), Piece::Number(line)],
         ),
@@ -35,7 +35,7 @@ pub(crate) fn title_of(alloc: Global, name: &[u8], part: ChartPart) -> Result<Ve
     ensures { IfOk result (λ title. title.items ≡ title_text (shown name.now) part.from part.until) }
 {
     let mut title = shown(alloc, name)?;
-    add_from(&mut title, part.from)?;
-    add_until(&mut title, part.until)?;
+    push_from(&mut title, part.from)?;
+    push_until(&mut title, part.until)?;
     Ok(title)
 }

@@ -16,7 +16,7 @@ use crate::rows::past;
 use rb_message::{Append, Message, MessageKind};
 use rb_raftlog::Entry;
 use rb_script::{Lines, WrittenLine};
-use rb_text::add_pieces;
+use rb_text::push_pieces;
 use rb_texts::{EventForm, EventMark, Item, MessageField, kind_fields};
 use rb_vocab::MessageType;
 use std::alloc::{AllocError, Global};
@@ -26,7 +26,7 @@ fn text_of(alloc: Global, pieces: &[ChartPiece<'_>]) -> Result<Vec<u8>, AllocErr
     ensures { IfOk result (λ text. text.items ≡ flat_map piece_text pieces.now) }
 {
     let mut text = Vec::new(alloc);
-    add_pieces(&mut text, pieces)?;
+    push_pieces(&mut text, pieces)?;
     Ok(text)
 }
 
@@ -60,7 +60,7 @@ fn word(name: &[u8]) -> &[u8]
 
 // Adds a field, with a text before it if it is a number.
 #[tactic(auto, unfolding(crate::specs::FewWords::fields_words))]
-fn add_field<'a>(
+fn push_field<'a>(
     text: &mut Vec<u8>,
     comma: &'a [u8],
     field: MessageField<'a>,
@@ -70,11 +70,11 @@ fn add_field<'a>(
     match field {
         MessageField::Number(name, n) => {
             let pieces = [Bytes(comma), Bytes(word(name)), Field(b" ", n)];
-            add_pieces(text, &pieces)
+            push_pieces(text, &pieces)
         }
         MessageField::Place(name, term, index) => {
             let place = (Field(b" ", term), Field(b"/", index));
-            add_pieces(text, &[Bytes(comma), Bytes(word(name)), place.0, place.1])
+            push_pieces(text, &[Bytes(comma), Bytes(word(name)), place.0, place.1])
         }
         MessageField::Answer(true) => text.extend_from_slice(b" granted"),
         MessageField::Answer(false) => text.extend_from_slice(b" refused"),
@@ -93,34 +93,34 @@ fn comma_after<'a>(comma: &'a [u8], field: MessageField<'_>) -> &'a [u8]
     }
 }
 
-fn add_fields(text: &mut Vec<u8>, fields: &[MessageField<'_>]) -> Result<(), AllocError>
+fn push_fields(text: &mut Vec<u8>, fields: &[MessageField<'_>]) -> Result<(), AllocError>
     ensures { OnOk result (text.new.items ≡ text.old.items ++ fields_words [] (flat_map plain_field fields.now)) }
 {
     let mut comma: &[u8] = b"";
     for field in fields {
-        add_field(text, comma, *field)?;
+        push_field(text, comma, *field)?;
         comma = comma_after(comma, *field);
     }
     Ok(())
 }
 
-fn add_append(text: &mut Vec<u8>, append: &Append) -> Result<(), AllocError>
+fn push_append(text: &mut Vec<u8>, append: &Append) -> Result<(), AllocError>
     ensures { OnOk result (text.new.items ≡ text.old.items ++ append_words append.now) }
 {
     let count = append.entries().len();
     if count == 0 {
-        return add_pieces(text, &[Field(b" commit ", append.commit())]);
+        return push_pieces(text, &[Field(b" commit ", append.commit())]);
     }
     let pieces = [
         Field(b" +", count as u64),
         Field(b" after ", append.prev_term()),
         Field(b"/", append.prev()),
     ];
-    add_pieces(text, &pieces)
+    push_pieces(text, &pieces)
 }
 
 // Adds what a proposal brings: what its line says after its type.
-fn add_proposal(alloc: Global, text: &mut Vec<u8>, message: &Message) -> Result<(), AllocError>
+fn push_proposal(alloc: Global, text: &mut Vec<u8>, message: &Message) -> Result<(), AllocError>
     requires { IsProposal message.now.kind }
     ensures { OnOk result (text.new.items ≡ text.old.items ++ kind_words message.now.kind) }
 {
@@ -138,30 +138,30 @@ fn add_proposal(alloc: Global, text: &mut Vec<u8>, message: &Message) -> Result<
 
 // Adds the fields of a message. Appends and proposals show fewer, and a snapshot and a transfer of leadership other words.
 #[tactic(auto, unfolding(crate::specs::FewWords::kind_words))]
-fn add_kind(alloc: Global, text: &mut Vec<u8>, message: &Message) -> Result<(), AllocError>
+fn push_kind(alloc: Global, text: &mut Vec<u8>, message: &Message) -> Result<(), AllocError>
     ensures { OnOk result (text.new.items ≡ text.old.items ++ kind_words message.now.kind) }
 {
     match &message.kind {
-        MessageKind::Append(append) => add_append(text, append),
+        MessageKind::Append(append) => push_append(text, append),
         MessageKind::Snapshot(install) => {
             let snapshot = install.snapshot();
             let term = Field(b" ", snapshot.term);
-            add_pieces(text, &[term, Field(b"/", snapshot.index)])
+            push_pieces(text, &[term, Field(b"/", snapshot.index)])
         }
-        MessageKind::Proposal(_) => add_proposal(alloc, text, message),
-        MessageKind::TransferLeader { target } => { add_pieces(text, &[Field(b" to ", *target)]) }
-        kind => add_fields(text, &kind_fields(kind)),
+        MessageKind::Proposal(_) => push_proposal(alloc, text, message),
+        MessageKind::TransferLeader { target } => { push_pieces(text, &[Field(b" to ", *target)]) }
+        kind => push_fields(text, &kind_fields(kind)),
     }
 }
 
 // Adds the term, if there is one.
-fn add_term(text: &mut Vec<u8>, term: u64) -> Result<(), AllocError>
+fn push_term(text: &mut Vec<u8>, term: u64) -> Result<(), AllocError>
     ensures { OnOk result (text.new.items ≡ text.old.items ++ term_words term) }
 {
     if term == 0 {
         return Ok(());
     }
-    add_pieces(text, &[Field(b" t", term)])
+    push_pieces(text, &[Field(b" t", term)])
 }
 
 /// A message's type, its term if it has one, and its most important fields.
@@ -170,8 +170,8 @@ pub(crate) fn message_words(alloc: Global, message: &Message) -> Result<Vec<u8>,
     ensures { IfOk result (λ text. text.items ≡ message_words message.now) }
 {
     let mut text = Vec::from_slice(alloc, short_name(message.kind.message_type()))?;
-    add_term(&mut text, message.term)?;
-    add_kind(alloc, &mut text, message)?;
+    push_term(&mut text, message.term)?;
+    push_kind(alloc, &mut text, message)?;
     Ok(text)
 }
 
@@ -199,7 +199,7 @@ pub(crate) fn label_words(
         return Vec::from_slice(alloc, words);
     }
     let mut text = Vec::from_slice(alloc, short_name(message.kind.message_type()))?;
-    add_kind(alloc, &mut text, message)?;
+    push_kind(alloc, &mut text, message)?;
     cut(alloc, text.as_slice())
 }
 

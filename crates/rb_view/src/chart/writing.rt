@@ -6,16 +6,16 @@ ghost use Rattle.rb_view.specs.declared.chart.style.TheConstants.{STYLE};
 ghost use Rattle.rb_view.specs.Charts.{chart_text, diagram_front, diagram_text, front_text, participant, participants};
 
 use crate::chart::chart::Chart;
-use crate::chart::layers::put_layer;
+use crate::chart::layers::write_layer;
 use crate::chart::mark::{Layer, Mark};
 use crate::chart::path::DrawnArrow;
 use crate::chart::piece::ChartPiece::{Bytes, Field, InDiagram, Words};
 use crate::chart::style::STYLE;
 use rb_script::{Sink, WriteFault};
-use rb_text::{WrittenPiece, put_pieces};
+use rb_text::{WrittenPiece, write_pieces};
 
 // Writes the part before the marks.
-fn put_front<'a, S: Sink>(
+fn write_front<'a, S: Sink>(
     sink: &mut S,
     style: &'a [u8],
     width: u64,
@@ -42,7 +42,7 @@ fn put_front<'a, S: Sink>(
         Bytes(style),
         Bytes(b"<rect class=\"background\" width=\"100%\" height=\"100%\"/>\n"),
     ];
-    put_pieces(sink, &pieces)
+    write_pieces(sink, &pieces)
 }
 
 /// A part of a text.
@@ -63,22 +63,22 @@ impl WrittenPiece for ChartSection<'_> {
 
     ghost text = { section_text };
 
-    fn put<S: Sink>(&self, sink: &mut S) -> Result<(), WriteFault> {
+    fn write_to<S: Sink>(&self, sink: &mut S) -> Result<(), WriteFault> {
         match *self {
             ChartSection::Front(style, width, height, title, told) => {
-                put_front(sink, style, width, height, title, told)
+                write_front(sink, style, width, height, title, told)
             }
-            ChartSection::Layer(layer, arrows, marks) => put_layer(sink, layer, arrows, marks),
-            ChartSection::Arrows(arrows) => put_pieces(sink, arrows),
-            ChartSection::DiagramFront(title, nodes) => put_diagram_front(sink, title, nodes),
-            ChartSection::End => sink.put(b"</svg>\n"),
+            ChartSection::Layer(layer, arrows, marks) => write_layer(sink, layer, arrows, marks),
+            ChartSection::Arrows(arrows) => write_pieces(sink, arrows),
+            ChartSection::DiagramFront(title, nodes) => write_diagram_front(sink, title, nodes),
+            ChartSection::End => sink.write_all(b"</svg>\n"),
         }
     }
 }
 
 // Writes a picture with this style.
 #[tactic(auto, unfolding(crate::specs::Charts::chart_text))]
-fn put_styled<S: Sink>(sink: &mut S, style: &[u8], chart: &Chart) -> Result<(), WriteFault>
+fn write_styled<S: Sink>(sink: &mut S, style: &[u8], chart: &Chart) -> Result<(), WriteFault>
     ensures wrote { Writes result (S.held sink.old) (S.held sink.new) (chart_text style.now chart.now) }
     ensures all { S.takes_all sink.old → IsOk result × S.takes_all sink.new }
 {
@@ -93,21 +93,21 @@ fn put_styled<S: Sink>(sink: &mut S, style: &[u8], chart: &Chart) -> Result<(), 
         ChartSection::Layer(Layer::Texts, arrows, marks),
         ChartSection::End,
     ];
-    put_pieces(sink, &sections)
+    write_pieces(sink, &sections)
 }
 
 /// Writes a picture as a document of SVG, which needs no scripts and fetches nothing. Takes no memory. On a failure a beginning of the
 /// document was written.
-pub fn put_chart<S: Sink>(sink: &mut S, chart: &Chart) -> Result<(), WriteFault>
+pub fn write_chart<S: Sink>(sink: &mut S, chart: &Chart) -> Result<(), WriteFault>
     ensures wrote { Writes result (S.held sink.old) (S.held sink.new) (chart_text STYLE.now chart.now) }
     ensures all { S.takes_all sink.old → IsOk result × S.takes_all sink.new }
 {
-    put_styled(sink, STYLE, chart)
+    write_styled(sink, STYLE, chart)
 }
 
 // ---- diagrams
 
-fn put_participant<S: Sink>(sink: &mut S, id: u64) -> Result<(), WriteFault>
+fn write_participant<S: Sink>(sink: &mut S, id: u64) -> Result<(), WriteFault>
     ensures wrote { Writes result (S.held sink.old) (S.held sink.new) (participant id) }
     ensures all { S.takes_all sink.old → IsOk result × S.takes_all sink.new }
 {
@@ -116,10 +116,10 @@ fn put_participant<S: Sink>(sink: &mut S, id: u64) -> Result<(), WriteFault>
         Field(b" as node ", id),
         Bytes(b"\n"),
     ];
-    put_pieces(sink, &pieces)
+    write_pieces(sink, &pieces)
 }
 
-fn put_diagram_front<S: Sink>(sink: &mut S, title: &[u8], nodes: usize) -> Result<(), WriteFault>
+fn write_diagram_front<S: Sink>(sink: &mut S, title: &[u8], nodes: usize) -> Result<(), WriteFault>
     ensures wrote { Writes result (S.held sink.old) (S.held sink.new) (diagram_front title.now nodes) }
     ensures all { S.takes_all sink.old → IsOk result × S.takes_all sink.new }
 {
@@ -128,23 +128,23 @@ fn put_diagram_front<S: Sink>(sink: &mut S, title: &[u8], nodes: usize) -> Resul
         InDiagram(title),
         Bytes(b"\n"),
     ];
-    put_pieces(sink, &pieces)?;
-    put_participants(sink, nodes)
+    write_pieces(sink, &pieces)?;
+    write_participants(sink, nodes)
 }
 
-fn put_participants<S: Sink>(sink: &mut S, nodes: usize) -> Result<(), WriteFault>
+fn write_participants<S: Sink>(sink: &mut S, nodes: usize) -> Result<(), WriteFault>
     ensures wrote { Writes result (S.held sink.old) (S.held sink.new) (participants nodes 1) }
     ensures all { S.takes_all sink.old → IsOk result × S.takes_all sink.new }
 {
     for at in 0..nodes {
-        put_participant(sink, at as u64 + 1)?;
+        write_participant(sink, at as u64 + 1)?;
     }
     Ok(())
 }
 
 /// Writes a picture as a sequence diagram of Mermaid. Takes no memory. On a failure a beginning of the diagram was written.
 #[tactic(auto, unfolding(crate::specs::Charts::diagram_text))]
-pub fn put_diagram<S: Sink>(sink: &mut S, chart: &Chart) -> Result<(), WriteFault>
+pub fn write_diagram<S: Sink>(sink: &mut S, chart: &Chart) -> Result<(), WriteFault>
     ensures wrote { Writes result (S.held sink.old) (S.held sink.new) (diagram_text chart.now) }
     ensures all { S.takes_all sink.old → IsOk result × S.takes_all sink.new }
 {
@@ -153,5 +153,5 @@ pub fn put_diagram<S: Sink>(sink: &mut S, chart: &Chart) -> Result<(), WriteFaul
         ChartSection::DiagramFront(chart.title.as_slice(), chart.nodes),
         ChartSection::Layer(layer, chart.arrows.as_slice(), chart.marks.as_slice()),
     ];
-    put_pieces(sink, &sections)
+    write_pieces(sink, &sections)
 }

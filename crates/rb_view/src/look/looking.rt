@@ -1,4 +1,4 @@
-//! Shows the state at a place of a script.
+//! The cluster after a directive, as `raftbench look` prints it.
 
 ghost use Rattle.std.specs.Prelude.{◌≡◌, ◌+◌, ◌-◌, ◌*◌, ◌<◌, ◌≤◌, ◌++◌, ◌^◌, ℕ, [], length, min, codes, decimal, IfOk, OnOk};
 ghost use Rattle.rb_script.specs.declared.limits.TheConstants.{MAX_DIRECTIVES};
@@ -9,7 +9,7 @@ ghost use Rattle.rb_view.specs.Looks.{answer_in, asked, question, of_node, of_no
 use crate::look::answer::{answer, question};
 use crate::look::nodes::Nodes;
 use crate::look::quiet::cluster_at;
-use crate::look::section::add_section;
+use crate::look::section::push_section;
 use itoa::Buffer;
 use rb_cluster::{Cluster, Meter};
 use rb_machine::{Count, Machine};
@@ -66,7 +66,7 @@ pub(crate) fn machine_at<M: Machine>(
     run_between(M::empty(alloc)?, script, 0, place, meter)
 }
 
-/// Gives the machine at a place of a session's script. It runs from the last checkpoint.
+/// The machine after the first directives of a session's script. It runs from the last checkpoint.
 pub fn machine_in_session<M: Machine>(
     session: &Session<M>,
     place: usize,
@@ -89,7 +89,7 @@ pub fn machine_in_session<M: Machine>(
     Ok(machine)
 }
 
-// What a directive of this text would print.
+// What a directive with this text would print.
 fn ask<M: Machine>(
     alloc: Global,
     machine: &M,
@@ -104,8 +104,8 @@ fn ask<M: Machine>(
     answer(alloc, machine, &text, meter)
 }
 
-// Adds the answer to a directive, below the directive's text.
-fn add_answer<M: Machine>(
+// Appends a directive's text, and below it what it would print.
+fn push_answer<M: Machine>(
     alloc: Global,
     machine: &M,
     meter: &mut M::Meter,
@@ -117,11 +117,11 @@ fn add_answer<M: Machine>(
     ensures counted { M.Meter.count_of meter.new ≤ M.Meter.count_of meter.old + 1 }
 {
     let answer = ask(alloc, machine, meter, head)?;
-    add_section(lines, head, &answer, b"")
+    push_section(lines, head, &answer, b"")
 }
 
 // Adds the messages in flight: the answer to a directive that drops them all, each line without the word `drop`.
-fn add_in_flight<M: Machine>(
+fn push_in_flight<M: Machine>(
     alloc: Global,
     machine: &M,
     meter: &mut M::Meter,
@@ -131,7 +131,7 @@ fn add_in_flight<M: Machine>(
     ensures { OnOk result (lines.new ≡ lines.old ++ section (M.meaning machine.now) (codes "on their way") all_dropped (codes "drop ")) }
 {
     let answer = ask(alloc, machine, meter, ALL_DROPPED)?;
-    add_section(lines, b"on their way", &answer, b"drop ")
+    push_section(lines, b"on their way", &answer, b"drop ")
 }
 
 // A directive's text: the word and an id.
@@ -145,8 +145,8 @@ fn head_of(alloc: Global, word: &[u8], id: u64) -> Result<Vec<u8>, AllocError>
     Ok(text)
 }
 
-// Adds a node's log, and its view of others.
-fn add_node<M: Machine>(
+// Appends a node's log and its status, as directives would print them.
+fn push_node<M: Machine>(
     alloc: Global,
     machine: &M,
     meter: &mut M::Meter,
@@ -158,12 +158,13 @@ fn add_node<M: Machine>(
     ensures counted { M.Meter.count_of meter.new ≤ M.Meter.count_of meter.old + 2 }
 {
     let log = head_of(alloc, b"raft-log ", id)?;
-    add_answer(alloc, machine, meter, lines, &log)?;
+    push_answer(alloc, machine, meter, lines, &log)?;
     let status = head_of(alloc, b"status ", id)?;
-    add_answer(alloc, machine, meter, lines, &status)
+    push_answer(alloc, machine, meter, lines, &status)
 }
 
-fn add_nodes<M: Machine>(
+// Appends the log and the status of each node.
+fn push_nodes<M: Machine>(
     alloc: Global,
     machine: &M,
     meter: &mut M::Meter,
@@ -176,7 +177,7 @@ fn add_nodes<M: Machine>(
     ensures counted { M.Meter.count_of meter.new ≤ M.Meter.count_of meter.old + 2 * count }
 {
     for i in 0..count {
-        add_node(alloc, machine, meter, lines, i as u64 + 1)?;
+        push_node(alloc, machine, meter, lines, i as u64 + 1)?;
     }
     Ok(())
 }
@@ -191,10 +192,10 @@ pub fn look_in<M: Nodes>(
     ensures { IfOk result (λ lines. lines ≡ looked_in (M.meaning machine.now)) }
 {
     let mut lines = Lines::new(alloc);
-    add_answer(alloc, machine, meter, &mut lines, b"raft-state")?;
+    push_answer(alloc, machine, meter, &mut lines, b"raft-state")?;
     let count = machine.count().min(MOST_NODES);
-    add_nodes(alloc, machine, meter, &mut lines, count)?;
-    add_in_flight(alloc, machine, meter, &mut lines)?;
+    push_nodes(alloc, machine, meter, &mut lines, count)?;
+    push_in_flight(alloc, machine, meter, &mut lines)?;
     Ok(lines)
 }
 

@@ -1,4 +1,4 @@
-//! An answer below its title.
+//! An answer with its title above it.
 
 ghost use Rattle.std.specs.Prelude.{◌≡◌, ◌∷◌, ◌++◌, [], map, OnOk};
 ghost use Rattle.rb_view.specs.Looks.{without, shown};
@@ -16,7 +16,8 @@ fn without<'a>(line: &'a [u8], word: &[u8]) -> &'a [u8]
     }
 }
 
-fn add_shown(lines: &mut Lines, line: &[u8], word: &[u8]) -> Result<(), AllocError>
+// Appends a line, indented, and without the word if it begins with it.
+fn push_shown(lines: &mut Lines, line: &[u8], word: &[u8]) -> Result<(), AllocError>
     ensures { OnOk result (lines.new ≡ lines.old ++ shown word.now line.now ∷ []) }
 {
     let mut text = lines.new_text(line.len().saturating_add(2))?;
@@ -25,8 +26,8 @@ fn add_shown(lines: &mut Lines, line: &[u8], word: &[u8]) -> Result<(), AllocErr
     lines.push(&text)
 }
 
-/// Adds a title, and below it the lines of an answer, each without its first word.
-pub(crate) fn add_section(
+/// Appends a title, and below it the lines of an answer, indented, and without the word if they begin with it.
+pub(crate) fn push_section(
     lines: &mut Lines,
     title: &[u8],
     answer: &Lines,
@@ -36,7 +37,7 @@ pub(crate) fn add_section(
 {
     lines.push(title)?;
     for i in 0..answer.len() {
-        add_shown(lines, answer.line(i), word)?;
+        push_shown(lines, answer.line(i), word)?;
     }
     Ok(())
 }

@@ -1,4 +1,4 @@
-//! What a page has room for.
+//! How much a page has room for.
 
 ghost use Rattle.std.specs.Prelude.{◌≡◌};
 ghost use Rattle.rb_view.specs.PageRoom.{has_room, held};

@@ -5,8 +5,8 @@ ghost use Rattle.rb_view.specs.Kept.{texts_of};
 ghost use Rattle.rb_view.specs.Watching.{reason_rows, shown_texts};
 ghost use Rattle.rb_texts.specs.Items.{plain_item};
 
-use crate::rows::{Cell, keep_item, keep_row, past, reason_line};
-use crate::steps::node::{content_is_bytes, keep_node_at};
+use crate::rows::{Cell, past, push_item, push_row, reason_line};
+use crate::steps::node::{content_is_bytes, push_node_at};
 use crate::steps::room::has_room;
 use crate::steps::written::{WrittenNode, written_nodes};
 use rb_cluster::Cluster;
@@ -33,7 +33,7 @@ pub(crate) struct EventRows<L: RaftLog> {
     pub(crate) keeps: bool,
 }
 
-// Puts a node at an index, if there is one.
+// Replaces the node at an index by its present state, if there is such an index.
 fn rewrite<L: RaftLog>(
     nodes: &mut Vec<WrittenNode<L>>,
     index: usize,
@@ -47,16 +47,16 @@ fn rewrite<L: RaftLog>(
     }
 }
 
-// Adds what happened, and why.
-fn keep_shown(alloc: Global, texts: &mut Lines, item: &Item<'_>) -> Result<(), AllocError>
+// Appends the rows of an item, and the row of its reason.
+fn push_item_and_reason(alloc: Global, texts: &mut Lines, item: &Item<'_>) -> Result<(), AllocError>
     ensures { OnOk result (texts.new ≡ texts.old ++ shown_texts (plain_item item.now)) }
 {
-    keep_item(texts, item)?;
-    keep_reason(alloc, texts, reason_of(item)?)
+    push_item(texts, item)?;
+    push_reason(alloc, texts, reason_of(item)?)
 }
 
-// Adds why nothing came of a message, why a vote was refused, or which entries give way.
-fn keep_reason(alloc: Global, texts: &mut Lines, reason: Option<Reason>) -> Result<(), AllocError>
+// Appends the row of a reason, if there is one.
+fn push_reason(alloc: Global, texts: &mut Lines, reason: Option<Reason>) -> Result<(), AllocError>
     ensures { OnOk result (texts.new ≡ texts.old ++ texts_of (reason_rows reason)) }
 {
     let Some(reason) = reason else {
@@ -64,7 +64,7 @@ fn keep_reason(alloc: Global, texts: &mut Lines, reason: Option<Reason>) -> Resu
     };
     let lines = reason_line(alloc, &reason)?;
     let said = past(lines.line(0), INDENTATION);
-    keep_row(texts, b"reason", &[Cell::Text(said)])
+    push_row(texts, b"reason", &[Cell::Text(said)])
 }
 
 impl<L: RaftLog> EventRows<L> {
@@ -89,8 +89,8 @@ impl<L: RaftLog> EventRows<L> {
         })
     }
 
-    // Adds what of the node at an index is not as it was.
-    fn keep_changes(&mut self, index: usize, node: &Node<L>) -> Result<(), AllocError>
+    // Appends the rows of the node at an index that have changed since it was written.
+    fn push_changes(&mut self, index: usize, node: &Node<L>) -> Result<(), AllocError>
         ensures texts { OnOk result (self.new.texts ≡ held_with self.old.texts (texts_of (node_since self.old.keeps (slice_get self.old.nodes.items index) node.now))) }
         ensures nodes { OnOk result (self.new.nodes ≡ self.old.nodes) }
         ensures keeps { OnOk result (self.new.keeps ≡ self.old.keeps) }
@@ -98,7 +98,7 @@ impl<L: RaftLog> EventRows<L> {
         let Some(texts) = &mut self.texts else {
             return Ok(());
         };
-        keep_node_at(self.alloc, texts, &self.nodes, index, node, self.keeps)?;
+        push_node_at(self.alloc, texts, &self.nodes, index, node, self.keeps)?;
         if !has_room(texts) {
             self.texts = None;
         }
@@ -140,7 +140,7 @@ impl<L: RaftLog> Observer<L> for EventRows<L> {
         let Some(texts) = &mut self.texts else {
             return Ok(());
         };
-        keep_shown(self.alloc, texts, item)?;
+        push_item_and_reason(self.alloc, texts, item)?;
         if !has_room(texts) {
             self.texts = None;
         }
@@ -150,7 +150,7 @@ impl<L: RaftLog> Observer<L> for EventRows<L> {
     fn settle(&mut self, id: u64, node: &Node<L>) -> Result<(), AllocError> {
         let index = id.saturating_sub(1) as usize;
         content_is_bytes(node);
-        self.keep_changes(index, node)?;
+        self.push_changes(index, node)?;
         rewrite(&mut self.nodes, index, node)
     }
 }

@@ -13,14 +13,14 @@ ghost use Rattle.rb_view.specs.Steps.{done_texts, left_next, script_rows, step, 
 ghost use Rattle.rb_view.specs.Values.{BlockShowsBytes, ShowBytes};
 ghost use Rattle.rb_view.specs.Watching.{observed_texts, shows_bytes, written_last};
 
-use crate::rows::keep_texts;
+use crate::rows::push_texts;
 use crate::steps::committed::keeps_commits;
-use crate::steps::meant::keep_hint;
-use crate::steps::node::keep_states;
+use crate::steps::meant::push_hint;
+use crate::steps::node::push_states;
 use crate::steps::page_observer::PageObserver;
 use crate::steps::room::{has_room, held};
 use crate::steps::rows::EventRows;
-use crate::steps::script::keep_script;
+use crate::steps::script::push_script;
 use crate::steps::shown::{DirectiveRun, StepMachine};
 use crate::steps::written::WrittenNode;
 use rb_cluster::{Cluster, Meter};
@@ -84,8 +84,8 @@ fn run<L: RaftLog>(
     })
 }
 
-// Adds what is in a cluster that wasn't written.
-fn keep_changes<L: RaftLog>(
+// Appends rows for what has changed in a cluster since its nodes were written.
+fn push_changes<L: RaftLog>(
     alloc: Global,
     texts: &mut Lines,
     written: &[WrittenNode<L>],
@@ -96,11 +96,11 @@ fn keep_changes<L: RaftLog>(
     ensures texts { OnOk result (texts.new ≡ texts.old ++ texts_of (state_rows written.now after.now.nodes)) }
     ensures bytes { OnOk result (ShowBytes after.now.nodes) }
 {
-    keep_states(alloc, texts, written, after.nodes(), keeps)?;
+    push_states(alloc, texts, written, after.nodes(), keeps)?;
     Ok(())
 }
 
-// The rows with what is in a cluster that wasn't written, as long as there is room.
+// The rows, followed by those of what has changed since the nodes were written; none once there is no room.
 fn with_changes<L: RaftLog>(
     alloc: Global,
     texts: Option<Lines>,
@@ -116,7 +116,7 @@ fn with_changes<L: RaftLog>(
         return Ok(None);
     };
     let mut rows = texts;
-    keep_changes(alloc, &mut rows, written, after, keeps)?;
+    push_changes(alloc, &mut rows, written, after, keeps)?;
     Ok(held(rows))
 }
 
@@ -151,8 +151,8 @@ pub(crate) struct StepRun<M> {
     pub(crate) output: Lines,
 }
 
-// Adds the rows of a directive that ran. Says whether a page has room for all.
-fn keep_ran(
+// Appends the rows of a directive that ran. Returns whether a page has room for all rows.
+fn push_rows_of_run(
     alloc: Global,
     texts: &mut Lines,
     table: &mut Table,
@@ -165,7 +165,7 @@ fn keep_ran(
     ensures left { OnOk result (table.new.left ≡ left_next table.old.left place.entry.block.now.expected output.now) }
     ensures bytes { OnOk result (IsOfBytes (meant_by place.entry.block.now output.now)) }
 {
-    keep_script(
+    push_script(
         alloc,
         texts,
         table,
@@ -173,13 +173,13 @@ fn keep_ran(
         place.block.expected(),
         output,
     )?;
-    keep_texts(texts, rows)?;
-    keep_hint(texts, hint_of(place.block, output))?;
+    push_texts(texts, rows)?;
+    push_hint(texts, hint_of(place.block, output))?;
     Ok(has_room(texts))
 }
 
-/// Runs a directive on a copy, and adds its rows; none if a page has no room for them.
-pub(crate) fn keep_step<M: StepMachine>(
+/// Runs a directive on a copy, and appends its rows; returns none if a page has no room for them.
+pub(crate) fn push_step<M: StepMachine>(
     alloc: Global,
     texts: &mut Lines,
     table: &mut Table,
@@ -205,7 +205,7 @@ pub(crate) fn keep_step<M: StepMachine>(
     let Some(rows) = rows else {
         return Ok(None);
     };
-    let fits = keep_ran(alloc, texts, table, place, &output, &rows)?;
+    let fits = push_rows_of_run(alloc, texts, table, place, &output, &rows)?;
     if !fits {
         return Ok(None);
     }

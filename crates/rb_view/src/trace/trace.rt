@@ -23,7 +23,7 @@ use rb_raftlog::RaftLog;
 use rb_replay::block_at;
 use rb_script::{Block, Lines, Script, Sink};
 use rb_script_report::{is_same, number_at};
-use rb_text::{Piece, add_pieces};
+use rb_text::{Piece, push_pieces};
 use std::alloc::{AllocError, Global};
 
 /// The format of the objects.
@@ -105,7 +105,7 @@ fn trace_directives<L: RaftLog, S: Sink>(
         if ran.tracer.size > MAX_TRACE {
             return Err(TraceFault::TooLarge(line));
         }
-        sink.put(ran.tracer.lines.text())?;
+        sink.write_all(ran.tracer.lines.text())?;
         expected = are_expected(expected, block, &ran.output);
         machine = ran.machine;
         tracer = ran.tracer;
@@ -114,7 +114,7 @@ fn trace_directives<L: RaftLog, S: Sink>(
 }
 
 // Writes the first object, with an end of line.
-fn put_first<S: Sink>(alloc: Global, sink: &mut S, name: &[u8]) -> Result<(), TraceFault>
+fn write_first<S: Sink>(alloc: Global, sink: &mut S, name: &[u8]) -> Result<(), TraceFault>
     ensures written { OnOk result (Appends (S.held sink.old) (S.held sink.new) (plain_first_object FORMAT name.now ++ 10 ∷ [])) }
     ensures front { IfErr result (λ _. AppendsFront (S.held sink.old) (S.held sink.new) (plain_first_object FORMAT name.now ++ 10 ∷ [])) }
     ensures small { IfErr result (λ fault. fault ≡ TraceFault.Io ⊎ fault ≡ TraceFault.OutOfMemory) }
@@ -122,8 +122,8 @@ fn put_first<S: Sink>(alloc: Global, sink: &mut S, name: &[u8]) -> Result<(), Tr
     ensures all { S.takes_all sink.old → S.takes_all sink.new }
 {
     let mut first = first_object(alloc, FORMAT, name)?;
-    add_pieces(&mut first, &[Piece::Bytes(b"\n")])?;
-    sink.put(first.as_slice())?;
+    push_pieces(&mut first, &[Piece::Bytes(b"\n")])?;
+    sink.write_all(first.as_slice())?;
     Ok(())
 }
 
@@ -154,6 +154,6 @@ pub fn write_trace<L: RaftLog, S: Sink>(
     ensures counted { meter.old ≤ 2 ^ 62 → OnOk result (meter.new ≡ meter.old + length script.now.blocks) }
     ensures most { meter.old ≤ 2 ^ 62 → meter.new ≤ meter.old + length script.now.blocks }
 {
-    put_first(alloc, sink, name)?;
+    write_first(alloc, sink, name)?;
     trace_directives::<L, S>(alloc, sink, script, heads, meter)
 }

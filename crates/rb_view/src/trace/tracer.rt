@@ -1,4 +1,4 @@
-//! Who makes an object of each thing that happens.
+//! An observer that makes an object of each thing that happens.
 
 ghost use Rattle.std.specs.Prelude.{◌≡◌, ◌+◌, ◌∷◌, [], IfOk, OnOk, length};
 ghost use Rattle.rb_texts.specs.Items.{plain_item};
@@ -28,7 +28,7 @@ pub(crate) struct Tracer {
     pub(crate) size: usize,
 }
 
-// A message as it is shown, by which it is known again.
+// The text of a message, by which it is found again when it arrives or is lost.
 fn shown(alloc: Global, message: &Message) -> Result<Lines, AllocError>
     ensures { IfOk result (λ lines. lines ≡ shown message.now ∷ []) }
 {
@@ -37,6 +37,7 @@ fn shown(alloc: Global, message: &Message) -> Result<Lines, AllocError>
     Ok(lines)
 }
 
+// The node whose ready is shown after an item; 0 for none.
 fn ready_after(ready: u64, item: &Item<'_>) -> u64
     ensures { result ≡ ready_after ready (plain_item item.now) }
 {
@@ -93,7 +94,7 @@ impl Tracer {
         Ok(number)
     }
 
-    // A message is in flight no longer. Gives its number.
+    // Takes a message out of those in flight, and returns its number.
     fn meet(&mut self, message: &Message) -> Result<u64, AllocError>
         ensures number { IfOk result (λ number. number ≡ (meeting self.old message.now).number) }
         ensures counted { OnOk result (self.new ≡ counted self.old (meeting self.old message.now)) }
@@ -102,7 +103,7 @@ impl Tracer {
         Ok(self.mail.take(lines.line(0)))
     }
 
-    // A message finds no room. Gives its number.
+    // The number of the message for which there was no room: it is taken out if it was sent, and else gets a new number.
     fn give_up(&mut self) -> Result<u64, AllocError>
         ensures number { IfOk result (λ number. number ≡ (given_up self.old).number) }
         ensures counted { OnOk result (self.new ≡ counted self.old (given_up self.old)) }
@@ -116,6 +117,7 @@ impl Tracer {
         }
     }
 
+    // The number of a message that is queued, delivered or dropped, or for which there is no room.
     fn move_on(&mut self, verb: Verb, message: &Message) -> Result<u64, AllocError>
         ensures number { IfOk result (λ number. number ≡ (moving self.old verb message.now).number) }
         ensures counted { OnOk result (self.new ≡ counted self.old (moving self.old verb message.now)) }
@@ -139,8 +141,8 @@ impl Tracer {
         }
     }
 
-    // Adds the object of an item, whose message has this number.
-    fn add_object(&mut self, number: u64, item: &Item<'_>) -> Result<(), AllocError>
+    // Appends the object of an item. `number` is that of its message.
+    fn push_object(&mut self, number: u64, item: &Item<'_>) -> Result<(), AllocError>
         ensures { OnOk result (self.new ≡ with_object self.old number (plain_item item.now)) }
     {
         let at = Standing {
@@ -167,7 +169,7 @@ impl Tracer {
         ensures { OnOk result (self.new ≡ with_item self.old (plain_item item.now)) }
     {
         let number = self.number(item)?;
-        self.add_object(number, item)
+        self.push_object(number, item)
     }
 }
 

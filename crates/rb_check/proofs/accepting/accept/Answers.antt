@@ -9,10 +9,10 @@ use Rattle.rb_check.proofs.accepting.accept.Goals as goal
 pub returns-in-Ok-clause-said : goal.returns-in-Ok-clause-said
 returns-in-Ok-clause-said g c =
     let about = plain_of c.args.subject.now in
-    let found = c.keep.result in (
+    let found = c.save.result in (
       leaving_text c.args.wanted about ++ ended_text about found,
-      tried (c.keep.ensures.found ∙ ap (λ (r : ScriptResult). result_after r c.in-Ok.made.left.items found.failure) c.requires.result ∙ ap (λ (left : List ℕ). result_after (result_of about) left found.failure) c.in-Ok.ensures.left) refl,
-      extends_then c.leave.ensures c.keep.ensures.shown,
+      tried (c.save.ensures.found ∙ ap (λ (r : ScriptResult). result_after r c.in-Ok.made.left.items found.failure) c.requires.result ∙ ap (λ (left : List ℕ). result_after (result_of about) left found.failure) c.in-Ok.ensures.left) refl,
+      extends_then c.leave.ensures c.save.ensures.shown,
     )
 
 pub returns-in-Err-clause-said : goal.returns-in-Err-clause-said

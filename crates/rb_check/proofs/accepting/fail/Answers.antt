@@ -13,11 +13,11 @@ returns-clause-told g c =
     let failure = c.error_of-error.ensures.failure in
     let says = c.error_of-error.ensures.says in
     let shows = c.args.errors.now.shows_progress in
-    let told = c.tell_failure.ensures.told in
+    let told = c.write_failure.ensures.told in
     elim c.match-fault.branch [
       | in-BadOutput w ↦ rw w.errors-is (
           let line = w.in-BadOutput.line in
-          let note = told_along _ _ (ap (λ (b : Bool). cleared b ++ long_line_text c.as_bytes-path.result.now line) c.tell_failure.ensures.shown) w.tell.ensures.told in (
+          let note = told_along _ _ (ap (λ (b : Bool). cleared b ++ long_line_text c.as_bytes-path.result.now line) c.write_failure.ensures.shown) w.write.ensures.told in (
             told.0,
             told_along _ _ (ap (λ (p : List ℕ). (cleared shows ++ failure_lines p error told.0) ++ long_line_text p line) c.as_bytes-path.ensures.value
                 ∙ refusal_whole shows path c.args.fault error told.0 (long_line_text path line) failure says (sym (ap (refusal_note path) w.in-BadOutput.is)))

@@ -10,4 +10,4 @@ returns c =
     let about = plain_of c.args.subject.now in
     let wanted = c.args.wanted in
     extends_along (ap (λ (left : List ℕ). left_text about.form about.path wanted.picked left ++ (left_shown wanted about ++ echoes_text about.form about.path wanted.picked left)) c.requires.left)
-    (extends_then c.leave_each.ensures (extends_then c.tell_left.ensures c.tell_echoes.ensures))
+    (extends_then c.leave_each.ensures (extends_then c.write_left.ensures c.write_echoes.ensures))

@@ -12,8 +12,8 @@ pub loop-i-preserved : goal.loop-i-preserved
 loop-i-preserved g c =
     let about = plain_of c.args.subject.now in
     let asked = c.args.asked.now in
-    each_more (question_of asked.accepts_errors c.args.picked about.layout.text) (runs_of about) c.loop-i.i (plain_ran c.directive_at-ran.result) c.loop-i.questions.items c.add_question.new.questions.items (questions_of asked c.args.picked about)
-    c.directive_at-ran.ensures.run c.in_ok-add_question.ensures c.loop-i.invariant
+    each_more (question_of asked.accepts_errors c.args.picked about.layout.text) (runs_of about) c.loop-i.i (plain_ran c.directive_at-ran.result) c.loop-i.questions.items c.push_question.new.questions.items (questions_of asked c.args.picked about)
+    c.directive_at-ran.ensures.run c.in_ok-push_question.ensures c.loop-i.invariant
 
 pub returns : goal.returns
 returns g c =

@@ -62,7 +62,7 @@ impl<R: Abort> Sink for InMemory<'_, R> {
 
     ghost takes_all = { λ _. Unit {0} };
 
-    fn put(&mut self, bytes: &[u8]) -> Result<(), WriteFault> {
+    fn write_all(&mut self, bytes: &[u8]) -> Result<(), WriteFault> {
         self.text
             .extend_from_slice(bytes)
             .expect(self.rt, "memory for the text");

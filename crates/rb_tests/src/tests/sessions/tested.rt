@@ -6,7 +6,7 @@ use rb_cluster::Meter;
 use rb_machine::{Count, Machine};
 use rb_replay::{Changed, Session, StartFault};
 use rb_script::{Block, DirectiveRef, Edit, EditFault, Lines, Sink, Through, WriteFault};
-use rb_text::put_number;
+use rb_text::write_number;
 use std::alloc::Global;
 use std::io;
 use std::io::Write;
@@ -98,15 +98,15 @@ impl Write for Matching<'_> {
     }
 }
 
-fn put_numbers<S: Sink>(sink: &mut S, numbers: &[usize]) -> Result<(), WriteFault> {
+fn write_numbers<S: Sink>(sink: &mut S, numbers: &[usize]) -> Result<(), WriteFault> {
     for number in numbers {
-        put_number(sink, *number as u64)?;
-        sink.put(b" ")?;
+        write_number(sink, *number as u64)?;
+        sink.write_all(b" ")?;
     }
-    sink.put(b"\n")
+    sink.write_all(b"\n")
 }
 
-fn put_argument<S: Sink>(
+fn write_argument<S: Sink>(
     sink: &mut S,
     directive: &DirectiveRef<'_>,
     i: usize,
@@ -114,58 +114,58 @@ fn put_argument<S: Sink>(
     if i >= directive.args() {
         return Ok(());
     }
-    sink.put(directive.key(i))?;
+    sink.write_all(directive.key(i))?;
     if directive.has_equals(i) {
-        sink.put(b"=")?;
+        sink.write_all(b"=")?;
     }
     for j in 0..directive.values(i) {
-        sink.put(directive.value(i, j))?;
+        sink.write_all(directive.value(i, j))?;
     }
     Ok(())
 }
 
-fn put_inputs<S: Sink>(sink: &mut S, directive: &DirectiveRef<'_>) -> Result<(), WriteFault> {
+fn write_inputs<S: Sink>(sink: &mut S, directive: &DirectiveRef<'_>) -> Result<(), WriteFault> {
     for i in 0..directive.inputs() {
-        sink.put(directive.input(i))?;
+        sink.write_all(directive.input(i))?;
     }
     Ok(())
 }
 
-fn put_directive<S: Sink>(sink: &mut S, directive: &DirectiveRef<'_>) -> Result<(), WriteFault> {
-    sink.put(directive.name())?;
+fn write_directive<S: Sink>(sink: &mut S, directive: &DirectiveRef<'_>) -> Result<(), WriteFault> {
+    sink.write_all(directive.name())?;
     for i in 0..directive.args() {
-        put_argument(sink, directive, i)?;
+        write_argument(sink, directive, i)?;
     }
-    put_inputs(sink, directive)
+    write_inputs(sink, directive)
 }
 
-fn put_block<S: Sink>(sink: &mut S, block: Option<&Block>) -> Result<(), WriteFault> {
+fn write_block<S: Sink>(sink: &mut S, block: Option<&Block>) -> Result<(), WriteFault> {
     match block {
-        Some(block) => put_directive(sink, &block.directive()),
-        None => sink.put(b"no block"),
+        Some(block) => write_directive(sink, &block.directive()),
+        None => sink.write_all(b"no block"),
     }
 }
 
-fn put_output<S: Sink>(sink: &mut S, output: Option<&Lines>) -> Result<(), WriteFault> {
+fn write_output<S: Sink>(sink: &mut S, output: Option<&Lines>) -> Result<(), WriteFault> {
     match output {
-        Some(lines) => sink.put(lines.text()),
-        None => sink.put(b"no output"),
+        Some(lines) => sink.write_all(lines.text()),
+        None => sink.write_all(b"no output"),
     }
 }
 
 /// Writes what is at each position, and at the ones before and after.
-fn put_places<M: Machine, S: Sink>(session: &Session<M>, sink: &mut S) -> Result<(), WriteFault> {
+fn write_places<M: Machine, S: Sink>(session: &Session<M>, sink: &mut S) -> Result<(), WriteFault> {
     for place in 0..session.len().saturating_add(2) {
-        put_block(sink, session.block(place))?;
-        put_output(sink, session.output(place))?;
+        write_block(sink, session.block(place))?;
+        write_output(sink, session.output(place))?;
     }
     Ok(())
 }
 
-fn put_all<M: Machine, S: Sink>(session: &Session<M>, sink: &mut S) -> Result<(), WriteFault> {
-    put_numbers(sink, session.mismatches())?;
-    put_numbers(sink, session.checkpoints())?;
-    put_places(session, sink)?;
+fn write_all<M: Machine, S: Sink>(session: &Session<M>, sink: &mut S) -> Result<(), WriteFault> {
+    write_numbers(sink, session.mismatches())?;
+    write_numbers(sink, session.checkpoints())?;
+    write_places(session, sink)?;
     session.write_report(sink)?;
     session.write_script(sink)?;
     session.write_rewritten(sink)
@@ -205,7 +205,7 @@ impl<M: Machine<Meter = Meter>> Tested for Session<M> {
 
     fn record(&self, alloc: Global) -> Option<Vec<u8>> {
         let mut all = Through(Vec::new(alloc));
-        match put_all(self, &mut all) {
+        match write_all(self, &mut all) {
             Ok(()) => Some(all.0),
             Err(_) => None,
         }
@@ -216,6 +216,6 @@ impl<M: Machine<Meter = Meter>> Tested for Session<M> {
             rest: all,
             differs: false,
         };
-        put_all(self, &mut Through(&mut matching)).is_ok() && matching.is_met()
+        write_all(self, &mut Through(&mut matching)).is_ok() && matching.is_met()
     }
 }

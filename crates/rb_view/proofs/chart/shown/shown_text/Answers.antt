@@ -19,7 +19,7 @@ char_more before after cs n m c is_m h adds =
 pub loop-c-preserved : goal.loop-c-preserved
 loop-c-preserved c =
     let turn = YieldsList-turn (YieldsList-from_chars c.args.text.now c.utf8.text cc) c.loop-c.yielded _ c.loop-c.yielded_by _ _ c.in-Some.c c.in-Some.is c.next.ensures.steps in
-    char_more _ _ (chars c.args.text.now) (length c.loop-c.yielded) _ c.in-Some.c (length_push c.loop-c.yielded c.in-Some.c) turn c.in_ok-add_char.ensures ∙ c.loop-c.invariant
+    char_more _ _ (chars c.args.text.now) (length c.loop-c.yielded) _ c.in-Some.c (length_push c.loop-c.yielded c.in-Some.c) turn c.in_ok-push_char.ensures ∙ c.loop-c.invariant
 
 pub returns : goal.returns
 returns c =

@@ -51,8 +51,8 @@ returns-then-ran-gt-MAX_TRACE-clause-too_large g c =
       (i, slice_get_within heads i line c.number_at-line.ensures, get_or_from_slice_get heads i line line c.number_at-line.ensures),
     )
 
-pub returns-in_err-put-clause-front : goal.returns-in_err-put-clause-front
-returns-in_err-put-clause-front g c =
+pub returns-in_err-write_all-clause-front : goal.returns-in_err-write_all-clause-front
+returns-in_err-write_all-clause-front g c =
     let heads = c.args.heads.now in
     let bs = c.args.script.now.blocks in
     let i = c.loop-i.i in
@@ -65,7 +65,7 @@ returns-in_err-put-clause-front g c =
     let rest = text_of (objects_from (drop (i + 1) heads) (i + 1 + 1) after next (drop (i + 1) bs)) in
     let parts = texts_more heads bs i c.number_at-line.result (i + 1) b before after c.loop-i.tracer next c.number_at-line.ensures c.block_at-block.ensures c.in_ok-ran.ensures.machine so in
     let sent = sent_along (parts ∙ ap (λ (l : List ℕ). l ++ rest) (sym c.text.ensures)) c.loop-i.invariant.sent in
-    on_err c.from_residual-in_err-put.result _ (front_with _ _ rest sent c.in_err-put.ensures.wrote)
+    on_err c.from_residual-in_err-write_all.result _ (front_with _ _ rest sent c.in_err-write_all.ensures.wrote)
 
 pub loop-i-preserved : goal.loop-i-preserved
 loop-i-preserved g c =
@@ -87,12 +87,12 @@ loop-i-preserved g c =
     let more = ap (λ (l : List ℕ). length l) parts ∙ length-append (text_of next.lines) rest in
     let grown = ap (λ (u : Tracer). u.size) so ∙ traced_size t (i + 1) line before b ∙ ap (λ (u : Tracer). t.size + length (text_of u.lines)) (sym so) in
     record {
-      sent = sent_piece _ _ rest sent c.in_ok-put.ensures.wrote;
+      sent = sent_piece _ _ rest sent c.in_ok-write_all.ensures.wrote;
       size = omega (arith, more, grown, c.loop-i.invariant.size);
       few = few;
       same = ap (λ (e : Bool). e && left_same after bs (i + 1)) c.are_expected-expected.ensures
           ∙ same_more c.loop-i.expected _ before after bs i b c.in_ok-ran.ran.output c.block_at-block.ensures (c.in_ok-ran.ensures.output few) c.in_ok-ran.ensures.machine c.loop-i.invariant.same;
-      takes = λ takes. (c.in_ok-put.ensures.all (c.loop-i.invariant.takes takes)).1;
+      takes = λ takes. (c.in_ok-write_all.ensures.all (c.loop-i.invariant.takes takes)).1;
       counted = λ small. omega (arith, small, c.loop-i.invariant.counted small, c.in_ok-ran.ensures.counted (omega (arith, small, c.loop-i.invariant.counted small)));
     }
 

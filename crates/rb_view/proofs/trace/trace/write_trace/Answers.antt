@@ -10,10 +10,10 @@ if_err : {X E : Type 0} (r : Result X E) (P Q : Type 0) → (P → Q) → IfErr 
 if_err (Ok x) P Q turn h = tt
 if_err (Err e) P Q turn h = turn h
 
-pub returns-in_err-put_first-clause-front : goal.returns-in_err-put_first-clause-front
-returns-in_err-put_first-clause-front g c =
-    on_err c.from_residual.result _ (first_front _ _ _ (text_of (objects c.args.heads.now c.args.script.now)) c.in_err-put_first.ensures.front)
+pub returns-in_err-write_first-clause-front : goal.returns-in_err-write_first-clause-front
+returns-in_err-write_first-clause-front g c =
+    on_err c.from_residual.result _ (first_front _ _ _ (text_of (objects c.args.heads.now c.args.script.now)) c.in_err-write_first.ensures.front)
 
 pub returns-clause-front : goal.returns-clause-front
 returns-clause-front g c =
-    if_err c.trace_directives.result _ _ (λ f. others_front _ _ _ _ (text_of (objects c.args.heads.now c.args.script.now)) c.in_ok-put_first.ensures.written f) c.trace_directives.ensures.front
+    if_err c.trace_directives.result _ _ (λ f. others_front _ _ _ _ (text_of (objects c.args.heads.now c.args.script.now)) c.in_ok-write_first.ensures.written f) c.trace_directives.ensures.front

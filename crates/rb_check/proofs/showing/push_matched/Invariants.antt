@@ -1,0 +1,10 @@
+-- It is said of the directives so far.
+use Rattle.std.proofs.Common.{take}
+use Rattle.std.specs.List.{flat_map}
+use Rattle.rb_check.specs.ScriptTexts.{matched_text}
+use Rattle.rb_check.specs.ShownTexts.{Extends}
+use Rattle.rb_check.specs.Subjects.{plain_of}
+use Rattle.rb_check.proofs.showing.push_matched.Given as goal
+
+abbrev pub invariant-loop-i : goal.invariant-loop-i
+invariant-loop-i l = Extends l.fn.shown l.shown (flat_map (matched_text (plain_of l.subject)) (take l.i l.places))
