@@ -104,7 +104,7 @@ fn write_left(subject: &CheckedScript<'_>, wanted: AcceptOptions<'_>, shown: &mu
 {
     match subject.form.format {
         Some(_) => {}
-        None => shown.add(left_errors(shown.alloc, subject, wanted)),
+        None => shown.push_made(left_errors(shown.alloc, subject, wanted)),
     }
 }
 

@@ -94,7 +94,7 @@ impl<W: ReportSink, E: ReportSink> RunningCheck<W, E> {
         let form = self.report.state.form;
         if form.has_suites {
             let suites = &mut self.results.suites;
-            match suites.add(form.is_strict, path, found, &shown, milliseconds) {
+            match suites.push(form.is_strict, path, found, &shown, milliseconds) {
                 Ok(()) => {}
                 Err(_) => self.report.fail_for_memory(path),
             }

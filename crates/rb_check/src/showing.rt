@@ -66,7 +66,7 @@ fn push_each(subject: &CheckedScript<'_>, places: &[usize], shown: &mut ShownTex
 {
     for i in 0..places.len() {
         let index = number_at(places, i) - 1;
-        shown.add(alone(shown.alloc, subject, index, Detail::All));
+        shown.push_made(alone(shown.alloc, subject, index, Detail::All));
     }
 }
 
@@ -154,8 +154,8 @@ fn report(asked: &CheckRequest<'_>, subject: &CheckedScript<'_>, shown: &mut Sho
     }
     let alloc = shown.alloc;
     match subject.form.format {
-        Some(format) => shown.add(formatted(alloc, format, subject)),
-        None => shown.add(people_report(alloc, subject, asked.shown)),
+        Some(format) => shown.push_made(formatted(alloc, format, subject)),
+        None => shown.push_made(people_report(alloc, subject, asked.shown)),
     }
 }
 

@@ -19,7 +19,7 @@ loop-i-preserved c =
     let place = c.number_at.result in
     let here = c.requires.places c.loop-i.i place c.number_at.ensures in
     let same : place - 1 + 1 ≡ place = omega (arith, here.0) in
-    extends_more text c.args.places.now c.loop-i.i place c.number_at.ensures c.loop-i.invariant (extends_along (ap text same) (c.add.ensures _ c.alone.ensures))
+    extends_more text c.args.places.now c.loop-i.i place c.number_at.ensures c.loop-i.invariant (extends_along (ap text same) (c.push_made.ensures _ c.alone.ensures))
 
 pub returns : goal.returns
 returns c = extends_all (alone_text (plain_of c.args.subject.now)) c.args.places.now c.loop-i.i (omega (arith, c.loop-i-test.false)) c.loop-i.invariant

@@ -11,7 +11,7 @@ pub returns-then-is_quiet : goal.returns-then-is_quiet
 returns-then-is_quiet c = extends_along (sym (report_none c.args.asked.now (plain_of c.args.subject.now) (c.is_quiet.ensures c.if-is_quiet.true))) (extends_none _)
 
 pub returns-in-Some : goal.returns-in-Some
-returns-in-Some c = rw c.in-Some.is (c.add.ensures _ c.formatted.ensures)
+returns-in-Some c = rw c.in-Some.is (c.push_made.ensures _ c.formatted.ensures)
 
 pub returns-in-None : goal.returns-in-None
-returns-in-None c = rw c.in-None.is (c.add-in-None.ensures _ c.people_report.ensures)
+returns-in-None c = rw c.in-None.is (c.push_made-in-None.ensures _ c.people_report.ensures)
