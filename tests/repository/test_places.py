@@ -25,7 +25,7 @@ OPTION = Sample("How an option of a directive is added", re.compile(r"checkquoru
 TYPE = Sample("How a type of message is added", re.compile(r"TimeoutNow"), 8, ("rb_node", "rb_calls", "rb_laws"))
 SAMPLES = (DIRECTIVE, OPTION, TYPE, EVENT)
 # The texts of the manual are made of the document. What the names of other tools stand for takes a line only if there is such a name.
-NO_PLACES = {f"crates/rb_report/src/help/{name}.rt" for name in ("pages", "keys", "options", "other_names")}
+NO_PLACES = {f"crates/rb_help/src/{name}.rt" for name in ("pages", "keys", "options", "other_names")}
 
 
 def listed(sample: Sample) -> list[str]:

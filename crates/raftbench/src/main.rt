@@ -11,7 +11,7 @@ use rb_program::{
     ProgramError, RuntimeConsole, Terminals, UsageError, carry_out, check_all, choice_by,
     write_directive_help,
 };
-use rb_report::check::Status;
+use rb_report::Status;
 use std::io::{IsTerminal, Write};
 use std::process::ExitCode;
 use std::rt::{Env, Files};

@@ -41,7 +41,7 @@ pub use names::script_fault_name;
 pub use outlet::Outlet;
 pub use progress::{NoProgress, RunProgress};
 pub use rb_args::{ChoiceFault, ScriptCommand, Subcommand};
-pub use rb_report::check::Status;
+pub use rb_report::Status;
 pub use run_fault::RunFault;
 pub use runner::{Runner, ScriptRun};
 pub use running::{Mode, run_over, write_run};

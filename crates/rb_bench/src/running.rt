@@ -15,7 +15,7 @@ use crate::progress::RunProgress;
 use crate::runner::Runner;
 use crate::starting::BenchSession;
 use rb_replay::is_checkpoint_interval;
-use rb_report::check::Status;
+use rb_report::Status;
 use rb_script::{MAX_SCRIPT, Sink, WriteFault};
 use rb_text::{Source, read_up_to};
 use std::alloc::Global;

@@ -12,7 +12,7 @@ use crate::outlet::Outlet;
 use crate::reply::Reply;
 use crate::starting::BenchSession;
 use rb_replay::Changed;
-use rb_report::check::fault_line;
+use rb_report::fault_line;
 use rb_script::{Lines, ScriptFault, Sink, WriteFault};
 use rb_text::{Piece, write_pieces};
 

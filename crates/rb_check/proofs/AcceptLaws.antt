@@ -7,7 +7,7 @@ use Rattle.rb_script.specs.Script.{PlainBlock}
 use Rattle.rb_replay.specs.Report.{mismatches}
 use Rattle.rb_replay.specs.Run.{outputs}
 use Rattle.rb_files.specs.declared.path_error.PathError.{PathError}
-use Rattle.rb_report.specs.declared.check.failure.Failure.{Failure}
+use Rattle.rb_report.specs.declared.failure.Failure.{Failure}
 use Rattle.rb_report.specs.Failures.{failure_text}
 use Rattle.rb_report.specs.Notices.{left_text as left_note}
 use Rattle.rb_script_report.specs.declared.accept_options.AcceptFilter.{AcceptFilter}

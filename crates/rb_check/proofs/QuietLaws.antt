@@ -6,8 +6,8 @@ use Rattle.rb_script.specs.Lines.{Line}
 use Rattle.rb_script.specs.Script.{PlainBlock}
 use Rattle.rb_replay.specs.Run.{outputs}
 use Rattle.rb_replay.specs.Report.{same_lines, differing}
-use Rattle.rb_report.specs.declared.check.colors.Colors.{Colors}
-use Rattle.rb_report.specs.declared.check.table.TheConstants.{MAX_SCRIPT_CELLS}
+use Rattle.rb_report.specs.declared.colors.Colors.{Colors}
+use Rattle.rb_report.specs.declared.table.TheConstants.{MAX_SCRIPT_CELLS}
 use Rattle.rb_script_report.specs.declared.view.Detail.{Detail}
 use Rattle.rb_script_report.specs.declared.view.Detail.TheVariants as details
 use Rattle.rb_script_report.specs.Checked.{brief_at, of_first}

@@ -4,7 +4,7 @@ use Rattle.std.specs.Prelude.{◌≢◌, ⊤, slice_get, string_bytes}
 use Rattle.std.proofs.lemmas.Grind.{flat_map-append}
 use Rattle.std.proofs.lemmas.List.Sums.{fold-append}
 use Rattle.rb_files.specs.declared.finding.Found.{Found}
-use Rattle.rb_report.specs.declared.check.totals.Totals.{Totals}
+use Rattle.rb_report.specs.declared.totals.Totals.{Totals}
 use Rattle.rb_report.specs.Counts.{nothing, together}
 use Rattle.rb_script.proofs.ListLaws.{take_there}
 use Rattle.rb_check.specs.declared.check_request.CheckRequest.{CheckRequest}

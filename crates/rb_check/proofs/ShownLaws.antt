@@ -3,9 +3,9 @@ use Rattle.std.proofs.Common.{◌≡◌, ◌∙◌, ℕ, suc, ◌+◌, ◌-◌, 
 use Rattle.std.specs.Io.KnownBytes.{Appends, Keeps}
 use Rattle.std.specs.Prelude.{◌≢◌, IfErr, IfOk, IsOk, min, not, ◌==◌}
 use Rattle.std.proofs.KnownBytes.{Appends-nil, Appends-trans, Appends-kept}
-use Rattle.rb_report.specs.declared.check.failure.Failure.TheVariants.{NotShown}
-use Rattle.rb_report.specs.declared.check.outcome.Outcome.TheVariants as outcomes
-use Rattle.rb_report.specs.declared.check.totals.Totals.{Totals}
+use Rattle.rb_report.specs.declared.failure.Failure.TheVariants.{NotShown}
+use Rattle.rb_report.specs.declared.outcome.Outcome.TheVariants as outcomes
+use Rattle.rb_report.specs.declared.totals.Totals.{Totals}
 use Rattle.rb_report.specs.Counts.{of_outcome, together}
 use Rattle.rb_script.specs.declared.sink.WriteFault.{WriteFault}
 use Rattle.rb_script.specs.Writes.{AppendsFront, Writes}

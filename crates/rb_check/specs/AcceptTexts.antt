@@ -4,8 +4,8 @@ use Rattle.std.specs.List.{list_any}
 use Rattle.rb_script.specs.Reads.{Reads}
 use Rattle.rb_replay.specs.Report.{mismatches}
 use Rattle.rb_replay.specs.Run.{outputs}
-use Rattle.rb_report.specs.declared.check.failure.Failure.{Failure}
-use Rattle.rb_report.specs.declared.check.failure.Failure.TheVariants.{NotWritten, OutOfMemory}
+use Rattle.rb_report.specs.declared.failure.Failure.{Failure}
+use Rattle.rb_report.specs.declared.failure.Failure.TheVariants.{NotWritten, OutOfMemory}
 use Rattle.rb_report.specs.Failures.{failure_text}
 use Rattle.rb_script_report.specs.declared.accept_options.AcceptFilter.{AcceptFilter}
 use Rattle.rb_script_report.specs.declared.accept_options.AcceptFilter.TheVariants as picks

@@ -3,7 +3,7 @@ use Rattle.std.specs.Prelude.{ℕ, ◌-◌, Bool, if◌then◌else◌, List, [],
 use Rattle.std.specs.List.{flat_map}
 use Rattle.rb_script.specs.Lines.{Line}
 use Rattle.rb_replay.specs.Report.{same_lines, mismatches}
-use Rattle.rb_report.specs.declared.check.table.TheConstants.{MAX_SCRIPT_CELLS}
+use Rattle.rb_report.specs.declared.table.TheConstants.{MAX_SCRIPT_CELLS}
 use Rattle.rb_script_report.specs.Checked.{head_of, of_first}
 use Rattle.rb_script_report.specs.Errors.{first_line, is_unexpected}
 use Rattle.rb_check.specs.declared.format.LineFormat.{LineFormat}

@@ -1,9 +1,9 @@
 -- The report of paths as JUnit's XML, as GitLab and Jenkins read it: for each path a suite with one case. (This project's.)
 use Rattle.std.specs.Prelude.{ℕ, ◌==◌, Bool, if◌then◌else◌, List, [], ◌++◌, Option, None, Some, codes, decimal, length}
 use Rattle.std.specs.List.{flat_map, fold}
-use Rattle.rb_report.specs.declared.check.failure.Failure.{Failure}
-use Rattle.rb_report.specs.declared.check.status.Status.{Status}
-use Rattle.rb_report.specs.declared.check.status.Status.TheVariants.{Matched}
+use Rattle.rb_report.specs.declared.failure.Failure.{Failure}
+use Rattle.rb_report.specs.declared.status.Status.{Status}
+use Rattle.rb_report.specs.declared.status.Status.TheVariants.{Matched}
 use Rattle.rb_report.specs.Counts.{nothing, plus, status_of}
 use Rattle.rb_report.specs.Failures.{failure_sentence, failure_text}
 use Rattle.rb_report.specs.Refusals.{refusal_line, refusal_sentence}

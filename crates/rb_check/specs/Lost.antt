@@ -2,8 +2,8 @@
 use Rattle.std.specs.Prelude.{ℕ, ◌==◌, Bool, if◌then◌else◌, List, [], ◌∷◌, ◌++◌, codes, length, map}
 use Rattle.rb_files.specs.declared.finding.FailedPath.{FailedPath}
 use Rattle.rb_files.specs.declared.finding.Found.{Found}
-use Rattle.rb_report.specs.declared.check.failure.Failure.{Failure}
-use Rattle.rb_report.specs.declared.check.failure.Failure.TheVariants.{NoScripts, OutOfMemory}
+use Rattle.rb_report.specs.declared.failure.Failure.{Failure}
+use Rattle.rb_report.specs.declared.failure.Failure.TheVariants.{NoScripts, OutOfMemory}
 use Rattle.rb_check.specs.declared.remark.Remark.TheVariants as remarks
 use Rattle.rb_check.specs.declared.report_state.ReportForm.{ReportForm}
 use Rattle.rb_check.specs.declared.script_result.PathResult.TheVariants as paths

@@ -12,14 +12,14 @@ use Rattle.rb_files.specs.declared.finding.Found.{Found}
 use Rattle.rb_files.specs.declared.path_error.PathError.{PathError}
 use Rattle.rb_script.specs.Script.{PlainScript}
 use Rattle.rb_script.specs.Reading.{read_of, Refuses}
-use Rattle.rb_report.specs.declared.check.colors.Colors.TheVariants.{Off}
-use Rattle.rb_report.specs.declared.check.failure.Failure.TheVariants.{NotRead, OutOfMemory}
-use Rattle.rb_report.specs.declared.check.status.Status.{Status}
-use Rattle.rb_report.specs.declared.check.totals.Totals.{Totals}
+use Rattle.rb_report.specs.declared.colors.Colors.TheVariants.{Off}
+use Rattle.rb_report.specs.declared.failure.Failure.TheVariants.{NotRead, OutOfMemory}
+use Rattle.rb_report.specs.declared.status.Status.{Status}
+use Rattle.rb_report.specs.declared.totals.Totals.{Totals}
 use Rattle.rb_report.specs.Counts.{nothing, status_of, together}
-use Rattle.rb_report.specs.declared.check.refusal.Refusal.{Refusal}
-use Rattle.rb_report.specs.declared.check.refusal.Refusal.TheVariants as refusals
-use Rattle.rb_report.specs.declared.check.refusal.TheConstants.{MAX_OUTPUTS}
+use Rattle.rb_report.specs.declared.refusal.Refusal.{Refusal}
+use Rattle.rb_report.specs.declared.refusal.Refusal.TheVariants as refusals
+use Rattle.rb_report.specs.declared.refusal.TheConstants.{MAX_OUTPUTS}
 use Rattle.rb_script_report.specs.declared.layout.Layout.{Layout}
 use Rattle.rb_script_report.specs.Layouts.{IsLayout}
 use Rattle.rb_bench.specs.Reasons.{asked_reasons}

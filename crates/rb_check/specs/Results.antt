@@ -1,10 +1,10 @@
 -- The results of a check: of each path what is counted of it, and what is listed. (This project's.)
 use Rattle.std.specs.Prelude.{ℕ, ◌-◌, ◌==◌, ◌++◌, Bool, if◌then◌else◌, List, [], ◌∷◌, Option, None, Some, length, map, slice_get}
 use Rattle.std.specs.List.{flat_map, fold}
-use Rattle.rb_report.specs.declared.check.failure.Failure.{Failure}
-use Rattle.rb_report.specs.declared.check.outcome.Outcome.{Outcome}
-use Rattle.rb_report.specs.declared.check.outcome.Outcome.TheVariants as outcomes
-use Rattle.rb_report.specs.declared.check.totals.Totals.{Totals}
+use Rattle.rb_report.specs.declared.failure.Failure.{Failure}
+use Rattle.rb_report.specs.declared.outcome.Outcome.{Outcome}
+use Rattle.rb_report.specs.declared.outcome.Outcome.TheVariants as outcomes
+use Rattle.rb_report.specs.declared.totals.Totals.{Totals}
 use Rattle.rb_report.specs.Counts.{of_all}
 use Rattle.rb_check.specs.declared.differing.Differing.{Differing}
 use Rattle.rb_check.specs.declared.script_result.PathResult.{PathResult}

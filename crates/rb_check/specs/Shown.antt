@@ -8,12 +8,12 @@ use Rattle.std.specs.declared.io.ErrorKind.{ErrorKind}
 use Rattle.std.specs.declared.io.ErrorKind.TheVariants as errors
 use Rattle.rb_files.specs.declared.path_error.PathError.{PathError}
 use Rattle.rb_script.specs.Writes.{AppendsFront}
-use Rattle.rb_report.specs.declared.check.colors.Colors.{Colors}
-use Rattle.rb_report.specs.declared.check.colors.Colors.TheVariants.{Off}
-use Rattle.rb_report.specs.declared.check.failure.Failure.{Failure}
-use Rattle.rb_report.specs.declared.check.failure.Failure.TheVariants.{NotRead, NotShown, NotWritten, OutOfMemory}
-use Rattle.rb_report.specs.declared.check.outcome.Outcome.TheVariants as outcomes
-use Rattle.rb_report.specs.declared.check.totals.Totals.{Totals}
+use Rattle.rb_report.specs.declared.colors.Colors.{Colors}
+use Rattle.rb_report.specs.declared.colors.Colors.TheVariants.{Off}
+use Rattle.rb_report.specs.declared.failure.Failure.{Failure}
+use Rattle.rb_report.specs.declared.failure.Failure.TheVariants.{NotRead, NotShown, NotWritten, OutOfMemory}
+use Rattle.rb_report.specs.declared.outcome.Outcome.TheVariants as outcomes
+use Rattle.rb_report.specs.declared.totals.Totals.{Totals}
 use Rattle.rb_report.specs.Briefs.{brief_text}
 use Rattle.rb_report.specs.Counts.{accepted_text, nothing, of_outcome, together, totals_text}
 use Rattle.rb_report.specs.Failures.{failure_sentence, failure_text}

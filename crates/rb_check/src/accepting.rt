@@ -21,7 +21,7 @@ use crate::script_result::ScriptResult;
 use crate::shown_text::ShownText;
 use crate::system::System;
 use rb_files::PathError;
-use rb_report::check::Failure;
+use rb_report::Failure;
 use rb_script::Through;
 use rb_script_report::{
     AcceptFault, AcceptFilter, AcceptOptions, Accepted, accept as accepted, is_picked, number_at,

@@ -4,7 +4,7 @@ use crate::report_state::ReportForm;
 use crate::script_result::ScriptResult;
 use crate::system::Text;
 use rb_bench::ScriptRun;
-use rb_report::check::Colors;
+use rb_report::Colors;
 use rb_script_report::Warning;
 
 /// A script that ran.

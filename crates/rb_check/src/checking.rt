@@ -1,7 +1,7 @@
 //! Checking one script. Nothing is held longer than its script.
 
 ghost use Rattle.std.specs.Prelude.{◌≡◌, ℕ, List, false, IfOk, IfErr, Some, length};
-ghost use Rattle.rb_report.specs.declared.check.failure.Failure.TheVariants.{OutOfMemory};
+ghost use Rattle.rb_report.specs.declared.failure.Failure.TheVariants.{OutOfMemory};
 ghost use Rattle.rb_check.specs.Endings.{AcceptsSaid, AreWanted, AsksAbout, IsAnswered, ending_at};
 ghost use Rattle.rb_check.specs.declared.script_result.ScriptResult.{ScriptResult};
 ghost use Rattle.rb_check.specs.Reported.{Counts, Fails, IsReadAs, IsUnread, Reported};
@@ -31,7 +31,7 @@ use rb_bench::{RunFault, RunProgress, Runner};
 use rb_files::PathError;
 use rb_machine::Machine;
 use rb_replay::Session;
-use rb_report::check::{Colors, Failure, MAX_OUTPUTS, Refusal};
+use rb_report::{Colors, Failure, MAX_OUTPUTS, Refusal};
 use rb_script_report::{AcceptFilter, AcceptOptions, Layout, summary_of, warnings};
 
 /// What the bytes of a file are.

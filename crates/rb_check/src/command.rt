@@ -3,14 +3,14 @@
 ghost use Rattle.std.specs.Prelude.{◌≡◌, ◌==◌, ◌<◌, ◌≤◌, ◌++◌, OnOk, IfOk, codes, length, slice_index};
 ghost use Rattle.rb_report.specs.Pieces.{noun};
 ghost use Rattle.std.specs.List.{flat_map};
-ghost use Rattle.rb_report.specs.declared.check.colors.Colors.TheVariants.{Off};
+ghost use Rattle.rb_report.specs.declared.colors.Colors.TheVariants.{Off};
 ghost use Rattle.rb_report.specs.Whys.{reasons_in, told_diff};
 ghost use Rattle.rb_script_report.specs.Checked.{head_of};
 ghost use Rattle.rb_check.specs.Commands.{command_with, difference_text, kept_of, last_end, legend_text, others_text, piece_text, rest_text, shortened};
 
 use crate::piece::CommandPiece;
 use crate::ran_directive::{RanDirective, head_of};
-use rb_report::check::{Colors, Table, write_explained_diff};
+use rb_report::{Colors, Table, write_explained_diff};
 use rb_script::Through;
 use rb_text::{Piece, push_pieces};
 use std::alloc::{AllocError, Global};

@@ -4,7 +4,7 @@ ghost use Rattle.std.specs.Prelude.{IsOk};
 ghost use Rattle.rb_script.specs.Writes.{Writes};
 ghost use Rattle.rb_check.specs.Shown.{differing_text, list_text};
 
-use rb_report::check::write_brief;
+use rb_report::write_brief;
 use rb_script::{Sink, WriteFault};
 use rb_text::WrittenPiece;
 

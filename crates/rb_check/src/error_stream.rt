@@ -7,7 +7,7 @@ ghost use Rattle.rb_check.specs.Shown.{Tells, cause_line, cleared, failure_lines
 use crate::notes::Note;
 use crate::report_sink::ReportSink;
 use rb_files::PathError;
-use rb_report::check::Failure;
+use rb_report::Failure;
 use rb_script::WriteFault;
 use rb_text::{Piece, WrittenPiece, write_pieces};
 use std::alloc::{AllocError, Global};

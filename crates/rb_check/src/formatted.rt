@@ -15,7 +15,7 @@ use crate::piece::CommandPiece;
 use crate::ran_directive::{RanDirective, directive_at, head_of};
 use rb_machine::Machine;
 use rb_replay::Session;
-use rb_report::check::Table;
+use rb_report::Table;
 use rb_script::Lines;
 use rb_script_report::{first_index, first_line, is_same, is_unexpected};
 use std::alloc::{AllocError, Global};

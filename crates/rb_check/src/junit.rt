@@ -8,7 +8,7 @@ ghost use Rattle.rb_check.specs.ShownTexts.{Holds};
 use crate::script_result::PathResult;
 use crate::shown_text::ShownText;
 use crate::xml::XmlPiece;
-use rb_report::check::{
+use rb_report::{
     Failure, Status, Totals, failure_sentence, refusal_line, refusal_sentence, write_failure,
 };
 use rb_script::{Sink, Through, WriteFault};

@@ -5,7 +5,7 @@ ghost use Rattle.rb_script.specs.Writes.{Writes};
 ghost use Rattle.rb_check.specs.Reviews.{quit_text};
 ghost use Rattle.rb_check.specs.Shown.{cause_line, left_file_text, note_line, note_text, taken_name_text};
 
-use rb_report::check::{Failure, ReportPiece, Totals, write_failure, write_totals};
+use rb_report::{Failure, ReportPiece, Totals, write_failure, write_totals};
 use rb_script::{Sink, WriteFault};
 use rb_text::{WrittenPiece, write_pieces};
 

@@ -7,7 +7,7 @@ ghost use Rattle.rb_check.specs.Objects.{lines_members, object_end, object_front
 ghost use Rattle.rb_check.specs.Subjects.{plain_ran};
 
 use crate::ran_directive::{RanDirective, head_of};
-use rb_report::check::{FileLine, Why};
+use rb_report::{FileLine, Why};
 use rb_script::Lines;
 use rb_text::{Json, Piece, push_pieces};
 use std::alloc::{AllocError, Global};

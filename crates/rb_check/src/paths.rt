@@ -28,7 +28,7 @@ use crate::shown_text::ShownText;
 use crate::system::{RuntimeSystem, System};
 use rb_bench::{RunProgress, Runner};
 use rb_files::{FailedPath, Found, PathError, find};
-use rb_report::check::{Failure, Status};
+use rb_report::{Failure, Status};
 use rb_script::Through;
 use rb_text::FailFast;
 use std::io;

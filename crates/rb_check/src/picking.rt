@@ -13,7 +13,7 @@ use crate::place::place_at;
 use crate::system::System;
 use crate::target::Target;
 use rb_files::PathError;
-use rb_report::check::Failure;
+use rb_report::Failure;
 use rb_script_report::{AcceptFilter, number_at, picked_unnamed};
 use std::alloc::{AllocError, Global};
 use std::io;

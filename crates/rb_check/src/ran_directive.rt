@@ -5,7 +5,7 @@ ghost use Rattle.rb_script_report.specs.Checked.{head_of};
 ghost use Rattle.rb_check.specs.Subjects.{plain_of, plain_ran, runs_of};
 
 use crate::checked_script::CheckedScript;
-use rb_report::check::{FileLine, Why, write_head};
+use rb_report::{FileLine, Why, write_head};
 use rb_script::{Block, Lines, Through};
 use rb_script_report::{block_at, number_at, output_at, why_at};
 use std::alloc::{AllocError, Global};

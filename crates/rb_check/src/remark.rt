@@ -8,7 +8,7 @@ use crate::format::LineFormat;
 use crate::kind::{NoticeKind, ScriptNotice};
 use crate::notes::write_note;
 use crate::notices::notice_of;
-use rb_report::check::{
+use rb_report::{
     Failure, Refusal, failure_sentence, refusal_line, refusal_sentence, warning_sentence,
     write_accepted, write_refusal, write_unaccepted, write_warning,
 };

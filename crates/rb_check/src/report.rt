@@ -6,7 +6,7 @@
 ghost use Rattle.std.specs.Prelude.{◌≡◌, ◌++◌, ℕ, [], true, false, not, List, Option, MatchOption};
 ghost use Rattle.std.specs.Io.KnownBytes.{Keeps};
 ghost use Rattle.rb_script.specs.Writes.{Writes};
-ghost use Rattle.rb_report.specs.declared.check.failure.Failure.TheVariants.{OutOfMemory};
+ghost use Rattle.rb_report.specs.declared.failure.Failure.TheVariants.{OutOfMemory};
 ghost use Rattle.rb_report.specs.Failures.{failure_text};
 ghost use Rattle.rb_check.specs.Shown.{GoesOut, Prints, Tells, cleared, closed, colors_for, is_broken_pipe, is_reader_gone, lacking, lost_output_text, shown_in, started};
 ghost use Rattle.rb_check.specs.ShownTexts.{Holds};
@@ -20,7 +20,7 @@ use crate::report_sink::ReportSink;
 use crate::report_state::ReportState;
 use crate::shown_text::ShownText;
 use crate::visible::{Showing, showing_of_lines};
-use rb_report::check::{Colors, Failure, acts_in_line};
+use rb_report::{Colors, Failure, acts_in_line};
 use rb_script::{Lines, WriteFault};
 use rb_text::WrittenPiece;
 use std::alloc::Global;

@@ -5,7 +5,7 @@ ghost use Rattle.rb_check.specs.Shown.{closed, lacking, started};
 
 use crate::check_request::CheckRequest;
 use crate::format::{LineFormat, is_junit, line_format};
-use rb_report::check::{Failure, Outcome, Totals};
+use rb_report::{Failure, Outcome, Totals};
 
 /// For whom a report is.
 #[derive(Clone, Copy)]

@@ -8,7 +8,7 @@ ghost use Rattle.rb_check.specs.Results.{listed_if, listed_of, listing};
 use crate::differing::Differing;
 use crate::junit::Suites;
 use crate::script_result::{PathResult, ScriptResult};
-use rb_report::check::Totals;
+use rb_report::Totals;
 use std::alloc::{AllocError, Global};
 
 /// The results of the paths so far.

@@ -4,7 +4,7 @@
 //! accepted and what is still to be asked. Each function here does a part of it.
 
 ghost use Rattle.std.specs.Prelude.{◌≡◌, ◌+◌, ◌++◌, ◌∷◌, [], ◌<◌, ℕ, List, IfErr, IfOk, Some, length, slice_get};
-ghost use Rattle.rb_report.specs.declared.check.failure.Failure.TheVariants.{OutOfMemory};
+ghost use Rattle.rb_report.specs.declared.failure.Failure.TheVariants.{OutOfMemory};
 ghost use Rattle.rb_check.specs.Asking.{AreAsked, AreGone, AreReviewed, IsAsked, IsAskedAt, asked_of, subject_text};
 ghost use Rattle.rb_check.specs.Reviews.{AreWithin, Hears, answered_one, comment_text, first_point, next_review, question_text, questions_of, review_behind, review_of, review_so_far, reviewed_all, reviewed_one, reviewing, said_by, said_unasked};
 ghost use Rattle.rb_check.specs.Shown.{Prints, PrintsPart};

@@ -20,7 +20,7 @@ use crate::results::{Results, together};
 use crate::script_result::PathResult;
 use crate::shown_text::ShownText;
 use crate::totals_object::TotalsObject;
-use rb_report::check::{Status, Totals};
+use rb_report::{Status, Totals};
 use rb_script_report::Detail;
 use std::alloc::Global;
 

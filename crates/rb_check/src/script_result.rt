@@ -3,7 +3,7 @@
 ghost use Rattle.std.specs.Prelude.{◌≡◌, Some};
 ghost use Rattle.rb_check.specs.Results.{after_accepting, counts_with, outcome_of};
 
-use rb_report::check::{Failure, Outcome, Refusal, Totals};
+use rb_report::{Failure, Outcome, Refusal, Totals};
 
 /// The result of a script that ran.
 #[derive(Clone, Copy)]

@@ -7,7 +7,7 @@ ghost use Rattle.rb_check.specs.AcceptTexts.{left_in};
 ghost use Rattle.rb_check.specs.Reported.{IsUnread};
 ghost use Rattle.rb_check.specs.Shown.{Tells, cleared, left_file_text, taken_name_text};
 ghost use Rattle.rb_check.specs.Subjects.{plain_of};
-ghost use Rattle.rb_report.specs.declared.check.failure.Failure.TheVariants.{NotRead, OutOfMemory};
+ghost use Rattle.rb_report.specs.declared.failure.Failure.TheVariants.{NotRead, OutOfMemory};
 ghost use Rattle.rb_files.specs.PathErrors.{without_cause};
 ghost use Rattle.rb_files.specs.Places.{WasPut};
 
@@ -16,7 +16,7 @@ use crate::error_stream::ErrorStream;
 use crate::notes::Note;
 use crate::report_sink::ReportSink;
 use rb_files::{AtomicReplace, FilePlace, PathError, Unreplaced, file_at, opened, replace};
-use rb_report::check::Failure;
+use rb_report::Failure;
 use rb_script::MAX_SCRIPT;
 use rb_script_report::AcceptOptions;
 use rb_text::{ReadFault, ReadSource, read_up_to};

@@ -2,7 +2,7 @@
 
 ghost use Rattle.rb_check.specs.Objects.{totals_object, totals_piece};
 
-use rb_report::check::Totals;
+use rb_report::Totals;
 use rb_script::{Sink, WriteFault};
 use rb_text::{Piece, WrittenPiece, write_pieces};
 

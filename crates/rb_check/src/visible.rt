@@ -11,7 +11,7 @@ ghost use Rattle.rb_report.specs.Names.{by_number};
 ghost use Rattle.rb_check.specs.Visible.{acts, stays, visible_byte, json_byte, byte_shown, is_harmful, showing_of_lines, text_shown};
 
 use rb_bench::Outlet;
-use rb_report::check::{by_number, has_acting_char};
+use rb_report::{by_number, has_acting_char};
 use rb_script::{Lines, Sink, Through, WriteFault};
 use rb_text::{Escape, write_escaped};
 use std::alloc::{AllocError, Global};

@@ -7,7 +7,7 @@ ghost use Rattle.rb_check.specs.Xml.{byte_text, in_text, in_value, line_end, pie
 use crate::piece::without_front;
 use crate::replaced::{Replaced, write_replaced};
 use crate::visible::visible_text;
-use rb_report::check::by_number;
+use rb_report::by_number;
 use rb_script::{Sink, WriteFault};
 use rb_text::{Escape, Piece, WrittenPiece, write_escaped, write_number, write_pieces};
 

@@ -9,12 +9,12 @@ use Rattle.rb_script.specs.Reads.{begins_rule}
 use Rattle.rb_script.specs.Reading.{directive_of, read_of}
 use Rattle.rb_replay.specs.Run.{outputs}
 use Rattle.rb_replay.specs.Report.{mismatches, same_lines}
-use Rattle.rb_report.specs.declared.check.colors.Colors.TheVariants.{Off}
-use Rattle.rb_report.specs.Suggestions.{suggested}
+use Rattle.rb_report.specs.declared.colors.Colors.TheVariants.{Off}
+use Rattle.rb_help.specs.Suggestions.{suggested}
 use Rattle.rb_report.specs.Hints.{PlainHint, meant, sentence, unknown}
 use Rattle.rb_report.specs.Notices.{warning_sentence}
 use Rattle.rb_report.specs.Refusals.{sentence as fault_sentence, fault_line}
-use Rattle.rb_report.specs.declared.check.table.TheConstants.{MAX_SCRIPT_CELLS}
+use Rattle.rb_report.specs.declared.table.TheConstants.{MAX_SCRIPT_CELLS}
 use Rattle.rb_report.specs.Diffs.{cells_within, parts_within}
 use Rattle.rb_report.specs.Folds.{folded_text}
 use Rattle.rb_script_report.specs.Checked.{left_next}

@@ -7,7 +7,7 @@ ghost use Rattle.rb_files.specs.Names.{AreInOrder, HasName, IsAdded, IsListing, 
 ghost use Rattle.rb_files.specs.PathErrors.{IsOfReading};
 
 use crate::path_error::PathError;
-use rb_report::check::Failure;
+use rb_report::Failure;
 use std::alloc::{AllocError, Global};
 use std::io::Read;
 use std::rt::Files;

@@ -4,14 +4,14 @@ use Rattle.std.specs.Path.{path_file_name, rsplit_once}
 use Rattle.std.specs.Str.{bytes_eq}
 use Rattle.rb_text.specs.Numbers.{number_of}
 use Rattle.rb_args.specs.declared.choice.CheckChoice.{CheckChoice}
-use Rattle.rb_report.specs.declared.check.colors.Colors.{Colors}
-use Rattle.rb_report.specs.declared.check.colors.Colors.TheVariants as shades
+use Rattle.rb_report.specs.declared.colors.Colors.{Colors}
+use Rattle.rb_report.specs.declared.colors.Colors.TheVariants as shades
 use Rattle.rb_script_report.specs.declared.view.Detail.{Detail}
 use Rattle.rb_script_report.specs.declared.view.Detail.TheVariants as shown
 use Rattle.rb_check.specs.declared.format.Format.{Format}
 use Rattle.rb_check.specs.declared.format.Format.TheVariants as formats
-use Rattle.rb_report.specs.Manual.{page_in, pages}
-use Rattle.rb_report.specs.Nearest.{names_of, nearest}
+use Rattle.rb_help.specs.Manual.{page_in, pages}
+use Rattle.rb_help.specs.Nearest.{names_of, nearest}
 use Rattle.rb_program.specs.declared.chart_format.ChartFormat.{ChartFormat}
 use Rattle.rb_program.specs.declared.chart_format.ChartFormat.TheVariants as pictures
 use Rattle.rb_program.specs.declared.checking.Terminals.{Terminals}

@@ -2,7 +2,7 @@
 use Rattle.std.specs.Prelude.{ℕ, codes, decimal, map, List, ◌++◌, Contains, Option, Result}
 use Rattle.std.specs.Option.{unwrap_or}
 use Rattle.std.specs.Borrow.{Bor}
-use Rattle.rb_report.specs.declared.check.status.Status.{Status}
+use Rattle.rb_report.specs.declared.status.Status.{Status}
 use Rattle.rb_bench.specs.declared.fault.BenchFault.{BenchFault}
 use Rattle.rb_view.specs.declared.chart.part.ChartPart.{ChartPart}
 use Rattle.rb_view.specs.Pages.{page_joined}

@@ -4,8 +4,8 @@ use Rattle.std.specs.Str.{bytes_eq}
 use Rattle.rb_args.specs.declared.choice.CommandChoice.{CommandChoice}
 use Rattle.rb_replay.specs.Start.{is_checkpoint_interval}
 use Rattle.std.specs.Borrow.{Bor}
-use Rattle.rb_report.specs.declared.check.status.Status.{Status}
-use Rattle.rb_report.specs.declared.check.status.Status.TheVariants as statuses
+use Rattle.rb_report.specs.declared.status.Status.{Status}
+use Rattle.rb_report.specs.declared.status.Status.TheVariants as statuses
 use Rattle.rb_bench.specs.declared.running.Mode.{Mode}
 use Rattle.rb_bench.specs.declared.running.Mode.TheVariants as modes
 use Rattle.rb_bench.specs.Runs.{Answers, RunsOver}

@@ -10,7 +10,7 @@ ghost use Rattle.rb_program.specs.Arguments.{IsRefusedAs};
 use crate::program_error::ProgramError;
 use crate::usage_error::UsageError;
 use rb_args::{ChoiceFault, CommandChoice, chosen};
-use rb_report::check::ShownName;
+use rb_report::ShownName;
 use std::alloc::{AllocError, Global};
 
 /// What the arguments choose, the program's name first.

@@ -9,7 +9,7 @@ use crate::chart_format::{ChartFormat, chart_format_of};
 use crate::document::{DocumentKind, unless_refused, write_document};
 use crate::program_error::ProgramError;
 use crate::usage_error::{UsageError, misused};
-use rb_report::check::Status;
+use rb_report::Status;
 use rb_text::number_of;
 use rb_view::chart::ChartPart;
 use std::alloc::Global;

@@ -13,7 +13,7 @@ use crate::chart_format::ChartFormat;
 use crate::reading::read_script;
 use crate::script_chart::picture_of;
 use rb_bench::{BenchFault, Outlet};
-use rb_report::check::Status;
+use rb_report::Status;
 use rb_script::{MAX_SCRIPT, WriteFault};
 use rb_text::{Source, read_up_to};
 use rb_view::chart::{Chart, ChartPart, write_chart, write_diagram};

@@ -15,7 +15,7 @@ use crate::usage_error::{UsageError, misused};
 use rb_args::CheckChoice;
 use rb_bench::Runner;
 use rb_check::{CheckRequest, Target, check};
-use rb_report::check::{Colors, Status};
+use rb_report::{Colors, Status};
 use rb_script_report::Detail;
 use std::alloc::Global;
 use std::io::Write;

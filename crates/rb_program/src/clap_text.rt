@@ -11,7 +11,7 @@ use crate::error_lines::say;
 use crate::program_error::ProgramError;
 use crate::shown::shown_text;
 use clap::error::ErrorKind;
-use rb_report::check::{ShownName, Status};
+use rb_report::{ShownName, Status};
 use std::alloc::{AllocError, Global};
 use std::fmt::Display;
 

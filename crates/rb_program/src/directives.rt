@@ -2,8 +2,8 @@
 
 ghost use Rattle.std.specs.Prelude.{◌≡◌, ◌≢◌, Err, IfErr, IfOk, IsOk, Ok, OnOk, Some, option_map};
 ghost use Rattle.std.specs.Io.KnownBytes.{Keeps};
-ghost use Rattle.rb_report.specs.Manual.{page_in, pages};
-ghost use Rattle.rb_report.specs.Nearest.{names_of, nearest};
+ghost use Rattle.rb_help.specs.Manual.{page_in, pages};
+ghost use Rattle.rb_help.specs.Nearest.{names_of, nearest};
 ghost use Rattle.rb_script.specs.Writes.{Writes};
 ghost use Rattle.rb_bench.specs.Handed.{IsHandedOn};
 ghost use Rattle.rb_program.specs.Choices.{IsMeant, IsUnknown};
@@ -13,8 +13,8 @@ ghost use Rattle.rb_program.specs.Refusals.{of_writing};
 use crate::program_error::ProgramError;
 use crate::usage_error::UsageError;
 use rb_bench::Outlet;
-use rb_report::check::Status;
-use rb_report::help::{nearest_name, page_of, write_manual};
+use rb_help::{nearest_name, page_of, write_manual};
+use rb_report::Status;
 use rb_script::{Through, WriteFault};
 use rb_text::FailFast;
 use std::alloc::Global;

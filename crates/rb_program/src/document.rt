@@ -15,7 +15,7 @@ use crate::page_part::part_text;
 use crate::program_error::ProgramError;
 use crate::trace_over::trace_over;
 use rb_bench::{BenchFault, Outlet};
-use rb_report::check::Status;
+use rb_report::Status;
 use rb_text::Source;
 use rb_view::chart::ChartPart;
 use rb_view::frame::{back, front};

@@ -11,7 +11,7 @@ use crate::console::Console;
 use crate::program_error::ProgramError;
 use crate::usage_error::UsageLine;
 use rb_bench::script_fault_name;
-use rb_report::check::{ShownName, fault_line};
+use rb_report::{ShownName, fault_line};
 use rb_script::ScriptFault;
 use rb_view::chart::MAX_EVENTS;
 use rb_view::steps::MAX_PAGE;

@@ -23,7 +23,7 @@ use rb_bench::Outlet;
 use rb_check::{VisibleSink, place_at};
 use rb_cluster::Meter;
 use rb_raftlog::SplitLog;
-use rb_report::check::{FileLine, Hint, Status, write_directive};
+use rb_report::{FileLine, Hint, Status, write_directive};
 use rb_script::{DirectiveRef, Lines, ScriptWithLines, Through, WriteFault};
 use rb_text::FailFast;
 use rb_view::look::look;

@@ -8,10 +8,10 @@ ghost use Rattle.rb_program.specs.Notes.{error_noted, errors_noted, notes_shown,
 
 use rb_bench::ScriptRun;
 use rb_check::shown_of_script;
+use rb_help::suggested;
 use rb_machine::Machine;
 use rb_replay::Session;
-use rb_report::check::{FileLine, write_note, write_warning};
-use rb_report::help::suggested;
+use rb_report::{FileLine, write_note, write_warning};
 use rb_script::{Block, Lines, Sink, Through, WriteFault};
 use rb_script_report::{
     Layout, Warning, block_at, first_line, is_unexpected, number_at, output_at, warnings,

@@ -12,7 +12,7 @@ ghost use Rattle.rb_program.specs.Written.{Tells, TellsOver};
 
 use crate::script_steps::read_steps;
 use rb_bench::{BenchFault, Outlet};
-use rb_report::check::Status;
+use rb_report::Status;
 use rb_script::{Lines, MAX_SCRIPT, WriteFault};
 use rb_text::{Source, read_up_to};
 use rb_view::steps::{Frame, write_page};

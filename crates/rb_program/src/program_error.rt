@@ -16,7 +16,7 @@ use crate::shown::or_nothing;
 use crate::usage_error::{UsageError, write_help};
 use rb_args::ChoiceFault;
 use rb_bench::BenchFault;
-use rb_report::check::{ShownName, Status};
+use rb_report::{ShownName, Status};
 use rb_script::ScriptFault;
 use rb_text::ReadFault;
 use std::alloc::{AllocError, Global};

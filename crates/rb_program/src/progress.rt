@@ -4,7 +4,7 @@ ghost use Rattle.std.specs.Prelude.{◌≡◌, true};
 
 use rb_bench::RunProgress;
 use rb_check::ProgressClock;
-use rb_report::check::{shown_name, write_head};
+use rb_report::{shown_name, write_head};
 use rb_script::{DirectiveRef, Through};
 use std::alloc::{AllocError, Global};
 use std::cell::Cell;

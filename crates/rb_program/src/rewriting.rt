@@ -14,7 +14,7 @@ use crate::noting::notes_of;
 use crate::program_error::ProgramError;
 use crate::running::{script, to_program_result};
 use rb_bench::{BenchFault, Mode, Outlet, RunProgress, Runner, write_run};
-use rb_report::check::Status;
+use rb_report::Status;
 use rb_script::{MAX_SCRIPT, Through};
 use rb_text::{FailFast, ReadSource, read_up_to};
 use std::alloc::Global;

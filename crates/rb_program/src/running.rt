@@ -11,7 +11,7 @@ ghost use Rattle.rb_program.specs.Scripts.{AreRead, IsUnreadFile, sources_of};
 use crate::job::{Job, run_from, run_job};
 use crate::program_error::ProgramError;
 use rb_bench::{BenchFault, Mode, Outlet, RunProgress, run_over, serve};
-use rb_report::check::Status;
+use rb_report::Status;
 use rb_script::MAX_SCRIPT;
 use rb_text::{ReadSource, Source, read_up_to};
 use std::alloc::Global;

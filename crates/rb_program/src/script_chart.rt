@@ -12,7 +12,7 @@ use crate::script_steps::status;
 use rb_cluster::{Cluster, Meter};
 use rb_raftlog::SplitLog;
 use rb_replay::{Outputs, Session};
-use rb_report::check::Status;
+use rb_report::Status;
 use rb_script::{Script, ScriptWithLines};
 use rb_view::chart::{Chart, ChartFault, ChartPart, ChartScript, DrawnRun, chart_of};
 use std::alloc::{AllocError, Global};

@@ -3,7 +3,7 @@
 ghost use Rattle.std.specs.Prelude.{◌≡◌, [], IfOk, MatchResult, string_bytes};
 ghost use Rattle.rb_program.specs.Sentences.{IsTextShown};
 
-use rb_report::check::ShownName;
+use rb_report::ShownName;
 use std::alloc::{AllocError, Global};
 
 /// What is shown of a name; nothing, where memory was refused.

@@ -17,7 +17,7 @@ use crate::usage_error::{UsageError, usage_error_of_every};
 use crate::work::{Work, task_of};
 use rb_args::{CommandChoice, ScriptCommand};
 use rb_bench::{Mode, RunProgress};
-use rb_report::check::Status;
+use rb_report::Status;
 use std::alloc::Global;
 use std::io::Write;
 use std::rt::Files;

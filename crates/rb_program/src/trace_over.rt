@@ -15,7 +15,7 @@ use crate::reading::read_script;
 use rb_bench::{BenchFault, Outlet};
 use rb_cluster::Meter;
 use rb_raftlog::SplitLog;
-use rb_report::check::Status;
+use rb_report::Status;
 use rb_script::{MAX_SCRIPT, ScriptWithLines};
 use rb_text::{Source, read_up_to};
 use rb_view::trace::{TraceFault, write_trace};

@@ -7,7 +7,7 @@ ghost use Rattle.rb_program.specs.Work.{IsOfEvery};
 
 use crate::console::Console;
 use rb_args::{ChoiceFault, chosen};
-use rb_report::check::ShownName;
+use rb_report::ShownName;
 use std::alloc::Global;
 use std::fmt;
 use std::fmt::Display;

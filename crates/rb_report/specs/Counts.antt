@@ -1,15 +1,15 @@
 -- What came of all paths, by numbers. (This project's.)
 use Rattle.std.specs.Prelude.{ℕ, ◌+◌, ◌-◌, ◌/◌, ◌%◌, ◌^◌, ◌==◌, ◌&&◌, ◌||◌, min, max, Bool, not, if◌then◌else◌, List, [], ◌∷◌, ◌++◌, sum_by, codes, decimal}
 use Rattle.rb_script.specs.declared.fault.ScriptFault.TheVariants as faults
-use Rattle.rb_report.specs.declared.check.failure.Failure.{Failure}
-use Rattle.rb_report.specs.declared.check.failure.Failure.TheVariants as failures
-use Rattle.rb_report.specs.declared.check.outcome.Outcome.{Outcome}
-use Rattle.rb_report.specs.declared.check.outcome.Outcome.TheVariants as outcomes
-use Rattle.rb_report.specs.declared.check.refusal.Refusal.{Refusal}
-use Rattle.rb_report.specs.declared.check.refusal.Refusal.TheVariants as refusals
-use Rattle.rb_report.specs.declared.check.status.Status.{Status}
-use Rattle.rb_report.specs.declared.check.status.Status.TheVariants as statuses
-use Rattle.rb_report.specs.declared.check.totals.Totals.{Totals}
+use Rattle.rb_report.specs.declared.failure.Failure.{Failure}
+use Rattle.rb_report.specs.declared.failure.Failure.TheVariants as failures
+use Rattle.rb_report.specs.declared.outcome.Outcome.{Outcome}
+use Rattle.rb_report.specs.declared.outcome.Outcome.TheVariants as outcomes
+use Rattle.rb_report.specs.declared.refusal.Refusal.{Refusal}
+use Rattle.rb_report.specs.declared.refusal.Refusal.TheVariants as refusals
+use Rattle.rb_report.specs.declared.status.Status.{Status}
+use Rattle.rb_report.specs.declared.status.Status.TheVariants as statuses
+use Rattle.rb_report.specs.declared.totals.Totals.{Totals}
 use Rattle.rb_report.specs.Names.{shown_name}
 use Rattle.rb_report.specs.Pieces.{count_text, noun}
 use Rattle.rb_report.specs.Statuses.{code_of}

@@ -2,8 +2,8 @@
 use Rattle.std.specs.Prelude.{ℕ, List, [], ◌++◌, Option, Some, None, codes, decimal}
 use Rattle.rb_script.specs.declared.fault.ScriptFault.{ScriptFault}
 use Rattle.rb_script.specs.declared.fault.ScriptFault.TheVariants as faults
-use Rattle.rb_report.specs.declared.check.refusal.Refusal.{Refusal}
-use Rattle.rb_report.specs.declared.check.refusal.Refusal.TheVariants as refusals
+use Rattle.rb_report.specs.declared.refusal.Refusal.{Refusal}
+use Rattle.rb_report.specs.declared.refusal.Refusal.TheVariants as refusals
 use Rattle.rb_report.specs.Names.{shown_name}
 
 abbrev pub sentence : ScriptFault → List ℕ

@@ -17,7 +17,7 @@ use crate::layout::Layout;
 use crate::put::is_same;
 use rb_machine::Machine;
 use rb_replay::Session;
-use rb_report::check::{FileLine, write_left};
+use rb_report::{FileLine, write_left};
 use rb_script::{Block, ChunkedList, Lines, Sink, WriteFault};
 use std::alloc::{AllocError, Global};
 use std::rc::Rc;

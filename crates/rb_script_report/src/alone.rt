@@ -2,7 +2,7 @@
 
 ghost use Rattle.std.specs.Prelude.{◌≡◌, ◌≢◌, ◌+◌, ◌<◌, Err, IsOk, OnOk, length};
 ghost use Rattle.rb_script.specs.Writes.{Writes};
-ghost use Rattle.rb_report.specs.declared.check.table.TheConstants.{MAX_SCRIPT_CELLS};
+ghost use Rattle.rb_report.specs.declared.table.TheConstants.{MAX_SCRIPT_CELLS};
 ghost use Rattle.rb_script_report.specs.Checked.{left_behind};
 ghost use Rattle.rb_script_report.specs.Whys.{is_all, left_on, told_alone, told_at};
 ghost use Rattle.rb_script_report.specs.Shows.{Shows};
@@ -16,9 +16,7 @@ use crate::reasons::why_at;
 use crate::shown_script::ShownScript;
 use crate::view::{Detail, View};
 use rb_machine::Machine;
-use rb_report::check::{
-    FileLine, MismatchView, Sides, Table, write_mismatch, write_note, write_run,
-};
+use rb_report::{FileLine, MismatchView, Sides, Table, write_mismatch, write_note, write_run};
 use rb_script::{Sink, WriteFault};
 use std::alloc::Global;
 

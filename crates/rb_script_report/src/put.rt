@@ -4,7 +4,7 @@ ghost use Rattle.std.specs.Prelude.{false, ◌≡◌, ◌≢◌, ◌+◌, ◌<�
 ghost use Rattle.rb_script.specs.Writes.{Writes};
 ghost use Rattle.rb_replay.specs.Run.{outputs};
 ghost use Rattle.rb_replay.specs.Report.{same_lines, mismatches};
-ghost use Rattle.rb_report.specs.declared.check.table.TheConstants.{MAX_SCRIPT_CELLS};
+ghost use Rattle.rb_report.specs.declared.table.TheConstants.{MAX_SCRIPT_CELLS};
 ghost use Rattle.rb_script_report.specs.Checked.{of_first, brief_at, IsFirst};
 ghost use Rattle.rb_script_report.specs.Whys.{all_told, told_at, told_text};
 ghost use Rattle.rb_script_report.specs.Shows.{Shows, summary_of, IsQuiet};
@@ -19,7 +19,7 @@ use crate::summary::ScriptSummary;
 use crate::view::{Detail, View};
 use rb_machine::Machine;
 use rb_replay::Session;
-use rb_report::check::{Table, write_brief};
+use rb_report::{Table, write_brief};
 use rb_script::{Lines, Sink, WriteFault};
 use std::alloc::Global;
 

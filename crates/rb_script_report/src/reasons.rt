@@ -8,7 +8,7 @@ ghost use Rattle.rb_script_report.specs.Whys.{last_reason, all_reasons, below_li
 use rb_machine::Observer;
 use rb_node::Node;
 use rb_raftlog::RaftLog;
-use rb_report::check::Why;
+use rb_report::Why;
 use rb_script::Lines;
 use rb_texts::{Item, Reason, is_shown, push_reason, reason_of};
 use rb_vocab::Level;

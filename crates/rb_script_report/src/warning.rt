@@ -18,7 +18,7 @@ use crate::text::is_same_text;
 use rb_directive::Name;
 use rb_machine::Machine;
 use rb_replay::Session;
-use rb_report::check::WarningKind;
+use rb_report::WarningKind;
 use rb_script::{Block, Lines, ScriptFault, is_lead, is_separator};
 use std::alloc::{AllocError, Global};
 

@@ -3,10 +3,10 @@ use Rattle.std.specs.Prelude.{◌≡◌, ℕ, Bool, true, false, ◌||◌, if◌
 use Rattle.std.specs.List.{list_any}
 use Rattle.rb_files.specs.declared.finding.FailedPath.{FailedPath}
 use Rattle.rb_files.specs.declared.finding.Found.{Found}
-use Rattle.rb_report.specs.declared.check.failure.Failure.{Failure}
-use Rattle.rb_report.specs.declared.check.failure.Failure.TheVariants.{OutOfMemory}
-use Rattle.rb_report.specs.declared.check.status.Status.{Status}
-use Rattle.rb_report.specs.declared.check.status.Status.TheVariants.{Matched, Mismatched}
+use Rattle.rb_report.specs.declared.failure.Failure.{Failure}
+use Rattle.rb_report.specs.declared.failure.Failure.TheVariants.{OutOfMemory}
+use Rattle.rb_report.specs.declared.status.Status.{Status}
+use Rattle.rb_report.specs.declared.status.Status.TheVariants.{Matched, Mismatched}
 use Rattle.rb_script.specs.HeadLines.{AreHeadLines}
 use Rattle.rb_script.specs.Lines.{Line, lines}
 use Rattle.rb_script.specs.Reads.{Reads}

@@ -6,7 +6,7 @@ ghost use Rattle.rb_site.specs.declared.fault.SiteFault.TheVariants.{Book};
 
 use rb_book::BookFault;
 use rb_files::PathError;
-use rb_report::check::Failure;
+use rb_report::Failure;
 use std::alloc::{AllocError, Global};
 
 /// Why a site was not written.

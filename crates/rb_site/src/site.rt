@@ -10,7 +10,7 @@ use crate::folder::SiteFolder;
 use crate::ran_scripts::RanScripts;
 use rb_book::{Assets, BookFault, Chapter, write_book};
 use rb_files::{FailedPath, Found, PathError, find};
-use rb_report::check::{Failure, Status};
+use rb_report::{Failure, Status};
 use rb_view::frame::{WHOLE, back, front};
 use std::convert::AsStr;
 use std::path::Path;

@@ -10,7 +10,7 @@ use Rattle.rb_script.specs.Lines.{Line}
 use Rattle.rb_script.specs.Script.{PlainBlock, PlainScript}
 use Rattle.rb_script.specs.Directive.{PlainDirective}
 use Rattle.rb_script.specs.Reading.{directive_of}
-use Rattle.rb_report.specs.declared.check.table.TheConstants.{MAX_SCRIPT_CELLS}
+use Rattle.rb_report.specs.declared.table.TheConstants.{MAX_SCRIPT_CELLS}
 use Rattle.rb_report.specs.Diffs.{cells_within, left_after, middle_cells, without_last}
 use Rattle.rb_report.proofs.PrefixLaws.{get_behind}
 use Rattle.rb_machine.specs.Cluster.{Cluster, empty}

@@ -8,7 +8,7 @@ use Rattle.std.proofs.lemmas.List.Concat.{flat_map-append}
 use Rattle.rb_script.specs.Lines.{Line}
 use Rattle.rb_script.specs.Script.{PlainBlock, PlainScript}
 use Rattle.rb_script.specs.Reading.{directive_of}
-use Rattle.rb_report.specs.declared.check.table.TheConstants.{MAX_CELLS, MAX_SCRIPT_CELLS}
+use Rattle.rb_report.specs.declared.table.TheConstants.{MAX_CELLS, MAX_SCRIPT_CELLS}
 use Rattle.rb_report.specs.Diffs.{Stretch, fits, last, left_after, middle, parts_between, parts_within, plain, stretches, without_last, work}
 use Rattle.rb_machine.specs.Cluster.{Cluster, empty}
 use Rattle.rb_machine.specs.Outcome.{outcome}

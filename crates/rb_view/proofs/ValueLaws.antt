@@ -3,9 +3,9 @@ use Rattle.std.proofs.Common.{◌≡◌, ◌∙◌, ℕ, true, List, [], ◌∷�
 use Rattle.std.specs.Prelude.{◌&&◌}
 use Rattle.std.specs.List.{flat_map, list_all}
 use Rattle.std.proofs.lemmas.Bool.{and_from, and_parts}
-use Rattle.rb_report.specs.declared.check.table.TheConstants.{MAX_SCRIPT_CELLS}
-use Rattle.rb_report.specs.declared.check.warning_kind.WarningKind.{WarningKind}
-use Rattle.rb_report.specs.declared.check.warning_kind.WarningKind.TheVariants as kinds
+use Rattle.rb_report.specs.declared.table.TheConstants.{MAX_SCRIPT_CELLS}
+use Rattle.rb_report.specs.declared.warning_kind.WarningKind.{WarningKind}
+use Rattle.rb_report.specs.declared.warning_kind.WarningKind.TheVariants as kinds
 use Rattle.rb_report.specs.Hints.{PlainHint, meant, sentence, unknown}
 use Rattle.rb_report.specs.Notices.{warning_sentence}
 use Rattle.rb_texts.proofs.KindLaws.{joined_of}

@@ -30,7 +30,7 @@ use crate::offers::{push_folds, push_formatting, push_symbols};
 use rb_lsp::server::{
     Client, DocumentQuery, ExitStatus, MAX_WORK, Query, ServeFault, Service, Stop, serve,
 };
-use rb_report::check::Table;
+use rb_report::Table;
 use rb_script::Sink;
 use rb_text::Source;
 use std::alloc::{AllocError, Global};

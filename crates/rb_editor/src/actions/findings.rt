@@ -17,7 +17,7 @@ use crate::actions::quiet::is_quiet;
 use crate::actions::run::DocumentRun;
 use rb_machine::{Count, Machine};
 use rb_replay::Session;
-use rb_report::check::{MAX_SCRIPT_CELLS, Table, fault_line, sentence, warning_sentence};
+use rb_report::{MAX_SCRIPT_CELLS, Table, fault_line, sentence, warning_sentence};
 use rb_script::{Lines, ScriptFault, ScriptWithLines};
 use rb_script_report::{Warning, block_at, number_at, output_at};
 use std::alloc::{AllocError, Global};

@@ -7,7 +7,7 @@ ghost use Rattle.rb_editor.specs.Actions.{above, first_within, fix_head, fix_if,
 use crate::actions::action::push_edit;
 use crate::actions::extent::{Extent, LineSpan};
 use rb_lsp::document::{Encoding, LineTable};
-use rb_report::check::WarningKind;
+use rb_report::WarningKind;
 use rb_script_report::Warning;
 use rb_text::{Json, Piece, push_pieces};
 use std::alloc::AllocError;

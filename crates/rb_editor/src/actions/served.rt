@@ -14,7 +14,7 @@ use crate::actions::findings::{fault_diagnostic, line_or_first};
 use crate::actions::stopping::{BoundedFindings, KeptRun, diagnostics_of_text};
 use crate::offers::begun_lines;
 use rb_lsp::server::Query;
-use rb_report::check::{Table, fault_line};
+use rb_report::{Table, fault_line};
 use rb_script::{Script, ScriptFault, lines_of};
 use std::alloc::{AllocError, Global};
 

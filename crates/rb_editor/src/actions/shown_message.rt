@@ -8,7 +8,7 @@ ghost use Rattle.std.specs.List.{list_any};
 ghost use Rattle.rb_report.specs.Names.{is_printable};
 ghost use Rattle.rb_editor.specs.ShownMessages.{acts, acts_alone, message_byte, shown_message};
 
-use rb_report::check::{by_number, has_acting_char};
+use rb_report::{by_number, has_acting_char};
 use rb_script::{Sink, Through, WriteFault};
 use rb_text::{Escape, write_escaped};
 use std::alloc::{AllocError, Global};

@@ -20,7 +20,7 @@ use crate::actions::stopped_text::{DirectiveStop, StoppedText};
 use crate::actions::work_meter::EnoughWork;
 use rb_lsp::server::Stop;
 use rb_machine::{Count, Machine};
-use rb_report::check::Table;
+use rb_report::Table;
 use rb_script::{ScriptFault, ScriptWithLines};
 use rb_script_report::number_at;
 use std::alloc::{AllocError, Global};

@@ -9,7 +9,7 @@ use crate::offers::offer::{Offer, line_of, push_chosen};
 use crate::offers::unfinished::{UnfinishedKind, UnfinishedWord, last_piece, name_of};
 use crate::offers::words::{arguments_of, first_word, words_before};
 use rb_directive::{id_words, takes_id};
-use rb_report::help::Known;
+use rb_help::Known;
 use rb_text::number_of;
 use std::alloc::AllocError;
 

@@ -5,7 +5,7 @@ ghost use Rattle.rb_editor.specs.Offers.{arguments, begins_with, chosen, fits, h
 
 use crate::offers::unfinished::{UnfinishedKind, UnfinishedWord, is_listed, name_of};
 use crate::offers::words::{arguments_of, words_before};
-use rb_report::help::{KEYS, Known, PAGES, choices_of, option_line, value_line};
+use rb_help::{KEYS, Known, PAGES, choices_of, option_line, value_line};
 use std::alloc::{AllocError, Global};
 use std::marker::Model;
 

@@ -10,7 +10,7 @@ ghost use Rattle.rb_editor.specs.Texts.{listed};
 use crate::offers::block_lines::{BlockLines, blocks_of};
 use crate::offers::writing::{push_range, start_of};
 use rb_lsp::document::{Encoding, LineTable, Position, is_within};
-use rb_report::check::shown_name;
+use rb_report::shown_name;
 use rb_script::{Lines, lines_of, trim_blanks};
 use rb_text::{Json, Piece, push_pieces};
 use std::alloc::{AllocError, Global};

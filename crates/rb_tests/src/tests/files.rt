@@ -7,7 +7,7 @@ ghost use Rattle.std.specs.Prelude.{◌≡◌, true, Some, option_map, unwrap_or
 
 use super::{is, is_in_row, is_text};
 use rb_files::{FilePlace, PathError, replace};
-use rb_report::check::Failure;
+use rb_report::Failure;
 use std::alloc::Global;
 use std::io;
 use std::io::ErrorKind;

@@ -10,7 +10,7 @@ ghost use Rattle.rb_raftlog.specs.Log.{LogValue, entries_after};
 ghost use Rattle.rb_tracker.specs.Progresses.{PlainProgress};
 ghost use Rattle.rb_tracker.specs.Trackers.{has_view};
 ghost use Rattle.rb_node.specs.Node.{PlainNode};
-ghost use Rattle.rb_report.specs.declared.check.table.TheConstants.{MAX_CELLS};
+ghost use Rattle.rb_report.specs.declared.table.TheConstants.{MAX_CELLS};
 ghost use Rattle.rb_texts.specs.Items.{PlainItem};
 ghost use Rattle.rb_machine.specs.Cluster.{Cluster, empty};
 ghost use Rattle.rb_machine.specs.Outcome.{outcome};

@@ -7,7 +7,7 @@ ghost use Rattle.rb_view.specs.Meant.{IsOfBytes, hint_rows};
 
 use crate::rows::{Cell, push_row};
 use crate::steps::node::as_bytes;
-use rb_report::check::Hint;
+use rb_report::Hint;
 use rb_script::Lines;
 use std::alloc::AllocError;
 

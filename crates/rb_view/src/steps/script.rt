@@ -7,7 +7,7 @@ ghost use Rattle.rb_view.specs.Steps.{left_next, mismatch_rows, script_rows};
 
 use crate::rows::{Cell, push_lines, push_row, push_texts};
 use crate::steps::stretch::StretchTexts;
-use rb_report::check::{Table, show_diff};
+use rb_report::{Table, show_diff};
 use rb_script::Lines;
 use std::alloc::{AllocError, Global};
 

@@ -22,7 +22,7 @@ use crate::steps::steps::{push_end, push_warnings};
 use rb_cluster::Meter;
 use rb_machine::Machine;
 use rb_replay::Session;
-use rb_report::check::{MAX_SCRIPT_CELLS, Table};
+use rb_report::{MAX_SCRIPT_CELLS, Table};
 use rb_script::Lines;
 use rb_script_report::{Warning, number_at};
 use std::alloc::{AllocError, Global};

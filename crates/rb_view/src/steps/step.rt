@@ -26,7 +26,7 @@ use crate::steps::written::WrittenNode;
 use rb_cluster::{Cluster, Meter};
 use rb_machine::{Machine, PrintedLines};
 use rb_raftlog::RaftLog;
-use rb_report::check::Table;
+use rb_report::Table;
 use rb_script::{Block, Lines};
 use rb_script_report::hint_of;
 use std::alloc::{AllocError, Global};

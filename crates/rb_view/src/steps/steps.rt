@@ -20,7 +20,7 @@ use crate::steps::step::{StepPlace, push_step};
 use rb_cluster::Meter;
 use rb_machine::Machine;
 use rb_replay::{Outputs, Session, block_at};
-use rb_report::check::{Table, warning_sentence};
+use rb_report::{Table, warning_sentence};
 use rb_script::{Lines, Script, ScriptWithLines};
 use rb_script_report::{Layout, Warning, number_at, warnings};
 use std::alloc::{AllocError, Global};

@@ -6,7 +6,7 @@ ghost use Rattle.rb_view.specs.Kept.{line_rows, texts_of};
 ghost use Rattle.rb_view.specs.Steps.{count_rows};
 
 use crate::rows::{Cell, push_row};
-use rb_report::check::{LineRange, StretchObserver};
+use rb_report::{LineRange, StretchObserver};
 use rb_script::Lines;
 use std::alloc::{AllocError, Global};
 

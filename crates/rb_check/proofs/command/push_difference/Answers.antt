@@ -1,7 +1,7 @@
 use Rattle.std.proofs.Common.{◌≡◌, ◌∙◌, ◌++◌, List, [], ℕ, Some, ap, append-nil, subst}
 use Rattle.std.specs.Prelude.{OnOk, codes}
 use Rattle.std.specs.List.{flat_map}
-use Rattle.rb_report.specs.declared.check.colors.Colors.TheVariants.{Off}
+use Rattle.rb_report.specs.declared.colors.Colors.TheVariants.{Off}
 use Rattle.rb_report.specs.Whys.{reasons_in, told_diff}
 use Rattle.rb_script_report.specs.Checked.{head_of}
 use Rattle.rb_check.specs.Escapes.{in_message}

@@ -7,7 +7,7 @@ ghost use Rattle.rb_bench.specs.declared.limits.TheConstants.{MAX_READS};
 
 use crate::tests::{is, is_text};
 use rb_bench::{BenchFault, MAX_READS, Mode, NoProgress, Outlet, run_over, serve};
-use rb_report::check::Status;
+use rb_report::Status;
 use rb_script::{Sink, WriteFault};
 use rb_text::{InputFault, Source};
 use std::alloc::Global;

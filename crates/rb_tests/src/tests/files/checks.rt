@@ -1,7 +1,7 @@
 //! What a check shows, and no script leads to: lines of outputs that are empty or end in blanks, and a time that is known.
 
 use crate::tests::is_text;
-use rb_report::check::{
+use rb_report::{
     Colors, Failure, FileLine, Hint, MismatchView, Outcome, Refusal, Sides, Table, Totals, Why,
     write_directive, write_mismatch, write_totals,
 };

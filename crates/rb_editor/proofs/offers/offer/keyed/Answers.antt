@@ -1,5 +1,5 @@
 use Rattle.std.proofs.Common.{◌∙◌, sym}
-use Rattle.rb_report.specs.Manual.{Key}
+use Rattle.rb_help.specs.Manual.{Key}
 use Rattle.rb_editor.specs.Offers.{is_key, key_offer, keyed}
 use Rattle.rb_editor.proofs.OfferLaws.{documented, none_left, one_seen}
 use Rattle.rb_editor.proofs.offers.offer.keyed.Goals as goal

@@ -1,5 +1,5 @@
 use Rattle.std.proofs.Common.{◌∙◌, sym}
-use Rattle.rb_report.specs.Manual.{Page}
+use Rattle.rb_help.specs.Manual.{Page}
 use Rattle.rb_editor.specs.Offers.{begins_with, name_offer, named}
 use Rattle.rb_editor.proofs.OfferLaws.{none_left, one_seen}
 use Rattle.rb_editor.proofs.offers.offer.named.Goals as goal

@@ -1,0 +1,3 @@
+pub mod DistanceLaws
+pub mod NearLaws
+pub mod FormLaws
