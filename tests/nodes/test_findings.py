@@ -9,7 +9,6 @@ import os
 import pathlib
 import random
 import re
-import signal
 import subprocess
 import time
 from collections.abc import Iterator, Sequence
@@ -30,7 +29,7 @@ from raftbench_nodes.explore.remake import Remaker, remade
 from raftbench_nodes.explore.results import KindResult
 from raftbench_nodes.explore.search import Candidate, Kind, Library, Limits, Search
 from raftbench_nodes.explore.shrinking import LEAST_DIRECTIVES, AdoptTask, Shortest, ShrunkKind, Trying, by_cause, chosen_of, shrunk_kinds
-from raftbench_nodes.process.delays import marked_with, waited
+from raftbench_nodes.process.delays import waited
 from raftbench_nodes.process.process import Process
 from raftbench_nodes.promises.checker import name_of
 from raftbench_nodes.promises.clusters import WatchedReference
@@ -433,28 +432,27 @@ def test_what_nodes_were_made_to_do(room: pathlib.Path) -> Iterator[str]:
 
 
 def test_waiting_for_a_processor(room: pathlib.Path) -> Iterator[str]:
-    """Linux says how long a process waited; none does so for a group that isn't there."""
-    if not 0 <= waited(os.getpgrp()) < 1e7 or waited(1 << 22) > waited(os.getpgrp()) + 1:
-        yield f"{waited(os.getpgrp())}, {waited(1 << 22)}"
+    """Linux says how long a process waited; none does so for one that isn't there."""
+    if not 0 <= waited(os.getpid()) < 1e7 or waited(1 << 22) > waited(os.getpid()) + 1:
+        yield f"{waited(os.getpid())}, {waited(1 << 22)}"
 
 
 def test_waiting_in_another_session(room: pathlib.Path) -> Iterator[str]:
-    """What nodes wait counts in whatever session they are: they are known by their mark. Here two of them have one processor."""
-    mark, one = "RAFTBENCH_TEST=" + str(room), min(os.sched_getaffinity(0))
-    busy = ["taskset", "-c", str(one), "setsid", "sh", "-c", "while :; do :; done"]
-    started = [subprocess.Popen(busy, env={**os.environ, "RAFTBENCH_TEST": str(room)}, start_new_session=True) for _ in range(2)]
+    """What nodes wait counts in whatever session they are, without their environment too. Here two of them have one processor."""
+    one = min(os.sched_getaffinity(0))
+    busy = f"env -i setsid --fork taskset -c {one} sh -c 'while :; do :; done'"
+    process = Process(f"{busy}; {busy}; exec {PLAIN}", 600.0)
     try:
-        end = time.monotonic() + 60
-        while (gained := waited(1 << 22, mark) - waited(1 << 22)) < 0.3 and time.monotonic() < end:
+        process.reset()
+        assert process.process
+        root, end = process.process.pid, time.monotonic() + 60
+        begun = waited(root) - waited(1 << 22)
+        while (gained := waited(root) - waited(1 << 22) - begun) < 0.3 and time.monotonic() < end:
             time.sleep(0.1)
         if gained < 0.3:
             yield f"{gained} s"
     finally:
-        for process in started:
-            process.kill()
-            process.wait()
-        for number in marked_with(mark):
-            os.kill(number, signal.SIGKILL)
+        process.close()
 
 
 # Two changes come to node 3 with one save, whose commit is lost: two changes behind, it is elected by 2, and what 1, 4 and 5 have committed is lost.
