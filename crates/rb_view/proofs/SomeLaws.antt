@@ -1,10 +1,10 @@
 -- The steps of some directives, and the cells that are left before them.
-use Rattle.std.proofs.Common.{◌≡◌, ◌∙◌, ℕ, zero, suc, ◌+◌, ◌-◌, ◌<◌, ◌≤◌, Bool, true, false, List, [], ◌∷◌, ◌++◌, length, get_or, take, drop, map, codes, Option, Some, None, refl, ap, ap₂, sym, arith, append_assoc}
-use Rattle.std.specs.Prelude.{if◌then◌else◌, option_map, reverse, slice_get, unwrap_or}
+use Rattle.std.proofs.Common.{◌≡◌, ◌∙◌, ℕ, zero, suc, ◌+◌, ◌-◌, ◌<◌, false, List, [], ◌∷◌, ◌++◌, length, get_or, take, drop, map, codes, Option, Some, None, refl, ap, ap₂, sym, arith, append_assoc}
+use Rattle.std.specs.Prelude.{option_map, reverse, slice_get, unwrap_or}
 use Rattle.std.specs.List.{common_prefix_len, flat_map, take-map}
 use Rattle.std.specs.Str.{bytes_eq}
 use Rattle.std.proofs.lemmas.Bool.{cond-false}
-use Rattle.std.proofs.lemmas.List.{drop-drop, get_or-drop, length-drop, length-take-le, take_all, take_more}
+use Rattle.std.proofs.lemmas.List.{drop-drop, get_or-drop, length-drop, length-take-le, take_more}
 use Rattle.std.proofs.lemmas.Option.{get_or_from_slice_get, slice_get-get_or, slice_get-map, slice_get_within}
 use Rattle.rb_script.specs.Lines.{Line}
 use Rattle.rb_script.specs.Script.{PlainBlock, PlainScript}

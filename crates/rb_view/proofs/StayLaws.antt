@@ -1,5 +1,5 @@
 -- What stays of a page's steps after an edit.
-use Rattle.std.proofs.Common.{◌≡◌, ◌∙◌, ℕ, zero, suc, ◌+◌, ◌-◌, ◌<◌, ◌≤◌, max, Bool, true, false, List, [], ◌∷◌, ◌++◌, length, take, drop, map, codes, Option, Some, None, refl, ap, ap₂, sym, subst, arith, append_assoc}
+use Rattle.std.proofs.Common.{◌≡◌, ◌∙◌, ℕ, zero, suc, ◌+◌, ◌-◌, ◌<◌, ◌≤◌, max, Bool, true, false, List, [], ◌∷◌, ◌++◌, length, take, drop, map, codes, Option, Some, None, refl, ap, ap₂, sym, subst, arith}
 use Rattle.std.specs.Prelude.{◌&&◌, if◌then◌else◌, nat_le}
 use Rattle.std.specs.List.{flat_map}
 use Rattle.std.proofs.lemmas.Bool.{le-leb, leb-true}
@@ -21,7 +21,7 @@ use Rattle.rb_replay.proofs.ReuseLaws.{parts-on, start-le, states-after}
 use Rattle.rb_view.specs.Kept.{line_rows, texts_of}
 use Rattle.rb_view.specs.Rows.{Row, number, row}
 use Rattle.rb_view.specs.SomeSteps.{StaysAround, left_at, left_from, left_in, relined, some_steps}
-use Rattle.rb_view.specs.Steps.{Step, end_row, hints, left_next, mismatch_rows, script_rows, source_row, step, step_texts, steps, steps_from, steps_texts, stretch_rows, warning_rows}
+use Rattle.rb_view.specs.Steps.{Step, end_row, hints, left_next, script_rows, source_row, step, step_texts, steps, steps_from, steps_texts, stretch_rows, warning_rows}
 use Rattle.rb_view.specs.Watching.{observed_texts}
 use Rattle.rb_view.proofs.SomeLaws.{steps_drop, steps_take}
 use Rattle.rb_view.proofs.StepLaws.{steps_end}

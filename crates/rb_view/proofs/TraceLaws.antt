@@ -3,10 +3,10 @@ use Rattle.std.proofs.Common.{◌≡◌, ◌∙◌, ℕ, ◌+◌, ◌<◌, ◌�
 use Rattle.std.specs.Prelude.{fold, if◌then◌else◌, nat_lt, slice_get, ◌↔◌, IfErr, IsTrue}
 use Rattle.std.specs.Io.KnownBytes.{Appends}
 use Rattle.std.proofs.KnownBytes.{Appends-trans}
-use Rattle.std.proofs.lemmas.Bool.{and_from, and_parts, ltb-false, ltb-true}
+use Rattle.std.proofs.lemmas.Bool.{and_from, and_parts, ltb-true}
 use Rattle.std.proofs.lemmas.List.Concat.{flat_map-append}
 use Rattle.rb_script.specs.Lines.{Line, line_text, text_of}
-use Rattle.rb_script.specs.Script.{PlainBlock, PlainScript}
+use Rattle.rb_script.specs.Script.{PlainBlock}
 use Rattle.rb_script.specs.Reading.{directive_of}
 use Rattle.rb_script.specs.Writes.{AppendsFront}
 use Rattle.rb_script.proofs.LengthLaws.{line-text-length}

@@ -12,7 +12,7 @@ use Rattle.rb_texts.proofs.KindLaws.{joined_of}
 use Rattle.rb_replay.specs.Run.{outputs}
 use Rattle.rb_script_report.specs.Doubts.{all_warnings}
 use Rattle.rb_script_report.specs.declared.warning.Warning.{Warning}
-use Rattle.rb_script.specs.Lines.{Line, lines}
+use Rattle.rb_script.specs.Lines.{lines}
 use Rattle.rb_script.specs.Reading.{directive_of}
 use Rattle.rb_script.specs.Reads.{Reads}
 use Rattle.rb_script.specs.Script.{PlainBlock, PlainScript}

@@ -1,5 +1,5 @@
 -- The trace of a script: an object of JSON a line for each thing that happens. (docs/FORMATS.md.)
-use Rattle.std.specs.Prelude.{◌≡◌, ℕ, ◌+◌, ◌<◌, Bool, true, false, ◌&&◌, if◌then◌else◌, nat_lt, fold, length, List, [], ◌∷◌, ◌++◌, Option, Some, None}
+use Rattle.std.specs.Prelude.{ℕ, ◌+◌, Bool, true, ◌&&◌, if◌then◌else◌, nat_lt, fold, length, List, [], ◌∷◌, ◌++◌, Option, Some, None}
 use Rattle.rb_vocab.specs.declared.level.Level.{Level}
 use Rattle.rb_message.specs.declared.message.Message.{Message}
 use Rattle.rb_script.specs.Lines.{Line, text_of}

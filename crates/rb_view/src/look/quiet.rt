@@ -10,7 +10,6 @@ use rb_cluster::{Cluster, Meter};
 use rb_machine::{Machine, Observer};
 use rb_node::Node;
 use rb_raftlog::RaftLog;
-use rb_replay::block_at;
 use rb_script::{Block, Script};
 use rb_texts::Item;
 use rb_vocab::Level;
@@ -72,7 +71,8 @@ pub(crate) fn cluster_at<L: RaftLog>(
 {
     let mut cluster: Cluster<L> = Machine::empty(alloc)?;
     for i in 0..place {
-        run_quietly(&mut cluster, block_at(script, i), meter)?;
+        let block = script.block(i + 1).unwrap();
+        run_quietly(&mut cluster, block, meter)?;
     }
     Ok(cluster)
 }

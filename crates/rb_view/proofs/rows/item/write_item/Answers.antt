@@ -1,4 +1,4 @@
-use Rattle.std.proofs.Common.{ℕ, List, [], ◌∷◌, ◌++◌, subst, sym, append-nil}
+use Rattle.std.proofs.Common.{ℕ, List, [], ◌∷◌, subst, sym, append-nil}
 use Rattle.std.specs.Prelude.{codes}
 use Rattle.std.specs.List.{flat_map}
 use Rattle.rb_script.specs.Writes.{Writes}

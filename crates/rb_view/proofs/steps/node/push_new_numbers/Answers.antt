@@ -1,4 +1,4 @@
-use Rattle.std.proofs.Common.{◌++◌, [], ◌∷◌, List, ap, sym}
+use Rattle.std.proofs.Common.{◌++◌, List, ap, sym}
 use Rattle.rb_report.proofs.CellLaws.{then_is}
 use Rattle.rb_view.specs.Kept.{texts_of}
 use Rattle.rb_view.specs.Rows.{Row}

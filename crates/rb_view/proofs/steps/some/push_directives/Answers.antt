@@ -1,12 +1,10 @@
-use Rattle.std.proofs.Common.{◌≡◌, ◌∙◌, ◌+◌, ◌-◌, ◌++◌, ℕ, zero, List, drop, take, refl, ap, ap₂, sym, append-nil, arith, rules}
+use Rattle.std.proofs.Common.{◌≡◌, ◌∙◌, ◌+◌, ◌-◌, ◌++◌, ℕ, zero, List, drop, take, refl, ap, ap₂, sym, append-nil, arith}
 use Rattle.std.specs.List.{flat_map}
 use Rattle.rb_machine.specs.Cluster.{Cluster}
 use Rattle.rb_machine.specs.Outcome.{outcome}
 use Rattle.rb_script.specs.Lines.{Line}
 use Rattle.rb_script.specs.Reading.{directive_of}
-use Rattle.rb_view.specs.PageRoom.{has_room}
-use Rattle.rb_view.specs.SomeSteps.{left_at, some_steps}
-use Rattle.rb_view.specs.Steps.{Step, left_next, step, step_texts, steps}
+use Rattle.rb_view.specs.Steps.{left_next, step, step_texts, steps}
 use Rattle.rb_view.proofs.KeepLaws.{one_part}
 use Rattle.rb_view.proofs.LookLaws.{machine_next}
 use Rattle.rb_view.proofs.PageRoomLaws.{in_none, in_some}

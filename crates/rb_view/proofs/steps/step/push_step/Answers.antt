@@ -1,9 +1,8 @@
-use Rattle.std.proofs.Common.{◌≡◌, ◌∙◌, ◌++◌, List, ap, refl, sym}
-use Rattle.rb_script.specs.Lines.{Line}
+use Rattle.std.proofs.Common.{◌∙◌, ◌++◌, ap, refl, sym}
 use Rattle.rb_script.specs.Reading.{directive_of}
 use Rattle.rb_view.specs.Kept.{texts_of}
 use Rattle.rb_view.specs.PageRoom.{has_room}
-use Rattle.rb_view.specs.Steps.{done_texts, script_rows, step, step_texts}
+use Rattle.rb_view.specs.Steps.{done_texts, script_rows}
 use Rattle.rb_view.proofs.PageRoomLaws.{none_full, some_is}
 use Rattle.rb_view.proofs.StepLaws.{step_kept}
 use Rattle.rb_view.proofs.StepRoomLaws.{step_full}

@@ -1,9 +1,7 @@
-use Rattle.std.proofs.Common.{◌≡◌, ◌∙◌, ◌++◌, [], ◌∷◌, Bool, List, ap, sym, append-nil}
+use Rattle.std.proofs.Common.{◌∙◌, ◌++◌, [], ◌∷◌, Bool, ap, sym, append-nil}
 use Rattle.std.specs.Prelude.{if◌then◌else◌}
-use Rattle.rb_script.specs.Lines.{Line}
 use Rattle.rb_report.proofs.CellLaws.{then_is}
 use Rattle.rb_view.specs.Kept.{texts_of}
-use Rattle.rb_view.specs.Rows.{Row}
 use Rattle.rb_view.specs.States.{view_row}
 use Rattle.rb_view.proofs.steps.views.push_new_view.Goals as goal
 

@@ -1,4 +1,4 @@
-use Rattle.std.proofs.Common.{◌≡◌, ◌∙◌, ◌<◌, ◌≤◌, ℕ, ◌+◌, ◌++◌, Bool, ◌&&◌, List, drop, length, map, ap, ap₂, refl, subst, sym, arith, length-append}
+use Rattle.std.proofs.Common.{◌∙◌, ◌<◌, ℕ, ◌+◌, ◌++◌, Bool, ◌&&◌, List, drop, length, map, ap, ap₂, refl, subst, sym, arith, length-append}
 use Rattle.std.specs.Prelude.{fold}
 use Rattle.std.proofs.lemmas.List.{drop_all}
 use Rattle.std.proofs.lemmas.Option.{slice_get_within, get_or_from_slice_get}
