@@ -2,7 +2,7 @@
 
 ghost use Rattle.std.specs.Prelude.{◌≡◌, ◌≢◌, ◌<◌, ◌≤◌, ℕ, [], ◌∷◌, ◌++◌, length, slice_get, slice_index, OnOk, IfOk, OnErr, IsTrue, Some};
 ghost use Rattle.rb_script.specs.Lines.{lines, text_of, line_text};
-ghost use Rattle.rb_script.specs.Flat.{ends_of, parted, line_start, between, IsFlat};
+ghost use Rattle.rb_script.specs.Flat.{ends_of, parted, line_start, between, IsFlat, IsTable};
 
 use crate::line_text::LineText;
 use crate::lines::{line_feed, next_line};
@@ -135,6 +135,13 @@ impl FlatLines {
         ensures { result.now ≡ text_of self.now }
     {
         self.text.as_slice()
+    }
+
+    /// The lines as one text, and where each line ends in it.
+    pub(crate) fn text_and_ends(&self) -> (&[u8], &[usize])
+        ensures { IsTable result.1.now result.0.now self.now }
+    {
+        (self.text.as_slice(), self.ends.as_slice())
     }
 
     /// Where the lines end in their text, and where the first one begins.
@@ -284,7 +291,7 @@ fn start_of(ends: &[usize], i: usize) -> usize
 }
 
 // Line `i` of the text, without its LF.
-fn line_of<'a>(text: &'a [u8], ends: &[usize], i: usize) -> &'a [u8]
+pub(crate) fn line_of<'a>(text: &'a [u8], ends: &[usize], i: usize) -> &'a [u8]
     requires flat { IsFlat ends.now text.now }
     requires line { i < length ends.now }
     ensures { slice_get (parted 0 ends.now text.now) i ≡ Some result.now }

@@ -23,6 +23,7 @@ mod head_cursor;
 mod laws;
 mod limits;
 mod line_part;
+mod line_table;
 mod line_text;
 mod lines;
 mod marks;

@@ -15,9 +15,8 @@ use crate::argument::ArgumentSpans;
 use crate::fault::ScriptFault;
 use crate::head_cursor::{ByteClass, HeadCursor};
 use crate::limits::{MAX_ARGUMENTS, MAX_VALUES};
-use crate::line_part::LinePart;
+use crate::line_table::LineTable;
 use crate::marks::is_space;
-use crate::shared_lines::SharedLines;
 use crate::span::Span;
 use smallvec::SmallVec;
 use std::alloc::{AllocError, AllocFailed, Global};
@@ -203,7 +202,7 @@ fn arguments(
 #[tactic(auto, unfolding(crate::specs::Heads::head_at, crate::specs::Heads::word_head))]
 pub(crate) fn tokens_of(
     alloc: Global,
-    all: &SharedLines,
+    all: &LineTable<'_>,
     start: usize,
     end: usize,
     number: usize,
@@ -214,7 +213,7 @@ pub(crate) fn tokens_of(
     requires lines { AllByRecursion IsLine (between start end all.now) }
     ensures gives { ParsesHead (between start end all.now) result (few_or number (head_at (joined (between start end all.now)))) }
 {
-    let head = LinePart::new(all, start, end)?;
+    let head = all.part(start, end)?;
     let mut at = HeadCursor::new(&head);
     at.skip(ByteClass::Space);
     let name = at.take(ByteClass::Word);
