@@ -4,12 +4,14 @@ import json
 import pathlib
 import random
 import re
+import subprocess
 import time
 import xml.etree.ElementTree as ElementTree
 from collections.abc import Callable, Iterator
 from typing import Any
 
-from tests.check.checking import ACCEPTED, BAD, GOOD, UNKNOWN, UNWRITTEN, differs, files, listed, mismatch, run, totals, tree
+from tests.check.checking import ACCEPTED, BAD, GOOD, MOST_SECONDS, UNKNOWN, UNWRITTEN, differs, files, listed, mismatch, run, totals, tree
+from tests.harness import PROGRAM
 
 
 def test_lines_of_heads(room: pathlib.Path) -> Iterator[str]:
@@ -339,8 +341,8 @@ def junit_cases(output: bytes) -> list[tuple[str, str, str, str]]:
 
 
 def by_number(text: bytes) -> str:
-    """All that isn't printable ASCII, a tab or an end of a line by its number, and backslashes too."""
-    return "".join(chr(byte) if byte in b"\t\n" or 32 <= byte <= 126 and byte != 92 else f"\\x{byte:02x}" for byte in text)
+    """All that isn't printable ASCII, a tab or an end of a line by its number."""
+    return "".join(chr(byte) if byte in b"\t\n" or 32 <= byte <= 126 else f"\\x{byte:02x}" for byte in text)
 
 
 def test_junit(room: pathlib.Path) -> Iterator[str]:
@@ -441,6 +443,20 @@ def test_names_that_act_in_a_terminal(room: pathlib.Path) -> Iterator[str]:
         status, output, told = run(room, word)
         if status != 2 or output or not told.startswith(f"error: unexpected argument {line} found\n".encode()):
             yield f"{word!r}: {status} {output!r} {told!r}"
+
+
+def test_numbers_are_written_once(room: pathlib.Path) -> Iterator[str]:
+    """A name and an output have numbers already, where a script acts too."""
+    (room / "a\x1b.txt").write_bytes(b"nope\x1b 1\n----\n")
+    heading = b"a\\x1b.txt:1: nope\\x1b 1\n"
+    wanted = heading + b'+ error: unknown directive "nope\\x1b"\n\n' + totals(1, 1, 1, errors=1)
+    yield from differs("text", run(room, "a\x1b.txt"), (1, wanted, b""))
+    ((_, _, _, text),) = junit_cases(run(room, "--format", "junit", "a\x1b.txt")[1])
+    if not text.startswith(heading.decode()):
+        yield f"junit: {text!r}"
+    told = subprocess.run([PROGRAM, "rewrite", "--warn", "a\x1b.txt"], cwd=room, stdin=subprocess.DEVNULL, capture_output=True, timeout=MOST_SECONDS).stderr
+    if told != b'a\\x1b.txt:1: nope\\x1b 1: error: unknown directive "nope\\x1b"\n':
+        yield f"rewrite: {told!r}"
 
 
 # Names whose bytes end a line or aren't seen, and what is shown of them. The name of a script may be any.

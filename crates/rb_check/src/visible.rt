@@ -21,7 +21,7 @@ use std::alloc::{AllocError, Global};
 pub enum Showing {
     /// As they are.
     AsIs,
-    /// All but printable ASCII, tabs and ends of lines by their numbers, and backslashes too, so that no two bytes look alike.
+    /// All but printable ASCII, tabs and ends of lines by their numbers. What has such numbers already, as names and outputs do, stays as it is.
     Visible,
     /// As they are in JSON, with DEL by its number.
     Json,
@@ -39,11 +39,11 @@ impl Escape for Showing {
     }
 }
 
-// Whether a byte is written as it is: printable ASCII but the backslash, a tab, or a line end.
+// Whether a byte is written as it is: printable ASCII, a tab, or a line end.
 fn stays(b: u8) -> bool
     ensures { result ≡ stays b }
 {
-    b == b'\n' || b == b'\t' || (b' ' <= b && b <= b'~' && b != b'\\')
+    b == b'\n' || b == b'\t' || (b' ' <= b && b <= b'~')
 }
 
 /// The byte itself, or its number if it isn't printable.
