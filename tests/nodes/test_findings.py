@@ -16,6 +16,7 @@ from typing import Any
 
 from plain.node import Node
 from plain.records import Message, Ready
+from plain.script import Script
 from raftbench_nodes.compare.comparison import Comparison, excuse_of, excuse_without_reference
 from raftbench_nodes.compare.exceptions import AcceptedKinds
 from raftbench_nodes.compare.expected import Checker
@@ -474,3 +475,8 @@ def test_torn_changes(room: pathlib.Path) -> Iterator[str]:
             yield f"an excuse: {[step.text() for step in steps]}"
     if excuse_of(blocks_of(TORN)):
         yield "beside a reference it is an excuse"
+    file = room / "torn.txt"
+    file.write_bytes(Script(tuple(blocks_of(TORN)), ()).text([()] * len(TORN)))
+    status, text = said(files.promises, "--with", PLAIN, str(file))
+    if status or not re.search(r"1 script, 1 in which all are kept, \d broken in torn changes and not counted$", text, re.M):
+        yield f"{status}, {text}"
