@@ -5,9 +5,9 @@ ghost use Rattle.rb_script.specs.Lines.{lines, text_of, line_text};
 ghost use Rattle.rb_script.specs.Flat.{ends_of, parted, line_start, between, IsFlat, IsTable};
 
 use crate::line_text::LineText;
-use crate::lines::{line_feed, next_line};
+use crate::lines::next_line;
 use crate::written_line::WrittenLine;
-use memchr::memchr;
+use memchr::{memchr, memchr_iter};
 use smallvec::SmallVec;
 use std::alloc::{AllocError, Global};
 use std::marker::Model;
@@ -221,12 +221,8 @@ fn line_ends(alloc: Global, bytes: &[u8]) -> Result<Vec<usize>, AllocError>
     ensures { IfOk result (λ ends. ends.items ≡ ends_of 0 (lines bytes.now)) }
 {
     let mut ends = Vec::new(alloc);
-    let mut rest = bytes;
-    let mut end = 0;
-    while let Some(feed) = line_feed(rest) {
-        end += feed + 1;
-        ends.push(end)?;
-        rest = &rest[feed + 1..];
+    for feed in memchr_iter(b'\n', bytes) {
+        ends.push(feed + 1)?;
     }
     Ok(ends)
 }
