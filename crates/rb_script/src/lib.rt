@@ -20,6 +20,7 @@ mod fault;
 mod flat;
 mod front;
 mod head_cursor;
+mod head_lines;
 mod laws;
 mod limits;
 mod line_part;

@@ -1,6 +1,6 @@
 //! Parsing a head: its name and arguments.
 
-ghost use Rattle.std.specs.Prelude.{◌≡◌, ◌<◌, ◌≤◌, ◌^◌, ◌++◌, ◌∷◌, ℕ, List, [], length, IfOk, option_map};
+ghost use Rattle.std.specs.Prelude.{◌≡◌, ◌<◌, ◌≤◌, ◌^◌, ◌++◌, ◌∷◌, ℕ, List, [], length, IfOk, OnOk, option_map};
 ghost use Rattle.std.specs.List.{AllByRecursion};
 ghost use Rattle.rb_script.specs.Lines.{Line};
 ghost use Rattle.rb_script.specs.Flat.{between};
@@ -14,6 +14,7 @@ ghost use Rattle.rb_script.specs.declared.tokens.HeadFault.TheVariants.{OutOfMem
 use crate::argument::ArgumentSpans;
 use crate::fault::ScriptFault;
 use crate::head_cursor::{ByteClass, HeadCursor};
+use crate::head_lines::HeadLines;
 use crate::limits::{MAX_ARGUMENTS, MAX_VALUES};
 use crate::line_table::LineTable;
 use crate::marks::is_space;
@@ -144,33 +145,36 @@ fn argument(alloc: Global, at: &mut HeadCursor<'_>) -> Result<Option<ArgumentSpa
     }
 }
 
-// Appends an argument, or returns `None` if there are too many. The first one needs no allocation.
-fn with_one_more(
-    found: Option<SmallVec<ArgumentSpans, 1>>,
+// Appends an argument in place, or leaves `None` if there are too many. The first one needs no allocation.
+fn push_one_more(
+    found: &mut Option<SmallVec<ArgumentSpans, 1>>,
     argument: ArgumentSpans,
-) -> Result<Option<SmallVec<ArgumentSpans, 1>>, AllocError>
-    ensures { IfOk result (λ r. option_map (λ v. v.items) r ≡ with_one MAX_ARGUMENTS (option_map (λ v. v.items) found) argument) }
+) -> Result<(), AllocError>
+    ensures { OnOk result (option_map (λ v. v.items) found.new ≡ with_one MAX_ARGUMENTS (option_map (λ v. v.items) found.old) argument) }
 {
     match found {
-        Some(mut items) if items.len() < MAX_ARGUMENTS => {
+        Some(items) if items.len() < MAX_ARGUMENTS => {
             items.push(argument)?;
-            Ok(Some(items))
         }
-        _ => Ok(None),
+        _ => *found = None,
     }
+    Ok(())
 }
 
 // Does the same, also with `None` for an argument with too many values.
-fn with_argument(
-    found: Option<SmallVec<ArgumentSpans, 1>>,
+fn push_argument(
+    found: &mut Option<SmallVec<ArgumentSpans, 1>>,
     argument: Option<ArgumentSpans>,
-) -> Result<Option<SmallVec<ArgumentSpans, 1>>, AllocError>
-    ensures { IfOk result (λ r. (head : List Line) (so_far : List PlainArgument) (a : PlainArgument) →
-        KeepsArguments head found so_far → KeepsArgument head argument a → KeepsArguments head r (so_far ++ a ∷ [])) }
+) -> Result<(), AllocError>
+    ensures { OnOk result ((head : List Line) (so_far : List PlainArgument) (a : PlainArgument) →
+        KeepsArguments head found.old so_far → KeepsArgument head argument a → KeepsArguments head found.new (so_far ++ a ∷ [])) }
 {
     match argument {
-        Some(argument) => with_one_more(found, argument),
-        None => Ok(None),
+        Some(argument) => push_one_more(found, argument),
+        None => {
+            *found = None;
+            Ok(())
+        }
     }
 }
 
@@ -191,7 +195,7 @@ fn arguments(
         match first {
             Some(b) if is_space(b) => {
                 let argument = argument(alloc, at)?;
-                found = with_argument(found, argument)?;
+                push_argument(&mut found, argument)?;
             }
             _ => return Err(HeadFault::Bad),
         }
@@ -213,7 +217,7 @@ pub(crate) fn tokens_of(
     requires lines { AllByRecursion IsLine (between start end all.now) }
     ensures gives { ParsesHead (between start end all.now) result (few_or number (head_at (joined (between start end all.now)))) }
 {
-    let head = all.part(start, end)?;
+    let head = HeadLines::new(all, start, end);
     let mut at = HeadCursor::new(&head);
     at.skip(ByteClass::Space);
     let name = at.take(ByteClass::Word);
