@@ -1,35 +1,17 @@
 -- What is said as outputs are accepted.
-use Rattle.std.proofs.Common.{◌≡◌, ◌∙◌, ℕ, ◌-◌, Bool, true, false, List, [], ◌∷◌, ◌++◌, Option, None, Some, length, refl, ap, sym, append_assoc, append-nil, arith}
-use Rattle.std.specs.Prelude.{◌==◌, ◌&&◌, if◌then◌else◌, nat_lt, slice_get}
-use Rattle.std.specs.List.{list_any}
-use Rattle.rb_script.specs.Lines.{Line}
-use Rattle.rb_script.specs.Script.{PlainBlock}
+use Rattle.std.proofs.Common.{◌≡◌, ◌∙◌, ℕ, ◌-◌, Bool, true, false, List, [], ◌++◌, length, refl, ap, sym, append_assoc, append-nil, arith}
+use Rattle.std.specs.Prelude.{◌==◌, if◌then◌else◌, slice_get}
 use Rattle.rb_replay.specs.Report.{mismatches}
-use Rattle.rb_replay.specs.Run.{outputs}
 use Rattle.rb_files.specs.declared.path_error.PathError.{PathError}
 use Rattle.rb_report.specs.declared.failure.Failure.{Failure}
 use Rattle.rb_report.specs.Failures.{failure_text}
-use Rattle.rb_report.specs.Notices.{left_text as left_note}
-use Rattle.rb_script_report.specs.declared.accept_options.AcceptFilter.{AcceptFilter}
-use Rattle.rb_script_report.specs.declared.accept_options.AcceptFilter.TheVariants as picks
-use Rattle.rb_script_report.specs.declared.accept_options.AcceptOptions.{AcceptOptions}
 use Rattle.rb_script_report.specs.declared.written.AcceptFault.{AcceptFault}
-use Rattle.rb_script_report.specs.Accepting.{all_left, is_left, is_picked, left_heads}
-use Rattle.rb_script_report.specs.Checked.{head_of}
-use Rattle.rb_script_report.specs.Errors.{first_line}
 use Rattle.rb_check.specs.declared.remark.Remark.TheVariants as remarks
-use Rattle.rb_check.specs.declared.report_state.ReportForm.{ReportForm}
 use Rattle.rb_check.specs.declared.script_result.ScriptResult.{ScriptResult}
-use Rattle.rb_check.specs.AcceptTexts.{echoes_text, ended_text, leaving_text, left_in, left_shown, refusal_failure, refusal_note, refusal_says, refusal_text}
+use Rattle.rb_check.specs.AcceptTexts.{ended_text, refusal_failure, refusal_note, refusal_says, refusal_text}
 use Rattle.rb_check.specs.Results.{after_accepting}
-use Rattle.rb_check.specs.Shown.{cause_text, cleared, failure_lines, left_text, remark_text, says_cause}
+use Rattle.rb_check.specs.Shown.{cause_text, cleared, failure_lines, remark_text, says_cause}
 use Rattle.rb_check.specs.Subjects.{PlainChecked, result_of}
-
--- ---- below a new error
-
-pub echoes_if : (form : ReportForm) (path : List ℕ) (picked : AcceptFilter) (line : ℕ) (left : List ℕ) (below : Bool) → picked ≡ picks.UpTo line → below ≡ list_any (λ head. nat_lt line head) left
-    → echoes_text form path picked left ≡ (if below then remark_text form path (remarks.Echoes line) else [])
-echoes_if form path picked line left below is same = ap (λ (p : AcceptFilter). echoes_text form path p left) is ∙ ap (λ (b : Bool). if b then remark_text form path (remarks.Echoes line) else []) (sym same)
 
 -- ---- what became of the others
 

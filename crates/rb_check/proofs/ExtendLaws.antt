@@ -1,11 +1,10 @@
 -- Texts in memory, one part after another.
-use Rattle.std.proofs.Common.{◌≡◌, ◌∙◌, ℕ, ◌+◌, ◌≤◌, true, false, List, [], ◌∷◌, ◌++◌, length, take, Some, Result, Ok, Err, ap, sym, subst, append_assoc, append-nil}
-use Rattle.std.specs.Prelude.{IfOk, slice_get}
+use Rattle.std.proofs.Common.{◌≡◌, ◌∙◌, ℕ, ◌+◌, ◌≤◌, true, false, List, [], ◌∷◌, ◌++◌, length, take, Some, ap, sym, subst, append_assoc, append-nil}
+use Rattle.std.specs.Prelude.{slice_get}
 use Rattle.std.specs.List.{flat_map}
 use Rattle.std.proofs.lemmas.Grind.{flat_map-append}
 use Rattle.std.proofs.lemmas.List.{take_all}
 use Rattle.rb_script.proofs.ListLaws.{take_there}
-use Rattle.rb_check.specs.declared.format.LineFormat.{LineFormat}
 use Rattle.rb_check.specs.declared.shown_text.ShownText.{ShownText}
 use Rattle.rb_check.specs.ShownTexts.{Extends, Holds}
 
@@ -36,8 +35,3 @@ extends_more text xs i x got so_far one = extends_along (texts_more text xs i x 
 
 pub extends_all : {X : Type 0} {a b : ShownText} (text : X → List ℕ) (xs : List X) (i : ℕ) → length xs ≤ i → Extends a b (flat_map text (take i xs)) → Extends a b (flat_map text xs)
 extends_all text xs i past so_far = extends_along (ap (flat_map text) (take_all i xs past)) so_far
-
--- what was made, in other words
-pub made_as : {A E : Type 0} (r : Result A E) (items : A → List ℕ) (t u : List ℕ) → IfOk r (λ made. items made ≡ t) → t ≡ u → IfOk r (λ made. items made ≡ u)
-made_as (Ok made) items t u is e = is ∙ e
-made_as (Err e) items t u is same = tt

@@ -1,12 +1,14 @@
 -- A report: paths, one after another, and the whole of it.
-use Rattle.std.proofs.Common.{◌≡◌, ◌∙◌, ℕ, ◌+◌, ◌-◌, ◌≤◌, Bool, true, false, List, [], ◌∷◌, ◌++◌, length, Option, Some, String, Global, refl, ap, sym, subst, take, append_assoc, append-nil, arith}
+use Rattle.std.proofs.Common.{◌≡◌, ◌∙◌, ℕ, ◌+◌, ◌-◌, ◌≤◌, Bool, true, false, List, [], ◌∷◌, ◌++◌, length, Option, Some, String, Global, refl, ap, sym, subst, drop, take, append_assoc, append-nil, arith}
 use Rattle.std.specs.Prelude.{◌≢◌, ⊤, slice_get, string_bytes}
 use Rattle.std.proofs.lemmas.Grind.{flat_map-append}
+use Rattle.std.proofs.lemmas.List.{drop_all}
 use Rattle.std.proofs.lemmas.List.Sums.{fold-append}
 use Rattle.rb_files.specs.declared.finding.Found.{Found}
 use Rattle.rb_report.specs.declared.totals.Totals.{Totals}
 use Rattle.rb_report.specs.Counts.{nothing, together}
 use Rattle.rb_script.proofs.ListLaws.{take_there}
+use Rattle.rb_text.proofs.SentLaws.{drop-get}
 use Rattle.rb_check.specs.declared.check_request.CheckRequest.{CheckRequest}
 use Rattle.rb_check.specs.declared.differing.Differing.{Differing}
 use Rattle.rb_check.specs.declared.report_state.ReportForm.{ReportForm}
@@ -18,9 +20,9 @@ use Rattle.rb_check.specs.declared.running_check.RunningCheck.{RunningCheck}
 use Rattle.rb_check.specs.declared.script_result.PathResult.{PathResult}
 use Rattle.rb_check.specs.Junit.{PlainSuites, no_suites, plain_suites, suites_more, suites_of}
 use Rattle.rb_check.specs.Lost.{lost_results}
-use Rattle.rb_check.specs.Reported.{AreChecked, AreCounted, AreInTurn, AreReported, IsChecked, IsFoundOf, IsNext, IsReport, Lists, Reports, Suits}
+use Rattle.rb_check.specs.Reported.{AreChecked, AreCounted, AreInTurn, AreReported, Counts, IsChecked, IsFoundOf, IsNext, IsReport, Lists, Reports, Suits}
 use Rattle.rb_check.specs.Results.{CheckedPath, ListedScript, checked_path, counts_of, counts_with, listed_in, listed_of, listing, out_beside, out_in, out_of}
-use Rattle.rb_check.specs.Reviews.{first_point, review_end}
+use Rattle.rb_check.specs.Reviews.{first_point, most, review_end}
 use Rattle.rb_check.specs.Shown.{GoesOut, Prints, form_of, lacks_memory, last_text, started}
 use Rattle.rb_check.proofs.ShownLaws.{along, goes_nothing, goes_on, goes_then}
 
@@ -73,6 +75,18 @@ module _ {W E : Type 0} (held : W → Option (List ℕ)) where
         suited = λ memory. suits memory ∙ ap (λ (r : Results). suites_more two.report.state.form (plain_suites r.suites) checked) same ∙ ap (λ (f : ReportForm). suites_more f (plain_suites one.results.suites) checked) formed;
         out = along (sym (append-nil (asking ++ out_beside form.has_suites shown))) (goes_on (λ (f : ReportForm). out_beside f.has_suites shown) out more);
       }
+
+-- ---- questions, one script after another
+
+module _ (reads : List ℕ → List ℕ → Type 0) (tells : List ℕ → List ℕ → Bool → Type 0) (asked : CheckRequest) (form : ReportForm) (scripts : List (String Global)) where
+  pub counted_more : (before i : ℕ) (script : String Global) (one n : ℕ) → slice_get scripts i ≡ Some script → Counts reads tells asked form (string_bytes script) one
+      → AreCounted reads tells asked form (most (before + one)) (drop (i + 1) scripts) n → AreCounted reads tells asked form before (drop i scripts) n
+  unfolding AreCounted
+  counted_more before i script one n got is more = subst (λ (l : List (String Global)). AreCounted reads tells asked form before l n) (sym (drop-get scripts i script got)) (one, is, more)
+
+  pub counted_all : (i n : ℕ) → length scripts ≤ i → AreCounted reads tells asked form n (drop i scripts) n
+  unfolding AreCounted
+  counted_all i n past = subst (λ (l : List (String Global)). AreCounted reads tells asked form n l n) (sym (drop_all i scripts past)) refl
 
 -- ---- scripts, one after another
 
@@ -135,7 +149,7 @@ module _ {W E : Type 0} (held : W → Option (List ℕ)) (asked : CheckRequest) 
       }
 
   -- all that are to be
-  pub all_done : (done : ℕ) (now : ReviewPoint) (two three : RunningCheck W E) → (asked.reviews ≡ true → AreCounted asked start.report.state.form 0 scripts count) → AreDone done now two → done ≤ length scripts
+  pub all_done : (done : ℕ) (now : ReviewPoint) (two three : RunningCheck W E) → (asked.reviews ≡ true → AreCounted (λ path bytes. ⊤) (λ path other is. ⊤) asked start.report.state.form 0 scripts count) → AreDone done now two → done ≤ length scripts
       → (now.review ≢ reviews.Over → length scripts ≤ done) → three.results ≡ two.results → Prints held two.report three.report (review_end now.review two.results.counts.accepted (length scripts - done)) → AreReported held asked scripts start three
   all_done done now two three counted had within all same ended = record {
     results = had.results;

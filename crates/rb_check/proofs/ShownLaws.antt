@@ -150,13 +150,6 @@ pub goes_failed : {s u : ReportState} {a b c d : Option (List ℕ)} {t : List �
 goes_failed {s} {u} {a} {b} {c} {d} {t} not_closed f k is at =
     subst (λ (v : ReportState). GoesOut s v a d t) (sym is) (subst (λ (e : Option (List ℕ)). GoesOut s (closed s) a e t) (sym at) (went_failed not_closed f k))
 
--- a beginning of a text was put
-pub goes_front : {s : ReportState} {a b : Option (List ℕ)} {t : List ℕ} → s.is_closed ≡ false → AppendsFront a b t → GoesOutInPart s s a b
-goes_front {s} {a} {b} not_closed f = record {
-  text = f.front;
-  out = record { form = refl; out = λ memory. record { memory = memory; held = held_open s.is_closed a b f.front not_closed f.appended; own = own_none s.is_closed s.own } };
-}
-
 pub along : {s u : ReportState} {a b : Option (List ℕ)} {t v : List ℕ} → t ≡ v → GoesOut s u a b t → GoesOut s u a b v
 along {s} {u} {a} {b} e h = subst (λ (l : List ℕ). GoesOut s u a b l) e h
 
@@ -167,18 +160,6 @@ goes_kept s {a} {b} k = record { form = refl; out = λ memory. record { memory =
     held_kept : (x : Bool) (a b : Option (List ℕ)) → Keeps a b → HeldAfter x x a b []
     held_kept false a b k = Appends-kept a a b [] (Appends-nil a) k
     held_kept true a b k = Appends-kept a a b [] (Appends-nil a) k
-
--- something was put before it, and handed on with it
-held_before : (x y : Bool) (a b c : Option (List ℕ)) (t v : List ℕ) → x ≡ false → Appends a b t → HeldAfter x y b c v → HeldAfter x y a c (t ++ v)
-held_before false false a b c t v is h k = Appends-trans a b c t v h k
-held_before false true a b c t v is h k = front_after t h k
-held_before true y a b c t v is h k = absurd cc
-
-pub goes_before : {s u : ReportState} {b c : Option (List ℕ)} {v : List ℕ} (a : Option (List ℕ)) (t : List ℕ) → s.is_closed ≡ false → Appends a b t → GoesOut s u b c v → GoesOut s u a c (t ++ v)
-goes_before {s} {u} {b} {c} {v} a t unclosed h out = record {
-  form = out.form;
-  out = λ memory. let went = out.out memory in record { memory = went.memory; held = held_before s.is_closed u.is_closed a b c t v unclosed h went.held; own = went.own };
-}
 
 -- ---- by equations
 

@@ -109,10 +109,10 @@ pub data Counts (reads : List ℕ → List ℕ → Type 0) (tells : List ℕ →
   unchecked : (error : PathError) → Fails reads tells asked path error → n ≡ 0 → Counts reads tells asked form path n
 
 -- about scripts, with those before them
-unfoldable pub AreCounted : CheckRequest → ReportForm → ℕ → List (String Global) → ℕ → Type 0
-AreCounted asked form before [] n = n ≡ before
-AreCounted asked form before (script ∷ scripts) n =
-    (one : ℕ) × Counts (λ path bytes. ⊤) (λ path other is. ⊤) asked form (string_bytes script) one × AreCounted asked form (most (before + one)) scripts n
+unfoldable pub AreCounted : (List ℕ → List ℕ → Type 0) → (List ℕ → List ℕ → Bool → Type 0) → CheckRequest → ReportForm → ℕ → List (String Global) → ℕ → Type 0
+AreCounted reads tells asked form before [] n = n ≡ before
+AreCounted reads tells asked form before (script ∷ scripts) n =
+    (one : ℕ) × Counts reads tells asked form (string_bytes script) one × AreCounted reads tells asked form (most (before + one)) scripts n
 
 -- ---- scripts, one after another
 
@@ -134,7 +134,7 @@ AreInTurn asked form (script ∷ scripts) before after results =
 pub record AreChecked (asked : CheckRequest) (form : ReportForm) (scripts : List (String Global)) (results : List CheckedPath) (last : ReviewPoint) : Type 0 where
   pub done : ℕ
   pub count : ℕ
-  pub counted : asked.reviews ≡ true → AreCounted asked form 0 scripts count
+  pub counted : asked.reviews ≡ true → AreCounted (λ path bytes. ⊤) (λ path other is. ⊤) asked form 0 scripts count
   pub within : done ≤ length scripts
   pub in_turn : AreInTurn asked form (take done scripts) (first_point count) last results
   pub all : last.review ≢ reviews.Over → done ≡ length scripts

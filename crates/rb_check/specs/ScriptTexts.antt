@@ -64,12 +64,16 @@ pub record AreDirectivesAt (heads lines places named : List ℕ) : Type 0 where
   pub places_are : AreNamed heads lines places
   pub heads_are : named ≡ map (head_line heads) places
 
+-- programs get all of a script, unless outputs are accepted
+abbrev pub gets_all : CheckRequest → Bool
+gets_all asked = not asked.accepts && is_some asked.format
+
 -- those that targets name: none if programs read all of the script, or no target names a line of it
 pub data AreNamedDirectives (tells : List ℕ → List ℕ → Bool → Type 0) (asked : CheckRequest) (c : PlainChecked) (named : Option NamedDirectives) : Type 0 where
-  unasked : asked.accepts ≡ false → is_some asked.format ≡ true → named ≡ None → AreNamedDirectives tells asked c named
-  by_none : AreNamedLines tells c.path asked.targets.now None → named ≡ None → AreNamedDirectives tells asked c named
-  by_lines : (lines : List ℕ) → (these : NamedDirectives) → AreNamedLines tells c.path asked.targets.now (Some lines) → AreDirectivesAt c.layout.heads.items lines these.places.items these.heads.items
-      → named ≡ Some these → AreNamedDirectives tells asked c named
+  unasked : gets_all asked ≡ true → named ≡ None → AreNamedDirectives tells asked c named
+  by_none : gets_all asked ≡ false → AreNamedLines tells c.path asked.targets.now None → named ≡ None → AreNamedDirectives tells asked c named
+  by_lines : (lines : List ℕ) → (these : NamedDirectives) → gets_all asked ≡ false → AreNamedLines tells c.path asked.targets.now (Some lines)
+      → AreDirectivesAt c.layout.heads.items lines these.places.items these.heads.items → named ≡ Some these → AreNamedDirectives tells asked c named
 
 -- they are places of the first n directives
 abbrev pub ArePlaces : List ℕ → ℕ → Type 0

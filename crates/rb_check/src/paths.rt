@@ -117,7 +117,7 @@ fn count_all<T: RunProgress, S: System>(
     form: ReportForm,
     scripts: &[String],
 ) -> usize
-    ensures { asked.now.reviews ≡ true → AreCounted asked.now form 0 scripts.now result }
+    ensures { asked.now.reviews ≡ true → AreCounted (S.has_read system.now) (S.tells_one system.now) asked.now form 0 scripts.now result }
 {
     if !asked.reviews {
         return 0;
@@ -199,6 +199,7 @@ fn failed<W: ReportSink, E: ReportSink>(
     ensures found { result.found ≡ PathResult.Failed error.failure }
     ensures shown { Holds result.shown (remark_text report.old.state.form path.now (remarks.Failed error.failure)) }
     ensures told { (words : List ℕ) × Tells E.takes_all E.held report.old.errors report.new.errors (cleared report.old.errors.shows_progress ++ failure_lines path.now error words) }
+    ensures progress { report.new.errors.shows_progress ≡ false }
     // If something of the path acts, a workflow command goes out by numbers.
     ensures heeded { report.new.showing ≡ shown_in report.old.state.form.format path.now Showing.AsIs }
     ensures state { report.new.state ≡ report.old.state }
@@ -235,7 +236,8 @@ fn write_each_lost<W: ReportSink, E: ReportSink>(
     ensures { Reports W.held check.old check.new (map (lost_path check.old.report.state.form) lost.now) }
 {
     for i in 0..lost.len() {
-        lose(&lost[i].path, lost[i].error, check);
+        let one = &lost[i];
+        lose(&one.path, one.error, check);
     }
 }
 

@@ -3,7 +3,7 @@
 ghost use Rattle.std.specs.Prelude.{◌≡◌, ◌++◌, ◌∷◌, [], ℕ, List, IfErr, IfOk, Some, map, option_map};
 ghost use Rattle.rb_script_report.specs.Checked.{head_line};
 ghost use Rattle.rb_check.specs.Endings.{IsPicked, unnamed};
-ghost use Rattle.rb_check.specs.ScriptTexts.{AreDirectivesAt, AreNamedDirectives};
+ghost use Rattle.rb_check.specs.ScriptTexts.{AreDirectivesAt, AreNamedDirectives, gets_all};
 ghost use Rattle.rb_check.specs.Subjects.{AreFindings, plain_of};
 ghost use Rattle.rb_check.specs.Targets.{AreNamedLines, AreNotFound, IsOfScript, no_directive_failure};
 
@@ -38,7 +38,7 @@ pub(crate) fn named_directives<S: System>(
     ensures named { IfOk result (λ named. AreNamedDirectives (S.tells_one system.now) asked.now (plain_of subject.now) named) }
     ensures failed { IfErr result (λ error. AreNotFound (λ lines. AreNamedLines (S.tells_one system.now) subject.now.path.now asked.now.targets.now (Some lines)) (plain_of subject.now).layout.heads.items (no_directive_failure asked.now.accepts) error) }
 {
-    if !asked.accepts && asked.format.is_some() {
+    if gets_all(asked) {
         return Ok(None);
     }
     let Some(lines) = named_lines(system, asked.targets, subject.path)? else {
@@ -49,6 +49,13 @@ pub(crate) fn named_directives<S: System>(
         Ok(named) => Ok(Some(named)),
         Err(error) => Err(error),
     }
+}
+
+// Whether programs get all of a script: they do, unless outputs are accepted.
+fn gets_all(asked: &CheckRequest<'_>) -> bool
+    ensures { result ≡ gets_all asked.now }
+{
+    !asked.accepts && asked.format.is_some()
 }
 
 /// Which directives may be accepted: those that are named, or, if none is named, those that are accepted then.

@@ -94,6 +94,7 @@ impl<W: ReportSink, E: ReportSink> Report<W, E> {
         ensures state { self.new.state ≡ self.old.state }
         ensures output { self.new.output ≡ self.old.output }
         ensures showing { self.new.showing ≡ self.old.showing }
+        ensures errors { self.old.errors.shows_progress ≡ false → self.new.errors ≡ self.old.errors }
         ensures progress { self.old.state.is_closed ≡ false → self.new.errors.shows_progress ≡ false }
         ensures cleared { self.old.state.is_closed ≡ false → Tells E.takes_all E.held self.old.errors self.new.errors (cleared self.old.errors.shows_progress) }
     {
@@ -107,6 +108,7 @@ impl<W: ReportSink, E: ReportSink> Report<W, E> {
     // Flushes what was written, and records whether that failed.
     fn wrote(&mut self, written: Result<(), WriteFault>)
         ensures showing { self.new.showing ≡ self.old.showing }
+        ensures errors { self.new.state.is_closed ≡ self.old.state.is_closed → self.new.errors ≡ self.old.errors }
         // What was written is handed on, unless that failed.
         ensures flushed { self.new.state.is_closed ≡ false → W.is_flushed self.new.output }
         ensures shown { (before : Option (List ℕ)) (text : List ℕ) → self.old.state.is_closed ≡ false → Writes written before (W.held self.old.output) text
@@ -153,6 +155,8 @@ impl<W: ReportSink, E: ReportSink> Report<W, E> {
     /// Writes the text on standard output, in the place of the progress line.
     pub(crate) fn write<T: WrittenPiece>(&mut self, text: &T)
         ensures showing { self.new.showing ≡ self.old.showing }
+        // The stream of errors stays as it is, unless a progress line is removed or standard output fails.
+        ensures errors { self.old.errors.shows_progress ≡ false → self.new.state.is_closed ≡ self.old.state.is_closed → self.new.errors ≡ self.old.errors }
         ensures flushed { self.new.state.is_closed ≡ false → W.is_flushed self.new.output }
         ensures shown { Prints W.held self.old self.new (T.text text.now) }
         ensures closed { self.old.state.is_closed ≡ true → self.new.state.is_closed ≡ true }
@@ -166,6 +170,9 @@ impl<W: ReportSink, E: ReportSink> Report<W, E> {
 
     /// Writes the bytes on standard output.
     pub(crate) fn say(&mut self, text: &[u8])
+        ensures showing { self.new.showing ≡ self.old.showing }
+        ensures errors { self.old.errors.shows_progress ≡ false → self.new.state.is_closed ≡ self.old.state.is_closed → self.new.errors ≡ self.old.errors }
+        ensures flushed { self.new.state.is_closed ≡ false → W.is_flushed self.new.output }
         ensures shown { Prints W.held self.old self.new text.now }
         ensures closed { self.old.state.is_closed ≡ true → self.new.state.is_closed ≡ true }
     {

@@ -227,7 +227,8 @@ fn ask_about<P: Person, W: ReportSink, E: ReportSink>(
 {
     let text = subject_text(reviewer.alloc, subject, question)?;
     report.say(&text);
-    let number = reviewer.point.passed.saturating_add(index + 1);
+    let passed = reviewer.point.passed.saturating_add(index);
+    let number = passed.saturating_add(1);
     Ok(reviewer.ask(question, number, report)?)
 }
 

@@ -5,7 +5,7 @@ ghost use Rattle.rb_report.specs.Counts.{nothing, status_of, together, totals_te
 ghost use Rattle.rb_check.specs.Junit.{document_text, no_suites, plain_suites};
 ghost use Rattle.rb_check.specs.Reported.{Lists, Suits};
 ghost use Rattle.rb_check.specs.Results.{checked_path, counts_with, listed_of, out_beside};
-ghost use Rattle.rb_check.specs.Shown.{Prints, end_text, lacks_memory, last_text, lists, listed_text, started};
+ghost use Rattle.rb_check.specs.Shown.{Prints, end_text, ending, lacks_memory, last_text, lists, listed_text, started};
 ghost use Rattle.rb_check.specs.ShownTexts.{Holds};
 
 use crate::check_request::CheckRequest;
@@ -153,9 +153,19 @@ impl<W: ReportSink, E: ReportSink> RunningCheck<W, E> {
     {
         let totals = self.totals();
         match self.report.state.form.format {
-            Some(LineFormat::Json) => self.report.write(&TotalsObject(totals)),
-            Some(LineFormat::Github) => {}
+            Some(format) => self.end_for_programs(format, totals),
             None => self.end_for_people(lists_differing, totals, milliseconds),
+        }
+    }
+
+    // Writes the end for programs.
+    fn end_for_programs(&mut self, format: LineFormat, totals: Totals)
+        ensures results { self.new.results ≡ self.old.results }
+        ensures shown { Prints W.held self.old.report self.new.report (ending totals format) }
+    {
+        match format {
+            LineFormat::Json => self.report.write(&TotalsObject(totals)),
+            LineFormat::Github => {}
         }
     }
 

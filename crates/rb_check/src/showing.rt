@@ -97,10 +97,18 @@ fn push_whole(asked: &CheckRequest<'_>, subject: &CheckedScript<'_>, shown: &mut
     requires { AreFindings subject.now }
     ensures { Extends shown.old shown.new (whole_text asked.now (plain_of subject.now)) }
 {
+    push_warnings(asked, subject, shown);
+    report(asked, subject, shown);
+}
+
+// Shows the warnings, if they are shown.
+fn push_warnings(asked: &CheckRequest<'_>, subject: &CheckedScript<'_>, shown: &mut ShownText)
+    requires { AreFindings subject.now }
+    ensures { Extends shown.old shown.new (shown_warnings asked.now (plain_of subject.now)) }
+{
     if warns(asked, &subject.script.run.session) {
         warn(subject, shown);
     }
-    report(asked, subject, shown);
 }
 
 // Whether the warnings are shown.

@@ -1,4 +1,4 @@
-use Rattle.std.proofs.Common.{◌∙◌, ℕ, Bool, List, [], ap, sym}
+use Rattle.std.proofs.Common.{ℕ, List, ap, sym}
 use Rattle.std.specs.Prelude.{if◌then◌else◌}
 use Rattle.rb_check.specs.declared.remark.Remark.TheVariants as remarks
 use Rattle.rb_check.specs.Shown.{remark_text}

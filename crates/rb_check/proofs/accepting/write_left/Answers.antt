@@ -1,4 +1,3 @@
-use Rattle.std.proofs.Common.{refl}
 use Rattle.rb_check.proofs.ExtendLaws.{extends_none}
 use Rattle.rb_check.proofs.accepting.write_left.Goals as goal
 

@@ -1,4 +1,4 @@
-use Rattle.std.proofs.Common.{ℕ, List, refl, subst, ap, sym}
+use Rattle.std.proofs.Common.{ℕ, List, subst, ap, sym}
 use Rattle.rb_check.specs.Endings.{AreWanted}
 use Rattle.rb_check.specs.Reviews.{Reviewing}
 use Rattle.rb_check.specs.ShownTexts.{Holds}

@@ -1,12 +1,13 @@
-use Rattle.std.proofs.Common.{◌∙◌, List, length, ap, sym}
+use Rattle.std.proofs.Common.{◌≡◌, ◌∙◌, List, length, ap, arith, refl, sym}
 use Rattle.rb_check.specs.declared.question.ReviewQuestion.{ReviewQuestion}
 use Rattle.rb_check.specs.Endings.{reviewed, unreviewed}
 use Rattle.rb_check.proofs.checking.asked_of.Goals as goal
 
-pub returns-in-Reviewed : goal.returns-in-Reviewed
-returns-in-Reviewed g c =
+pub returns-in_ok-questions-in-Reviewed-clause-asked : goal.returns-in_ok-questions-in-Reviewed-clause-asked
+returns-in_ok-questions-in-Reviewed-clause-asked g c =
+    let all : c.in_ok-questions.questions.len ≡ length c.in_ok-questions.questions.items = omega (arith, c.in_ok-questions.questions.ok.0) in
     reviewed c.in_ok-named.named c.in_ok-picked.picked (sym c.ending_at.ensures ∙ c.in-Reviewed.is) c.in_ok-named.ensures.named c.in_ok-picked.ensures
-    (c.len.ensures ∙ ap (λ (qs : List ReviewQuestion). length qs) c.in_ok-questions.ensures)
+    (c.len.ensures ∙ all ∙ ap (λ (qs : List ReviewQuestion). length qs) c.in_ok-questions.ensures)
 
-pub returns-in_default : goal.returns-in_default
-returns-in_default g c = unreviewed (λ is. c.in_default.not-Reviewed (c.ending_at.ensures ∙ is)) refl
+pub returns-in-Kept-clause-asked : goal.returns-in-Kept-clause-asked
+returns-in-Kept-clause-asked g c = unreviewed (λ is. c.in-Kept.not-Reviewed (c.ending_at.ensures ∙ is)) refl

@@ -1,4 +1,4 @@
-use Rattle.std.proofs.Common.{ℕ, List, Some, subst, sym, ◌∙◌}
+use Rattle.std.proofs.Common.{ℕ, List, Some, subst, sym}
 use Rattle.rb_report.specs.declared.refusal.TheConstants.{MAX_OUTPUTS}
 use Rattle.rb_bench.specs.declared.run_fault.RunFault.{RunFault}
 use Rattle.rb_bench.specs.Room.{TellsRunFault}

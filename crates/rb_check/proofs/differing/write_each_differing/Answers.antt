@@ -1,6 +1,5 @@
 use Rattle.std.proofs.Common.{◌≡◌, ◌∙◌, ℕ, ◌+◌, ◌<◌, List, ◌∷◌, length, drop, get_or, ap, sym, arith}
 use Rattle.std.proofs.lemmas.List.{drop_more, drop_all}
-use Rattle.std.specs.Prelude.{string_bytes}
 use Rattle.rb_report.specs.Briefs.{brief_text}
 use Rattle.rb_text.proofs.SentLaws.{sent_piece, sent_along, sent_all, piece_exit}
 use Rattle.rb_check.specs.declared.differing.Differing.{Differing}
@@ -16,8 +15,8 @@ returns-in_err-write_brief-clause-wrote g c =
     let i = c.loop-script.script-index in
     let d = c.script-item.result in
     let next = ap differing_text (drop_next c.args.scripts.now i d c.loop-script-test.true c.script-item.is) in
-    piece_exit c.from_residual.result (g.S.Sink.held c.write_brief.new.sink) (brief_text (string_bytes d.path) d.mismatches d.directives d.line) (differing_text (drop (i + 1) c.args.scripts.now))
-    c.from_residual.ensures.0 (sent_along next c.loop-script.invariant.sent) (rw c.as_bytes-path.ensures.value at c.in_err-write_brief.ensures.wrote)
+    piece_exit c.from_residual.result (g.S.Sink.held c.write_brief.new.sink) (brief_text (d.path.items) d.mismatches d.directives d.line) (differing_text (drop (i + 1) c.args.scripts.now))
+    c.from_residual.ensures.0 (sent_along next c.loop-script.invariant.sent) (rw c.deref.ensures.value at c.in_err-write_brief.ensures.wrote)
 
 pub loop-script-preserved : goal.loop-script-preserved
 loop-script-preserved g c =
@@ -25,8 +24,8 @@ loop-script-preserved g c =
     let d = c.script-item.result in
     let next = ap differing_text (drop_next c.args.scripts.now i d c.loop-script-test.true c.script-item.is) in
     record {
-      sent = sent_piece (g.S.Sink.held c.write_brief.new.sink) (brief_text (string_bytes d.path) d.mismatches d.directives d.line) (differing_text (drop (i + 1) c.args.scripts.now))
-          (sent_along next c.loop-script.invariant.sent) (rw c.as_bytes-path.ensures.value at c.in_ok-write_brief.ensures.wrote);
+      sent = sent_piece (g.S.Sink.held c.write_brief.new.sink) (brief_text (d.path.items) d.mismatches d.directives d.line) (differing_text (drop (i + 1) c.args.scripts.now))
+          (sent_along next c.loop-script.invariant.sent) (rw c.deref.ensures.value at c.in_ok-write_brief.ensures.wrote);
       takes = λ t. (c.in_ok-write_brief.ensures.all (c.loop-script.invariant.takes t)).1;
     }
 

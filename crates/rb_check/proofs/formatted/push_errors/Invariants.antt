@@ -6,6 +6,6 @@ use Rattle.rb_check.specs.Subjects.{plain_of, runs_of}
 use Rattle.rb_check.proofs.formatted.push_errors.Given as goal
 
 abbrev pub invariant-loop-i : goal.invariant-loop-i
-invariant-loop-i g l =
+invariant-loop-i l =
     let c = plain_of l.subject in
-    l.text.items ++ flat_map (error_command l.is_strict c.layout.text c.path) (drop l.i (runs_of c)) ≡ l.initial.text.items ++ errors_of l.is_strict c
+    l.text.items ++ flat_map (error_command l.subject.form.is_strict c.layout.text c.path) (drop l.i (runs_of c)) ≡ l.initial.text.items ++ errors_of l.subject.form.is_strict c

@@ -7,9 +7,9 @@ use Rattle.rb_check.proofs.FormatLaws.{added_is}
 use Rattle.rb_check.proofs.formatted.push_first_mismatch.Goals as goal
 
 pub returns-in-Some : goal.returns-in-Some
-returns-in-Some g c =
+returns-in-Some c =
     let subject = c.args.subject.now in
-    let s = subject.session.now.script in
+    let s = subject.script.now.run.session.script in
     let command : ℕ → List ℕ = mismatch_command (plain_of subject) in
     added_is c.push_mismatch.result c.push_mismatch.new.text.items _ _ c.push_mismatch.ensures
     (ap (λ (text : List ℕ). c.args.text.now.items ++ text) (of_first-is command (c.in-Some.index + 1) (mismatches s) c.in-Some.ensures.some))

@@ -7,7 +7,7 @@ use Rattle.rb_check.proofs.FormatLaws.{added_is}
 use Rattle.rb_check.proofs.formatted.push_mismatch.Goals as goal
 
 pub returns : goal.returns
-returns g c =
+returns c =
     let about = plain_of c.args.subject.now in
     let ran = c.directive_at.result in
     let others = length (mismatches about.script) - 1 in

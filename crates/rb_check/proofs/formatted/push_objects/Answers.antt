@@ -5,7 +5,7 @@ use Rattle.rb_check.proofs.RunLaws.{each_all, each_more, runs_end}
 use Rattle.rb_check.proofs.formatted.push_objects.Goals as goal
 
 pub loop-i-preserved : goal.loop-i-preserved
-loop-i-preserved g c =
+loop-i-preserved c =
     let about = plain_of c.args.subject.now in
     let ran = plain_ran c.directive_at.result in
     let named : List ℕ → List ℕ = λ path. c.loop-i.text.items ++ directive_object about.layout.text path ran in
@@ -13,7 +13,7 @@ loop-i-preserved g c =
     c.directive_at.ensures.run (c.in_ok-push_directive.ensures ∙ ap named c.directive_at.ensures.path) c.loop-i.invariant
 
 pub returns : goal.returns
-returns g c =
+returns c =
     let about = plain_of c.args.subject.now in
     each_all (directive_object about.layout.text about.path) (runs_of about) c.loop-i.i c.loop-i.text.items (c.args.text.now.items ++ objects_of about)
     (runs_end about c.loop-i.i (omega (arith, c.loop-i-test.false, c.len-i-end.ensures.len))) c.loop-i.invariant

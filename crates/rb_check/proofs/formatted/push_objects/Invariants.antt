@@ -6,4 +6,4 @@ use Rattle.rb_check.specs.Subjects.{plain_of, runs_of}
 use Rattle.rb_check.proofs.formatted.push_objects.Given as goal
 
 abbrev pub invariant-loop-i : goal.invariant-loop-i
-invariant-loop-i g l = let c = plain_of l.subject in l.text.items ++ flat_map (directive_object c.layout.text c.path) (drop l.i (runs_of c)) ≡ l.initial.text.items ++ objects_of c
+invariant-loop-i l = let c = plain_of l.subject in l.text.items ++ flat_map (directive_object c.layout.text c.path) (drop l.i (runs_of c)) ≡ l.initial.text.items ++ objects_of c

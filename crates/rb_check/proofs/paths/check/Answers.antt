@@ -1,4 +1,3 @@
-use Rattle.std.proofs.Common.{refl}
 use Rattle.rb_check.proofs.paths.check.Goals as goal
 
 pub returns-clause-counted : goal.returns-clause-counted

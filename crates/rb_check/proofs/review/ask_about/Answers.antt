@@ -1,4 +1,4 @@
-use Rattle.std.proofs.Common.{◌≡◌, ◌∙◌, ◌+◌, ◌++◌, ℕ, List, refl, ap, sym, subst, arith}
+use Rattle.std.proofs.Common.{◌≡◌, ◌∙◌, ◌+◌, ◌++◌, ℕ, refl, subst, arith}
 use Rattle.rb_check.specs.declared.report_state.ReportForm.{ReportForm}
 use Rattle.rb_check.specs.Asking.{IsAsked, subject_text}
 use Rattle.rb_check.specs.Reviews.{most, question_text}
@@ -10,7 +10,7 @@ pub returns-clause-shown : goal.returns-clause-shown
 returns-clause-shown g c =
     let asked = c.in_ok-ask.ensures.shown in
     let point = c.args.reviewer.now.point in
-    let number : c.saturating_add-number.result ≡ most (point.passed + c.args.index + 1) = grind (arith, c.saturating_add-number.ensures) in (
+    let number : c.saturating_add-number.result ≡ most (point.passed + c.args.index + 1) = grind (arith, c.saturating_add-passed.ensures, c.saturating_add-number.ensures) in (
       subject_text (plain_of c.args.subject.now) c.args.question ++ asked.0,
       record { asking = asked.0; asked = subst (λ (n : ℕ). IsAsked (question_text n point.count) asked.0) number asked.1; text_is = refl },
       goes_on (λ (f : ReportForm). asked.0) (along (c.deref.ensures.value ∙ c.in_ok-text.ensures) c.say.ensures.shown) asked.2,

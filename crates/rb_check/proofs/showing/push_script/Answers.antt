@@ -1,4 +1,4 @@
-use Rattle.std.proofs.Common.{◌∙◌, ℕ, List, length, Some, ap, subst, sym}
+use Rattle.std.proofs.Common.{ℕ, List, length, Some, ap, subst, sym}
 use Rattle.rb_check.specs.ScriptTexts.{ArePlaces, shown_of}
 use Rattle.rb_check.specs.Subjects.{plain_of}
 use Rattle.rb_check.proofs.ExtendLaws.{extends_along}

@@ -1,4 +1,4 @@
-use Rattle.std.proofs.Common.{◌∙◌, ℕ, List, ap, arith}
+use Rattle.std.proofs.Common.{ℕ, List, ap, arith}
 use Rattle.rb_script_report.specs.declared.warning.Warning.{Warning}
 use Rattle.rb_check.specs.declared.remark.Remark.TheVariants as remarks
 use Rattle.rb_check.specs.Shown.{remark_text, warnings_text}

@@ -1,4 +1,3 @@
-use Rattle.std.proofs.Common.{refl}
 use Rattle.rb_check.proofs.shown_text.ShownText.remark.Goals as goal
 
 pub returns-in-Some : goal.returns-in-Some
