@@ -149,7 +149,7 @@ fn asked_of<S: System>(
             let questions = questions_of(system.alloc(), asked, picked, subject)?;
             Ok(questions.len())
         }
-        CheckEnding::Kept | CheckEnding::Refused | CheckEnding::Accepted => Ok(0),
+        _ => Ok(0),
     }
 }
 

@@ -5,9 +5,9 @@ use Rattle.rb_check.proofs.checking.asked_of.Goals as goal
 
 pub returns-in_ok-questions-in-Reviewed-clause-asked : goal.returns-in_ok-questions-in-Reviewed-clause-asked
 returns-in_ok-questions-in-Reviewed-clause-asked g c =
-    let all : c.in_ok-questions.questions.len ≡ length c.in_ok-questions.questions.items = omega (arith, c.in_ok-questions.questions.ok.0) in
-    reviewed c.in_ok-named.named c.in_ok-picked.picked (sym c.ending_at.ensures ∙ c.in-Reviewed.is) c.in_ok-named.ensures.named c.in_ok-picked.ensures
-    (c.len.ensures ∙ all ∙ ap (λ (qs : List ReviewQuestion). length qs) c.in_ok-questions.ensures)
+    let all : c.in_ok-questions-in-Reviewed.questions.len ≡ length c.in_ok-questions-in-Reviewed.questions.items = omega (arith, c.in_ok-questions-in-Reviewed.questions.ok.0) in
+    reviewed c.in_ok-named-in-Reviewed.named c.in_ok-picked-in-Reviewed.picked (sym c.ending_at.ensures ∙ c.in-Reviewed.is) c.in_ok-named-in-Reviewed.ensures.named c.in_ok-picked-in-Reviewed.ensures
+    (c.len.ensures ∙ all ∙ ap (λ (qs : List ReviewQuestion). length qs) c.in_ok-questions-in-Reviewed.ensures)
 
-pub returns-in-Kept-clause-asked : goal.returns-in-Kept-clause-asked
-returns-in-Kept-clause-asked g c = unreviewed (λ is. c.in-Kept.not-Reviewed (c.ending_at.ensures ∙ is)) refl
+pub returns-in_default-clause-asked : goal.returns-in_default-clause-asked
+returns-in_default-clause-asked g c = unreviewed (λ is. c.in_default.not-Reviewed (c.ending_at.ensures ∙ is)) refl
