@@ -1,6 +1,7 @@
-"""What is shown of what was found: entries that differ or are lost, and what it costs nodes to repair a log."""
+"""What is shown of what was found: entries that differ or are lost, what it costs nodes to repair a log, and faults of the reference."""
 from __future__ import annotations
 
+import subprocess
 from collections.abc import Iterator
 
 from plain.cluster import Cluster
@@ -14,15 +15,17 @@ from raftbench_nodes.compare.runner_steps import steps_above
 from raftbench_nodes.compare.script import blocks_of
 from raftbench_nodes.compare.stage import Reference
 from raftbench_nodes.explore.costs import MOST_HEARTBEATS, REPAIR, Cost, cost_of, repair_of
-from raftbench_nodes.explore.explorer import Explorer, Settings
-from raftbench_nodes.explore.library import classics
+from raftbench_nodes.explore.explorer import Explorer, Settings, Spec
+from raftbench_nodes.explore.library import TreeScript, classics
+from raftbench_nodes.explore.search import Limits, Search
 from raftbench_nodes.process.process import Process
 from raftbench_nodes.promises.checker import Promises
 from raftbench_nodes.promises.clusters import WatchedReference
 from raftbench_nodes.rules.lists import kind_with
 from tests.harness import TOP
 from tests.nodes.breaking import BEGUN, Reported, script
-from tests.nodes.test_findings import Lacking
+from tests.nodes.test_classics import InPlace
+from tests.nodes.test_findings import Lacking, Noted
 
 
 class SavesOthers(Node):
@@ -104,3 +107,21 @@ def test_both_costs_are_said(room: object) -> Iterator[str]:
         process.close()
     if ours is None or said != f"{REPAIR}: the nodes need {ours.text()}; the reference {ours.text()}":
         yield said
+
+
+class FailsAtTicks(Node):
+    def tick(self) -> None:
+        raise KeyError("a mistake in the reference")
+
+
+def test_a_fault_of_the_reference_is_shown(room: object) -> Iterator[str]:
+    """It keeps its traceback, and its script doesn't count as one without a finding."""
+    process = InPlace()
+    process.process = subprocess.Popen("true")
+    process.process.wait()
+    explorer = Explorer(process, Judge(is_asked=False), Settings(Comparison(FailsAtTicks), "mixed", 0, AcceptedKinds()))
+    spec = Spec(0, 0, False, given=TreeScript("ticks", tuple(script("add-nodes 1 voters=(1) index=10", "tick-heartbeat 1"))))
+    search = Search(Noted({}), Limits(0, 1, 1, 1e18), 0)  # type: ignore[arg-type]
+    search.add(explorer.explore(spec))
+    if (search.scripts, search.same, search.wrong) != (1, 0, [0]) or "Traceback" not in search.faults[0] or "a mistake in the reference" not in search.faults[0]:
+        yield f"{search.scripts}, {search.same}, {search.wrong}, {search.faults}"
