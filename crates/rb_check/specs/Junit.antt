@@ -14,7 +14,6 @@ use Rattle.rb_check.specs.declared.junit.Suites.{Suites}
 use Rattle.rb_check.specs.declared.report_state.ReportForm.{ReportForm}
 use Rattle.rb_check.specs.declared.script_result.PathResult.{PathResult}
 use Rattle.rb_check.specs.declared.script_result.PathResult.TheVariants as paths
-use Rattle.rb_check.specs.declared.script_result.ScriptResult.{ScriptResult}
 use Rattle.rb_check.specs.Commands.{without_front}
 use Rattle.rb_check.specs.Results.{CheckedPath, counts_with}
 use Rattle.rb_check.specs.Xml.{in_text, in_value, line_end, seconds_text}

@@ -1,5 +1,5 @@
 -- What a report writes on its streams. (This project's.)
-use Rattle.std.specs.Prelude.{◌≡◌, ℕ, Bool, true, false, not, if◌then◌else◌, ◌==◌, ◌&&◌, ◌||◌, nat_lt, List, [], ◌∷◌, ◌++◌, Option, None, Some, is_some, Result, Ok, Err, codes, decimal, string_bytes, length}
+use Rattle.std.specs.Prelude.{◌≡◌, ℕ, Bool, true, false, not, if◌then◌else◌, ◌==◌, ◌&&◌, ◌||◌, nat_lt, List, [], ◌∷◌, ◌++◌, Option, None, Some, is_some, Result, Ok, Err, codes, decimal, length}
 use Rattle.std.specs.List.{flat_map}
 use Rattle.std.specs.Io.KnownBytes.{Appends}
 use Rattle.std.specs.IoError.{error_kind}
@@ -47,7 +47,6 @@ use Rattle.rb_check.specs.Formats.{notice_text}
 use Rattle.rb_check.specs.Forms.{in_form, is_junit, line_format}
 use Rattle.rb_check.specs.Junit.{PlainSuites, document_text}
 use Rattle.rb_check.specs.Objects.{totals_object}
-use Rattle.rb_check.specs.Results.{ListedScript, listing}
 use Rattle.rb_check.specs.Reviews.{quit_text}
 
 -- ---- the state of a report
