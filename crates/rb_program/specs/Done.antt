@@ -1,5 +1,5 @@
 -- What each subcommand for one script does. (This project's.)
-use Rattle.std.specs.Prelude.{◌≡◌, ℕ, ◌⊎◌, true, false, List, Option, Some, Result, Ok, Err, IsErrAnd, codes, option_map, string_bytes}
+use Rattle.std.specs.Prelude.{◌≡◌, ℕ, ◌⊎◌, Bool, true, false, List, Option, Some, Result, Ok, Err, IsErrAnd, codes, option_map, string_bytes}
 use Rattle.std.specs.Str.{bytes_eq}
 use Rattle.rb_args.specs.declared.choice.CommandChoice.{CommandChoice}
 use Rattle.rb_replay.specs.Start.{is_checkpoint_interval}

@@ -86,7 +86,7 @@ pub(crate) fn write_document<R: Files + Input + Print + AllocGlobal>(
     file: &str,
     kind: DocumentKind<'_>,
 ) -> Result<Status, ProgramError>
-    ensures { IsDocumented (sources_of R.Reader R.File R.Reader.remaining R.File.remaining) file.now kind result }
+    ensures { IsDocumented (sources_of R.Reader R.File R.Reader.remaining R.File.remaining) file.now kind.entry result }
 {
     let text = name_of(file);
     let name = text.as_bytes();
