@@ -1,6 +1,9 @@
-"""What is shown of what was found: entries that differ or are lost, what it costs nodes to repair a log, and faults of the reference."""
+"""What is shown of what was found: entries that differ or are lost, what it costs nodes to repair a log, and faults of the reference; and how a
+search ends early, or too early.
+"""
 from __future__ import annotations
 
+import re
 import subprocess
 from collections.abc import Iterator
 
@@ -22,10 +25,11 @@ from raftbench_nodes.process.process import Process
 from raftbench_nodes.promises.checker import Promises
 from raftbench_nodes.promises.clusters import WatchedReference
 from raftbench_nodes.rules.lists import kind_with
+from raftbench_nodes.tools import explore
 from tests.harness import TOP
 from tests.nodes.breaking import BEGUN, Reported, script
 from tests.nodes.test_classics import InPlace
-from tests.nodes.test_findings import Lacking, Noted
+from tests.nodes.test_findings import Lacking, Noted, said
 
 
 class SavesOthers(Node):
@@ -125,3 +129,23 @@ def test_a_fault_of_the_reference_is_shown(room: object) -> Iterator[str]:
     search.add(explorer.explore(spec))
     if (search.scripts, search.same, search.wrong) != (1, 0, [0]) or "Traceback" not in search.faults[0] or "a mistake in the reference" not in search.faults[0]:
         yield f"{search.scripts}, {search.same}, {search.wrong}, {search.faults}"
+
+
+PLAIN = str(TOP / "nodes" / "plain")
+WORDS = ("--compare", "states", "--fresh", "--jobs", "2", "--seconds", "600")
+
+
+def test_first_stops(room: object) -> Iterator[str]:
+    """--first ends the search at the first kind, and shows that alone, shrunk."""
+    status, text = said(explore.run, "--with", f"{PLAIN} --bug votes-twice", *WORDS, "--count", "400", "--first")
+    kinds, scripts = re.findall(r"^(\S.*): in \d+ scripts?, the first is .*, shrunk to \d+$", text, re.M), re.search(r"; (\d+) scripts?, \d+ without a finding", text)
+    if status != 1 or len(kinds) != 1 or not scripts or int(scripts[1]) > 200:
+        yield f"{status}, {text}"
+
+
+def test_too_few_scripts_fail(room: object) -> Iterator[str]:
+    """--at-least fails a search that ran fewer scripts, though it found nothing."""
+    for least, wanted in ((2, 0), (3, 3)):
+        status, text = said(explore.run, "--with", PLAIN, *WORDS, "--count", "2", "--seed", "0", "--at-least", str(least))
+        if status != wanted or ("2 scripts were run, and --at-least 3 were asked for" in text) != (wanted == 3):
+            yield f"{least}: {status}, {text}"
