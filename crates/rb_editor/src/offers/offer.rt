@@ -87,7 +87,7 @@ fn line_in(name: &[u8], pages: &[(Known, Known, Known)]) -> Known
 }
 
 /// The line of help of a directive.
-#[tactic(auto, unfolding(rb_report::specs::Manual::pages, crate::specs::Offers::line_of))]
+#[tactic(auto, unfolding(rb_help::specs::Manual::pages, crate::specs::Offers::line_of))]
 pub(crate) fn line_of(name: &[u8]) -> Known
     ensures { result.now ≡ line_of name.now }
 {
@@ -107,7 +107,7 @@ pub(crate) fn has_key(name: &[u8], key: &[u8], keys: &[(Known, Known)]) -> bool
 }
 
 // Whether the directive with this name takes an option with this key.
-#[tactic(auto, unfolding(rb_report::specs::Manual::keys, crate::specs::Offers::takes))]
+#[tactic(auto, unfolding(rb_help::specs::Manual::keys, crate::specs::Offers::takes))]
 fn takes(name: &[u8], key: &[u8]) -> bool
     ensures { result ≡ takes name.now key.now }
 {
@@ -146,7 +146,7 @@ fn keyed(
 }
 
 // The keys that a directive takes and that begin with a prefix.
-#[tactic(auto, unfolding(rb_report::specs::Manual::keys, crate::specs::Offers::options))]
+#[tactic(auto, unfolding(rb_help::specs::Manual::keys, crate::specs::Offers::options))]
 fn options(alloc: Global, name: &[u8], prefix: &[u8]) -> Result<Vec<Offer>, AllocError>
     ensures { IfOk result (λ list. list.items ≡ options name.now prefix.now) }
 {
@@ -235,7 +235,7 @@ fn arguments(
 }
 
 /// The words that a head can continue with, by its unfinished word.
-#[tactic(auto, unfolding(rb_report::specs::Manual::pages, crate::specs::Offers::offers))]
+#[tactic(auto, unfolding(rb_help::specs::Manual::pages, crate::specs::Offers::offers))]
 pub(crate) fn offers(
     alloc: Global,
     head: &[u8],
