@@ -42,6 +42,7 @@ fn drawn(
     part: ChartPart,
     has_logs: bool,
 ) -> Result<Option<DrawnRun>, AllocError>
+    requires few { length source.script.now.blocks ≤ MAX_DIRECTIVES }
     requires heads { AreHeadLines 1 source.lines.now source.script.now.blocks source.heads.now }
     ensures { IfOk result (λ picture. MatchOption picture (HasNoRoomFor source.entry.lines.now part source.entry.script.now) (λ run. IsPictureOf name.now source.entry.lines.now part has_logs source.entry.script.now run.chart × (run.printed ≡ outputs source.entry.script.now))) }
 {
