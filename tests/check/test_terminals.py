@@ -293,12 +293,18 @@ def test_review_without_a_terminal(room: pathlib.Path) -> Iterator[str]:
 
 def test_sentences(room: pathlib.Path) -> Iterator[str]:
     """Of the calls whose one line is fixed a second line says more where somebody reads or the environment asks for it, and only there."""
-    files(room, a_txt=GOOD)
+    files(room, a_txt=GOOD, bad_txt=b"log-level info\n----\ncampaign 1\n----\n")
     (room / "folder").mkdir()
     folder = b"folder: it is a folder, and not a script; raftbench check takes folders\n"
     usage, failed = b"raftbench: bad usage\n", b"raftbench: input or output failed\n"
+    refused = b"raftbench: script refused: NotClosed at line 2\n"
+    open_end = b"the output below this ---- has no end; usually an empty line is missing before the next directive, or the two closing ---- are missing\n"
     for words, status, line, more in [
         (("run",), 2, usage, b"FILE is missing: the file of a script\n"),
+        (("trace",), 2, usage, b"FILE is missing: the file of a script\n"),
+        *(((command, "bad.txt"), 3, refused, open_end) for command in ("run", "rewrite", "session", "page", "chart", "trace")),
+        (("look", "bad.txt:1"), 3, refused, open_end),
+        (("chart", "nothing"), 4, failed, b"nothing: No such file or directory (os error 2)\n"),
         (("run", "nothing"), 4, failed, b"nothing: No such file or directory (os error 2)\n"),
         (("run", "folder"), 4, failed, folder),
         (("rewrite", "folder"), 4, failed, folder),

@@ -3,7 +3,7 @@ use Rattle.std.specs.Prelude.{◌≡◌, ℕ, ◌==◌, false, List, [], ◌++�
 use Rattle.std.specs.List.{AllZip, list_any}
 use Rattle.rb_script.specs.Bytes.{line_feed}
 use Rattle.rb_script.specs.Lines.{Line, text_of}
-use Rattle.rb_report.specs.Refusals.{fault_line}
+use Rattle.rb_report.specs.Refusals.{fault_line, sentence}
 use Rattle.rb_view.specs.declared.chart.draw.TheConstants.{MAX_EVENTS}
 use Rattle.rb_view.specs.declared.steps.room.TheConstants.{MAX_PAGE}
 use Rattle.rb_view.specs.declared.trace.directive_trace.TheConstants.{MAX_TRACE}
@@ -51,12 +51,12 @@ misused_word (misuses.Until text) = string_bytes text
 misused_word (misuses.Place text) = string_bytes text
 misused_word (misuses.Directive name meant) = string_bytes name
 
--- the word that a refusal is about: that of the usage error, or the path
+-- the word that a refusal is about: that of the usage error, the path, or what is wrong with the script
 abbrev pub refused_word : ProgramError → List ℕ
 refused_word (refusals.Clap error) = []
 refused_word (refusals.Usage misuse) = misused_word misuse
 refused_word (refusals.OwnUsage misuse) = misused_word misuse
-refused_word (refusals.Script fault) = []
+refused_word (refusals.Script fault) = sentence fault
 refused_word (refusals.Unopened path error) = string_bytes path
 refused_word refusals.ChartTooLarge = []
 refused_word refusals.PageTooLarge = []
@@ -115,7 +115,7 @@ abbrev pub second_line : ProgramError → List ℕ → Option (List ℕ)
 second_line (refusals.Clap error) word = Some []
 second_line (refusals.Usage misuse) word = usage_line misuse word
 second_line (refusals.OwnUsage misuse) word = Some []
-second_line (refusals.Script fault) word = Some []
+second_line (refusals.Script fault) word = Some (word ++ codes "\n")
 second_line (refusals.Unopened path error) word = None
 second_line refusals.ChartTooLarge word = Some []
 second_line refusals.PageTooLarge word = Some []

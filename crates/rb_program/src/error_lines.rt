@@ -80,7 +80,7 @@ pub(crate) fn say<C: Console>(console: &mut C, refusal: &ProgramError, word: &Sh
     console.eprint(FirstLine { refusal, word });
 }
 
-/// The line that says more to a person, or nothing; a usage error's word, or a path, is shown so.
+/// The line that says more to a person, or nothing; a usage error's word, a path, or what is wrong with a script is shown so.
 #[derive(Clone, Copy)]
 pub(crate) struct SecondLine<'a> {
     pub(crate) refusal: &'a ProgramError,
@@ -105,9 +105,9 @@ impl Display for SecondLine<'_> {
                 f,
                 "{word}: it is a folder, and not a script; raftbench check takes folders\n"
             ),
+            ProgramError::Script(_) => write!(f, "{word}\n"),
             ProgramError::Clap(_)
             | ProgramError::OwnUsage(_)
-            | ProgramError::Script(_)
             | ProgramError::ChartTooLarge
             | ProgramError::PageTooLarge
             | ProgramError::TraceTooLarge

@@ -16,7 +16,7 @@ use crate::shown::or_nothing;
 use crate::usage_error::{UsageError, write_help};
 use rb_args::ChoiceFault;
 use rb_bench::BenchFault;
-use rb_report::{ShownName, Status};
+use rb_report::{ShownName, Status, sentence};
 use rb_script::ScriptFault;
 use rb_text::ReadFault;
 use std::alloc::{AllocError, Global};
@@ -79,7 +79,7 @@ impl ProgramError {
         ensures lost { C.has_lost console.old ≡ false → EndsByOutput self.now (C.has_lost console.new) result }
     {
         let explained = is_explained(system, is_read);
-        let shown = ShownName::of(alloc, self.word().as_bytes());
+        let shown = ShownName::of(alloc, self.word());
         let word = or_nothing(alloc, shown);
         let status = self.write_reason(alloc, console, &word);
         if !explained {
@@ -89,22 +89,22 @@ impl ProgramError {
         status
     }
 
-    // The word that it is about; empty, if there is none.
-    fn word(&self) -> &str
+    // The word that it is about, or what is wrong with the script; empty, if there is none.
+    fn word(&self) -> &[u8]
         ensures { result.now ≡ refused_word self.now }
     {
         match self {
-            ProgramError::Usage(misuse) => misuse.word(),
-            ProgramError::OwnUsage(misuse) => misuse.word(),
-            ProgramError::Unopened(path, _) => path.as_str(),
-            ProgramError::Folder(path) => path.as_str(),
+            ProgramError::Usage(misuse) => misuse.word().as_bytes(),
+            ProgramError::OwnUsage(misuse) => misuse.word().as_bytes(),
+            ProgramError::Unopened(path, _) => path.as_bytes(),
+            ProgramError::Folder(path) => path.as_bytes(),
+            ProgramError::Script(fault) => sentence(*fault),
             ProgramError::Clap(_)
-            | ProgramError::Script(_)
             | ProgramError::ChartTooLarge
             | ProgramError::PageTooLarge
             | ProgramError::TraceTooLarge
             | ProgramError::Io
-            | ProgramError::OutOfMemory => "",
+            | ProgramError::OutOfMemory => b"",
         }
     }
 
