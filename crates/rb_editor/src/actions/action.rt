@@ -16,7 +16,7 @@ use crate::actions::layout::{ScriptLayout, line_at};
 use crate::actions::replacement::new_text;
 use crate::actions::run::{DocumentRun, kept_of};
 use crate::offers::push_range_member;
-use rb_lsp::document::{Encoding, LineTable, Range};
+use rb_lsp::document::{Encoding, PositionTable, Range};
 use rb_machine::{Count, Machine};
 use rb_replay::Session;
 use rb_script::{Block, Lines};
@@ -73,7 +73,7 @@ pub(crate) fn push_edit(
     out: &mut Vec<u8>,
     encoding: Encoding,
     text: &[u8],
-    table: &LineTable,
+    table: &PositionTable,
     extent: Extent,
     new: &[u8],
 ) -> Result<(), AllocError>

@@ -15,7 +15,7 @@ use crate::actions::extent::{LineSpan, extent_of, has_line};
 use crate::actions::layout::ScriptLayout;
 use crate::offers::push_range_member;
 use rb_help::{suggested_word, wrong_word};
-use rb_lsp::document::{LineTable, Position, offset, position_of};
+use rb_lsp::document::{Position, PositionTable, offset, position_of};
 use rb_machine::Machine;
 use rb_replay::Session;
 use rb_script::{Block, DirectiveRef, Lines, is_space};
@@ -53,7 +53,7 @@ fn word_column(word: &[u8], line: &[u8]) -> Option<usize>
 // The position of a column of a line, counted in bytes.
 fn column_at(
     document: AskedDocument<'_, '_>,
-    table: &LineTable,
+    table: &PositionTable,
     line: usize,
     column: usize,
 ) -> Position
@@ -117,7 +117,7 @@ fn replacement<'a>(
 fn directive_correction(
     alloc: Global,
     document: AskedDocument<'_, '_>,
-    table: &LineTable,
+    table: &PositionTable,
     line: usize,
     front: &[u8],
     directive: &DirectiveRef<'_>,

@@ -6,7 +6,7 @@ ghost use Rattle.rb_editor.specs.Actions.{above, first_within, fix_head, fix_if,
 
 use crate::actions::action::push_edit;
 use crate::actions::extent::{Extent, LineSpan};
-use rb_lsp::document::{Encoding, LineTable};
+use rb_lsp::document::{Encoding, PositionTable};
 use rb_report::WarningKind;
 use rb_script_report::Warning;
 use rb_text::{Json, Piece, push_pieces};
@@ -81,7 +81,7 @@ fn push_fix(
     encoding: Encoding,
     uri: &[u8],
     text: &[u8],
-    table: &LineTable,
+    table: &PositionTable,
     slip: Warning,
 ) -> Result<(), AllocError>
     requires { IsTable encoding text.now table.now }
@@ -106,7 +106,7 @@ fn push_fix_if_some(
     encoding: Encoding,
     uri: &[u8],
     text: &[u8],
-    table: &LineTable,
+    table: &PositionTable,
     found: Option<Warning>,
 ) -> Result<(), AllocError>
     requires { IsTable encoding text.now table.now }
@@ -125,7 +125,7 @@ pub(crate) fn push_fixes(
     encoding: Encoding,
     uri: &[u8],
     text: &[u8],
-    table: &LineTable,
+    table: &PositionTable,
     found: Option<Warning>,
 ) -> Result<(), AllocError>
     requires { IsTable encoding text.now table.now }

@@ -17,7 +17,7 @@ use crate::actions::extent::{Extent, LineSpan, extent_of, has_line};
 use crate::actions::layout::line_at;
 use crate::actions::run::{DocumentRun, RunView, kept_of};
 use crate::offers::push_range_member;
-use rb_lsp::document::{Encoding, LineTable, Position};
+use rb_lsp::document::{Encoding, Position, PositionTable};
 use rb_machine::{Count, Machine};
 use rb_replay::Session;
 use rb_script::{Block, Lines};
@@ -103,7 +103,7 @@ fn push_hover_text(
     out: &mut Vec<u8>,
     encoding: Encoding,
     text: &[u8],
-    table: &LineTable,
+    table: &PositionTable,
     extent: Extent,
     shown: &[u8],
 ) -> Result<(), AllocError>

@@ -15,7 +15,7 @@ use crate::actions::extent::LineSpan;
 use crate::actions::leadership::{Leadership, Leads, push_label};
 use crate::actions::run::{DocumentRun, RunView, kept_of};
 use crate::offers::{BlockLines, line_at, push_position};
-use rb_lsp::document::{Encoding, LineTable, Position, Range};
+use rb_lsp::document::{Encoding, Position, PositionTable, Range};
 use rb_lsp::server::Client;
 use rb_machine::{Count, Machine};
 use rb_replay::Session;
@@ -156,7 +156,7 @@ fn hints_in<M: Leads>(
 // ---- as they are sent
 
 // The position at which a hint of a text is shown, whose lines are in the table.
-fn hint_place(encoding: Encoding, text: &[u8], table: &LineTable, hint: InlayHint) -> Position
+fn hint_place(encoding: Encoding, text: &[u8], table: &PositionTable, hint: InlayHint) -> Position
     requires { IsTable encoding text.now table.now }
     ensures { result ≡ hint_place encoding text.now hint }
 {
@@ -171,7 +171,7 @@ fn push_hint(
     out: &mut Vec<u8>,
     encoding: Encoding,
     text: &[u8],
-    table: &LineTable,
+    table: &PositionTable,
     hint: InlayHint,
 ) -> Result<(), AllocError>
     requires { IsTable encoding text.now table.now }
@@ -190,7 +190,7 @@ fn push_each_hint(
     out: &mut Vec<u8>,
     encoding: Encoding,
     text: &[u8],
-    table: &LineTable,
+    table: &PositionTable,
     list: &[InlayHint],
 ) -> Result<(), AllocError>
     requires { IsTable encoding text.now table.now }
@@ -212,7 +212,7 @@ fn push_hint_list(
     out: &mut Vec<u8>,
     encoding: Encoding,
     text: &[u8],
-    table: &LineTable,
+    table: &PositionTable,
     list: &[InlayHint],
 ) -> Result<(), AllocError>
     requires { IsTable encoding text.now table.now }

@@ -15,7 +15,7 @@ use crate::actions::extent::{Extent, extent_of};
 use crate::actions::replacement::new_text;
 use crate::actions::run::{DocumentRun, RunView, kept_of};
 use crate::offers::push_range_member;
-use rb_lsp::document::LineTable;
+use rb_lsp::document::PositionTable;
 use rb_lsp::server::Client;
 use rb_machine::{Count, Machine};
 use rb_script::Lines;
@@ -186,7 +186,7 @@ fn accept_head() -> &'static [u8]
 fn push_accept_command(
     out: &mut Vec<u8>,
     document: AskedDocument<'_, '_>,
-    table: &LineTable,
+    table: &PositionTable,
     acceptance: &Acceptance,
 ) -> Result<(), AllocError>
     requires { IsTable document.encoding document.text.now table.now }
@@ -235,7 +235,7 @@ fn push_page_command(out: &mut Vec<u8>, uri: &[u8], line: usize) -> Result<(), A
 fn push_command(
     out: &mut Vec<u8>,
     document: AskedDocument<'_, '_>,
-    table: &LineTable,
+    table: &PositionTable,
     lens: &Lens,
 ) -> Result<(), AllocError>
     requires { IsTable document.encoding document.text.now table.now }
@@ -252,7 +252,7 @@ fn push_command(
 fn push_lens(
     out: &mut Vec<u8>,
     document: AskedDocument<'_, '_>,
-    table: &LineTable,
+    table: &PositionTable,
     lens: &Lens,
 ) -> Result<(), AllocError>
     requires { IsTable document.encoding document.text.now table.now }
@@ -267,7 +267,7 @@ fn push_lens(
 fn push_each_lens(
     out: &mut Vec<u8>,
     document: AskedDocument<'_, '_>,
-    table: &LineTable,
+    table: &PositionTable,
     list: &[Lens],
 ) -> Result<(), AllocError>
     requires { IsTable document.encoding document.text.now table.now }
@@ -288,7 +288,7 @@ fn push_each_lens(
 fn push_lens_list(
     out: &mut Vec<u8>,
     document: AskedDocument<'_, '_>,
-    table: &LineTable,
+    table: &PositionTable,
     list: &[Lens],
 ) -> Result<(), AllocError>
     requires { IsTable document.encoding document.text.now table.now }

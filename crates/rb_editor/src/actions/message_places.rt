@@ -9,7 +9,7 @@ use crate::actions::document::AskedDocument;
 use crate::actions::layout::line_at;
 use crate::actions::message_lines::{MessageLines, message_lines};
 use crate::offers::{push_range, push_range_member};
-use rb_lsp::document::{Encoding, LineTable, Position};
+use rb_lsp::document::{Encoding, Position, PositionTable};
 use rb_script::lines_of;
 use rb_text::{Json, Piece, push_pieces};
 use std::alloc::{AllocError, Global};
@@ -21,7 +21,7 @@ use std::alloc::{AllocError, Global};
 fn push_location(
     out: &mut Vec<u8>,
     document: AskedDocument<'_, '_>,
-    table: &LineTable,
+    table: &PositionTable,
     n: usize,
 ) -> Result<(), AllocError>
     requires table { IsTable document.encoding document.text.now table.now }
@@ -58,7 +58,7 @@ fn push_highlight(
     out: &mut Vec<u8>,
     encoding: Encoding,
     text: &[u8],
-    table: &LineTable,
+    table: &PositionTable,
     is_sent: bool,
     n: usize,
 ) -> Result<(), AllocError>
@@ -77,7 +77,7 @@ fn push_highlight(
 fn push_both_locations(
     out: &mut Vec<u8>,
     document: AskedDocument<'_, '_>,
-    table: &LineTable,
+    table: &PositionTable,
     sent: Option<usize>,
     ended: Option<usize>,
 ) -> Result<(), AllocError>
@@ -102,7 +102,7 @@ fn push_both_locations(
 fn push_locations(
     out: &mut Vec<u8>,
     document: AskedDocument<'_, '_>,
-    table: &LineTable,
+    table: &PositionTable,
     sent: Option<usize>,
     ended: Option<usize>,
 ) -> Result<(), AllocError>
@@ -122,7 +122,7 @@ fn push_both_highlights(
     out: &mut Vec<u8>,
     encoding: Encoding,
     text: &[u8],
-    table: &LineTable,
+    table: &PositionTable,
     found: MessageLines,
 ) -> Result<(), AllocError>
     requires table { IsTable encoding text.now table.now }
@@ -163,7 +163,7 @@ fn message_at(
 fn push_location_or_null(
     out: &mut Vec<u8>,
     document: AskedDocument<'_, '_>,
-    table: &LineTable,
+    table: &PositionTable,
     line: Option<usize>,
 ) -> Result<(), AllocError>
     requires table { IsTable document.encoding document.text.now table.now }
@@ -192,7 +192,7 @@ pub(crate) fn push_definition(
     ensures { OnOk result (out.new.items ≡ out.old.items ++ definition document.entry.encoding position document.entry.uri.now document.entry.text.now) }
 {
     let found = message_at(alloc, document.encoding, position, document.text)?;
-    let table = LineTable::new(alloc, document.encoding, document.text)?;
+    let table = PositionTable::new(alloc, document.encoding, document.text)?;
     push_location_or_null(out, document, &table, found.sent)
 }
 
@@ -221,7 +221,7 @@ pub(crate) fn push_references(
     ensures { OnOk result (out.new.items ≡ out.old.items ++ references document.entry.encoding position includes document.entry.uri.now document.entry.text.now) }
 {
     let found = message_at(alloc, document.encoding, position, document.text)?;
-    let table = LineTable::new(alloc, document.encoding, document.text)?;
+    let table = PositionTable::new(alloc, document.encoding, document.text)?;
     let sent = kept_if(includes, found.sent);
     push_locations(out, document, &table, sent, found.ended)
 }
@@ -243,7 +243,7 @@ pub(crate) fn push_highlights(
 {
     let encoding = document.encoding;
     let found = message_at(alloc, encoding, position, document.text)?;
-    let table = LineTable::new(alloc, encoding, document.text)?;
+    let table = PositionTable::new(alloc, encoding, document.text)?;
     out.extend_from_slice(b"[")?;
     push_both_highlights(out, encoding, document.text, &table, found)?;
     out.extend_from_slice(b"]")?;

@@ -14,7 +14,7 @@ use crate::actions::told::{
     BoundedDiagnostic, MAX_TOLD, bounded_message, bounded_output, left_for_next,
 };
 use crate::offers::push_range_member;
-use rb_lsp::document::{Encoding, LineTable};
+use rb_lsp::document::{Encoding, PositionTable};
 use rb_lsp::server::Client;
 use rb_text::{Json, Piece, push_pieces};
 use std::alloc::{AllocError, Global};
@@ -80,7 +80,7 @@ fn push_related_range(
     out: &mut Vec<u8>,
     encoding: Encoding,
     text: &[u8],
-    table: &LineTable,
+    table: &PositionTable,
     first: usize,
     behind: usize,
 ) -> Result<(), AllocError>
@@ -122,7 +122,7 @@ fn push_related_info(
     encoding: Encoding,
     uri: &[u8],
     text: &[u8],
-    table: &LineTable,
+    table: &PositionTable,
     came: &ActualOutput,
 ) -> Result<(), AllocError>
     requires { IsTable encoding text.now table.now }
@@ -138,7 +138,7 @@ fn push_related_info_if_taken(
     client: Client,
     uri: &[u8],
     text: &[u8],
-    table: &LineTable,
+    table: &PositionTable,
     came: Option<&ActualOutput>,
 ) -> Result<(), AllocError>
     requires { IsTable client.encoding text.now table.now }
@@ -160,7 +160,7 @@ fn push_diagnostic(
     client: Client,
     uri: &[u8],
     text: &[u8],
-    table: &LineTable,
+    table: &PositionTable,
     bounded: BoundedDiagnostic<'_>,
 ) -> Result<(), AllocError>
     requires { IsTable client.encoding text.now table.now }
@@ -182,7 +182,7 @@ fn push_each_diagnostic(
     client: Client,
     uri: &[u8],
     text: &[u8],
-    table: &LineTable,
+    table: &PositionTable,
     list: &[Diagnostic],
 ) -> Result<(), AllocError>
     requires { IsTable client.encoding text.now table.now }
@@ -218,7 +218,7 @@ pub(crate) fn push_diagnostic_list(
     if list.is_empty() {
         return out.extend_from_slice(b"[]");
     }
-    let table = LineTable::new(alloc, client.encoding, text)?;
+    let table = PositionTable::new(alloc, client.encoding, text)?;
     out.extend_from_slice(b"[")?;
     push_each_diagnostic(out, client, uri, text, &table, list)
 }

@@ -14,7 +14,7 @@ ghost use Rattle.rb_editor.specs.Layouts.{IsLayout, IsNoScript};
 
 use crate::actions::comparisons::Comparisons;
 use crate::actions::layout::ScriptLayout;
-use rb_lsp::document::{Encoding, LineTable};
+use rb_lsp::document::{Encoding, PositionTable};
 use rb_machine::{Count, Machine};
 use rb_replay::Session;
 use rb_script::{ScriptFault, ScriptWithLines};
@@ -189,7 +189,7 @@ impl<M: Machine> DocumentRun<M> {
             heads: read.heads,
         };
         let slips = warnings(alloc, &session, &script)?;
-        let table = LineTable::new(alloc, encoding, bytes)?;
+        let table = PositionTable::new(alloc, encoding, bytes)?;
         let text = Vec::from_slice(alloc, bytes)?;
         let layout = ScriptLayout {
             script,

@@ -9,7 +9,7 @@ ghost use Rattle.rb_editor.specs.Texts.{listed};
 
 use crate::offers::block_lines::{BlockLines, blocks_of};
 use crate::offers::writing::start_of;
-use rb_lsp::document::{Encoding, LineTable, Position};
+use rb_lsp::document::{Encoding, Position, PositionTable};
 use rb_text::{Piece, push_pieces};
 use std::alloc::{AllocError, Global};
 
@@ -45,7 +45,7 @@ fn push_line_range(out: &mut Vec<u8>, first: u64, last: u64) -> Result<(), Alloc
 fn push_fold(
     out: &mut Vec<u8>,
     text: &[u8],
-    table: &LineTable,
+    table: &PositionTable,
     from: usize,
     end: usize,
 ) -> Result<(), AllocError>
@@ -62,7 +62,7 @@ fn push_fold(
 fn push_expectation(
     out: &mut Vec<u8>,
     text: &[u8],
-    table: &LineTable,
+    table: &PositionTable,
     block: BlockLines,
 ) -> Result<(), AllocError>
     requires { IsTable Utf8 text.now table.now }
@@ -80,7 +80,7 @@ fn push_expectation(
 fn push_block(
     out: &mut Vec<u8>,
     text: &[u8],
-    table: &LineTable,
+    table: &PositionTable,
     block: BlockLines,
 ) -> Result<(), AllocError>
     requires { IsTable Utf8 text.now table.now }
@@ -94,7 +94,7 @@ fn push_block(
 fn push_each_block(
     out: &mut Vec<u8>,
     text: &[u8],
-    table: &LineTable,
+    table: &PositionTable,
     blocks: &[BlockLines],
 ) -> Result<(), AllocError>
     requires { IsTable Utf8 text.now table.now }
@@ -121,7 +121,7 @@ pub fn push_folds(alloc: Global, out: &mut Vec<u8>, text: &[u8]) -> Result<(), A
     ensures { OnOk result (out.new.items ≡ out.old.items ++ folds text.now) }
 {
     let blocks = blocks_of(alloc, text)?;
-    let table = LineTable::new(alloc, Encoding::Utf8, text)?;
+    let table = PositionTable::new(alloc, Encoding::Utf8, text)?;
     out.extend_from_slice(b"[")?;
     push_each_block(out, text, &table, blocks.as_slice())
 }

@@ -9,7 +9,7 @@ ghost use Rattle.rb_editor.specs.Texts.{listed};
 
 use crate::offers::block_lines::{BlockLines, blocks_of};
 use crate::offers::writing::{push_range, start_of};
-use rb_lsp::document::{Encoding, LineTable, Position, is_within};
+use rb_lsp::document::{Encoding, Position, PositionTable, is_within};
 use rb_report::shown_name;
 use rb_script::{Lines, lines_of, trim_blanks};
 use rb_text::{Json, Piece, push_pieces};
@@ -90,7 +90,7 @@ fn push_symbol(
     encoding: Encoding,
     text: &[u8],
     text_lines: &Lines,
-    table: &LineTable,
+    table: &PositionTable,
     block: BlockLines,
 ) -> Result<(), AllocError>
     requires table { IsTable encoding text.now table.now }
@@ -109,7 +109,7 @@ fn push_each_symbol(
     encoding: Encoding,
     text: &[u8],
     text_lines: &Lines,
-    table: &LineTable,
+    table: &PositionTable,
     blocks: &[BlockLines],
 ) -> Result<(), AllocError>
     requires table { IsTable encoding text.now table.now }
@@ -143,7 +143,7 @@ pub fn push_symbols(
 {
     let blocks = blocks_of(alloc, text)?;
     let text_lines = lines_of(alloc, text)?;
-    let table = LineTable::new(alloc, encoding, text)?;
+    let table = PositionTable::new(alloc, encoding, text)?;
     out.extend_from_slice(b"[")?;
     push_each_symbol(out, encoding, text, &text_lines, &table, blocks.as_slice())
 }

@@ -4,7 +4,7 @@ ghost use Rattle.std.specs.Prelude.{◌≡◌, ◌++◌, OnOk};
 ghost use Rattle.rb_lsp.specs.Tables.{IsTable, start_of};
 ghost use Rattle.rb_editor.specs.Texts.{position_text, range_member, range_text};
 
-use rb_lsp::document::{Encoding, LineTable, Position};
+use rb_lsp::document::{Encoding, Position, PositionTable};
 use rb_text::{Piece, push_pieces};
 use std::alloc::AllocError;
 
@@ -60,7 +60,12 @@ pub fn push_range_member(
 }
 
 /// The position at which a line begins.
-pub(crate) fn start_of(_encoding: Encoding, _text: &[u8], table: &LineTable, n: usize) -> Position
+pub(crate) fn start_of(
+    _encoding: Encoding,
+    _text: &[u8],
+    table: &PositionTable,
+    n: usize,
+) -> Position
     requires { IsTable _encoding _text.now table.now }
     ensures { result ≡ start_of _encoding n _text.now }
 {

@@ -1,6 +1,6 @@
 use Rattle.std.proofs.Common.{arith}
 use Rattle.rb_lsp.proofs.PlainLaws.{counted_one, counted_all}
-use Rattle.rb_lsp.proofs.document.line_table.feed_count.Goals as goal
+use Rattle.rb_lsp.proofs.document.position_table.feed_count.Goals as goal
 
 pub loop-b-preserved : goal.loop-b-preserved
 loop-b-preserved c = record {

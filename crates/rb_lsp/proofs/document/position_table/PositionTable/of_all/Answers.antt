@@ -4,7 +4,7 @@ use Rattle.rb_lsp.specs.declared.document.position.Position.{Position}
 use Rattle.rb_lsp.specs.Places.{position_of}
 use Rattle.rb_lsp.proofs.TableLaws.{first_stands, line_stands, part_stands, stands_to, all_stand}
 use Rattle.rb_lsp.proofs.PlainLaws.{given_all}
-use Rattle.rb_lsp.proofs.document.line_table.LineTable.of_all.Goals as goal
+use Rattle.rb_lsp.proofs.document.position_table.PositionTable.of_all.Goals as goal
 
 pub loop-next-init : goal.loop-next-init
 unfolding position_of

@@ -3,7 +3,7 @@ use Rattle.rb_lsp.specs.declared.document.position.Position.{Position}
 use Rattle.rb_lsp.specs.Places.{position_of}
 use Rattle.rb_lsp.specs.Tables.{feed_count}
 use Rattle.rb_lsp.proofs.PlainLaws.{given_plain, plain_start}
-use Rattle.rb_lsp.proofs.document.line_table.LineTable.of_feeds.Goals as goal
+use Rattle.rb_lsp.proofs.document.position_table.PositionTable.of_feeds.Goals as goal
 
 pub position_on-end-requires-clause-first : goal.position_on-end-requires-clause-first
 position_on-end-requires-clause-first c =

@@ -2,7 +2,7 @@
 use Rattle.std.proofs.Common.{◌≡◌, ◌-◌, ◌≤◌, length}
 use Rattle.rb_lsp.specs.Places.{position_of}
 use Rattle.rb_lsp.proofs.TableLaws.{StartsStand}
-use Rattle.rb_lsp.proofs.document.line_table.LineTable.of_all.Given as goal
+use Rattle.rb_lsp.proofs.document.position_table.PositionTable.of_all.Given as goal
 
 abbrev pub invariant-loop-next : goal.invariant-loop-next
 invariant-loop-next l = record {

@@ -1,6 +1,6 @@
 use Rattle.std.proofs.Common.{sym}
 use Rattle.rb_lsp.proofs.PlainLaws.{from_last, from_none}
-use Rattle.rb_lsp.proofs.document.line_table.last_start.Goals as goal
+use Rattle.rb_lsp.proofs.document.position_table.last_start.Goals as goal
 
 pub returns-in-Some-clause-value : goal.returns-in-Some-clause-value
 returns-in-Some-clause-value c = sym (from_last c.args.text.now c.in-Some.end c.in-Some.ensures.0 c.in-Some.ensures.1).start

@@ -10,7 +10,7 @@ use std::alloc::{AllocError, Global};
 
 /// Where each line of a script begins, as an editor's position. A script's lines end at LF; an editor's also at CR and CR LF.
 #[derive(Drop)]
-pub struct LineTable {
+pub struct PositionTable {
     // If a text has no CR, its lines are those of an editor, and this is their number. Otherwise it is 0.
     plain: usize,
     // If a text has a CR: where each line begins.
@@ -57,7 +57,7 @@ fn last_start(text: &[u8]) -> usize
     }
 }
 
-impl LineTable {
+impl PositionTable {
     ghost use Rattle.std.specs.Prelude.{◌≡◌, ◌≤◌, length, IfOk};
     ghost use Rattle.rb_lsp.specs.declared.document.limits.TheConstants.{MAX_TEXT};
     ghost use Rattle.rb_lsp.specs.Tables.{HasNoReturn, IsTable, start_of};
@@ -65,18 +65,18 @@ impl LineTable {
     ghost use Rattle.std.specs.Prelude.{List, ℕ};
 
     /// The lines of this text.
-    pub fn new(alloc: Global, encoding: Encoding, text: &[u8]) -> Result<LineTable, AllocError>
+    pub fn new(alloc: Global, encoding: Encoding, text: &[u8]) -> Result<PositionTable, AllocError>
         requires { length text.now ≤ MAX_TEXT }
         ensures { IfOk result (λ table. IsTable encoding text.now table) }
     {
         if has_no_return(text) {
-            return Ok(LineTable::of_feeds(alloc, encoding, text));
+            return Ok(PositionTable::of_feeds(alloc, encoding, text));
         }
-        LineTable::of_all(alloc, encoding, text)
+        PositionTable::of_all(alloc, encoding, text)
     }
 
     // If a text has no CR, a line has the same number for an editor as for a script. This takes no memory.
-    fn of_feeds(alloc: Global, encoding: Encoding, text: &[u8]) -> LineTable
+    fn of_feeds(alloc: Global, encoding: Encoding, text: &[u8]) -> PositionTable
         requires bounded { length text.now ≤ MAX_TEXT }
         requires plain { HasNoReturn text.now }
         ensures { IsTable encoding text.now result }
@@ -84,7 +84,7 @@ impl LineTable {
         let feeds = feed_count(text);
         let first = line_first(feeds as u64);
         let end = position_on(encoding, first, last_start(text), text.len(), text);
-        LineTable {
+        PositionTable {
             plain: feeds + 1,
             starts: Vec::new(alloc),
             end,
@@ -92,7 +92,7 @@ impl LineTable {
     }
 
     // For any text.
-    fn of_all(alloc: Global, encoding: Encoding, text: &[u8]) -> Result<LineTable, AllocError>
+    fn of_all(alloc: Global, encoding: Encoding, text: &[u8]) -> Result<PositionTable, AllocError>
         requires { length text.now ≤ MAX_TEXT }
         ensures { IfOk result (λ table. IsTable encoding text.now table) }
     {
@@ -108,7 +108,7 @@ impl LineTable {
             }
         }
         let end = position_on(encoding, line_first(line), at, text.len(), text);
-        Ok(LineTable {
+        Ok(PositionTable {
             plain: 0,
             starts,
             end,
