@@ -84,7 +84,8 @@ def pages_are_those_of_the_plain_rows() -> None:
 
 def parts_are_named_by_their_lines() -> None:
     data = TOUR[2].read_bytes()
-    for words, part in ([["--from", "90", "--until=140"], (90, 140)], [["--until", "30"], (0, 30)], [["--from=9999999999"], (9999999999, 0)]):
+    parts = {("--from", "90", "--until=140"): (90, 140), ("--until", "30"): (0, 30), ("--from=9999999999",): (9999999999, 0)}
+    for words, part in parts.items():
         writes_the_plain_page(" ".join(words), ["-", *words], data, page_of(data, "standard input", FORMAT, part), 0)
     same("a line that is none", answer(["page", "-", "--from", "x"], data), (b"", b"raftbench: --from x: the line of a directive\n", 2))
 
