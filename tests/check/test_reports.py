@@ -45,7 +45,7 @@ def comments(count: int) -> bytes:
 
 def test_too_many_outputs(room: pathlib.Path) -> Iterator[str]:
     """A script is refused at the directive with whose output all have more than 33,554,432 bytes, and only there."""
-    heads = [b"log-level none", b"add-nodes 1 voters=(1) index=10", b"campaign 1", *[b"propose 1 " + b"\xff" * 1024] * 1000, b"stabilize"]
+    heads = [b"log-level none", b"add-nodes 1 voters=(1) index=10", b"campaign 1", b"stabilize", *[b"propose 1 " + b"\xff" * 1024] * 1000, b"stabilize"]
     for logs, refused in ((9, True), (8, False)):
         all_heads = [*heads, *[b"raft-log 1 log-level=debug"] * logs]
         script = b"".join(head + b"\n----\n\n" for head in all_heads)
