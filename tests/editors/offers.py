@@ -34,6 +34,17 @@ MOST_NODES, MOST_WORDS = 32, 64
 
 # ---- where blocks stand
 
+def looks_like_directive(line: str) -> bool:
+    """Whether a line would be a directive of the table with a line ---- below it."""
+    if re.split(r"[ \t]+", line.strip(" \t"))[0] not in DIRECTIVES:
+        return False
+    try:
+        script.read_block(f"{line}\n\n----\n".encode())
+    except script.Fault:
+        return False
+    return True
+
+
 def blocks(text: str) -> Any:
     """Of each block that is served the first line of its head, the line behind that head, the line below its separator, and the line behind its last
     line that isn't blank; lines count from 0, and end at LF."""

@@ -40,7 +40,7 @@ from tests.editors import oracle
 from tests.editors import plainly
 from tests.editors.client import MOST_SECONDS, Client, changed, framed, notification, opened, recorded, recorder, request, unframed
 from tests.editors.oracle import diagnostics, position
-from tests.editors.served import served
+from tests.editors.served import fault_line, served
 
 CASES = sorted((HERE / "cases").glob("*.json"))
 URI = "file:///script.txt"
@@ -56,6 +56,8 @@ FIXES = {
     "this looks like a directive inside input": ("Insert the missing ---- and an empty line", "----\n\n"),
     "this is input": ("Insert the missing ----", "----\n"),
 }
+# What `check` says of an output that isn't closed.
+NO_END = "the output below this ---- has no end"
 NOT_OPEN = {"code": -32602, "message": "the document isn't open"}
 # How many lists of edits are tried, each on a script as it stands.
 EDITING_LISTS = 500
@@ -383,9 +385,30 @@ def missing_index(_edits: int) -> Iterator[str]:
             yield message
 
 
-def other_actions(text: str, start: Any, end: Any, encoding: str, told: Any) -> Iterator[str]:
+def missing_line(text: str) -> tuple[int, int] | None:
+    """If the output below a line ---- has no end, and has a directive: both lines, counted from 1."""
+    if (line := fault_line(text)) is None or NO_END not in oracle.diagnostics(PROGRAM, text, "utf-8")[-1]["message"]:
+        return None
+    lines = [it.rstrip("\r") for it in text.split("\n")]
+    for n in range(line, len(lines)):
+        if lines[n].strip(" \t") in ("", "----"):
+            return None
+        if offers.looks_like_directive(lines[n]):
+            return line, n + 1
+    return None
+
+
+def other_actions(whole: str, start: Any, end: Any, encoding: str, told: Any) -> Iterator[str]:
     """Texts for what is wrong with the actions that are told for a range: of each the edits must make the script that is due. Where a line looks
     like a slip there is its quick fix alone."""
+    first, last = (plainly.line_of(whole, place, encoding) for place in (start, end))
+    if (missing := missing_line(whole)) and first < missing[1] and missing[0] - 1 <= last:
+        title, new = FIXES["this looks like a directive inside an expectation"]
+        due = [(title, "quickfix", [{"range": plainly.range_of(whole, missing[1] - 1, missing[1] - 1, encoding), "newText": new}])]
+        if (got := [(it["title"], it["kind"], it["edit"]["changes"][URI]) for it in told]) != due:
+            yield f"{got}, and due is {due}"
+        return
+    text = served(whole)
     first, last = (plainly.line_of(text, place, encoding) for place in (start, end))
     if slips := oracle.slips(oracle.checked(PROGRAM, text, ["--color", "never"])[1]):
         if (got := [(it["title"], it["kind"], it["edit"]["changes"][URI]) for it in told]) != (fixes := fixes_due(slips, text, first, last, encoding)):
@@ -460,7 +483,7 @@ def questions(edits: int) -> Iterator[str]:
                 first, last = sorted(dice.randrange(len(text) + 1) for _ in range(2))
                 start, end = position(text, first, encoding), position(text, dice.choice([first, last]), encoding)
                 told = answer_of(client, version, "codeAction", range={"start": start, "end": end}, context={"diagnostics": []})
-                yield from (f"{path.name}, version {version}, {start}: {it}" for it in other_actions(served(text), start, end, encoding, told))
+                yield from (f"{path.name}, version {version}, {start}: {it}" for it in other_actions(text, start, end, encoding, told))
                 if (told := without_reasons(answer_of(client, -version, "hover", position=start))) != (due := plainly.hover(served(text), start, encoding)):
                     yield f"{path.name}, version {version}, {start}: {told}, and due is {due}"
                 text, *_ = edited(dice, text)
@@ -479,7 +502,7 @@ def questions_between_changes(_edits: int) -> Iterator[str]:
             for part in 1, 3:
                 place = position(text, len(text) * part // 4, "utf-16-le")
                 told = answer_of(client, version, "codeAction", range={"start": place, "end": place}, context={"diagnostics": []})
-                yield from (f"text {version}, {place}: {it}" for it in other_actions(served(text), place, place, "utf-16-le", told))
+                yield from (f"text {version}, {place}: {it}" for it in other_actions(text, place, place, "utf-16-le", told))
                 if (told := without_reasons(answer_of(client, -version, "hover", position=place))) != (due := plainly.hover(served(text), place, "utf-16-le")):
                     yield f"text {version}, {place}: {told}, and due is {due}"
 
@@ -542,6 +565,25 @@ def slips_are_mended(_edits: int) -> Iterator[str]:
             left = [it for it in client.receive()["params"]["diagnostics"] if it["range"] == warned[0]["range"] and it["code"] == "slip"]
             if left:
                 yield f"{text!r}: {fixed!r} has {left}"
+
+
+def unclosed_outputs_are_mended(_edits: int) -> Iterator[str]:
+    """Where the next directive is directly below a line ----, or below an output, a quick fix puts in the empty line above it: at these lines alone."""
+    top, next_ = "add-nodes 1 voters=(1) index=10 log-level=none\n", "campaign 1 log-level=none\n----\n"
+    texts = [(f"{top}----\n{next_}", 2), (f"{top}----\nok\n{next_}", 3), (f"{top}----\n# \U0001d11e\n{next_}\nstatus 1\n----\n", 3), (f"{top}----\r\ncampaign 1\r\n----\r\n", 2),
+             (f"{top}----\ncampaing 1\n----\n", None), (f"{top}----\n----\nok\n{next_}", None), (f"{top}----\nok\n----\n{next_}----\n", None)]
+    for (text, line), (encoding, offered) in itertools.product(texts, ENCODINGS):
+        with Client(PROGRAM) as client:
+            client.begin(*offered)
+            client.send(opened(URI, text))
+            client.receive()
+            for at in range(text.count("\n") + 1):
+                place = {"line": at, "character": 0}
+                told = answer_of(client, at, "codeAction", range={"start": place, "end": place}, context={"diagnostics": []})
+                lines = text.split("\n")
+                due = [] if line is None or not 1 <= at <= line else ["\n".join([*lines[:line], "", *lines[line:]])]
+                if (made := [plainly.applied(text, it["edit"]["changes"][URI], encoding) for it in told if it["title"] == "Insert the missing empty line"]) != due:
+                    yield f"{text!r}, line {at}: {made}, and due is {due}"
 
 
 def later_mismatches(_edits: int) -> Iterator[str]:
@@ -811,7 +853,7 @@ def by_the_meta_model(_edits: int) -> Iterator[str]:
         yield from (f"{name}: {it}" for it in metamodel.faults(model, talk) if not OWN_CAPABILITY.match(it))
 
 
-FUNCTIONS: list[Callable[[int], Iterator[str]]] = [in_neovim, in_vscode, in_monaco, by_the_meta_model, one_byte_at_a_time, cut_off, no_message, reader_that_goes, many_documents, too_many_documents, bounds.bounded_runs, bounds.bounded_comparisons, bounds.bounded_diffs, bounds.cancelled_requests, bounds.versions_that_go_back, other_texts, ends_of_lines, sizes, want_of_memory, refused_allocations, random_edits, editing_lists, what_came, folds, outlines, formatted, ranges_formatted, messages_found, completed, hinted, lensed, selected, reported, questions, hover_shows_reasons, wrong_words, missing_index, questions_between_changes, accepted_by_check, below_a_new_error, slips_are_mended, later_mismatches]
+FUNCTIONS: list[Callable[[int], Iterator[str]]] = [in_neovim, in_vscode, in_monaco, by_the_meta_model, one_byte_at_a_time, cut_off, no_message, reader_that_goes, many_documents, too_many_documents, bounds.bounded_runs, bounds.bounded_comparisons, bounds.bounded_diffs, bounds.cancelled_requests, bounds.versions_that_go_back, other_texts, ends_of_lines, sizes, want_of_memory, refused_allocations, random_edits, editing_lists, what_came, folds, outlines, formatted, ranges_formatted, messages_found, completed, hinted, lensed, selected, reported, questions, hover_shows_reasons, wrong_words, missing_index, questions_between_changes, accepted_by_check, below_a_new_error, slips_are_mended, unclosed_outputs_are_mended, later_mismatches]
 
 
 def results(word: str) -> Iterator[Result]:

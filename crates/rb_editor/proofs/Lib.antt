@@ -21,6 +21,7 @@ pub mod RunLaws
 pub mod WorkLaws
 pub mod StopLaws
 pub mod ServedLaws
+pub mod UnclosedLaws
 pub mod SomeRowLaws
 pub mod FixLaws
 pub mod FrontLaws

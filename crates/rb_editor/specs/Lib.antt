@@ -17,6 +17,7 @@ pub mod MessagePlaces
 pub mod RangeFormatting
 pub mod Corrections
 pub mod Actions
+pub mod Unclosed
 pub mod Lenses
 pub mod Hints
 pub mod Selections

@@ -10,6 +10,7 @@ use Rattle.rb_editor.specs.Symbols.{symbols}
 use Rattle.rb_editor.specs.Published.{diagnose}
 use Rattle.rb_editor.specs.Actions.{actions}
 use Rattle.rb_editor.specs.Completing.{complete}
+use Rattle.rb_editor.specs.Corrections.{or_text}
 use Rattle.rb_editor.specs.Hints.{hints}
 use Rattle.rb_editor.specs.Hovers.{hover}
 use Rattle.rb_editor.specs.Lenses.{lenses}
@@ -19,8 +20,9 @@ use Rattle.rb_editor.specs.Selections.{selection}
 use Rattle.rb_editor.specs.Served.{may_stop_above, text_for}
 use Rattle.rb_editor.specs.SomeRows.{rows}
 use Rattle.rb_editor.specs.Stops.{needs_run}
+use Rattle.rb_editor.specs.Unclosed.{answer_of_fault}
 
--- by the text that the request is answered by
+-- by the text that the request is answered by, which is above the fault if there is one
 abbrev pub answer_by : Client → Query → List ℕ → List ℕ → List ℕ
 answer_by client (CodeAction range) uri text = actions client.encoding range uri text
 answer_by client Formatting uri text = formatting client.encoding text
@@ -38,7 +40,7 @@ answer_by client (SelectionRange position) uri text = selection client.encoding 
 answer_by client (Rows span) uri text = rows span uri text
 
 abbrev pub answer : Client → Query → List ℕ → List ℕ → List ℕ
-answer client asked uri text = answer_by client asked uri (text_for asked text)
+answer client asked uri text = or_text (answer_of_fault client.encoding asked uri text) (answer_by client asked uri (text_for asked text))
 
 abbrev pub meaning : Meaning
 meaning = record { diagnose = diagnose; answer = answer; needs_run = needs_run; may_stop = may_stop_above }

@@ -43,6 +43,7 @@ mod some_rows;
 mod stopped_text;
 mod stopping;
 mod told;
+mod unclosed;
 mod work_meter;
 
 pub use bench::lsp;

@@ -49,5 +49,5 @@ pub use shown_script::ShownScript;
 pub use summary::ScriptSummary;
 pub use unnamed::picked_unnamed;
 pub use view::{Detail, View};
-pub use warning::{Warning, warnings};
+pub use warning::{Warning, looks_like_directive, warnings};
 pub use written::{AcceptFault, Accepted, accept};

@@ -46,7 +46,12 @@ fn reads_alone(alloc: Global, line: &[u8]) -> Result<bool, AllocError>
     }
 }
 
-fn looks_like_directive(alloc: Global, line: &[u8]) -> Result<bool, AllocError>
+/// Says whether the line would be a directive with a line `----` below it, by its name and its arguments.
+///
+/// # Errors
+///
+/// If memory was refused.
+pub fn looks_like_directive(alloc: Global, line: &[u8]) -> Result<bool, AllocError>
     ensures { IfOk result (λ looks. looks ≡ looks_like_directive line.now) }
 {
     if !begins_with_name(line) {

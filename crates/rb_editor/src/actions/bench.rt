@@ -25,6 +25,7 @@ use crate::actions::selection_range::push_selection;
 use crate::actions::served::{diagnostics_of_served, text_for};
 use crate::actions::some_rows::push_rows;
 use crate::actions::stopping::KeptRun;
+use crate::actions::unclosed::answer_of_fault;
 use crate::actions::work_meter::WorkMeter;
 use crate::offers::{push_folds, push_formatting, push_symbols};
 use rb_lsp::server::{
@@ -99,6 +100,17 @@ impl Service for Bench {
             && let Some(stop) = kept.stop_of(text)
         {
             return Ok(Some(stop));
+        }
+        let document = AskedDocument {
+            encoding: asked.client.encoding,
+            uri: asked.uri,
+            text: asked.text,
+        };
+        let answered = answer_of_fault(self.alloc, document, asked.query)?;
+        let of_fault = answered.as_slice();
+        if !of_fault.is_empty() {
+            out.extend_from_slice(of_fault)?;
+            return Ok(None);
         }
         let front = DocumentQuery {
             client: asked.client,

@@ -18,9 +18,13 @@ use rb_report::{Table, fault_line};
 use rb_script::{Script, ScriptFault, lines_of};
 use std::alloc::{AllocError, Global};
 
-// Finds why a text isn't a script, if it isn't one.
+/// Finds why a text isn't a script, if it isn't one.
+///
+/// # Errors
+///
+/// If memory was refused.
 #[tactic(auto, using(crate::proofs::ServedLaws::fault_none, crate::proofs::ServedLaws::fault_some))]
-fn fault_of(alloc: Global, text: &[u8]) -> Result<Option<ScriptFault>, AllocError>
+pub(crate) fn fault_of(alloc: Global, text: &[u8]) -> Result<Option<ScriptFault>, AllocError>
     ensures { IfOk result (λ fault. fault ≡ fault_of text.now) }
 {
     match Script::read(alloc, text) {
