@@ -95,6 +95,18 @@ def symbols(text: str, encoding: str) -> Any:
     return found
 
 
+def found(text: str, uri: str, wanted: str, encoding: str) -> Any:
+    """The symbols in whose names the characters of a text appear in their order, in either case."""
+    lines, due = text.split("\n"), []
+    for head, behind, _, _ in blocks(text):
+        name = lines[head].rstrip("\r").lstrip(" \t")[:LONGEST_NAME]
+        left = iter(name.encode().lower())
+        if all(byte in left for byte in wanted.encode().lower()):
+            range_ = {"start": start_of(text, head, encoding), "end": start_of(text, behind, encoding)}
+            due.append({"name": shown(name), "kind": EVENT, "location": {"uri": uri, "range": range_}})
+    return due
+
+
 # ---- the canonical text
 
 def is_cut(text: str, at: int) -> bool:

@@ -586,6 +586,30 @@ def unclosed_outputs_are_mended(_edits: int) -> Iterator[str]:
                     yield f"{text!r}, line {at}: {made}, and due is {due}"
 
 
+def found_everywhere(edits: int) -> Iterator[str]:
+    """The symbols of all open documents are found by characters of their names, each in its document, in the order in which these were last changed."""
+    dice = random.Random(67)
+    for encoding, offered in ENCODINGS:
+        with Client(PROGRAM) as client:
+            client.begin(*offered)
+            if not client.capabilities.get("workspaceSymbolProvider"):
+                raise NotHere("workspace/symbol")
+            texts = {f"file:///{n}": text for n, text in enumerate(itertools.islice(offered_texts(dice, min(edits, 2)), 60))}
+            for uri, text in texts.items():
+                client.send(opened(uri, text))
+                client.receive()
+            for number, wanted in enumerate(["", "camp", "CAMPAIGN 1", "c1", "nodes 3", "\U0001d11e", "status 2 ", "no such directive"]):
+                due = [it for uri, text in texts.items() for it in offers.found(text, uri, wanted, encoding)]
+                if (got := client.ask(number, "workspace/symbol", query=wanted)) != due:
+                    yield f"{wanted!r}: {got[:3]}, and due is {due[:3]}"
+            client.send(changed("file:///0", 2, {"text": "campaign 7\n----\n"}))
+            client.receive()
+            if [it["location"]["uri"] for it in client.ask(9, "workspace/symbol", query="campaign 7")] != ["file:///0"]:
+                yield "a document that was changed"
+            if (error := client.ask(10, "workspace/symbol")) != {"code": -32602, "message": "the method takes other params"}:
+                yield f"without a query: {error}"
+
+
 def later_mismatches(_edits: int) -> Iterator[str]:
     """The first mismatch is an error, and those after it are information; where the client's settings say so they are errors."""
     text = "add-nodes 1 voters=(1) index=10 log-level=none\n----\nno\n\nlog-level debug\n----\nno\n\nlog-level debug\n----\nno\n"
@@ -818,6 +842,7 @@ def conversation() -> Any:
             for method in ("foldingRange", "documentSymbol", "codeLens", "diagnostic", "formatting"):
                 more: dict[str, Any] = options if method == "formatting" else {}
                 client.ask(next(number), f"textDocument/{method}", textDocument={"uri": URI}, **more)
+            client.ask(next(number), "workspace/symbol", query=text[:2])
             for at in dice.choices(range(len(text) + 1), k=4):
                 place = position(text, at, "utf-16-le")
                 acted = {"range": {"start": place, "end": place}, "context": {"diagnostics": []}}
@@ -853,7 +878,7 @@ def by_the_meta_model(_edits: int) -> Iterator[str]:
         yield from (f"{name}: {it}" for it in metamodel.faults(model, talk) if not OWN_CAPABILITY.match(it))
 
 
-FUNCTIONS: list[Callable[[int], Iterator[str]]] = [in_neovim, in_vscode, in_monaco, by_the_meta_model, one_byte_at_a_time, cut_off, no_message, reader_that_goes, many_documents, too_many_documents, bounds.bounded_runs, bounds.bounded_comparisons, bounds.bounded_diffs, bounds.cancelled_requests, bounds.versions_that_go_back, other_texts, ends_of_lines, sizes, want_of_memory, refused_allocations, random_edits, editing_lists, what_came, folds, outlines, formatted, ranges_formatted, messages_found, completed, hinted, lensed, selected, reported, questions, hover_shows_reasons, wrong_words, missing_index, questions_between_changes, accepted_by_check, below_a_new_error, slips_are_mended, unclosed_outputs_are_mended, later_mismatches]
+FUNCTIONS: list[Callable[[int], Iterator[str]]] = [in_neovim, in_vscode, in_monaco, by_the_meta_model, one_byte_at_a_time, cut_off, no_message, reader_that_goes, many_documents, too_many_documents, bounds.bounded_runs, bounds.bounded_comparisons, bounds.bounded_diffs, bounds.cancelled_requests, bounds.versions_that_go_back, other_texts, ends_of_lines, sizes, want_of_memory, refused_allocations, random_edits, editing_lists, what_came, folds, outlines, formatted, ranges_formatted, messages_found, completed, hinted, lensed, selected, reported, questions, hover_shows_reasons, wrong_words, missing_index, questions_between_changes, accepted_by_check, below_a_new_error, slips_are_mended, unclosed_outputs_are_mended, found_everywhere, later_mismatches]
 
 
 def results(word: str) -> Iterator[Result]:

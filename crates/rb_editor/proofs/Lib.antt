@@ -32,6 +32,7 @@ pub mod BlockLaws
 pub mod ListLaws
 pub mod OfferLaws
 pub mod FormatLaws
+pub mod FoundLaws
 pub mod AboveLaws
 pub mod StartLaws
 pub mod WhyLaws

@@ -31,6 +31,7 @@ pub mod Texts
 pub mod BlockLines
 pub mod Folds
 pub mod Symbols
+pub mod Found
 pub mod Formatting
 pub mod Above
 pub mod Unfinished

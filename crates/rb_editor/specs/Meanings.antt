@@ -6,6 +6,7 @@ use Rattle.rb_lsp.specs.declared.server.query.Query.TheVariants.{CodeAction, For
 use Rattle.rb_lsp.specs.Meanings.{Meaning}
 use Rattle.rb_editor.specs.Folds.{folds}
 use Rattle.rb_editor.specs.Formatting.{formatting}
+use Rattle.rb_editor.specs.Found.{find}
 use Rattle.rb_editor.specs.Symbols.{symbols}
 use Rattle.rb_editor.specs.Published.{diagnose}
 use Rattle.rb_editor.specs.Actions.{actions}
@@ -43,4 +44,4 @@ abbrev pub answer : Client → Query → List ℕ → List ℕ → List ℕ
 answer client asked uri text = or_text (answer_of_fault client.encoding asked uri text) (answer_by client asked uri (text_for asked text))
 
 abbrev pub meaning : Meaning
-meaning = record { diagnose = diagnose; answer = answer; needs_run = needs_run; may_stop = may_stop_above }
+meaning = record { diagnose = diagnose; answer = answer; find = find; needs_run = needs_run; may_stop = may_stop_above }

@@ -1,13 +1,15 @@
 //! What an editor offers of a script without running it: folds, an outline, the canonical text, and completion.
 //!
 //! [`push_folds`], [`push_symbols`], [`push_formatting`] and [`push_completion`] append the result of a request, as JSON. Each is a function of the
-//! document's text and of what columns count in. Completion also depends on a [`CompletionPlace`], and on how many nodes the cluster has.
+//! document's text and of what columns count in. [`push_found`] appends symbols that somebody looks for. Completion also depends on a
+//! [`CompletionPlace`], and on how many nodes the cluster has.
 
 mod above;
 mod block_lines;
 mod completion;
 mod folds;
 mod formatting;
+mod found;
 mod ids;
 mod laws;
 mod offer;
@@ -23,6 +25,7 @@ pub(crate) use block_lines::{BlockLines, all_lines, begins_rule, blocks_of, scri
 pub(crate) use completion::push_completion;
 pub(crate) use folds::push_folds;
 pub(crate) use formatting::{formatted, has_canonical, push_edits, push_formatting};
+pub(crate) use found::{SymbolSearch, push_found};
 pub use laws::{
     blocks_stand_apart, changes_are_those_of_the_nodes, formatting_makes_the_canonical_text,
     heads_are_known, ids_are_those_of_the_nodes, keys_are_those_of_the_table, lines_stay_in_order,

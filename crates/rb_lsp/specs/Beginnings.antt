@@ -131,7 +131,8 @@ last_capabilities encoding =
     (member (codes "inlayHintProvider") (boolean true)
     (member (codes "positionEncoding") (string (encoding_name encoding))
     (member (codes "referencesProvider") (boolean true)
-    (member (codes "selectionRangeProvider") (boolean true) (member (codes "textDocumentSync") synchronizes no_members)))))
+    (member (codes "selectionRangeProvider") (boolean true)
+    (member (codes "textDocumentSync") synchronizes (member (codes "workspaceSymbolProvider") (boolean true) no_members))))))
 
 -- from `documentFormattingProvider` on
 unfoldable pub document_capabilities : Encoding → Members

@@ -35,6 +35,7 @@ mod service;
 mod serving;
 mod stale;
 mod stop;
+mod symbols;
 
 pub use crate::rpc::ServeFault;
 pub use client::Client;

@@ -22,12 +22,12 @@ use crate::actions::message_places::{push_definition, push_highlights, push_refe
 use crate::actions::publishing::push_diagnostic_list;
 use crate::actions::range_formatting::push_range_formatting;
 use crate::actions::selection_range::push_selection;
-use crate::actions::served::{diagnostics_of_served, text_for};
+use crate::actions::served::{diagnostics_of_served, served, text_for};
 use crate::actions::some_rows::push_rows;
 use crate::actions::stopping::KeptRun;
 use crate::actions::unclosed::answer_of_fault;
 use crate::actions::work_meter::WorkMeter;
-use crate::offers::{push_folds, push_formatting, push_symbols};
+use crate::offers::{SymbolSearch, push_folds, push_formatting, push_found, push_symbols};
 use rb_lsp::server::{
     Client, DocumentQuery, ExitStatus, MAX_WORK, Query, ServeFault, Service, Stop, serve,
 };
@@ -120,6 +120,23 @@ impl Service for Bench {
         };
         self.push_result(front, kept, out)?;
         Ok(None)
+    }
+
+    fn push_found(
+        &self,
+        client: Client,
+        wanted: &[u8],
+        uri: &[u8],
+        text: &[u8],
+        out: &mut Vec<u8>,
+    ) -> Result<(), AllocError> {
+        let search = SymbolSearch {
+            encoding: client.encoding,
+            wanted,
+            uri,
+            text: served(self.alloc, text)?,
+        };
+        push_found(self.alloc, out, search)
     }
 }
 

@@ -41,8 +41,8 @@ pub(crate) fn line_at(text: &Lines, n: usize) -> &[u8]
     if n < text.len() { text.line(n) } else { b"" }
 }
 
-// The name of a directive's symbol: the first characters of the line on which its head begins.
-fn name_of(text: &Lines, from: usize) -> &[u8]
+/// The name of a directive's symbol: the first characters of the line on which its head begins.
+pub(crate) fn name_of(text: &Lines, from: usize) -> &[u8]
     ensures { result.now ≡ name_of text.now from }
 {
     first_characters(MAX_NAME, trim_blanks(line_at(text, from)))

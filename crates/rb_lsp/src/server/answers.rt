@@ -21,6 +21,7 @@ use crate::server::question::answer_question;
 use crate::server::reach::Reach;
 use crate::server::request::ClientRequest;
 use crate::server::service::Service;
+use crate::server::symbols::answer_symbols;
 use serde_json::Value;
 use std::alloc::{AllocError, Global};
 
@@ -78,7 +79,7 @@ fn running_answer(alloc: Global, method: Method, id: &Value) -> Result<Value, Al
     }
 }
 
-// The answer to a request of no document.
+// The answer to a request without a document.
 fn answer_to(
     alloc: Global,
     phase: Phase,
@@ -95,7 +96,7 @@ fn answer_to(
     }
 }
 
-/// The answer to a request, where these documents are open. What is asked of one is not done if one of the next messages cancels it, and only then.
+/// The answer to a request, where these documents are open. What is asked of them is not done if one of the next messages cancels it, and only then.
 pub(crate) fn answer_told<V: Service>(
     alloc: Global,
     service: &mut V,
@@ -115,6 +116,9 @@ pub(crate) fn answer_told<V: Service>(
         (Phase::Running(client), Method::Asks(question)) => answer_question(
             alloc, service, documents, client, question, request,
         ),
+        (Phase::Running(client), Method::FindsSymbols) => {
+            answer_symbols(alloc, service, documents, client, request)
+        }
         _ => Ok(OutgoingText::whole(own_answer(alloc, phase, method, request.params, request.id)?)),
     }
 }

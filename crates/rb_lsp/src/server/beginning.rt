@@ -247,6 +247,12 @@ fn last_capabilities(alloc: Global, encoding: Encoding) -> Result<Map<String, Va
 {
     let name = Value::try_from_str(alloc, encoding_name(encoding))?;
     let mut map = Map::new(alloc);
+    put(
+        &mut map,
+        alloc,
+        "workspaceSymbolProvider",
+        Value::Bool(true),
+    )?;
     put(&mut map, alloc, "textDocumentSync", synchronizes(alloc)?)?;
     put(&mut map, alloc, "selectionRangeProvider", Value::Bool(true))?;
     put(&mut map, alloc, "referencesProvider", Value::Bool(true))?;

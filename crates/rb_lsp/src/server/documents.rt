@@ -39,6 +39,13 @@ impl<K> OpenDocument<K> {
         self.document.text()
     }
 
+    /// Its URI.
+    pub(crate) fn uri(&self) -> &[u8]
+        ensures { result.now ≡ self.now.uri }
+    {
+        self.uri.as_slice()
+    }
+
     // Whether it has this URI.
     fn is_of(&self, uri: &[u8]) -> bool
         ensures { result ≡ bytes_eq self.now.uri uri.now }
@@ -96,6 +103,13 @@ impl<K: Drop> Documents<K> {
         ensures within { result ≤ length self.now }
     {
         place_in(self.open.as_slice(), uri)
+    }
+
+    /// All of them.
+    pub(crate) fn all(&self) -> &[OpenDocument<K>]
+        ensures { result.now ≡ self.now }
+    {
+        self.open.as_slice()
     }
 
     /// The text of the document with this URI.

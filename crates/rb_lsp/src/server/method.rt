@@ -37,6 +37,8 @@ pub(crate) enum Method {
     DidClose,
     /// A client asks something about it.
     Asks(Question),
+    /// A client looks for symbols in all open documents.
+    FindsSymbols,
     /// Any other.
     Unknown,
 }
@@ -128,6 +130,8 @@ pub(crate) fn method_of(name: &str) -> Method
         Method::Shutdown
     } else if name == "exit" {
         Method::Exit
+    } else if name == "workspace/symbol" {
+        Method::FindsSymbols
     } else {
         document_method(name)
     }

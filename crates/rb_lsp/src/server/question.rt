@@ -43,9 +43,9 @@ fn refused(
     framed_answer(alloc, &answer)
 }
 
-// Refuses parameters that the method doesn't take.
+/// Refuses parameters that the method doesn't take.
 #[tactic(auto, unfolding(crate::specs::Questions::unfit))]
-fn unfit(alloc: Global, id: &Value) -> Result<OutgoingText, AllocError>
+pub(crate) fn unfit(alloc: Global, id: &Value) -> Result<OutgoingText, AllocError>
     requires { has_float (view id.now) ≡ false }
     ensures out { IfOk result (λ told. told.out.items ≡ frame (body_text (unfit (view id.now)))) }
     ensures reach { IfOk result (λ told. told.reach ≡ Reach.Whole) }
@@ -67,9 +67,9 @@ fn not_open(alloc: Global, id: &Value) -> Result<OutgoingText, AllocError>
     Ok(OutgoingText::whole(out))
 }
 
-// Refuses a request for whose answer memory was refused.
+/// Refuses a request for whose answer memory was refused.
 #[tactic(auto, unfolding(crate::specs::Questions::no_memory_for))]
-fn no_memory_for(alloc: Global, id: &Value) -> Result<Vec<u8>, AllocError>
+pub(crate) fn no_memory_for(alloc: Global, id: &Value) -> Result<Vec<u8>, AllocError>
     requires { has_float (view id.now) ≡ false }
     ensures { IfOk result (λ out. out.items ≡ frame (body_text (no_memory_for (view id.now)))) }
 {
@@ -87,9 +87,9 @@ pub(crate) fn stopped_for(alloc: Global, id: &Value) -> Result<Vec<u8>, AllocErr
     refused(alloc, id, code, "the run of this script was stopped")
 }
 
-// Refuses a request that its client has cancelled.
+/// Refuses a request that its client has cancelled.
 #[tactic(auto, unfolding(crate::specs::Questions::cancelled_for))]
-fn cancelled_for(alloc: Global, id: &Value) -> Result<OutgoingText, AllocError>
+pub(crate) fn cancelled_for(alloc: Global, id: &Value) -> Result<OutgoingText, AllocError>
     requires { has_float (view id.now) ≡ false }
     ensures out { IfOk result (λ told. told.out.items ≡ frame (body_text (cancelled_for (view id.now)))) }
     ensures reach { IfOk result (λ told. told.reach ≡ Reach.Cancelled) }
