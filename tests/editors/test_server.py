@@ -610,6 +610,59 @@ def found_everywhere(edits: int) -> Iterator[str]:
                 yield f"without a query: {error}"
 
 
+# A script, the place of an id in it, a new name, and what the rename makes of the script; or why there is none.
+NODES = "add-nodes 3 voters=(1,2,3) index=10 log-level=none\n----\nok\n\n"
+RENAMED: list[tuple[str, str, str, str]] = [
+    ("campaign 1\n----\nINFO 1 became candidate at term 1\n", "1\n----\nINFO", "2", "campaign 2\n----\nINFO 1 became candidate at term 1\n"),
+    ("deliver-msgs 1 2 from=(3) drop=(1, 3) skip=1\n----\n", "3)", "1", "deliver-msgs 3 2 from=(1) drop=(3, 1) skip=1\n----\n"),
+    ("transfer-leadership from=1 to=3\r\n----\r\nok\r\n", "3\r", "1", "transfer-leadership from=3 to=1\r\n----\r\nok\r\n"),
+    ("propose-conf-change 1\nv1 l2, r3\nu3\n----\nok\n", "2,", "3", "propose-conf-change 1\nv1 l3, r2\nu2\n----\nok\n"),
+    ("# node 1\n  send-snapshot \\\n  1 \\\n  2\n----\nok\n\npropose 1 1\n----\nok\n", "1 \\", "2", "# node 1\n  send-snapshot \\\n  2 \\\n  1\n----\nok\n\npropose 2 1\n----\nok\n"),
+    ("compact 2 11\n----\nok\n\nset-randomized-election-timeout 1 timeout=2\n----\nok\n", "2 11", "1", "compact 1 11\n----\nok\n\nset-randomized-election-timeout 2 timeout=2\n----\nok\n"),
+    ("campaign 1\n----\nok\n", "1\n", "1", "campaign 1\n----\nok\n"),
+]
+ANOTHER = "the new name must be the id of a node of this script: a rename swaps the two"
+NO_ID = "no directive names a node here; add-nodes gives ids in order, from 1"
+NOT_RENAMED: list[tuple[str, str, str, str]] = [
+    (f"{NODES}campaign 1\n----\nok\n", "1\n----", "4", ANOTHER),
+    (f"{NODES}campaign 1\n----\nok\n", "1\n----", "one", ANOTHER),
+    (f"{NODES}campaign 1\n----\nok\n", "1\n----", "0", ANOTHER),
+    (f"{NODES}campaign 4\n----\nok\n", "4\n----", "1", "no node of this script has this id"),
+    (f"{NODES}campaign 1\n----\nok\n", "3 voters", "1", NO_ID),
+    (f"{NODES}campaign 1\n----\nok\n", "10", "1", NO_ID),
+    (f"{NODES}campaign 1\n----\nok\n", "ok\n\n", "1", NO_ID),
+    (f"{NODES}campaign 1\n", "1\n", "2", "ids are renamed in scripts, and this text isn't one"),
+]
+
+
+def ids_are_renamed(_edits: int) -> Iterator[str]:
+    """A rename swaps two ids of nodes in heads and changes; a second one gives the text back. What isn't renamed is refused by a sentence, also when a
+    client asks first."""
+    swapped = [(NODES + text, at, new, re.sub("1,2,3", "".join({at[0]: new, new: at[0]}.get(it, it) for it in "1,2,3"), NODES) + due) for text, at, new, due in RENAMED]
+    for encoding, offered in ENCODINGS:
+        with Client(PROGRAM) as client:
+            client.begin(*offered)
+            for version, (text, at, new, due) in enumerate(swapped):
+                client.send(opened(URI, text, version))
+                client.receive()
+                place = position(text, text.index(at, len(NODES)), encoding)
+                told = answer_of(client, 1, "prepareRename", position=place)
+                if told != (range_ := {"start": place, "end": place | {"character": place["character"] + 1}}):
+                    yield f"{text!r}, {at!r}: {told}, and due is {range_}"
+                edits = answer_of(client, 2, "rename", position=place, newName=new)["changes"][URI]
+                if (made := plainly.applied(text, edits, encoding)) != due:
+                    yield f"{text!r}, {at!r} to {new}: {made!r}, and due is {due!r}"
+            for version, (text, at, new, sentence) in enumerate(NOT_RENAMED):
+                client.send(opened(URI, text, version))
+                client.receive()
+                place = position(text, text.index(at), encoding)
+                document = {"textDocument": {"uri": URI}, "position": place}
+                first, second = client.ask(3, "textDocument/prepareRename", **document), client.ask(4, "textDocument/rename", **document, newName=new)
+                refused = {"code": -32803, "message": sentence}
+                if second != refused or (sentence != ANOTHER and first != refused):
+                    yield f"{text!r}, {at!r} to {new}: {first}, {second}, and due is {sentence}"
+
+
 def later_mismatches(_edits: int) -> Iterator[str]:
     """The first mismatch is an error, and those after it are information; where the client's settings say so they are errors."""
     text = "add-nodes 1 voters=(1) index=10 log-level=none\n----\nno\n\nlog-level debug\n----\nno\n\nlog-level debug\n----\nno\n"
@@ -849,7 +902,7 @@ def conversation() -> Any:
                 asked: list[tuple[str, dict[str, Any]]] = [("hover", {"position": place}), ("completion", {"position": place}), ("codeAction", acted)]
                 asked += [("rangeFormatting", {"range": acted["range"], **options}), ("references", {"position": place, "context": {"includeDeclaration": True}})]
                 asked += [("inlayHint", {"range": acted["range"]}), ("selectionRange", {"positions": [place]})]
-                asked += [(method, {"position": place}) for method in ("definition", "documentHighlight")]
+                asked += [(method, {"position": place}) for method in ("definition", "documentHighlight", "prepareRename")]
                 for method, more in asked:
                     client.ask(next(number), f"textDocument/{method}", textDocument={"uri": URI}, **more)
     return client.talk
@@ -878,7 +931,7 @@ def by_the_meta_model(_edits: int) -> Iterator[str]:
         yield from (f"{name}: {it}" for it in metamodel.faults(model, talk) if not OWN_CAPABILITY.match(it))
 
 
-FUNCTIONS: list[Callable[[int], Iterator[str]]] = [in_neovim, in_vscode, in_monaco, by_the_meta_model, one_byte_at_a_time, cut_off, no_message, reader_that_goes, many_documents, too_many_documents, bounds.bounded_runs, bounds.bounded_comparisons, bounds.bounded_diffs, bounds.cancelled_requests, bounds.versions_that_go_back, other_texts, ends_of_lines, sizes, want_of_memory, refused_allocations, random_edits, editing_lists, what_came, folds, outlines, formatted, ranges_formatted, messages_found, completed, hinted, lensed, selected, reported, questions, hover_shows_reasons, wrong_words, missing_index, questions_between_changes, accepted_by_check, below_a_new_error, slips_are_mended, unclosed_outputs_are_mended, found_everywhere, later_mismatches]
+FUNCTIONS: list[Callable[[int], Iterator[str]]] = [in_neovim, in_vscode, in_monaco, by_the_meta_model, one_byte_at_a_time, cut_off, no_message, reader_that_goes, many_documents, too_many_documents, bounds.bounded_runs, bounds.bounded_comparisons, bounds.bounded_diffs, bounds.cancelled_requests, bounds.versions_that_go_back, other_texts, ends_of_lines, sizes, want_of_memory, refused_allocations, random_edits, editing_lists, what_came, folds, outlines, formatted, ranges_formatted, messages_found, completed, hinted, lensed, selected, reported, questions, hover_shows_reasons, wrong_words, missing_index, questions_between_changes, accepted_by_check, below_a_new_error, slips_are_mended, unclosed_outputs_are_mended, found_everywhere, ids_are_renamed, later_mismatches]
 
 
 def results(word: str) -> Iterator[Result]:

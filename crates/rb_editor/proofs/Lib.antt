@@ -43,3 +43,4 @@ pub mod WantedLaws
 pub mod WordLaws
 pub mod IdLaws
 pub mod PieceLaws
+pub mod IdPlaceLaws

@@ -22,6 +22,8 @@ pub mod Lenses
 pub mod Hints
 pub mod Selections
 pub mod Completing
+pub mod IdPlaces
+pub mod Renames
 pub mod SomeRows
 pub mod Meanings
 pub mod Edits

@@ -2,7 +2,7 @@
 use Rattle.std.specs.Prelude.{ℕ, List}
 use Rattle.rb_lsp.specs.declared.server.client.Client.{Client}
 use Rattle.rb_lsp.specs.declared.server.query.Query.{Query}
-use Rattle.rb_lsp.specs.declared.server.query.Query.TheVariants.{CodeAction, Formatting, RangeFormatting, Hover, Completion, FoldingRange, DocumentSymbol, Definition, References, DocumentHighlight, CodeLens, InlayHint, SelectionRange, Rows}
+use Rattle.rb_lsp.specs.declared.server.query.Query.TheVariants.{CodeAction, Formatting, RangeFormatting, Hover, Completion, FoldingRange, DocumentSymbol, Definition, References, DocumentHighlight, CodeLens, InlayHint, SelectionRange, PrepareRename, Rename, Rows}
 use Rattle.rb_lsp.specs.Meanings.{Meaning}
 use Rattle.rb_editor.specs.Folds.{folds}
 use Rattle.rb_editor.specs.Formatting.{formatting}
@@ -17,6 +17,7 @@ use Rattle.rb_editor.specs.Hovers.{hover}
 use Rattle.rb_editor.specs.Lenses.{lenses}
 use Rattle.rb_editor.specs.MessagePlaces.{definition, highlighted, references}
 use Rattle.rb_editor.specs.RangeFormatting.{range_formatting}
+use Rattle.rb_editor.specs.Renames.{prepare_rename, refuse, rename}
 use Rattle.rb_editor.specs.Selections.{selection}
 use Rattle.rb_editor.specs.Served.{may_stop_above, text_for}
 use Rattle.rb_editor.specs.SomeRows.{rows}
@@ -38,10 +39,12 @@ answer_by client (DocumentHighlight position) uri text = highlighted client.enco
 answer_by client CodeLens uri text = lenses client uri text
 answer_by client (InlayHint range) uri text = hints client range text
 answer_by client (SelectionRange position) uri text = selection client.encoding position text
+answer_by client (PrepareRename position) uri text = prepare_rename client.encoding position text
+answer_by client (Rename position new) uri text = rename client.encoding position new uri text
 answer_by client (Rows span) uri text = rows span uri text
 
 abbrev pub answer : Client → Query → List ℕ → List ℕ → List ℕ
 answer client asked uri text = or_text (answer_of_fault client.encoding asked uri text) (answer_by client asked uri (text_for asked text))
 
 abbrev pub meaning : Meaning
-meaning = record { diagnose = diagnose; answer = answer; find = find; needs_run = needs_run; may_stop = may_stop_above }
+meaning = record { diagnose = diagnose; answer = answer; find = find; refuse = refuse; needs_run = needs_run; may_stop = may_stop_above }

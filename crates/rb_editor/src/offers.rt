@@ -20,18 +20,21 @@ mod unfinished;
 mod words;
 mod writing;
 
-pub(crate) use above::{begun_lines, line_begin};
+pub(crate) use above::{begun_lines, line_begin, push_head_line};
 pub(crate) use block_lines::{BlockLines, all_lines, begins_rule, blocks_of, script_of};
 pub(crate) use completion::push_completion;
 pub(crate) use folds::push_folds;
 pub(crate) use formatting::{formatted, has_canonical, push_edits, push_formatting};
 pub(crate) use found::{SymbolSearch, push_found};
+pub(crate) use ids::takes_ids;
 pub use laws::{
     blocks_stand_apart, changes_are_those_of_the_nodes, formatting_makes_the_canonical_text,
     heads_are_known, ids_are_those_of_the_nodes, keys_are_those_of_the_table, lines_stay_in_order,
     names_are_those_of_the_table, range_formatting_keeps_the_script,
     values_are_those_of_the_option,
 };
+pub(crate) use part::Part;
 pub(crate) use place::CompletionPlace;
 pub(crate) use symbols::{line_at, push_symbols};
+pub(crate) use unfinished::{name_of, wanted_of};
 pub(crate) use writing::{push_position, push_range, push_range_member};

@@ -3,6 +3,7 @@ use Rattle.std.proofs.Common.{◌≡◌, List, ℕ, Option, Some, None, refl, ap
 use Rattle.std.specs.Prelude.{codes, option_and_then}
 use Rattle.serde_json.specs.Data.{Data, null}
 use Rattle.rb_lsp.specs.declared.rpc.answer.ErrorCode.TheVariants.{InvalidRequest, MethodNotFound, InvalidParams, InternalError, ServerNotInitialized, RequestCancelled, RequestFailed}
+use Rattle.rb_lsp.specs.declared.server.query.Query.{Query}
 use Rattle.rb_lsp.specs.declared.server.stop.Stop.{Stop}
 use Rattle.rb_lsp.specs.Inquiries.{PlainInquiry, one, report, selections}
 use Rattle.rb_lsp.specs.declared.server.client.Client.{Client}
@@ -16,7 +17,7 @@ use Rattle.rb_lsp.specs.Documents.{PlainDocument, text_of}
 use Rattle.rb_lsp.specs.declared.server.reach.Reach.{Reach}
 use Rattle.rb_lsp.specs.declared.server.reach.Reach.TheVariants.{Whole, Stopped, Cancelled, NoMemory}
 use Rattle.rb_lsp.specs.Meanings.{Meaning}
-use Rattle.rb_lsp.specs.Questions.{IsSameTo, asked_of, body_text, cancelled_for, named_text, no_memory_for, not_open, of_text, question_body, stopped_for, stopped_text, unfit, uri_of, wanted_of, whole_text, with_asked, with_wanted}
+use Rattle.rb_lsp.specs.Questions.{IsSameTo, asked_of, body_text, cancelled_for, named_text, no_memory_for, not_open, of_text, queried_text, question_body, stopped_for, stopped_text, unfit, uri_of, wanted_of, whole_text, with_asked, with_wanted}
 use Rattle.rb_lsp.specs.Replies.{PlainServer, answer_body, body_in, initialize_answer}
 use Rattle.rb_lsp.specs.Laws.{Answers, done, refused, answered, reported, selected, found}
 
@@ -42,10 +43,16 @@ cancelled_answers : (meaning : Meaning) (server : PlainServer) (method : Method)
 unfolding cancelled_for
 cancelled_answers meaning server method params id = refused id RequestCancelled (codes "the request was cancelled")
 
+queried_answers : (meaning : Meaning) (server : PlainServer) (client : Client) (question : Question) (query : Query) (given : Data) (uri : List ℕ) (id : Data) (text : List ℕ) (refused_by : Option (List ℕ))
+    → server.phase ≡ Running client → uri_of given ≡ Some uri → asked_of question given ≡ Some (one query) → text_of uri server.documents ≡ Some text
+    → Answers meaning server (Asks question) (Some given) id (queried_text meaning client query uri id text refused_by)
+queried_answers meaning server client question query given uri id text None running named asks is = answered id given client question query uri text running refl refl named asks is
+queried_answers meaning server client question query given uri id text (Some sentence) running named asks is = refused id RequestFailed sentence
+
 whole_answers : (meaning : Meaning) (server : PlainServer) (client : Client) (question : Question) (asked : PlainInquiry) (given : Data) (uri : List ℕ) (id : Data) (text : List ℕ)
     → server.phase ≡ Running client → uri_of given ≡ Some uri → asked_of question given ≡ Some asked → text_of uri server.documents ≡ Some text
     → Answers meaning server (Asks question) (Some given) id (whole_text meaning client asked uri id text)
-whole_answers meaning server client question (one query) given uri id text running named asks is = answered id given client question query uri text running refl refl named asks is
+whole_answers meaning server client question (one query) given uri id text running named asks is = queried_answers meaning server client question query given uri id text (meaning.refuse client query text) running named asks is
 whole_answers meaning server client question (report known) given uri id text running named asks is = reported id given client question known None uri text running refl refl named asks is
 whole_answers meaning server client question (selections ps) given uri id text running named asks is = selected id given client question ps uri text running refl refl named asks is
 

@@ -18,6 +18,10 @@ Answer = Client → Query → List ℕ → List ℕ → List ℕ
 abbrev pub Find : Type 0
 Find = Client → List ℕ → List ℕ → List ℕ → List ℕ
 
+-- why a request is refused, in a sentence, if it is, by the client, the request and its document's text
+abbrev pub Refuse : Type 0
+Refuse = Client → Query → List ℕ → Option (List ℕ)
+
 -- whether a request needs the run of its document's text
 abbrev pub NeedsRun : Type 0
 NeedsRun = Query → Bool
@@ -30,6 +34,7 @@ pub record Meaning : Type 0 where
   pub diagnose : Diagnose
   pub answer : Answer
   pub find : Find
+  pub refuse : Refuse
   pub needs_run : NeedsRun
   pub may_stop : MayStop
 

@@ -5,6 +5,7 @@ use Rattle.std.specs.List.{list_any}
 use Rattle.serde_json.specs.Data.{Data}
 use Rattle.serde_json.specs.Find.{get, as_array, as_bool}
 use Rattle.serde_json.specs.Written.{compact_text}
+use Rattle.rb_text.specs.Numbers.{number_of}
 use Rattle.rb_lsp.specs.declared.server.client.Client.{Client}
 use Rattle.rb_lsp.specs.Answers.{failure}
 use Rattle.rb_lsp.specs.declared.document.position.Position.{Position}
@@ -15,7 +16,7 @@ use Rattle.rb_lsp.specs.declared.server.query.Query.TheVariants as asks
 use Rattle.rb_lsp.specs.declared.server.method.Method.{Method}
 use Rattle.rb_lsp.specs.declared.server.method.Method.TheVariants.{FindsSymbols}
 use Rattle.rb_lsp.specs.declared.server.method.Question.{Question}
-use Rattle.rb_lsp.specs.declared.server.method.Question.TheVariants.{CodeAction, Formatting, RangeFormatting, Hover, Completion, FoldingRange, DocumentSymbol, Definition, References, DocumentHighlight, CodeLens, InlayHint, Diagnostic, SelectionRange, Rows}
+use Rattle.rb_lsp.specs.declared.server.method.Question.TheVariants.{CodeAction, Formatting, RangeFormatting, Hover, Completion, FoldingRange, DocumentSymbol, Definition, References, DocumentHighlight, CodeLens, InlayHint, Diagnostic, SelectionRange, PrepareRename, Rename, Rows}
 use Rattle.rb_lsp.specs.ItemSpans.{span_of}
 use Rattle.rb_lsp.specs.Documents.{PlainDocument, text_of}
 use Rattle.rb_lsp.specs.declared.server.reach.Reach.{Reach}
@@ -32,6 +33,11 @@ says_includes context = option_and_then as_bool (get (codes "includeDeclaration"
 abbrev pub includes_definition : Data → Bool
 includes_definition d = unwrap_or (option_and_then says_includes (get (codes "context") d)) true
 
+-- a rename: names are numbers here (this project's)
+abbrev pub rename_of : Option Position → Option (List ℕ) → Option Query
+rename_of (Some position) (Some name) = Some (asks.Rename position (number_of name))
+rename_of position name = None
+
 -- the query of a service, if it is one, and the method's parameters give it
 abbrev pub query_of : Question → Data → Option Query
 query_of CodeAction d = option_map (λ range. asks.CodeAction range) (range_at (codes "range") d)
@@ -44,6 +50,8 @@ query_of DocumentSymbol d = Some asks.DocumentSymbol
 query_of Definition d = option_map (λ position. asks.Definition position) (position_at (codes "position") d)
 query_of References d = option_map (λ position. asks.References position (includes_definition d)) (position_at (codes "position") d)
 query_of DocumentHighlight d = option_map (λ position. asks.DocumentHighlight position) (position_at (codes "position") d)
+query_of PrepareRename d = option_map (λ position. asks.PrepareRename position) (position_at (codes "position") d)
+query_of Rename d = rename_of (position_at (codes "position") d) (text_at (codes "newName") d)
 query_of Rows d = option_map (λ span. asks.Rows span) (span_of d)
 query_of CodeLens d = Some asks.CodeLens
 query_of InlayHint d = option_map (λ range. asks.InlayHint range) (range_at (codes "range") d)
@@ -103,9 +111,14 @@ abbrev pub each_selection : Meaning → Client → List ℕ → List ℕ → Lis
 each_selection meaning client uri text lead [] = codes "]"
 each_selection meaning client uri text lead (p ∷ ps) = lead ++ (meaning.answer client (asks.SelectionRange p) uri text ++ each_selection meaning client uri text (codes ",") ps)
 
+-- the answer with the service's result, unless it refuses the query ("RequestFailed")
+abbrev pub queried_text : Meaning → Client → Query → List ℕ → Data → List ℕ → Option (List ℕ) → List ℕ
+queried_text meaning client query uri id text None = answer_text id (meaning.answer client query uri text)
+queried_text meaning client query uri id text (Some sentence) = body_text (failure id RequestFailed sentence)
+
 -- the answer about a text that was run whole, as far as it needs that
 abbrev pub whole_text : Meaning → Client → PlainInquiry → List ℕ → Data → List ℕ → List ℕ
-whole_text meaning client (one query) uri id text = answer_text id (meaning.answer client query uri text)
+whole_text meaning client (one query) uri id text = queried_text meaning client query uri id text (meaning.refuse client query text)
 whole_text meaning client (report known) uri id text = report_answer meaning None client known uri id text
 whole_text meaning client (selections ps) uri id text = answer_text id (codes "[" ++ each_selection meaning client uri text [] ps)
 

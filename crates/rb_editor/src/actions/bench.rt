@@ -21,6 +21,7 @@ use crate::actions::lens::push_lenses;
 use crate::actions::message_places::{push_definition, push_highlights, push_references};
 use crate::actions::publishing::push_diagnostic_list;
 use crate::actions::range_formatting::push_range_formatting;
+use crate::actions::rename::{push_prepared_rename, push_rename, refusal};
 use crate::actions::selection_range::push_selection;
 use crate::actions::served::{diagnostics_of_served, served, text_for};
 use crate::actions::some_rows::push_rows;
@@ -122,6 +123,17 @@ impl Service for Bench {
         Ok(None)
     }
 
+    fn refusal(
+        &self,
+        client: Client,
+        asked: Query,
+        text: &[u8],
+        kept: &KeptRun<BoundedCluster>,
+    ) -> Result<Option<&'static str>, AllocError> {
+        let mut meter = WorkMeter::new(2 * MAX_WORK);
+        refusal(self.alloc, client, asked, text, &kept.run, &mut meter)
+    }
+
     fn push_found(
         &self,
         client: Client,
@@ -205,6 +217,10 @@ impl Bench {
                 push_hints(alloc, out, client, (text, range), run, &mut meter)
             }
             Query::SelectionRange(position) => push_selection(alloc, out, encoding, text, position),
+            Query::PrepareRename(position) => {
+                push_prepared_rename(alloc, out, encoding, text, position)
+            }
+            Query::Rename(position, new) => push_rename(alloc, out, document, position, new),
             Query::Rows(span) => push_rows(alloc, out, document, span, run, &mut meter),
         }
     }

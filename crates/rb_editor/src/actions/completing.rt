@@ -22,8 +22,8 @@ fn session_of<M: Machine>(kept: &Option<DocumentRun<M>>) -> Option<&Session<M>> 
     }
 }
 
-// How many nodes the cluster has after a text: none if the text isn't a script. Runs from the last checkpoint that the kept session shares with it.
-fn nodes_above<M: Nodes>(
+/// How many nodes the cluster has after a text: none if the text isn't a script. Runs from the last checkpoint that the kept session shares with it.
+pub(crate) fn nodes_above<M: Nodes>(
     alloc: Global,
     text: &[u8],
     kept: &Option<DocumentRun<M>>,

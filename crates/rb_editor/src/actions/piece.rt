@@ -62,8 +62,8 @@ fn next_start(is_end: bool, start: usize, next: usize) -> usize
     if is_end { next } else { start }
 }
 
-// Where the piece begins that contains the end of these bytes.
-fn piece_start(kind: PieceKind, bytes: &[u8]) -> usize
+/// Where the piece begins that contains the end of these bytes.
+pub(crate) fn piece_start(kind: PieceKind, bytes: &[u8]) -> usize
     ensures value { result ≡ piece_start kind 0 0 false bytes.now }
     ensures within { result ≤ length bytes.now }
 {
@@ -76,10 +76,11 @@ fn piece_start(kind: PieceKind, bytes: &[u8]) -> usize
     start
 }
 
-// Where the piece ends that contains this column.
-fn piece_end(kind: PieceKind, column: usize, begins_inside: bool, line: &[u8]) -> usize
+/// Where the piece ends that contains this column.
+pub(crate) fn piece_end(kind: PieceKind, column: usize, begins_inside: bool, line: &[u8]) -> usize
     requires { column ≤ length line.now }
     ensures value { result ≡ piece_end kind column begins_inside (drop column line.now) }
+    ensures behind { column ≤ result }
     ensures within { result ≤ length line.now }
 {
     let mut inside = begins_inside;

@@ -74,8 +74,8 @@ pub(crate) fn served(alloc: Global, text: &[u8]) -> Result<&[u8], AllocError>
     above_fault(alloc, text, fault)
 }
 
-/// Gives the text by which a request is answered. A text that isn't a script isn't formatted, has no rows, and can be completed anywhere; messages
-/// are found in all of it, and pieces of all lines are selected.
+/// Gives the text by which a request is answered. A text that isn't a script isn't formatted, has no rows and no ids to rename, and can be completed
+/// anywhere; messages are found in all of it, and pieces of all lines are selected.
 ///
 /// # Errors
 ///

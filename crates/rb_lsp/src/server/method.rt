@@ -21,6 +21,8 @@ pub(crate) enum Question {
     InlayHint,
     Diagnostic,
     SelectionRange,
+    PrepareRename,
+    Rename,
 }
 
 /// A method.
@@ -80,6 +82,10 @@ fn message_method(name: &str) -> Method
         Method::Asks(Question::InlayHint)
     } else if name == "textDocument/selectionRange" {
         Method::Asks(Question::SelectionRange)
+    } else if name == "textDocument/prepareRename" {
+        Method::Asks(Question::PrepareRename)
+    } else if name == "textDocument/rename" {
+        Method::Asks(Question::Rename)
     } else {
         whole_method(name)
     }

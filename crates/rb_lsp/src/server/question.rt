@@ -101,6 +101,16 @@ pub(crate) fn cancelled_for(alloc: Global, id: &Value) -> Result<OutgoingText, A
     })
 }
 
+// Refuses a request by a sentence of the service.
+fn refused_for(alloc: Global, id: &Value, sentence: &str) -> Result<OutgoingText, AllocError>
+    requires { has_float (view id.now) ≡ false }
+    ensures out { IfOk result (λ told. told.out.items ≡ frame (body_text (failure (view id.now) ErrorCode.RequestFailed sentence.now))) }
+    ensures reach { IfOk result (λ told. told.reach ≡ Reach.Whole) }
+{
+    let code = ErrorCode::RequestFailed;
+    Ok(OutgoingText::whole(refused(alloc, id, code, sentence)?))
+}
+
 /// Adds the beginning of an answer, up to its result.
 pub(crate) fn push_front(alloc: Global, out: &mut Vec<u8>, id: &Value) -> Result<(), AllocError>
     requires { has_float (view id.now) ≡ false }
@@ -117,7 +127,7 @@ pub(crate) fn push_front(alloc: Global, out: &mut Vec<u8>, id: &Value) -> Result
     )
 }
 
-// Makes the answer with the service's result, framed, or the error that the run of the text was stopped.
+// Makes the answer with the service's result, framed, or the error that it refuses the query, or that the run of the text was stopped.
 #[tactic(auto, unfolding(crate::specs::Questions::answer_text))]
 fn queried<V: Service>(
     alloc: Global,
@@ -133,6 +143,9 @@ fn queried<V: Service>(
     ensures stops { IfOk result (λ told. can_reach V.meaning (run_by V.meaning query (Some text.now)) told.reach ≡ true) }
     ensures said { IfOk result (λ told. told.out.items ≡ frame (text_by V.meaning told.reach request.now.client (one query) request.now.uri.now (view request.now.id.now) text.now)) }
 {
+    if let Some(sentence) = service.refusal(request.client, query, text, kept)? {
+        return refused_for(alloc, request.id, sentence);
+    }
     let asked = DocumentQuery {
         client: request.client,
         query,

@@ -1,6 +1,6 @@
 //! What documents mean, which a server leaves to others.
 
-ghost use Rattle.std.specs.Prelude.{◌≡◌, ◌≤◌, ◌++◌, Bool, None, Some, true, IfOk, OnOk, length};
+ghost use Rattle.std.specs.Prelude.{◌≡◌, ◌≤◌, ◌++◌, Bool, None, Some, true, IfOk, OnOk, length, option_map};
 ghost use Rattle.rb_lsp.specs.declared.document.limits.TheConstants.{MAX_TEXT};
 ghost use Rattle.rb_lsp.specs.Meanings.{Meaning, can_reach, run_by};
 ghost use Rattle.rb_lsp.specs.Notices.{reach_of};
@@ -25,7 +25,7 @@ pub trait Service {
     /// diagnostics and the results are those of the text alone.
     type Kept: Drop;
 
-    // the diagnostics of a text, the results of requests about it, and its symbols
+    // the diagnostics of a text, the results of requests about it or why they are refused, and its symbols
     ghost meaning: { Meaning };
 
     // whether nothing is kept
@@ -59,6 +59,17 @@ pub trait Service {
         requires { length asked.text.now ≤ MAX_TEXT }
         ensures added { IfOk result (λ stop. stop ≡ None → out.new.items ≡ out.old.items ++ (meaning).answer asked.entry.client asked.entry.query asked.entry.uri.now asked.entry.text.now) }
         ensures stops { IfOk result (λ stop. can_reach (meaning) (run_by (meaning) asked.entry.query (Some asked.entry.text.now)) (reach_of stop) ≡ true) };
+
+    /// Says in a sentence why a query about a document is refused, if it is.
+    fn refusal(
+        &self,
+        client: Client,
+        asked: Query,
+        text: &[u8],
+        kept: &Self::Kept,
+    ) -> Result<Option<&'static str>, AllocError>
+        requires { length text.now ≤ MAX_TEXT }
+        ensures { IfOk result (λ sentence. option_map (λ s. s.now) sentence ≡ (meaning).refuse client asked text.now) };
 
     /// Adds the symbols of a document whose names match a text, each after a comma.
     fn push_found(
