@@ -351,10 +351,12 @@ def completion(text: str, at: int, encoding: str) -> Any:
         is_ids = [it for it in words if it not in asked[0]]
         found = [(word, kind, help_on(head, word, kind, (word, kind) in is_ids)) for word, kind in words if word.startswith(prefix)]
     range_ = {"start": position(text, at - len(prefix), encoding), "end": position(text, at, encoding)}
+    is_free = all(is_blank(line.rstrip("\r")) for line in text[at:].split("\n")[:2])
     items = []
     for word, kind, does in found:
         label = word + ("=" if kind == PROPERTY else "")
-        items.append({"label": label, "kind": kind, "does": does, "textEdit": {"range": range_, "newText": label}})
+        end = "\n----\n" if kind == FUNCTION and is_free else ""
+        items.append({"label": label, "kind": kind, "does": does, "textEdit": {"range": range_, "newText": label + end}})
     return items
 
 

@@ -3,7 +3,7 @@
 ghost use Rattle.std.specs.Prelude.{◌≡◌, ◌≤◌, ◌++◌, [], IfOk, OnOk, drop, length};
 ghost use Rattle.rb_lsp.specs.declared.document.limits.TheConstants.{MAX_TEXT};
 ghost use Rattle.rb_script.specs.Lines.{lines};
-ghost use Rattle.rb_editor.specs.Completion.{back_text, completion, end_text, front_text, has_block, is_blank_at, item_text, items_place, items_text, kind_number, mark};
+ghost use Rattle.rb_editor.specs.Completion.{back_text, completion, end_text, front_text, is_blank_at, item_text, items_place, items_text, kind_number, mark, name_end, name_end_at};
 ghost use Rattle.rb_editor.specs.Ids.{id_offers};
 ghost use Rattle.rb_editor.specs.Offers.{offers};
 ghost use Rattle.rb_editor.specs.Texts.{list_text, listed};
@@ -20,12 +20,23 @@ use rb_script::{Lines, is_blank, lines_of};
 use rb_text::{Json, Piece, push_pieces};
 use std::alloc::{AllocError, Global};
 
-/// Where words are put: in place of the text between two positions. A name has its block there if nothing is behind it.
+/// What a directive's name comes with.
+#[derive(Clone, Copy, Debug, PartialEq, Eq)]
+pub(crate) enum NameEnd {
+    /// Nothing.
+    Alone,
+    /// The line `----` and an empty line.
+    Lines,
+    /// The same, as a snippet.
+    Snippet,
+}
+
+/// Where words are put: in place of the text between two positions. A name comes with lines if nothing is behind it.
 #[derive(Clone, Copy)]
 pub(crate) struct ItemPlace {
     pub(crate) start: Position,
     pub(crate) end: Position,
-    pub(crate) has_block: bool,
+    pub(crate) name_end: NameEnd,
 }
 
 // The protocol's number for a kind of word.
@@ -69,20 +80,31 @@ fn push_item_front(out: &mut Vec<u8>, offer: &Offer) -> Result<(), AllocError>
     )
 }
 
-// The end of an item. A name that begins a block ends with its `----` and an empty line, as a snippet.
-fn end_text(has_block: bool, kind: OfferKind) -> &'static [u8]
-    ensures { result.now ≡ end_text has_block kind }
+// The end of the item of a name.
+fn name_end(end: NameEnd) -> &'static [u8]
+    ensures { result.now ≡ name_end end }
+{
+    match end {
+        NameEnd::Alone => b"\"}}",
+        NameEnd::Lines => b"\\n----\\n\"}}",
+        NameEnd::Snippet => b"$1\\n----\\n$0\"},\"insertTextFormat\":2}",
+    }
+}
+
+// The end of an item.
+fn end_text(end: NameEnd, kind: OfferKind) -> &'static [u8]
+    ensures { result.now ≡ end_text end kind }
 {
     match kind {
-        OfferKind::Directive if has_block => b"$1\\n----\\n$0\"},\"insertTextFormat\":2}",
-        _ => b"\"}}",
+        OfferKind::Directive => name_end(end),
+        OfferKind::Key | OfferKind::Value => b"\"}}",
     }
 }
 
 // Appends an item after the range that it replaces.
 #[tactic(auto, unfolding(crate::specs::Completion::back_text))]
-fn push_item_back(out: &mut Vec<u8>, has_block: bool, offer: &Offer) -> Result<(), AllocError>
-    ensures { OnOk result (out.new.items ≡ out.old.items ++ back_text has_block offer.now) }
+fn push_item_back(out: &mut Vec<u8>, end: NameEnd, offer: &Offer) -> Result<(), AllocError>
+    ensures { OnOk result (out.new.items ≡ out.old.items ++ back_text end offer.now) }
 {
     push_pieces(
         out,
@@ -90,7 +112,7 @@ fn push_item_back(out: &mut Vec<u8>, has_block: bool, offer: &Offer) -> Result<(
             Piece::Bytes(b",\"newText\":\""),
             Piece::Escaped(Json::Utf8, offer.word),
             Piece::Bytes(mark(offer.kind)),
-            Piece::Bytes(end_text(has_block, offer.kind)),
+            Piece::Bytes(end_text(end, offer.kind)),
         ],
     )
 }
@@ -102,7 +124,7 @@ fn push_item(out: &mut Vec<u8>, place: ItemPlace, offer: &Offer) -> Result<(), A
 {
     push_item_front(out, offer)?;
     push_range(out, place.start, place.end)?;
-    push_item_back(out, place.has_block, offer)?;
+    push_item_back(out, place.name_end, offer)?;
     Ok(())
 }
 
@@ -128,17 +150,21 @@ fn is_blank_at(index: usize, _text: &[u8], all: &Lines) -> bool
     is_blank(line_at(all, index))
 }
 
-// Whether a name is offered with its `----`: the client takes snippets, and nothing follows on the line or the next one.
-fn has_block(alloc: Global, client: Client, text: &[u8], at: usize) -> Result<bool, AllocError>
+// What a name at an offset comes with: lines, if nothing follows on the line or the next one.
+fn name_end_at(alloc: Global, client: Client, text: &[u8], at: usize) -> Result<NameEnd, AllocError>
     requires { at ≤ length text.now }
-    ensures { IfOk result (λ has. has ≡ has_block client text.now at) }
+    ensures { IfOk result (λ end. end ≡ name_end_at client text.now at) }
 {
-    if !client.takes_snippets {
-        return Ok(false);
-    }
     let below = &text[at..];
     let all = lines_of(alloc, below)?;
-    Ok(is_blank_at(0, below, &all) && is_blank_at(1, below, &all))
+    if !(is_blank_at(0, below, &all) && is_blank_at(1, below, &all)) {
+        return Ok(NameEnd::Alone);
+    }
+    if client.takes_snippets {
+        Ok(NameEnd::Snippet)
+    } else {
+        Ok(NameEnd::Lines)
+    }
 }
 
 // What the items replace: a prefix that ends at an offset.
@@ -157,7 +183,7 @@ fn items_place(
     Ok(ItemPlace {
         start: position_of(client.encoding, start, text),
         end: position_of(client.encoding, at, text),
-        has_block: has_block(alloc, client, text, at)?,
+        name_end: name_end_at(alloc, client, text, at)?,
     })
 }
 

@@ -12,7 +12,7 @@ returns c =
     let o = c.offer.inside in
     let offer : PlainOffer = record { kind = o.kind; word = o.word.now; documentation = o.documentation.now } in
     let text : List ℕ → List ℕ → List ℕ = λ marked end. c.args.out.now.items ++ (codes ",\"newText\":\"" ++ (flat_map escaped offer.word ++ (marked ++ end))) in
-    subst (λ (p : PlainOffer). OnOk c.push_pieces.result (c.push_pieces.new.text.items ≡ c.args.out.now.items ++ back_text c.args.has_block p)) c.offer.view_is
-    (subst (λ (end : List ℕ). OnOk c.push_pieces.result (c.push_pieces.new.text.items ≡ text (mark offer.kind) end)) (append-nil (end_text c.args.has_block offer.kind))
-    (subst (λ (end : List ℕ). OnOk c.push_pieces.result (c.push_pieces.new.text.items ≡ text (mark offer.kind) (end ++ []))) c.end_text.ensures
+    subst (λ (p : PlainOffer). OnOk c.push_pieces.result (c.push_pieces.new.text.items ≡ c.args.out.now.items ++ back_text c.args.end p)) c.offer.view_is
+    (subst (λ (last : List ℕ). OnOk c.push_pieces.result (c.push_pieces.new.text.items ≡ text (mark offer.kind) last)) (append-nil (end_text c.args.end offer.kind))
+    (subst (λ (last : List ℕ). OnOk c.push_pieces.result (c.push_pieces.new.text.items ≡ text (mark offer.kind) (last ++ []))) c.end_text.ensures
     (subst (λ (marked : List ℕ). OnOk c.push_pieces.result (c.push_pieces.new.text.items ≡ text marked (c.end_text.result.now ++ []))) c.mark.ensures c.push_pieces.ensures)))
