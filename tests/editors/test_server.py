@@ -385,6 +385,15 @@ def missing_index(_edits: int) -> Iterator[str]:
             yield message
 
 
+def other_hover(text: str, place: Any, encoding: str, told: Any) -> Iterator[str]:
+    """Texts for what is wrong with what is shown of a position: the run of the text above the first fault, or help on a directive below it."""
+    if (found := offers.help_below(text, plainly.line_of(text, place, encoding), encoding)) is None:
+        if told != (due := plainly.hover(served(text), place, encoding)):
+            yield f"{told}, and due is {due}"
+    elif told is None or (told["range"], told["contents"]["value"].split()[:1]) != (found[0], [found[1]]):
+        yield f"{told}, and due is help on {found}"
+
+
 def missing_line(text: str) -> tuple[int, int] | None:
     """If the output below a line ---- has no end, and has a directive: both lines, counted from 1."""
     if (line := fault_line(text)) is None or NO_END not in oracle.diagnostics(PROGRAM, text, "utf-8")[-1]["message"]:
@@ -484,8 +493,8 @@ def questions(edits: int) -> Iterator[str]:
                 start, end = position(text, first, encoding), position(text, dice.choice([first, last]), encoding)
                 told = answer_of(client, version, "codeAction", range={"start": start, "end": end}, context={"diagnostics": []})
                 yield from (f"{path.name}, version {version}, {start}: {it}" for it in other_actions(text, start, end, encoding, told))
-                if (told := without_reasons(answer_of(client, -version, "hover", position=start))) != (due := plainly.hover(served(text), start, encoding)):
-                    yield f"{path.name}, version {version}, {start}: {told}, and due is {due}"
+                told = without_reasons(answer_of(client, -version, "hover", position=start))
+                yield from (f"{path.name}, version {version}, {start}: {it}" for it in other_hover(text, start, encoding, told))
                 text, *_ = edited(dice, text)
 
 
@@ -503,8 +512,8 @@ def questions_between_changes(_edits: int) -> Iterator[str]:
                 place = position(text, len(text) * part // 4, "utf-16-le")
                 told = answer_of(client, version, "codeAction", range={"start": place, "end": place}, context={"diagnostics": []})
                 yield from (f"text {version}, {place}: {it}" for it in other_actions(text, place, place, "utf-16-le", told))
-                if (told := without_reasons(answer_of(client, -version, "hover", position=place))) != (due := plainly.hover(served(text), place, "utf-16-le")):
-                    yield f"text {version}, {place}: {told}, and due is {due}"
+                told = without_reasons(answer_of(client, -version, "hover", position=place))
+                yield from (f"text {version}, {place}: {it}" for it in other_hover(text, place, "utf-16-le", told))
 
 
 def accepted_by_check(_edits: int) -> Iterator[str]:

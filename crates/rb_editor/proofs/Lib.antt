@@ -22,6 +22,7 @@ pub mod WorkLaws
 pub mod StopLaws
 pub mod ServedLaws
 pub mod UnclosedLaws
+pub mod ReadBlockLaws
 pub mod SomeRowLaws
 pub mod FixLaws
 pub mod FrontLaws

@@ -11,8 +11,7 @@ use Rattle.rb_lsp.specs.declared.document.position.Position.{Position}
 use Rattle.rb_lsp.specs.declared.server.client.Client.{Client}
 use Rattle.rb_lsp.specs.Tables.{start_of}
 use Rattle.rb_editor.specs.declared.offers.block_lines.BlockLines.{BlockLines}
-use Rattle.rb_editor.specs.BlockLines.{blocks_of}
-use Rattle.rb_editor.specs.Served.{served}
+use Rattle.rb_editor.specs.ReadBlocks.{read_blocks}
 use Rattle.rb_editor.specs.Symbols.{name_of}
 use Rattle.rb_editor.specs.Texts.{range_text}
 
@@ -33,10 +32,10 @@ abbrev pub found_in : Encoding → List ℕ → List ℕ → List ℕ → BlockL
 found_in encoding wanted uri text b =
     if matches wanted (name_of (lines text) b.from) then symbol_in uri (name_of (lines text) b.from) (start_of encoding b.from text) (start_of encoding b.body text) else []
 
--- those of a text
-unfoldable pub found_of : Encoding → List ℕ → List ℕ → List ℕ → List ℕ
-found_of encoding wanted uri text = flat_map (found_in encoding wanted uri text) (blocks_of text)
+-- those of some blocks
+unfoldable pub found_of : Encoding → List ℕ → List ℕ → List ℕ → List BlockLines → List ℕ
+found_of encoding wanted uri text bs = flat_map (found_in encoding wanted uri text) bs
 
--- those of the text that is served
+-- those of the blocks that read
 abbrev pub find : Client → List ℕ → List ℕ → List ℕ → List ℕ
-find client wanted uri text = found_of client.encoding wanted uri (served text)
+find client wanted uri text = found_of client.encoding wanted uri text (read_blocks text)

@@ -12,6 +12,7 @@ pub mod Served
 pub mod Layouts
 pub mod Extents
 pub mod Hovers
+pub mod ReadBlocks
 pub mod Messages
 pub mod MessagePlaces
 pub mod RangeFormatting

@@ -17,6 +17,7 @@ use Rattle.rb_editor.specs.Hovers.{hover}
 use Rattle.rb_editor.specs.Lenses.{lenses}
 use Rattle.rb_editor.specs.MessagePlaces.{definition, highlighted, references}
 use Rattle.rb_editor.specs.RangeFormatting.{range_formatting}
+use Rattle.rb_editor.specs.ReadBlocks.{read_blocks}
 use Rattle.rb_editor.specs.Renames.{prepare_rename, refuse, rename}
 use Rattle.rb_editor.specs.Selections.{selection}
 use Rattle.rb_editor.specs.Served.{may_stop_above, text_for}
@@ -31,8 +32,8 @@ answer_by client Formatting uri text = formatting client.encoding text
 answer_by client (RangeFormatting range) uri text = range_formatting client.encoding range text
 answer_by client (Hover position) uri text = hover client.encoding position text
 answer_by client (Completion position) uri text = complete client position text
-answer_by client FoldingRange uri text = folds text
-answer_by client DocumentSymbol uri text = symbols client.encoding text
+answer_by client FoldingRange uri text = folds text (read_blocks text)
+answer_by client DocumentSymbol uri text = symbols client.encoding text (read_blocks text)
 answer_by client (Definition position) uri text = definition client.encoding position uri text
 answer_by client (References position includes) uri text = references client.encoding position includes uri text
 answer_by client (DocumentHighlight position) uri text = highlighted client.encoding position text

@@ -11,9 +11,10 @@ use Rattle.rb_script_report.specs.Doubts.{looks_like_directive}
 use Rattle.rb_lsp.specs.declared.document.position.Encoding.{Encoding}
 use Rattle.rb_lsp.specs.declared.document.position.Range.{Range}
 use Rattle.rb_lsp.specs.declared.server.query.Query.{Query}
-use Rattle.rb_lsp.specs.declared.server.query.Query.TheVariants.{CodeAction}
+use Rattle.rb_lsp.specs.declared.server.query.Query.TheVariants.{CodeAction, Hover}
 use Rattle.rb_editor.specs.declared.actions.extent.LineSpan.{LineSpan}
 use Rattle.rb_editor.specs.Actions.{fixes_text, span_of}
+use Rattle.rb_editor.specs.ReadBlocks.{help_below}
 use Rattle.rb_editor.specs.Served.{fault_of}
 
 -- the line `----`, counted from 1, below which the output has no end
@@ -56,4 +57,5 @@ unclosed_fixes encoding range uri text = fixes_if encoding uri text (unclosed_wa
 -- the result of a request that the text above the fault doesn't give; nothing if there is none
 abbrev pub answer_of_fault : Encoding → Query → List ℕ → List ℕ → List ℕ
 answer_of_fault encoding (CodeAction range) uri text = unclosed_fixes encoding range uri text
+answer_of_fault encoding (Hover position) uri text = help_below encoding position text
 answer_of_fault encoding asked uri text = []

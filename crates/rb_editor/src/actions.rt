@@ -35,6 +35,7 @@ mod piece;
 mod publishing;
 mod quiet;
 mod range_formatting;
+mod read_blocks;
 mod rename;
 mod replacement;
 mod run;

@@ -21,14 +21,15 @@ use crate::actions::lens::push_lenses;
 use crate::actions::message_places::{push_definition, push_highlights, push_references};
 use crate::actions::publishing::push_diagnostic_list;
 use crate::actions::range_formatting::push_range_formatting;
+use crate::actions::read_blocks::{push_read_folds, push_read_found, push_read_symbols};
 use crate::actions::rename::{push_prepared_rename, push_rename, refusal};
 use crate::actions::selection_range::push_selection;
-use crate::actions::served::{diagnostics_of_served, served, text_for};
+use crate::actions::served::{diagnostics_of_served, text_for};
 use crate::actions::some_rows::push_rows;
 use crate::actions::stopping::KeptRun;
 use crate::actions::unclosed::answer_of_fault;
 use crate::actions::work_meter::WorkMeter;
-use crate::offers::{SymbolSearch, push_folds, push_formatting, push_found, push_symbols};
+use crate::offers::{SymbolSearch, push_formatting};
 use rb_lsp::server::{
     Client, DocumentQuery, ExitStatus, MAX_WORK, Query, ServeFault, Service, Stop, serve,
 };
@@ -146,9 +147,9 @@ impl Service for Bench {
             encoding: client.encoding,
             wanted,
             uri,
-            text: served(self.alloc, text)?,
+            text,
         };
-        push_found(self.alloc, out, search)
+        push_read_found(self.alloc, out, search)
     }
 }
 
@@ -205,8 +206,8 @@ impl Bench {
                 };
                 push_completions(alloc, out, place, run, &mut meter)
             }
-            Query::FoldingRange => push_folds(alloc, out, text),
-            Query::DocumentSymbol => push_symbols(alloc, out, encoding, text),
+            Query::FoldingRange => push_read_folds(alloc, out, text),
+            Query::DocumentSymbol => push_read_symbols(alloc, out, encoding, text),
             Query::Definition(position) => push_definition(alloc, out, document, position),
             Query::References(position, includes) => {
                 push_references(alloc, out, document, position, includes)

@@ -97,9 +97,9 @@ fn shown_at<M: Explains>(
     Ok(text)
 }
 
-// Appends a hover: its range is the directive's lines, and this is its text.
+/// Appends a hover: its range is the directive's lines, and this is its text.
 #[tactic(auto, unfolding(crate::specs::Hovers::hover_text))]
-fn push_hover_text(
+pub(crate) fn push_hover_text(
     out: &mut Vec<u8>,
     encoding: Encoding,
     text: &[u8],

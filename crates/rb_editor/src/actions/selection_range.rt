@@ -2,12 +2,12 @@
 
 ghost use Rattle.std.specs.Prelude.{◌≡◌, ◌+◌, ◌≤◌, ◌++◌, [], IfOk, OnOk, length, None};
 ghost use Rattle.rb_lsp.specs.declared.document.limits.TheConstants.{MAX_TEXT};
-ghost use Rattle.rb_editor.specs.Selections.{block_spans, block_with, chain_text, closings, fronts, has_line, is_around, is_next, last_after, line_spans, lines_above, lines_span, nested, or_whole, part_span, selection, span_text, spans_at, spans_on, taken};
+ghost use Rattle.rb_editor.specs.Selections.{block_spans, chain_text, closings, fronts, is_around, is_next, last_after, line_spans, lines_above, lines_span, nested, or_whole, part_span, selection, span_text, spans_at, spans_on, taken};
 
 use crate::actions::above::line_start;
 use crate::actions::piece::{OffsetSpan, PieceKind, piece_span};
-use crate::actions::served::served;
-use crate::offers::{BlockLines, blocks_of, line_at, push_range_member};
+use crate::actions::read_blocks::read_blocks;
+use crate::offers::{BlockLines, block_with, line_at, push_range_member};
 use rb_lsp::document::{Encoding, Position, offset, position_of};
 use rb_script::lines_of;
 use std::alloc::{AllocError, Global};
@@ -22,25 +22,6 @@ fn lines_span(text: &[u8], first: usize, behind: usize) -> OffsetSpan
         from: line_start(text, first),
         to: line_start(text, behind),
     }
-}
-
-// Whether a block has a line.
-fn has_line(n: usize, block: BlockLines) -> bool
-    ensures { result ≡ has_line n block }
-{
-    block.from <= n && n < block.end
-}
-
-// Finds the block that has a line.
-fn block_with(n: usize, blocks: &[BlockLines]) -> Option<BlockLines>
-    ensures { result ≡ block_with n blocks.now }
-{
-    for block in blocks {
-        if has_line(n, *block) {
-            return Some(*block);
-        }
-    }
-    None
 }
 
 // The span of the part of a block that has a line: its head, its input and separator, or its expectation.
@@ -104,7 +85,7 @@ fn spans_on(alloc: Global, text: &[u8], at: usize, n: usize) -> Result<Vec<Offse
     let begin = line_start(text, n);
     let all = lines_of(alloc, text)?;
     push_line_spans(&mut list, at, begin, line_at(&all, n))?;
-    let blocks = blocks_of(alloc, served(alloc, text)?)?;
+    let blocks = read_blocks(alloc, text)?;
     push_block_spans(&mut list, text, n, block_with(n, blocks.as_slice()))?;
     list.push(OffsetSpan {
         from: 0,

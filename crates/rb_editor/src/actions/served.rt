@@ -75,7 +75,7 @@ pub(crate) fn served(alloc: Global, text: &[u8]) -> Result<&[u8], AllocError>
 }
 
 /// Gives the text by which a request is answered. A text that isn't a script isn't formatted, has no rows and no ids to rename, and can be completed
-/// anywhere; messages are found in all of it, and pieces of all lines are selected.
+/// anywhere; messages are found in all of it, pieces of all lines are selected, and folds and symbols are those of all blocks that read.
 ///
 /// # Errors
 ///
@@ -85,12 +85,9 @@ pub(crate) fn text_for(alloc: Global, asked: Query, text: &[u8]) -> Result<&[u8]
     ensures within { IfOk result (λ front. length front.now ≤ length text.now) }
 {
     match asked {
-        Query::CodeAction(_)
-        | Query::Hover(_)
-        | Query::FoldingRange
-        | Query::DocumentSymbol
-        | Query::CodeLens
-        | Query::InlayHint(_) => served(alloc, text),
+        Query::CodeAction(_) | Query::Hover(_) | Query::CodeLens | Query::InlayHint(_) => served(
+            alloc, text,
+        ),
         _ => Ok(text),
     }
 }

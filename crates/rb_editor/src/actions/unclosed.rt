@@ -12,6 +12,7 @@ use crate::actions::action::span_of;
 use crate::actions::document::AskedDocument;
 use crate::actions::extent::LineSpan;
 use crate::actions::fix::push_fixes;
+use crate::actions::read_blocks::help_below;
 use crate::actions::served::fault_of;
 use rb_lsp::document::{LineTable, Range};
 use rb_lsp::server::Query;
@@ -143,6 +144,7 @@ pub(crate) fn answer_of_fault(
 {
     match asked {
         Query::CodeAction(range) => unclosed_fixes(alloc, document, range),
+        Query::Hover(position) => help_below(alloc, document.encoding, position, document.text),
         _ => Ok(Vec::new(alloc)),
     }
 }

@@ -4,7 +4,7 @@ ghost use Rattle.std.specs.Prelude.{◌≡◌, ◌≢◌, ◌≤◌, ◌<◌, �
 ghost use Rattle.rb_script.specs.declared.fault.ScriptFault.TheVariants.{OutOfMemory};
 ghost use Rattle.rb_script.specs.HeadLines.{AreHeadLines};
 ghost use Rattle.rb_script.specs.Reads.{Reads, begins_rule};
-ghost use Rattle.rb_editor.specs.BlockLines.{all_lines, behind_head, blocks_of, mark_lines, script_of};
+ghost use Rattle.rb_editor.specs.BlockLines.{all_lines, behind_head, block_with, blocks_of, has_line, mark_lines, script_of};
 
 use rb_script::{Block, Lines, Script, ScriptFault, ScriptWithLines, continues, is_rule};
 use std::alloc::{AllocError, Global};
@@ -143,4 +143,23 @@ pub(crate) fn blocks_of(alloc: Global, bytes: &[u8]) -> Result<Vec<BlockLines>, 
             Ok(Vec::new(alloc))
         }
     }
+}
+
+// Whether a block has a line.
+fn has_line(n: usize, block: BlockLines) -> bool
+    ensures { result ≡ has_line n block }
+{
+    block.from <= n && n < block.end
+}
+
+/// Finds the block that has a line.
+pub(crate) fn block_with(n: usize, blocks: &[BlockLines]) -> Option<BlockLines>
+    ensures { result ≡ block_with n blocks.now }
+{
+    for block in blocks {
+        if has_line(n, *block) {
+            return Some(*block);
+        }
+    }
+    None
 }

@@ -7,7 +7,7 @@ ghost use Rattle.rb_lsp.specs.Tables.{IsTable};
 ghost use Rattle.rb_editor.specs.Folds.{block_folds, ended_line, expectation_fold, fold_text, folds, lines_text};
 ghost use Rattle.rb_editor.specs.Texts.{listed};
 
-use crate::offers::block_lines::{BlockLines, blocks_of};
+use crate::offers::block_lines::BlockLines;
 use crate::offers::writing::start_of;
 use rb_lsp::document::{Encoding, Position, PositionTable};
 use rb_text::{Piece, push_pieces};
@@ -110,18 +110,22 @@ fn push_each_block(
     Ok(())
 }
 
-/// Adds the folds of a text, as the result of `textDocument/foldingRange`. A text that isn't a script has none.
+/// Adds the folds of some blocks of a text, as the result of `textDocument/foldingRange`.
 ///
 /// # Errors
 ///
 /// If memory was refused. A part of the result may have been added then.
 #[tactic(auto, unfolding(crate::specs::Folds::folds, crate::specs::Texts::list_text))]
-pub fn push_folds(alloc: Global, out: &mut Vec<u8>, text: &[u8]) -> Result<(), AllocError>
+pub fn push_folds(
+    alloc: Global,
+    out: &mut Vec<u8>,
+    text: &[u8],
+    blocks: &[BlockLines],
+) -> Result<(), AllocError>
     requires { length text.now ≤ MAX_TEXT }
-    ensures { OnOk result (out.new.items ≡ out.old.items ++ folds text.now) }
+    ensures { OnOk result (out.new.items ≡ out.old.items ++ folds text.now blocks.now) }
 {
-    let blocks = blocks_of(alloc, text)?;
     let table = PositionTable::new(alloc, Encoding::Utf8, text)?;
     out.extend_from_slice(b"[")?;
-    push_each_block(out, text, &table, blocks.as_slice())
+    push_each_block(out, text, &table, blocks)
 }

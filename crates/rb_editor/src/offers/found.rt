@@ -7,7 +7,7 @@ ghost use Rattle.rb_lsp.specs.Tables.{IsTable};
 ghost use Rattle.rb_script.specs.Lines.{lines};
 ghost use Rattle.rb_editor.specs.Found.{found_in, found_of, matches, symbol_in};
 
-use crate::offers::block_lines::{BlockLines, blocks_of};
+use crate::offers::block_lines::BlockLines;
 use crate::offers::symbols::name_of;
 use crate::offers::writing::{push_range, start_of};
 use rb_lsp::document::{Encoding, LineTable, Position};
@@ -116,7 +116,7 @@ fn push_found_among(
     Ok(())
 }
 
-/// Adds the symbols of a text whose names match, each after a comma. A text that isn't a script has none.
+/// Adds the symbols of some blocks of a text whose names match, each after a comma.
 ///
 /// # Errors
 ///
@@ -126,13 +126,12 @@ pub(crate) fn push_found(
     alloc: Global,
     out: &mut Vec<u8>,
     search: SymbolSearch<'_>,
+    blocks: &[BlockLines],
 ) -> Result<(), AllocError>
     requires { length search.text.now ≤ MAX_TEXT }
-    ensures { OnOk result (out.new.items ≡ out.old.items ++ found_of search.entry.encoding search.entry.wanted.now search.entry.uri.now search.entry.text.now) }
+    ensures { OnOk result (out.new.items ≡ out.old.items ++ found_of search.entry.encoding search.entry.wanted.now search.entry.uri.now search.entry.text.now blocks.now) }
 {
-    let blocks = blocks_of(alloc, search.text)?;
     let text_lines = lines_of(alloc, search.text)?;
     let table = LineTable::new(alloc, search.encoding, search.text)?;
-    let all = blocks.as_slice();
-    push_found_among(alloc, out, search, &text_lines, &table, all)
+    push_found_among(alloc, out, search, &text_lines, &table, blocks)
 }

@@ -7,7 +7,7 @@ ghost use Rattle.rb_script.specs.Lines.{lines};
 ghost use Rattle.rb_editor.specs.Symbols.{first_characters, name_of, name_text, symbol_at, symbol_text, symbols};
 ghost use Rattle.rb_editor.specs.Texts.{listed};
 
-use crate::offers::block_lines::{BlockLines, blocks_of};
+use crate::offers::block_lines::BlockLines;
 use crate::offers::writing::{push_range, start_of};
 use rb_lsp::document::{Encoding, Position, PositionTable, is_within};
 use rb_report::shown_name;
@@ -126,7 +126,7 @@ fn push_each_symbol(
     Ok(())
 }
 
-/// Adds the symbols of a text, as the result of `textDocument/documentSymbol`. A text that isn't a script has none.
+/// Adds the symbols of some blocks of a text, as the result of `textDocument/documentSymbol`.
 ///
 /// # Errors
 ///
@@ -137,13 +137,13 @@ pub fn push_symbols(
     out: &mut Vec<u8>,
     encoding: Encoding,
     text: &[u8],
+    blocks: &[BlockLines],
 ) -> Result<(), AllocError>
     requires { length text.now ≤ MAX_TEXT }
-    ensures { OnOk result (out.new.items ≡ out.old.items ++ symbols encoding text.now) }
+    ensures { OnOk result (out.new.items ≡ out.old.items ++ symbols encoding text.now blocks.now) }
 {
-    let blocks = blocks_of(alloc, text)?;
     let text_lines = lines_of(alloc, text)?;
     let table = PositionTable::new(alloc, encoding, text)?;
     out.extend_from_slice(b"[")?;
-    push_each_symbol(out, encoding, text, &text_lines, &table, blocks.as_slice())
+    push_each_symbol(out, encoding, text, &text_lines, &table, blocks)
 }

@@ -1,6 +1,6 @@
 use Rattle.std.proofs.Common.{◌∙◌, sym}
 use Rattle.rb_editor.proofs.SelectionLaws.{with_here, with_none, with_past}
-use Rattle.rb_editor.proofs.actions.selection_range.block_with.Goals as goal
+use Rattle.rb_editor.proofs.offers.block_lines.block_with.Goals as goal
 
 pub returns-then-has_line : goal.returns-then-has_line
 returns-then-has_line c =
