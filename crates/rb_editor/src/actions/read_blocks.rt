@@ -20,7 +20,7 @@ use crate::offers::{
     BlockLines, SymbolSearch, block_with, blocks_of, line_at as line_in, line_of, name_of,
     push_folds, push_found, push_symbols,
 };
-use rb_lsp::document::{Encoding, LineTable, Position};
+use rb_lsp::document::{Encoding, PositionTable, Position};
 use rb_report::fault_line;
 use rb_script::{Lines, ScriptFault, lines_of};
 use rb_script_report::looks_like_directive;
@@ -175,7 +175,7 @@ fn help_text(
     if help.is_empty() {
         return Ok(out);
     }
-    let table = LineTable::new(alloc, encoding, text)?;
+    let table = PositionTable::new(alloc, encoding, text)?;
     push_hover_text(&mut out, encoding, text, &table, extent_in(block), help)?;
     Ok(out)
 }

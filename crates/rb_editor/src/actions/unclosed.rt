@@ -14,7 +14,7 @@ use crate::actions::extent::LineSpan;
 use crate::actions::fix::push_fixes;
 use crate::actions::read_blocks::help_below;
 use crate::actions::served::fault_of;
-use rb_lsp::document::{LineTable, Range};
+use rb_lsp::document::{PositionTable, Range};
 use rb_lsp::server::Query;
 use rb_report::WarningKind;
 use rb_script::{Lines, ScriptFault, is_blank, is_separator, lines_of};
@@ -101,7 +101,7 @@ fn fixes_if(
     let Some(warning) = found else {
         return Ok(out);
     };
-    let table = LineTable::new(alloc, document.encoding, document.text)?;
+    let table = PositionTable::new(alloc, document.encoding, document.text)?;
     push_fixes(
         &mut out,
         document.encoding,

@@ -10,7 +10,7 @@ ghost use Rattle.rb_editor.specs.Found.{found_in, found_of, matches, symbol_in};
 use crate::offers::block_lines::BlockLines;
 use crate::offers::symbols::name_of;
 use crate::offers::writing::{push_range, start_of};
-use rb_lsp::document::{Encoding, LineTable, Position};
+use rb_lsp::document::{Encoding, PositionTable, Position};
 use rb_report::shown_name;
 use rb_script::{Lines, lines_of};
 use rb_text::{Json, Piece, push_pieces};
@@ -80,7 +80,7 @@ fn push_found_in(
     out: &mut Vec<u8>,
     search: SymbolSearch<'_>,
     text_lines: &Lines,
-    table: &LineTable,
+    table: &PositionTable,
     block: BlockLines,
 ) -> Result<(), AllocError>
     requires table { IsTable search.encoding search.text.now table.now }
@@ -103,7 +103,7 @@ fn push_found_among(
     out: &mut Vec<u8>,
     search: SymbolSearch<'_>,
     text_lines: &Lines,
-    table: &LineTable,
+    table: &PositionTable,
     blocks: &[BlockLines],
 ) -> Result<(), AllocError>
     requires table { IsTable search.encoding search.text.now table.now }
@@ -132,6 +132,6 @@ pub(crate) fn push_found(
     ensures { OnOk result (out.new.items ≡ out.old.items ++ found_of search.entry.encoding search.entry.wanted.now search.entry.uri.now search.entry.text.now blocks.now) }
 {
     let text_lines = lines_of(alloc, search.text)?;
-    let table = LineTable::new(alloc, search.encoding, search.text)?;
+    let table = PositionTable::new(alloc, search.encoding, search.text)?;
     push_found_among(alloc, out, search, &text_lines, &table, blocks)
 }
