@@ -4,7 +4,8 @@ style and code are files of their own, also from those of crates/rb_book/assets.
     assemble.py before|after       writes one of the two
     assemble.py page < JSON        writes a whole page
     assemble.py renew < PAGE       writes a page anew: its rows as they are, and what is around them as the files are today
-    assemble.py sources            writes the sources of rb_view's frame and of rb_book's, in which the program has the same
+    assemble.py sources            writes the sources of rb_view's frame and of rb_book's, in which the program has the same; and before them what is
+                                   known of events (forms.py)
 """
 from __future__ import annotations
 
@@ -19,7 +20,9 @@ from collections.abc import Callable, Sequence
 sys.dont_write_bytecode = True
 sys.path[:1] = [str(pathlib.Path(__file__).resolve().parents[2])]
 
-CRATES = pathlib.Path(__file__).resolve().parents[2] / "crates"
+from tests.page.forms import TOP, module_text, python_text  # noqa: E402
+
+CRATES = TOP / "crates"
 CRATE = CRATES / "rb_view"
 BOOK = CRATES / "rb_book"
 ASSETS = CRATE / "assets"
@@ -195,7 +198,12 @@ def sources() -> dict[pathlib.Path, str]:
         about = first_comment(module)
         made[module.removesuffix(".js")] = source((about, module, {constant_of(module): "The code."}), [text])
     book = {BOOK / "src" / "html.rt": source(BOOK_HTML, book_elements())}
-    return {SOURCES / f"{name}.rt": text for name, text in made.items()} | {SOURCES.with_suffix(".rt"): library()} | book
+    return {SOURCES / f"{name}.rt": text for name, text in made.items()} | {SOURCES.with_suffix(".rt"): library()} | book | tables()
+
+
+def tables() -> dict[pathlib.Path, str]:
+    """What the page and the tools for nodes of others know of events, made of the one table."""
+    return {ASSETS / "events.js": module_text(), TOP / "raftbench_nodes" / "page" / "events.py": python_text()}
 
 
 def first_comment(module: str) -> str:
@@ -206,6 +214,8 @@ def first_comment(module: str) -> str:
 
 
 def write_sources() -> str:
+    for path, text in tables().items():
+        path.write_text(text, encoding="utf-8")
     made = sources()
     for path in SOURCES.glob("*.rt"):
         if path not in made:
@@ -215,11 +225,16 @@ def write_sources() -> str:
     return ""
 
 
-def main() -> None:
+def whole_page(rows: str) -> str:
+    """A whole page."""
     before, after = parts()
+    return before + rows + after
+
+
+def main() -> None:
     text: dict[str, Callable[[], str]] = {
-        "before": lambda: before, "after": lambda: after, "page": lambda: before + sys.stdin.read() + after, "sources": write_sources,
-        "renew": lambda: before + rows_in(sys.stdin.read()) + after,
+        "before": lambda: parts()[0], "after": lambda: parts()[1], "page": lambda: whole_page(sys.stdin.read()), "renew": lambda: whole_page(rows_in(sys.stdin.read())),
+        "sources": write_sources,
     }
     sys.stdout.write(text[sys.argv[1]]())
 

@@ -26,8 +26,9 @@ sys.path[:1] = [str(pathlib.Path(__file__).resolve().parents[2])]
 from plain.directives import Refused, Request  # noqa: E402
 from plain.network import Choice  # noqa: E402
 from plain.script import Directive, lines_of, read_script  # noqa: E402
+from tests.page.forms import forms  # noqa: E402
 from tests.page.plain_logs import Logs  # noqa: E402
-from tests.page.plain_steps import DIRECTIVES, rows_of  # noqa: E402
+from tests.page.plain_steps import DIRECTIVES, unmarked_rows_of  # noqa: E402
 
 # Sizes, in pixels. A row is its heading, a slot for each thing that happens in it, and a little room.
 SLOT, ROW_TOP, ROW_BOTTOM, HEADING = 18, 25, 8, 34
@@ -105,23 +106,17 @@ def vote_mark(id: int, kind: str, granted: int, sender: int, result: str) -> Mar
     return f"{whose}: {result}", "quiet"
 
 
-# What a node tells: its words beside the band, and how they look.
+def mark_of_cells(words: str, look: str) -> Callable[..., Mark]:
+    """A mark whose words are made of the cells of its row alone."""
+    return lambda *cells: (words.format(*cells), look)
+
+
+# What a node tells: its words beside the band, and how they look. Events are here only if their words aren't made of cells alone; none marks the start.
 MARKS: dict[str, Callable[..., Mark]] = {
+    **{form.name: mark_of_cells(*words) for form in forms() if form.name != "started" and (words := form.words())},
     "became": lambda id, role, term: (f"★ leader, t{term}", "won") if role == "leader" else (f"{role}, t{term}", "turn"),
-    "cannot-campaign": lambda id, why: (f"! can't campaign: {why}", "bad"),
     "vote": vote_mark,
     "ignored": lambda id, kind, sender: (f"ignores {kind[3:]}", "quiet"),
-    "dropped-proposal": lambda id: ("! proposal dropped", "bad"),
-    "conflict": lambda id, index, commit: (f"! conflict at {index}, commit {commit}", "bad"),
-    "appends-nothing": lambda id: ("! appends nothing: index limit", "bad"),
-    "replaced-change": lambda id, index, why: (f"! change {index} made empty: {why}", "bad"),
-    "switched": lambda id, config: (f"◆ {config}", "change"),
-    "refused-change": lambda id, index, fault: (f"! change {index} refused: {fault}", "bad"),
-    "restarted": lambda id, term, *_: (f"↻ restarted, t{term}", "turn"),
-    "restored": lambda id, term, index: (f"▣ snapshot {term}/{index}", "installed"),
-    "transfer-starts": lambda id, to: (f"hands over to {to}", "change"),
-    "transfer-ends": lambda id, to: (f"hand-over to {to} ends", "quiet"),
-    "lost-quorum": lambda id: ("! lost its quorum", "bad"),
     "committed": lambda id, index: (f"✓ commit {index}", "moved"),
     "compacted": lambda id, index: (f"▣ compacted to {index}", "installed"),
     "saved": lambda id, first, last: (f"saves {first}" if first == last else f"saves {first}–{last}", "quiet"),
@@ -429,7 +424,7 @@ def drawn(kind: Callable[[str], Drafted], data: bytes, name: str, until: int | N
         above, drafter = drafter, kind(title)
     script = read_script(data)
     blocks = iter(script.blocks)
-    for row in rows_of(data, name, DIRECTIVES):
+    for row in unmarked_rows_of(data, name, DIRECTIVES):
         if row[0] == "end" or row[0] == "step" and until is not None and row[1] > until:
             drafter.end_saves()
             if has_logs:

@@ -24,7 +24,7 @@ from tests.harness import PROGRAM, TOP, Result, results_of
 from tests.page.browser import Browser, found
 from tests.page.plain_chart import svg_of
 from tests.page.plain_diagram import diagram_of
-from tests.page.plain_steps import Row, rows_of
+from tests.page.plain_steps import Row, unmarked_rows_of
 from tests.page.scripts import HOSTILE, LOST, MANY, PAYLOADS, TOUR, same
 
 ELECTION = TOP / "docs" / "pictures" / "election.svg"
@@ -105,7 +105,7 @@ def what_no_arrow_leads_to_is_named() -> None:
     """The labels of messages that are lost or on their way say to whom they are, and no others do."""
     for data in [LOST, SELF, HOSTILE, *(path.read_bytes() for path in TOUR)]:
         aimed, others = labels_of(parts_of(svg_of(data, "x")))
-        wanted, delivered = unmet([row for row in rows_of(data, "x") if row[0] in ("send", "queue", "deliver")])
+        wanted, delivered = unmet([row for row in unmarked_rows_of(data, "x") if row[0] in ("send", "queue", "deliver")])
         same("to whom what was lost or is on its way was sent", sorted(to for to, _ in aimed), wanted)
         same("how many were delivered", len(others), delivered)
 
@@ -113,7 +113,7 @@ def what_no_arrow_leads_to_is_named() -> None:
 def labels_say_type_and_term() -> None:
     """Each label begins with etcd's name of the type, and has the term, where the message is of one, and there is room."""
     for data in [LOST, SELF, *(path.read_bytes() for path in TOUR)]:
-        sent = [row[3:5] for row in rows_of(data, "x") if row[0] in ("send", "queue")]
+        sent = [row[3:5] for row in unmarked_rows_of(data, "x") if row[0] in ("send", "queue")]
         wanted = sorted(" ".join([kind[3:], *([f"t{term}"] if term else [])]) for kind, term in sent)
         aimed, others = labels_of(parts_of(svg_of(data, "x")))
         texts = [*(text for _, text in aimed), *others]

@@ -35,7 +35,7 @@ from tests.harness import PROGRAM, TESTS, TOP, Result, results_of
 from tests.page import access, assemble, beside, chart_parts, difference, events, finding, paper, parting, program, spelling, stepping, traces, types_of_modules
 from tests.page.browser import Browser, found
 from tests.page.plain_chart import svg_of
-from tests.page.plain_steps import cell, json_text, rows_of
+from tests.page.plain_steps import cell, json_text, rows_of, unmarked_rows_of
 from tests.page.reader import SEEN, Reader, counted
 from tests.page.scripts import HOSTILE, LOST, MANY, NOBODY, SELF, TOUR, page_of, same
 
@@ -184,7 +184,7 @@ def charts_have_every_message() -> None:
         parts = list(xml.etree.ElementTree.fromstring(svg_of(data, "<&>")).iter())
         looks = [part.get("class") or "" for part in parts]
         came = tuple(sum(wanted in look.split() for look in looks) for wanted in ("delivered", "cross", "waiting"))
-        same("the arrows", came, counted(list(rows_of(data, "x"))))
+        same("the arrows", came, counted(list(unmarked_rows_of(data, "x"))))
         kinds = {part.tag.removeprefix("{http://www.w3.org/2000/svg}") for part in parts}
         same("the elements", kinds, {"svg", "title", "desc", "style", "defs", "marker", "path", "rect", "text"})
         same("what fetches or acts", [name for part in parts for name in part.keys() if "href" in name or name.startswith("on")], [])

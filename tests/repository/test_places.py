@@ -41,6 +41,18 @@ def known(sample: Sample) -> Counter[str]:
     return Counter({file: count for file, count in counts.items() if count and file not in NO_PLACES})
 
 
+# What shows events elsewhere, and what of it is made of the table of forms.
+SHOWING = ("crates/*/assets/*.js", "live/**/*.js", "live/*.py", "plain/*.py", "raftbench_nodes/**/*.py", "tests/page/*.py")
+MADE = {"crates/rb_view/assets/events.js", "raftbench_nodes/page/events.py"}
+EVENT_NAME = re.compile(r"""["'`]lost-quorum["'`]""")
+
+
+def test_no_other_code_names_the_event() -> Iterator[str]:
+    files = {str(path.relative_to(TOP)) for pattern in SHOWING for path in TOP.glob(pattern) if EVENT_NAME.search(path.read_text())}
+    yield from (f"{file} names the event's row, which isn't in the list" for file in sorted(files - MADE))
+    yield from (f"{file} doesn't know the event" for file in sorted(MADE - files))
+
+
 def test_places_are_few() -> Iterator[str]:
     for sample in SAMPLES:
         count = len(listed(sample))

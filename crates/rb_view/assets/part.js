@@ -20,7 +20,7 @@ function above({ line, before, serial }, messages) {
   const step = {
     place: 0, line: line - 1, first: 0, lead: [], head: [`on its way before line ${line}`], input: [], output: [], pieces: null, warnings: [], changed: [], stays: new Map(),
     events: messages.map((message) => ({ name: "send", id: message.from, cells: [], message })),
-    groups: messages.map((_, start) => ({ start, moment: before })), serial: serial - messages.length, before, moment: before,
+    groups: messages.map((_, start) => ({ start, moment: before })), printers: [], serial: serial - messages.length, before, moment: before,
   };
   messages.forEach((message, at) => Object.assign(message, { sent: step, sentAt: step.serial + at }));
   return [step];

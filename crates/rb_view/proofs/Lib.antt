@@ -47,4 +47,5 @@ pub mod ValueLaws
 pub mod SomeLaws
 pub mod StayLaws
 pub mod MailLaws
+pub mod MarkLaws
 pub mod TraceLaws

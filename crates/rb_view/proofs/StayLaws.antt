@@ -90,7 +90,7 @@ relines left other (h ∷ heads) (n ∷ lines) c (b ∷ bs) many all room room' 
     let next = (outcome c (directive_of b)).cluster in
     let here : script_rows other n b.expected s.output ≡ script_rows left n b.expected s.output =
     script_room other left n b.expected s.output (omega (arith, room', left_least other c (b ∷ bs))) (omega (arith, room, left_least left c (b ∷ bs))) in
-    ap₂ (λ (rs : List Row) (ts : List Line). (texts_of rs ++ (observed_texts s.before s.observed ++ (texts_of s.changes ++ texts_of (hints s)))) ++ ts) here
+    ap₂ (λ (rs : List Row) (ts : List Line). (texts_of rs ++ (observed_texts s.level s.before s.observed ++ (texts_of s.changes ++ texts_of (hints s)))) ++ ts) here
     (relines (left_next left b.expected s.output) (left_next other b.expected s.output) heads lines next bs (omega (arith, many)) (omega (arith, all)) room room')
 
 -- ---- or none, in any two clusters

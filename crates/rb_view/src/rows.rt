@@ -18,7 +18,7 @@ mod row;
 mod span;
 
 pub(crate) use cell::Cell;
-pub(crate) use kept::{push_item, push_lines, push_row, push_texts, write_texts};
+pub(crate) use kept::{push_item, push_item_at, push_lines, push_row, push_texts, write_texts};
 pub use laws::{
     rows_are_inert, rows_are_json, rows_grow_with_what_they_say, texts_grow_little,
     what_happens_has_a_row,

@@ -6,12 +6,12 @@ use crate::frame::after_style::AFTER_STYLE;
 use crate::frame::describe::DESCRIBE;
 use crate::frame::difference::DIFFERENCE;
 use crate::frame::dom::DOM;
+use crate::frame::events::EVENTS;
 use crate::frame::history::HISTORY;
 use crate::frame::html::{BETWEEN, BODY, END, HEAD, STEPS};
 use crate::frame::keys::KEYS;
 use crate::frame::layout::LAYOUT;
 use crate::frame::legend::LEGEND;
-use crate::frame::lines::LINES;
 use crate::frame::logs::LOGS;
 use crate::frame::logs_style::LOGS_STYLE;
 use crate::frame::mail::MAIL;
@@ -54,7 +54,7 @@ pub fn front<'a>(part: &'a [u8]) -> [&'a [u8]; 11]
 /// The parts after them: the page's code.
 #[rattlefmt::skip]
 pub fn back() -> [&'static [u8]; 31]
-    ensures { map (λ piece. piece.now) result ≡ BETWEEN.now ∷ DOM.now ∷ HISTORY.now ∷ SIZES.now ∷ TEXT.now ∷ WORDS.now ∷ PAINT.now ∷ LEGEND.now ∷ KEYS.now ∷ POSITION.now ∷ LOGS.now ∷ MEASURE.now ∷ ROUTE.now ∷ LAYOUT.now ∷ DESCRIBE.now ∷ PICTURE.now ∷ PLAY.now ∷ LINES.now ∷ DIFFERENCE.now ∷ WRAP.now ∷ PRINT.now ∷ SCRIPT.now ∷ SEARCH.now ∷ STATE.now ∷ PAGE.now ∷ MAIL.now ∷ PART.now ∷ SOURCE.now ∷ ROWS.now ∷ START.now ∷ END.now ∷ [] }
+    ensures { map (λ piece. piece.now) result ≡ BETWEEN.now ∷ DOM.now ∷ HISTORY.now ∷ SIZES.now ∷ EVENTS.now ∷ TEXT.now ∷ WORDS.now ∷ PAINT.now ∷ LEGEND.now ∷ KEYS.now ∷ POSITION.now ∷ LOGS.now ∷ MEASURE.now ∷ ROUTE.now ∷ LAYOUT.now ∷ DESCRIBE.now ∷ PICTURE.now ∷ PLAY.now ∷ DIFFERENCE.now ∷ WRAP.now ∷ PRINT.now ∷ SCRIPT.now ∷ SEARCH.now ∷ STATE.now ∷ PAGE.now ∷ MAIL.now ∷ PART.now ∷ SOURCE.now ∷ ROWS.now ∷ START.now ∷ END.now ∷ [] }
 {
-    [BETWEEN, DOM, HISTORY, SIZES, TEXT, WORDS, PAINT, LEGEND, KEYS, POSITION, LOGS, MEASURE, ROUTE, LAYOUT, DESCRIBE, PICTURE, PLAY, LINES, DIFFERENCE, WRAP, PRINT, SCRIPT, SEARCH, STATE, PAGE, MAIL, PART, SOURCE, ROWS, START, END]
+    [BETWEEN, DOM, HISTORY, SIZES, EVENTS, TEXT, WORDS, PAINT, LEGEND, KEYS, POSITION, LOGS, MEASURE, ROUTE, LAYOUT, DESCRIBE, PICTURE, PLAY, DIFFERENCE, WRAP, PRINT, SCRIPT, SEARCH, STATE, PAGE, MAIL, PART, SOURCE, ROWS, START, END]
 }

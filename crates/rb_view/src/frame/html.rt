@@ -7,7 +7,7 @@ pub(crate) const HEAD: &[u8] = b"\
 <html lang=\"en\">\n\
 <head>\n\
 <meta charset=\"utf-8\">\n\
-<meta http-equiv=\"Content-Security-Policy\" content=\"default-src 'none'; style-src 'sha256-046fT5OB3MQcJOmuLiMKF8Gl6D3StI5nsFsvVHNOOsg='; script-src 'sha256-Xf8Fk6++mqVDDnErC+qsxgCTloIwH2+/UFAEOfxPV04='; base-uri 'none'; form-action 'none'\">\n\
+<meta http-equiv=\"Content-Security-Policy\" content=\"default-src 'none'; style-src 'sha256-046fT5OB3MQcJOmuLiMKF8Gl6D3StI5nsFsvVHNOOsg='; script-src 'sha256-Sy87Na+THyNJx8QHrf/OKk1SnxOhuiQUGDQAuDiUgMg='; base-uri 'none'; form-action 'none'\">\n\
 <meta name=\"viewport\" content=\"width=device-width, initial-scale=1\">\n\
 <meta name=\"referrer\" content=\"no-referrer\">\n\
 <title>raftbench</title>\n\

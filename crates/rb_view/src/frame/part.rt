@@ -15,7 +15,7 @@ function above({ line, before, serial }, messages) {\n\
 \x20 const step = {\n\
 \x20   place: 0, line: line - 1, first: 0, lead: [], head: [`on its way before line ${line}`], input: [], output: [], pieces: null, warnings: [], changed: [], stays: new Map(),\n\
 \x20   events: messages.map((message) => ({ name: \"send\", id: message.from, cells: [], message })),\n\
-\x20   groups: messages.map((_, start) => ({ start, moment: before })), serial: serial - messages.length, before, moment: before,\n\
+\x20   groups: messages.map((_, start) => ({ start, moment: before })), printers: [], serial: serial - messages.length, before, moment: before,\n\
 \x20 };\n\
 \x20 messages.forEach((message, at) => Object.assign(message, { sent: step, sentAt: step.serial + at }));\n\
 \x20 return [step];\n\

@@ -82,10 +82,13 @@ class Reader {\n\
 \x20   this.serial = 0;\n\
 \x20   // Whether rows of changes came after the last event.\n\
 \x20   this.hasChanged = false;\n\
+\x20   // Whether the event of this row prints no line.\n\
+\x20   this.isUnprinted = false;\n\
 \x20 }\n\
 \n\
 \x20 read(row) {\n\
-\x20   const name = row[0];\n\
+\x20   this.isUnprinted = row[0].startsWith(\"-\");\n\
+\x20   const name = this.isUnprinted ? row[0].slice(1) : row[0];\n\
 \x20   const cells = row.slice(1);\n\
 \x20   const read = READERS[name];\n\
 \x20   if (read) {\n\
@@ -115,6 +118,9 @@ class Reader {\n\
 \x20     this.hasChanged = false;\n\
 \x20     this.moment += 1;\n\
 \x20     this.step.groups.push({ start: this.step.events.length, moment: this.moment });\n\
+\x20   }\n\
+\x20   if (!this.isUnprinted) {\n\
+\x20     this.step.printers.push(this.step.events.length);\n\
 \x20   }\n\
 \x20   this.step.events.push({ name, id, cells, message });\n\
 \x20   this.serial += 1;\n\
@@ -179,7 +185,7 @@ const READERS = {\n\
 \x20   reader.moment += 1;\n\
 \x20   reader.hasChanged = false;\n\
 \x20   reader.step = {\n\
-\x20     place: steps.length + 1, line, ...source.block(line), output: [], pieces: null, events: [], changed: [], stays: new Map(), warnings: [],\n\
+\x20     place: steps.length + 1, line, ...source.block(line), output: [], pieces: null, events: [], printers: [], changed: [], stays: new Map(), warnings: [],\n\
 \x20     groups: [{ start: 0, moment: reader.moment }], serial: reader.serial, before, moment: reader.moment,\n\
 \x20   };\n\
 \x20   steps.push(reader.step);\n\
@@ -188,6 +194,9 @@ const READERS = {\n\
 \x20 },\n\
 \x20 output({ step }, [text]) {\n\
 \x20   step.output.push(shown(text));\n\
+\x20 },\n\
+\x20 line({ step }) {\n\
+\x20   step.printers.push(-1);\n\
 \x20 },\n\
 \x20 mismatch({ step, model }) {\n\
 \x20   step.pieces = [];\n\

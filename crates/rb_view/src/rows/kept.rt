@@ -1,21 +1,26 @@
 //! Rows in memory: each text is one row or several, with the separators before them.
 
-ghost use Rattle.std.specs.Prelude.{◌≡◌, ◌++◌, ◌∷◌, [], IfOk, IsOk, OnOk, map};
+ghost use Rattle.std.specs.Prelude.{◌≡◌, ◌≤◌, ◌++◌, ◌∷◌, [], IfOk, IsOk, List, OnOk, false, length, map};
+ghost use Rattle.std.specs.List.{flat_map};
 ghost use Rattle.rb_script.specs.Writes.{Writes};
 ghost use Rattle.rb_texts.specs.Items.{plain_item};
-ghost use Rattle.rb_view.specs.ItemRows.{item_text};
+ghost use Rattle.rb_view.specs.ItemRows.{item_text, marked, text_at};
 ghost use Rattle.rb_view.specs.Kept.{joined, line_rows, texts_of};
-ghost use Rattle.rb_view.specs.Rows.{next_text, plain_cell, row};
+ghost use Rattle.rb_view.specs.Rows.{Row, next_text, plain_cell, row};
 
 use crate::rows::cell::Cell;
 use crate::rows::item::write_item;
 use crate::rows::row::write_next;
 use rb_script::{Lines, Sink, WriteFault};
-use rb_texts::Item;
+use rb_texts::{Item, is_shown};
+use rb_vocab::Level;
 use std::alloc::AllocError;
 
 // Nearly all rows are shorter, and one that is longer takes more room.
 const ROOM: usize = 100;
+
+// A row that follows another has `,`, the end of a line, `[` and `"` before its name.
+const BEFORE_NAME: usize = 4;
 
 // A text in memory.
 #[derive(Drop)]
@@ -71,6 +76,37 @@ fn text_of_row(lines: &Lines, name: &[u8], cells: &[Cell<'_>]) -> Result<Vec<u8>
         Ok(()) => Ok(sink.bytes),
         Err(_) => Err(AllocError),
     }
+}
+
+// Writes `-` before the name of a row, if there is one.
+fn insert_mark(text: &mut Vec<u8>) -> Result<(), AllocError>
+    ensures { (rs : List Row) → length rs ≤ 1 → text.old.items ≡ flat_map next_text rs → OnOk result (text.new.items ≡ flat_map next_text (map (marked false) rs)) }
+{
+    if text.len() < BEFORE_NAME {
+        return Ok(());
+    }
+    text.insert(BEFORE_NAME, b'-')?;
+    Ok(())
+}
+
+// The text of an item's rows at a level.
+fn text_at(lines: &Lines, level: Level, item: &Item<'_>) -> Result<Vec<u8>, AllocError>
+    ensures { IfOk result (λ text. text.items ≡ text_at level (plain_item item.now)) }
+{
+    let mut text = text_of_item(lines, item)?;
+    if is_shown(level, item) {
+        return Ok(text);
+    }
+    insert_mark(&mut text)?;
+    Ok(text)
+}
+
+/// Appends the rows of an item at a level as one text. If memory is refused, the contents of `texts` are unknown.
+pub fn push_item_at(texts: &mut Lines, level: Level, item: &Item<'_>) -> Result<(), AllocError>
+    ensures { OnOk result (texts.new ≡ texts.old ++ text_at level (plain_item item.now) ∷ []) }
+{
+    let text = text_at(texts, level, item)?;
+    texts.push(text.as_slice())
 }
 
 /// Appends a row as a text. If memory is refused, the contents of `texts` are unknown.

@@ -22,7 +22,7 @@ impl<L: RaftLog> Observer<L> for PageObserver<L> {
 
     ghost Meaning = { PrintedLines × Watching };
 
-    ghost meaning = { λ o. (o.printed, record { texts = o.rows.texts; nodes = o.rows.nodes.items; keeps = o.rows.keeps; of_bytes = true }) };
+    ghost meaning = { λ o. (o.printed, record { level = o.rows.level; texts = o.rows.texts; nodes = o.rows.nodes.items; keeps = o.rows.keeps; of_bytes = true }) };
 
     ghost starting = { at_level };
 
@@ -32,6 +32,7 @@ impl<L: RaftLog> Observer<L> for PageObserver<L> {
 
     fn start(&mut self, level: Level) {
         Observer::<L>::start(&mut self.printed, level);
+        self.rows.start(level);
     }
 
     fn observe(&mut self, item: &Item<'_>) -> Result<(), AllocError> {

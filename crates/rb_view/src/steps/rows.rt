@@ -5,7 +5,7 @@ ghost use Rattle.rb_view.specs.Kept.{texts_of};
 ghost use Rattle.rb_view.specs.Watching.{reason_rows, shown_texts};
 ghost use Rattle.rb_texts.specs.Items.{plain_item};
 
-use crate::rows::{Cell, past, push_item, push_row, reason_line};
+use crate::rows::{Cell, past, push_item_at, push_row, reason_line};
 use crate::steps::node::{content_is_bytes, push_node_at};
 use crate::steps::room::has_room;
 use crate::steps::written::{WrittenNode, written_nodes};
@@ -21,10 +21,12 @@ use std::alloc::{AllocError, Global};
 // The blanks that a reason's line begins with.
 const INDENTATION: usize = 2;
 
-/// The rows of what a directive does, whatever the level is: a text an item, and one a row of what changed at a node that has settled.
+/// The rows of what a directive does, whatever the level is: a text an item, and one a row of what changed at a node that has settled. The names of
+/// rows say whether their items print a line.
 #[derive(Drop)]
 pub(crate) struct EventRows<L: RaftLog> {
     alloc: Global,
+    pub(crate) level: Level,
     /// None is kept where a page has no room for all.
     pub(crate) texts: Option<Lines>,
     /// The nodes as they were written last.
@@ -48,10 +50,15 @@ fn rewrite<L: RaftLog>(
 }
 
 // Appends the rows of an item, and the row of its reason.
-fn push_item_and_reason(alloc: Global, texts: &mut Lines, item: &Item<'_>) -> Result<(), AllocError>
-    ensures { OnOk result (texts.new ≡ texts.old ++ shown_texts (plain_item item.now)) }
+fn push_item_and_reason(
+    alloc: Global,
+    texts: &mut Lines,
+    level: Level,
+    item: &Item<'_>,
+) -> Result<(), AllocError>
+    ensures { OnOk result (texts.new ≡ texts.old ++ shown_texts level (plain_item item.now)) }
 {
-    push_item(texts, item)?;
+    push_item_at(texts, level, item)?;
     push_reason(alloc, texts, reason_of(item)?)
 }
 
@@ -83,6 +90,7 @@ impl<L: RaftLog> EventRows<L> {
     {
         Ok(EventRows {
             alloc,
+            level: Level::Debug,
             texts: Some(Lines::new(alloc)),
             nodes: written_nodes(alloc, cluster.nodes())?,
             keeps,
@@ -94,6 +102,7 @@ impl<L: RaftLog> EventRows<L> {
         ensures texts { OnOk result (self.new.texts ≡ held_with self.old.texts (texts_of (node_since self.old.keeps (slice_get self.old.nodes.items index) node.now))) }
         ensures nodes { OnOk result (self.new.nodes ≡ self.old.nodes) }
         ensures keeps { OnOk result (self.new.keeps ≡ self.old.keeps) }
+        ensures level { OnOk result (self.new.level ≡ self.old.level) }
     {
         let Some(texts) = &mut self.texts else {
             return Ok(());
@@ -112,6 +121,7 @@ impl<L: RaftLog> EventRows<L> {
     {
         let EventRows {
             alloc: _,
+            level: _,
             texts,
             nodes,
             keeps: _,
@@ -122,25 +132,27 @@ impl<L: RaftLog> EventRows<L> {
 
 impl<L: RaftLog> Observer<L> for EventRows<L> {
     ghost use Rattle.std.specs.Prelude.{true};
-    ghost use Rattle.rb_view.specs.Watching.{Watching, with_item, with_node};
+    ghost use Rattle.rb_view.specs.Watching.{Watching, watching_at, with_item, with_node};
 
     ghost Meaning = { Watching };
 
-    ghost meaning = { λ rows. record { texts = rows.texts; nodes = rows.nodes.items; keeps = rows.keeps; of_bytes = true } };
+    ghost meaning = { λ rows. record { level = rows.level; texts = rows.texts; nodes = rows.nodes.items; keeps = rows.keeps; of_bytes = true } };
 
-    ghost starting = { λ w level. w };
+    ghost starting = { watching_at };
 
     ghost taking = { with_item };
 
     ghost settling = { with_node };
 
-    fn start(&mut self, _level: Level) {}
+    fn start(&mut self, level: Level) {
+        self.level = level;
+    }
 
     fn observe(&mut self, item: &Item<'_>) -> Result<(), AllocError> {
         let Some(texts) = &mut self.texts else {
             return Ok(());
         };
-        push_item_and_reason(self.alloc, texts, item)?;
+        push_item_and_reason(self.alloc, texts, self.level, item)?;
         if !has_room(texts) {
             self.texts = None;
         }

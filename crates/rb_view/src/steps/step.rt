@@ -59,7 +59,7 @@ fn run<L: RaftLog>(
 ) -> Result<WatchedRun<L>, AllocError>
     ensures cluster { IfOk result (λ ran. ran.cluster ≡ (outcome cluster.now (directive_of block.now)).cluster) }
     ensures output { IfOk result (λ ran. IfSome ran.texts (λ _. ran.output ≡ (outcome cluster.now (directive_of block.now)).output)) }
-    ensures texts { IfOk result (λ ran. ran.texts ≡ held (observed_texts cluster.now.nodes (execution cluster.now (directive_of block.now)).observed)) }
+    ensures texts { IfOk result (λ ran. ran.texts ≡ held (observed_texts (execution cluster.now (directive_of block.now)).level cluster.now.nodes (execution cluster.now (directive_of block.now)).observed)) }
     ensures nodes { IfOk result (λ ran. ran.nodes.items ≡ written_last cluster.now.nodes (execution cluster.now (directive_of block.now)).observed) }
     ensures keeps { IfOk result (λ ran. ran.keeps ≡ keeps_commits cluster.now.nodes (directive_of block.now)) }
     ensures bytes { IfOk result (λ ran. shows_bytes (execution cluster.now (directive_of block.now)).observed ≡ true) }

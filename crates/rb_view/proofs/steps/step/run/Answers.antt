@@ -22,7 +22,7 @@ pub returns-clause-output : goal.returns-clause-output
 unfolding outcome
 returns-clause-output g c =
     let e = execution c.in_ok-after.after (plain c.directive.result) in
-    let seen = run_seen c.new-printed.result c.run_counted.new.observer.printed c.in_ok-rows.rows.texts c.run_counted.new.observer.rows.texts c.in_ok-rows.rows.nodes.items c.run_counted.new.observer.rows.nodes.items c.in_ok-rows.rows.keeps c.run_counted.new.observer.rows.keeps e
+    let seen = run_seen c.new-printed.result c.run_counted.new.observer.printed c.in_ok-rows.rows.texts c.run_counted.new.observer.rows.texts c.in_ok-rows.rows.nodes.items c.run_counted.new.observer.rows.nodes.items c.in_ok-rows.rows.level c.run_counted.new.observer.rows.level c.in_ok-rows.rows.keeps c.run_counted.new.observer.rows.keeps e
     (ap (λ (w : Watched (PrintedLines × Watching)). w.by) c.in_ok-run_counted.ensures.watched) c.in_ok-rows.ensures.texts (λ keeps. goes_on c.args.cluster.now c.in_ok-after.after c.in_ok-rows.rows.nodes.items (plain c.directive.result) c.in_ok-after.ensures c.in_ok-rows.ensures.nodes
     (ap (keeps_commits c.args.cluster.now.nodes) c.directive.ensures.whole ∙ sym c.keeps_commits-keeps.ensures ∙ sym c.in_ok-rows.ensures.keeps ∙ keeps)) in
     if_some c.into_parts-texts.result.0 _ (λ t is.
@@ -32,16 +32,16 @@ returns-clause-output g c =
 pub returns-clause-texts : goal.returns-clause-texts
 returns-clause-texts g c =
     let e = execution c.in_ok-after.after (plain c.directive.result) in
-    let seen = run_seen c.new-printed.result c.run_counted.new.observer.printed c.in_ok-rows.rows.texts c.run_counted.new.observer.rows.texts c.in_ok-rows.rows.nodes.items c.run_counted.new.observer.rows.nodes.items c.in_ok-rows.rows.keeps c.run_counted.new.observer.rows.keeps e
+    let seen = run_seen c.new-printed.result c.run_counted.new.observer.printed c.in_ok-rows.rows.texts c.run_counted.new.observer.rows.texts c.in_ok-rows.rows.nodes.items c.run_counted.new.observer.rows.nodes.items c.in_ok-rows.rows.level c.run_counted.new.observer.rows.level c.in_ok-rows.rows.keeps c.run_counted.new.observer.rows.keeps e
     (ap (λ (w : Watched (PrintedLines × Watching)). w.by) c.in_ok-run_counted.ensures.watched) c.in_ok-rows.ensures.texts (λ keeps. goes_on c.args.cluster.now c.in_ok-after.after c.in_ok-rows.rows.nodes.items (plain c.directive.result) c.in_ok-after.ensures c.in_ok-rows.ensures.nodes
     (ap (keeps_commits c.args.cluster.now.nodes) c.directive.ensures.whole ∙ sym c.keeps_commits-keeps.ensures ∙ sym c.in_ok-rows.ensures.keeps ∙ keeps)) in
-    c.into_parts-texts.ensures.texts ∙ seen.texts_are ∙ ap (λ (ns : List PlainNode). held (observed_texts ns e.observed)) c.in_ok-rows.ensures.nodes
-    ∙ ap (λ (x : Execution). held (observed_texts c.args.cluster.now.nodes x.observed)) (ap₂ execution c.in_ok-after.ensures c.directive.ensures.whole)
+    c.into_parts-texts.ensures.texts ∙ seen.texts_are ∙ ap (λ (ns : List PlainNode). held (observed_texts e.level ns e.observed)) c.in_ok-rows.ensures.nodes
+    ∙ ap (λ (x : Execution). held (observed_texts x.level c.args.cluster.now.nodes x.observed)) (ap₂ execution c.in_ok-after.ensures c.directive.ensures.whole)
 
 pub returns-clause-nodes : goal.returns-clause-nodes
 returns-clause-nodes g c =
     let e = execution c.in_ok-after.after (plain c.directive.result) in
-    let seen = run_seen c.new-printed.result c.run_counted.new.observer.printed c.in_ok-rows.rows.texts c.run_counted.new.observer.rows.texts c.in_ok-rows.rows.nodes.items c.run_counted.new.observer.rows.nodes.items c.in_ok-rows.rows.keeps c.run_counted.new.observer.rows.keeps e
+    let seen = run_seen c.new-printed.result c.run_counted.new.observer.printed c.in_ok-rows.rows.texts c.run_counted.new.observer.rows.texts c.in_ok-rows.rows.nodes.items c.run_counted.new.observer.rows.nodes.items c.in_ok-rows.rows.level c.run_counted.new.observer.rows.level c.in_ok-rows.rows.keeps c.run_counted.new.observer.rows.keeps e
     (ap (λ (w : Watched (PrintedLines × Watching)). w.by) c.in_ok-run_counted.ensures.watched) c.in_ok-rows.ensures.texts (λ keeps. goes_on c.args.cluster.now c.in_ok-after.after c.in_ok-rows.rows.nodes.items (plain c.directive.result) c.in_ok-after.ensures c.in_ok-rows.ensures.nodes
     (ap (keeps_commits c.args.cluster.now.nodes) c.directive.ensures.whole ∙ sym c.keeps_commits-keeps.ensures ∙ sym c.in_ok-rows.ensures.keeps ∙ keeps)) in
     ap (λ v. v.items) c.into_parts-texts.ensures.nodes ∙ seen.nodes ∙ ap (λ (ns : List PlainNode). written_last ns e.observed) c.in_ok-rows.ensures.nodes
@@ -50,7 +50,7 @@ returns-clause-nodes g c =
 pub returns-clause-bytes : goal.returns-clause-bytes
 returns-clause-bytes g c =
     let e = execution c.in_ok-after.after (plain c.directive.result) in
-    let seen = run_seen c.new-printed.result c.run_counted.new.observer.printed c.in_ok-rows.rows.texts c.run_counted.new.observer.rows.texts c.in_ok-rows.rows.nodes.items c.run_counted.new.observer.rows.nodes.items c.in_ok-rows.rows.keeps c.run_counted.new.observer.rows.keeps e
+    let seen = run_seen c.new-printed.result c.run_counted.new.observer.printed c.in_ok-rows.rows.texts c.run_counted.new.observer.rows.texts c.in_ok-rows.rows.nodes.items c.run_counted.new.observer.rows.nodes.items c.in_ok-rows.rows.level c.run_counted.new.observer.rows.level c.in_ok-rows.rows.keeps c.run_counted.new.observer.rows.keeps e
     (ap (λ (w : Watched (PrintedLines × Watching)). w.by) c.in_ok-run_counted.ensures.watched) c.in_ok-rows.ensures.texts (λ keeps. goes_on c.args.cluster.now c.in_ok-after.after c.in_ok-rows.rows.nodes.items (plain c.directive.result) c.in_ok-after.ensures c.in_ok-rows.ensures.nodes
     (ap (keeps_commits c.args.cluster.now.nodes) c.directive.ensures.whole ∙ sym c.keeps_commits-keeps.ensures ∙ sym c.in_ok-rows.ensures.keeps ∙ keeps)) in
     ap (λ (x : Execution). shows_bytes x.observed) (sym (ap₂ execution c.in_ok-after.ensures c.directive.ensures.whole)) ∙ seen.bytes

@@ -36,7 +36,7 @@ returns-clause-rows g c =
     c.in_ok-rows.ensures.texts
     ∙ ap₂ (λ (ts : Option (List Line)) (rs : List Row). held_with ts (texts_of rs)) c.in_ok-ran.ensures.texts
     (ap₂ (λ (olds : List PlainNode) (x : Cluster). state_rows olds x.nodes) (written ∙ c.in_ok-ran.ensures.nodes) c.in_ok-ran.ensures.cluster)
-    ∙ held_more (observed_texts before.nodes (execution before d).observed) (texts_of (changes_left before d))
+    ∙ held_more (observed_texts (execution before d).level before.nodes (execution before d).observed) (texts_of (changes_left before d))
 
 pub returns-clause-bytes : goal.returns-clause-bytes
 returns-clause-bytes g c =
