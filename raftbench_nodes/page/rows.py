@@ -31,7 +31,7 @@ def event_row(text: str, node: int) -> Row | None:
     """The row of an event's line; None for a line that isn't in the form of docs/SCRIPTS.md, or of another node."""
     for line, name in LINES:
         if found := line.fullmatch(text):
-            row = [name, *map(cell_of, found.groups())]
+            row: Row = [name, *map(cell_of, found.groups())]
             return row if row[1] == node else None
     return None
 

@@ -1,5 +1,5 @@
 -- How long the text of rows is, and how many rows there are.
-use Rattle.std.proofs.Common.{◌≡◌, ◌∙◌, ℕ, Bool, true, false, ◌+◌, ◌≤◌, List, [], ◌∷◌, ◌++◌, length, codes, refl, arith}
+use Rattle.std.proofs.Common.{◌≡◌, ◌∙◌, ℕ, Bool, true, false, ◌+◌, ◌≤◌, List, [], ◌∷◌, ◌++◌, length, codes, refl, ap, arith}
 use Rattle.std.specs.Prelude.{◌&&◌, not, if◌then◌else◌}
 use Rattle.std.specs.List.{flat_map, sum_by}
 use Rattle.std.proofs.lemmas.List.{length-append}
@@ -56,4 +56,4 @@ has_row level (items.event e) shown view = not_hidden (is_hidden (event_form e).
 has_row level item shown view = view
 
 pub printed_row : (level : Level) (item : PlainItem) → is_shown level item ≡ true → is_view item ≡ false → length (item_rows item) ≡ 1
-printed_row level item shown view = rows_counted item ∙ rw (has_row level item shown view) refl
+printed_row level item shown view = rows_counted item ∙ ap (λ (b : Bool). if b then 0 else 1) (has_row level item shown view)

@@ -80,7 +80,7 @@ fn text_of_row(lines: &Lines, name: &[u8], cells: &[Cell<'_>]) -> Result<Vec<u8>
 
 // Writes `-` before the name of a row, if there is one.
 fn insert_mark(text: &mut Vec<u8>) -> Result<(), AllocError>
-    ensures { (rs : List Row) → length rs ≤ 1 → text.old.items ≡ flat_map next_text rs → OnOk result (text.new.items ≡ flat_map next_text (map (marked false) rs)) }
+    ensures { (rows : List Row) → length rows ≤ 1 → text.old.items ≡ flat_map next_text rows → OnOk result (text.new.items ≡ flat_map next_text (map (marked false) rows)) }
 {
     if text.len() < BEFORE_NAME {
         return Ok(());
