@@ -7,6 +7,7 @@ from collections.abc import Iterator
 from typing import NamedTuple
 
 from tests.harness import TOP
+from tests.page.forms import forms
 
 
 class Sample(NamedTuple):
@@ -51,6 +52,13 @@ def test_no_other_code_names_the_event() -> Iterator[str]:
     files = {str(path.relative_to(TOP)) for pattern in SHOWING for path in TOP.glob(pattern) if EVENT_NAME.search(path.read_text())}
     yield from (f"{file} names the event's row, which isn't in the list" for file in sorted(files - MADE))
     yield from (f"{file} doesn't know the event" for file in sorted(MADE - files))
+
+
+def test_each_event_has_its_row_in_the_document() -> Iterator[str]:
+    """docs/FORMATS.md names the rows of the events in its one paragraph of them."""
+    said = (TOP / "docs" / "FORMATS.md").read_text().split("\nEvents of a node have its id first: ")[1].split("\n\n")[0]
+    names, told = {form.name for form in forms()}, set(re.findall(r"`([a-z-]+)`", said))
+    yield from (f"{name} has no row in the document, or none in the table" for name in sorted(names ^ told))
 
 
 def test_places_are_few() -> Iterator[str]:
