@@ -1,4 +1,4 @@
-use Rattle.std.proofs.Common.{◌≡◌, ◌∙◌, sym}
+use Rattle.std.proofs.Common.{◌∙◌, sym}
 use Rattle.rb_texts.specs.Items.{PlainItem, plain_item}
 use Rattle.rb_view.specs.ItemRows.{item_rows}
 use Rattle.rb_view.proofs.MarkLaws.{few_rows, printed_text, text_is, unprinted_text}
