@@ -1,10 +1,9 @@
 #!/usr/bin/env python3
 """Measures the built program on scripts that are made to cost most: the cases of tests/cases/hostile, one whose outputs and blank lines
 are as long as they can be, and for each thing that a cluster can be made to spend one that spends it: rounds, looks at pending messages,
-entries sent again and again, joint configurations of 32 nodes, messages that are not sent yet, and outputs of megabytes or of gigabytes.
-Prints, for each way of running it, the best wall time of some runs, the processor time of one, the peak memory and that memory over the
-script's size; and first how busy the machine is. `run`, `rewrite` and `session` take what a script asks for. The other subcommands are to take
-a second and 150 MiB, or to refuse the script with status 3: what takes more has `MORE` at its end.
+entries sent again and again, joint configurations of 32 nodes, messages that are not sent yet, and outputs of hundreds of megabytes. Prints, for
+each way of running it, the best wall time of some runs, the processor time of one, the peak memory and that memory over the script's
+size; and first how busy the machine is.
 
     bench/hostile.py [RUNS [WORD]]       WORD: only the scripts with it in their name
 """
@@ -50,8 +49,7 @@ def most_printed() -> bytes:
 
 
 def script_of(heads: list[str]) -> bytes:
-    """The script of these directives, which expects nothing. A byte that is no text is a surrogate."""
-    return "".join(f"{head}\n----\n\n" for head in heads).encode(errors="surrogateescape")
+    return "".join(f"{head}\n----\n\n" for head in heads).encode()
 
 
 def elected(voters: int, options: str = "") -> list[str]:
@@ -130,43 +128,7 @@ def skipped() -> bytes:
     return script_of([*elected(2), *["send-snapshot 1 2"] * 4096, *["deliver-msgs 2 skip=4095", "send-snapshot 1 2"] * 7900])
 
 
-def logs() -> bytes:
-    """A log of 1,000 entries of 1,024 bytes, each shown by four, printed as often as a script has room for: 78 GB."""
-    return script_of([*elected(1), *["propose 1 " + "\udcff" * 1024] * 1000, "stabilize", *["raft-log 1 log-level=debug"] * 18_900])
-
-
-def printed_at_once() -> bytes:
-    """4,000 proposals of 900 bytes that are handed to and fro for 1,000 rounds by one directive, which prints each of them: 30 GB."""
-    return script_of([*led_by_each_other(), *["propose 1 " + "\udcff" * 900] * 4000, "stabilize rounds=1000 log-level=debug"])
-
-
 SPENDING = [rounds, pending, pending_in_rounds, resent, joint, printed, unsent, leaders, proposed, restarted, skipped]
-# What no memory holds: only for subcommands that refuse it.
-BOUNDLESS = [logs, printed_at_once]
-BENCH_WAYS = (["run"], ["rewrite"], ["session"], ["session", "--every", "1"])
-TOOL_WAYS = (["check"], ["check", "--format", "json"], ["page"], ["chart"], ["trace"], ["look"])
-MOST_SECONDS = 1.0
-MOST_KIB = 150 << 10
-REFUSED = 3
-
-
-def words_of(way: list[str], path: str, script: bytes) -> list[str]:
-    """The arguments of the program: a look is at the last directive."""
-    last = len(script.splitlines())
-    return [way[0], f"{path}:{last}" if way == ["look"] else path, *way[1:]]
-
-
-def is_more(way: list[str], spent: float, most: int, status: int) -> bool:
-    """Whether a subcommand that is to keep to a second and 150 MiB took more, and didn't refuse the script."""
-    return way in TOOL_WAYS and status != REFUSED and (spent > MOST_SECONDS or most > MOST_KIB)
-
-
-def show(name: str, script: bytes, way: list[str], told: tuple[float, float, int, int]) -> None:
-    """Prints the line of one way of running a script."""
-    best, spent, most, status = told
-    per_byte = f", {most * 1024 / len(script):5.1f} times the script" if len(script) > 1 << 20 else ""
-    mark = ", MORE" if is_more(way, spent, most, status) else ""
-    print(f"{name:38} {' '.join(way):19} status {status}: {best * 1e3:7.2f} ms, {spent * 1e3:7.2f} of a processor, {most:6} KiB{per_byte}{mark}", flush=True)
 
 
 def main() -> None:
@@ -178,13 +140,15 @@ def main() -> None:
         path = os.path.join(room, "script")
         shown = [(name, case.data("script") or b"") for name, case in cases_below(pathlib.Path(TOP) / "tests" / "cases" / "hostile").items()]
         scripts = [(name, script, EDIT) for name, script in [*shown, ("most-printed", most_printed())]]
-        scripts += [(spend.__name__.replace("_", "-"), spend(), QUIET_EDIT) for spend in [*SPENDING, *BOUNDLESS]]
-        boundless = {spend.__name__.replace("_", "-") for spend in BOUNDLESS}
+        scripts += [(spend.__name__.replace("_", "-"), spend(), QUIET_EDIT) for spend in SPENDING]
         print("load of the last minute and the last five: %.1f %.1f" % os.getloadavg()[:2])
         for name, script, edit in (each for each in scripts if word in each[0]):
             write_file(path, script)
-            for way in TOOL_WAYS if name in boundless else (*BENCH_WAYS, *TOOL_WAYS):
-                show(name, script, way, measured(watched, words_of(way, path, script), runs, edit if "--every" in way else b""))
+            for words in (["run", path], ["rewrite", path], ["session", path], ["session", path, "--every", "1"]):
+                best, spent, most, status = measured(watched, words, runs, edit if "--every" in words else b"")
+                per_byte = f", {most * 1024 / len(script):5.1f} times the script" if len(script) > 1 << 20 else ""
+                mode = " ".join([words[0], *words[2:]])
+                print(f"{name:38} {mode:17} status {status}: {best * 1e3:7.2f} ms, {spent * 1e3:7.2f} of a processor, {most:6} KiB{per_byte}")
 
 
 if __name__ == "__main__":

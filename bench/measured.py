@@ -5,16 +5,13 @@ import time
 from typing import Any
 
 TOP = os.path.dirname(os.path.dirname(os.path.abspath(__file__)))
-# The built program, or the one that RAFTBENCH names.
-PROGRAM = os.environ.get("RAFTBENCH") or os.path.join(TOP, "crates", "raftbench", "out", "raftbench")
+PROGRAM = os.path.join(TOP, "crates", "raftbench", "out", "raftbench")
 # The most bytes of a script.
 LONGEST = 4_194_304
 
 
 def build() -> None:
     """The wrapper builds where that is needed."""
-    if "RAFTBENCH" in os.environ:
-        return
     subprocess.run([os.path.join(TOP, "raftbench"), "--help"], stdout=subprocess.DEVNULL, check=True)
 
 

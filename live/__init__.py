@@ -2,7 +2,7 @@
 
 A small server on 127.0.0.1 (server.py, guard.py) serves the page (page/, and the modules of crates/rb_view/assets). All rules are the program's:
 
-- `raftbench page` gives all rows (program.py), and `raftbench lsp` those of the directives that an edit changes (somerows.py): the page gets these (rows.py);
+- `raftbench page` gives the rows (program.py); the page gets those that changed (rows.py);
 - `raftbench session` runs an edit (session.py), and shows what a node may do (may.py);
 - `raftbench check --accept` accepts outputs (accepting.py), and `check --why` says what a restart loses (losing.py);
 - `raftbench lsp` completes directives and shows hints (language.py).

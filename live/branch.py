@@ -5,8 +5,8 @@ import dataclasses
 import json
 from collections.abc import Sequence
 
-from .blocks import RULE, Block, cut, lines_of
-from .chunks import Blocks, Shown, around, recut
+from .blocks import cut
+from .chunks import Blocks, Shown, recut
 from .program import Program, Refused
 from .rows import PageRows, SomeRows, stretch
 from .scriptfile import MOST_BYTES
@@ -164,25 +164,9 @@ class Branch:
         before = self.moment()
         if data != self.data:
             self.begin()
-            now = self.cut_near(data)
-            if now is None:
-                self.take_text(data)
-                self.end(self.follow(self.shown.blocks))
-            else:
-                self.show(now)
+            self.take_text(data)
+            self.end(self.follow(self.shown.blocks))
         self.changed(before, chosen)
-
-    def cut_near(self, data: bytes) -> Shown | None:
-        """Cuts a text into blocks, but for those at both ends that are as they were. None if all of it has to be read."""
-        front, back, text = around(self.shown, self.data, data)
-        now = Shown(self.shown.blocks.with_these(front, self.count - back, [Block(tuple(lines_of(text)), 0, 0)]), self.shown.tail if back else ())
-        # There are at most as many directives as separators, and one after them.
-        some = self.server.rows(now, front, text.count(RULE) + 1) if self.count and front < self.count else None
-        read = recut(now, front, back, some.heads) if some else None
-        if some is None or read is None or not read.count == some.count > 0:
-            return None
-        self.server.is_read_as(now, read)
-        return read
 
     def changed(self, before: Moment, chosen: int) -> None:
         """Remembers what was before a change."""

@@ -44,14 +44,12 @@ def lines_in(blocks: Iterable[Block]) -> int:
 
 
 class Blocks(Sequence[Block]):
-    """Blocks that don't change. `starts` says how many blocks are before each chunk and, last, in all of them; `line_starts` how many lines, and
-    `byte_starts` how many bytes."""
+    """Blocks that don't change. `starts` says how many blocks are before each chunk and, last, in all of them; `line_starts` how many lines."""
 
     def __init__(self, blocks: Iterable[Block] = (), chunks: tuple[Chunk, ...] | None = None) -> None:
         self.chunks = chunks_of(tuple(blocks)) if chunks is None else chunks
         self.starts = list(itertools.accumulate((len(chunk.blocks) for chunk in self.chunks), initial=0))
         self.line_starts = list(itertools.accumulate((chunk.lines for chunk in self.chunks), initial=0))
-        self.byte_starts = list(itertools.accumulate((len(chunk.text) for chunk in self.chunks), initial=0))
 
     # ---- as a list
 
@@ -106,18 +104,6 @@ class Blocks(Sequence[Block]):
         """How many lines the blocks before this place have."""
         chunk = self._chunk_at(place)
         return self.line_starts[chunk] + (lines_in(self.chunks[chunk].blocks[:place - self.starts[chunk]]) if self.chunks else 0)
-
-    def bytes_before(self, place: int) -> int:
-        """How many bytes the blocks before this place have."""
-        chunk = self._chunk_at(place)
-        return self.byte_starts[chunk] + (sum(len(block.text) for block in self.chunks[chunk].blocks[:place - self.starts[chunk]]) if self.chunks else 0)
-
-    def whole_in(self, size: int) -> int:
-        """How many blocks are whole in so many bytes of the beginning."""
-        chunk = max(0, min(bisect.bisect_right(self.byte_starts, size) - 1, len(self.chunks) - 1))
-        blocks = self.chunks[chunk].blocks if self.chunks else ()
-        ends = itertools.accumulate((len(block.text) for block in blocks), initial=self.byte_starts[chunk])
-        return self.starts[chunk] + sum(end <= size for end in ends) - 1
 
     def head(self, place: int) -> int:
         """The line of a block's head, from 1."""
@@ -186,7 +172,7 @@ class Shown:
     @property
     def size(self) -> int:
         """How many bytes it has."""
-        return self.blocks.byte_starts[-1] + sum(map(len, self.tail))
+        return sum(len(chunk.text) for chunk in self.blocks.chunks) + sum(map(len, self.tail))
 
     def has_same_text(self, other: Shown) -> bool:
         """Whether another one has the same bytes."""
@@ -205,38 +191,6 @@ class Shown:
     def first(self, count: int) -> Shown:
         """The script of its first directives; itself if these are all."""
         return self if count >= self.count else Shown(self.blocks[:count])
-
-
-def beginning_of(one: bytes, other: bytes, most: int) -> int:
-    """How many bytes are the same at both beginnings, at most."""
-    at, step = 0, 1 << 16
-    while step:
-        while at + step <= most and one[at:at + step] == other[at:at + step]:
-            at += step
-        step >>= 1
-    return at
-
-
-def end_of(one: bytes, other: bytes, most: int) -> int:
-    """How many bytes are the same at both ends, at most."""
-    at, step = 0, 1 << 16
-    while step:
-        while at + step <= most and one[len(one) - at - step:len(one) - at] == other[len(other) - at - step:len(other) - at]:
-            at += step
-        step >>= 1
-    return at
-
-
-def around(old: Shown, before: bytes, data: bytes) -> tuple[int, int, bytes]:
-    """How many blocks of a script another text begins with and ends with, and what it has between them. A block next to what differs isn't counted, as it
-    may end otherwise."""
-    least = min(len(before), len(data))
-    same = beginning_of(before, data, least)
-    rest = end_of(before, data, least - same)
-    front = max(0, old.blocks.whole_in(same) - 1)
-    back = max(0, old.count - old.blocks.whole_in(len(before) - rest) - 2)
-    after = len(before) - old.blocks.bytes_before(old.count - back) if back else 0
-    return front, back, data[old.blocks.bytes_before(front):len(data) - after]
 
 
 def recut(now: Shown, front: int, back: int, heads: Sequence[int]) -> Shown | None:

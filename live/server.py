@@ -5,13 +5,11 @@ from __future__ import annotations
 
 import contextlib
 import http.server
-import io
 import json
 import queue
 import socket
 import socketserver
 import threading
-import time
 from collections.abc import Callable
 from typing import Any
 
@@ -47,66 +45,21 @@ class Bad(Exception):
         self.status = status
 
 
-class Incoming(io.RawIOBase):
-    """What comes in on a connection. A request has so many seconds from its first byte on, however little of it comes at a time."""
-
-    def __init__(self, connection: socket.socket) -> None:
-        self.connection = connection
-        self.until: float | None = None
-
-    def begin(self) -> None:
-        """Another request may come."""
-        self.until = None
-
-    def readable(self) -> bool:
-        """It is there to be read."""
-        return True
-
-    def readinto(self, room: Any) -> int:
-        """Reads what is there, or waits for it. Raises TimeoutError if the request takes too long."""
-        left = MOST_SECONDS if self.until is None else self.until - time.monotonic()
-        if left <= 0:
-            raise TimeoutError("the request isn't whole")
-        self.connection.settimeout(left)
-        try:
-            count = self.connection.recv_into(room)
-        finally:
-            self.connection.settimeout(MOST_SECONDS)
-        self.until = self.until or time.monotonic() + MOST_SECONDS
-        return count
-
-
 class Handler(http.server.BaseHTTPRequestHandler):
     """Answers the requests of a connection."""
 
     protocol_version = "HTTP/1.1"
     server_version = "raftbench-live"
     sys_version = ""
+    # A request that isn't whole by then is ended.
     timeout = MOST_SECONDS
     # An answer goes out as one piece, at once.
     wbufsize = -1
     disable_nagle_algorithm = True
     served: Served
 
-    def setup(self) -> None:
-        """Has a request end that isn't whole in time."""
-        super().setup()
-        self.rfile.close()
-        self.incoming = Incoming(self.connection)
-        self.rfile = io.BufferedReader(self.incoming)
-
-    def handle_one_request(self) -> None:
-        """Answers a request, which begins with its first byte."""
-        self.incoming.begin()
-        super().handle_one_request()
-
     def log_message(self, *_: object) -> None:
         """Nothing is logged."""
-
-    def send_error(self, code: int, message: str | None = None, explain: str | None = None) -> None:
-        """Answers what isn't even read as a request with the headers of each answer."""
-        self.request_version, self.close_connection = self.protocol_version, True
-        self.answer(code, (message or "this can't be read as a request").encode())
 
     def answer(self, status: int, body: bytes, kind: str = "text/plain; charset=utf-8") -> None:
         """Writes an answer."""

@@ -6,7 +6,7 @@ const { spawn } = require("child_process");
 
 // What the editor takes, and which commands of lenses it runs.
 const CAPABILITIES = {
-  textDocument: { completion: { completionItem: { snippetSupport: true } }, publishDiagnostics: { relatedInformation: true }, rename: { prepareSupport: true } },
+  textDocument: { completion: { completionItem: { snippetSupport: true } }, publishDiagnostics: { relatedInformation: true } },
   experimental: { commands: { commands: ["raftbench.accept", "raftbench.openPage"] } },
 };
 // How long a server may take to end.

@@ -16,7 +16,6 @@ const SNIPPET = 2;
 /** @typedef {{ title: string, kind: string, edit: { changes: Record<string, ProtocolEdit[]> } }} ProtocolAction */
 /** @typedef {{ label: string, kind: number, documentation?: string, textEdit: ProtocolEdit, insertTextFormat?: number }} ProtocolItem */
 /** @typedef {{ name: string, kind: number, range: ProtocolRange, selectionRange: ProtocolRange }} ProtocolSymbol */
-/** @typedef {{ name: string, kind: number, location: ProtocolLocation }} ProtocolFound */
 /** @typedef {{ range: ProtocolRange, command: { title: string, command: string, arguments: unknown[] } }} ProtocolLens */
 /** @typedef {{ position: ProtocolPosition, label: string, paddingLeft: boolean }} ProtocolHint */
 /** @typedef {{ range: ProtocolRange, parent?: ProtocolSelection }} ProtocolSelection */
@@ -91,11 +90,6 @@ function symbolOf({ name, kind, range, selectionRange }) {
   return new vscode.DocumentSymbol(name, "", kind - 1, rangeOf(range), rangeOf(selectionRange));
 }
 
-/** @param {ProtocolFound} from */
-function foundOf({ name, kind, location }) {
-  return new vscode.SymbolInformation(name, kind - 1, "", locationOf(location));
-}
-
 /** @param {ProtocolLens} from */
 function lensOf({ range, command }) {
   return new vscode.CodeLens(rangeOf(range), command);
@@ -116,4 +110,4 @@ function selectionOf({ range, parent }) {
   return new vscode.SelectionRange(rangeOf(range), parent && selectionOf(parent));
 }
 
-module.exports = { rangeOf, diagnosticOf, editOf, actionOf, changesOf, itemOf, symbolOf, foundOf, locationOf, highlightOf, lensOf, hintOf, selectionOf };
+module.exports = { rangeOf, diagnosticOf, editOf, actionOf, changesOf, itemOf, symbolOf, locationOf, highlightOf, lensOf, hintOf, selectionOf };

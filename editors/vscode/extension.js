@@ -4,7 +4,7 @@
 const vscode = require("vscode");
 const { accept, checkFolder, Pages } = require("./commands.js");
 const { Plays } = require("./live.js");
-const { actionOf, changesOf, editOf, foundOf, highlightOf, hintOf, itemOf, lensOf, locationOf, rangeOf, selectionOf, symbolOf } = require("./convert.js");
+const { actionOf, editOf, highlightOf, hintOf, itemOf, lensOf, locationOf, rangeOf, selectionOf, symbolOf } = require("./convert.js");
 const { MOST, isScript } = require("./detect.js");
 const { Server } = require("./server.js");
 
@@ -91,20 +91,6 @@ function providersOf(from) {
     async provideInlayHints(document, { start, end }) {
       return ((await ask("inlayHint", document, { range: { start, end } })) ?? []).map(hintOf);
     },
-    /** @type {vscode.RenameProvider["prepareRename"]} */
-    async prepareRename(document, position) {
-      const found = await from.demand("prepareRename", document, { position });
-      return found ? rangeOf(found) : undefined;
-    },
-    /** @type {vscode.RenameProvider["provideRenameEdits"]} */
-    async provideRenameEdits(document, position, newName) {
-      const found = await from.demand("rename", document, { position, newName });
-      return found ? changesOf(found) : undefined;
-    },
-    /** @type {vscode.WorkspaceSymbolProvider["provideWorkspaceSymbols"]} */
-    async provideWorkspaceSymbols(query) {
-      return ((await from.find(query)) ?? []).map(foundOf);
-    },
     /** @type {vscode.SelectionRangeProvider["provideSelectionRanges"]} */
     async provideSelectionRanges(document, positions) {
       return ((await ask("selectionRange", document, { positions })) ?? []).map(selectionOf);
@@ -144,8 +130,6 @@ function register(providers) {
     languages.registerDocumentHighlightProvider("raftbench", providers),
     languages.registerCodeLensProvider("raftbench", providers),
     languages.registerSelectionRangeProvider("raftbench", providers),
-    languages.registerRenameProvider("raftbench", providers),
-    languages.registerWorkspaceSymbolProvider(providers),
     // Editors before 1.67 have no inlay hints.
     ...(languages.registerInlayHintsProvider ? [languages.registerInlayHintsProvider("raftbench", providers)] : []),
   ];

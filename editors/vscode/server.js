@@ -117,27 +117,6 @@ class Server {
     return answer?.result;
   }
 
-  /**
-   * The same. If the server refuses the request, an error with its sentence is thrown, which the editor shows.
-   * @param {string} method
-   * @param {vscode.TextDocument} document
-   * @param {object} params
-   */
-  async demand(method, document, params) {
-    const answer = await this.client?.request(`textDocument/${method}`, { textDocument: { uri: document.uri.toString() }, ...params });
-    if (answer?.error) throw new Error(answer.error.message);
-    return answer?.result;
-  }
-
-  /**
-   * The symbols of all open scripts whose names match, or undefined if there is no server.
-   * @param {string} query
-   */
-  async find(query) {
-    const answer = await this.client?.request("workspace/symbol", { query });
-    return answer?.result;
-  }
-
   /** @param {vscode.TextDocument} document */
   tell(document) {
     const { languageId, version } = document;

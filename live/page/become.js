@@ -1,7 +1,7 @@
 // Has an element become another one: what of it is as it is to be stays, so that the browser neither lays that out nor paints it again, the focus stays in
 // it, and so does a press. What a button does is found by its key when it is pressed, so a button only becomes one with the same key.
 
-/** @typedef {Map<Node, Node>} Kept what stayed, and in a group of the picture what is in it, by what it is in the place of */
+/** @typedef {Map<Node, Node>} Kept what stayed, by what it is in the place of */
 
 /**
  * Makes these the children of an element.
@@ -58,8 +58,8 @@ function sameIn(olds, news, kept) {
  * @param {Kept} [kept]
  */
 function pair(old, child, kept) {
-  kept?.set(child, old);
-  if (kept && child.nodeName === "g") {
+  if (kept) {
+    kept.set(child, old);
     child.childNodes.forEach((own, at) => pair(old.childNodes[at], own, kept));
   }
 }

@@ -5,14 +5,14 @@ import { Beside } from "./beside.js";
 import { byId } from "./dom.js";
 import { follow } from "./following.js";
 import { begin, editChosen } from "./forms.js";
-import { afterFrame, writeAddressLater } from "./frames.js";
+import { afterFrame, now, writeAddressLater } from "./frames.js";
 import { makeLegend } from "./legend.js";
-import { LivePage } from "./livepage.js";
+import { LivePage, LONG } from "./livepage.js";
 import { directiveOf } from "./meant.js";
 import { Motion } from "./motion.js";
 import { Offers } from "./offers.js";
+import { tellCounts } from "./page.js";
 import { countPresses } from "./presses.js";
-import { AT_ONCE, Reading } from "./reading.js";
 import { Run } from "./run.js";
 import { Gone, Refusal, Talk } from "./talk.js";
 import { Theirs } from "./theirs.js";
@@ -48,6 +48,10 @@ import { Ways } from "./ways.js";
 
 /** @typedef {About & { rows?: Row[], since?: number, stretch?: Stretch }} Told all rows of a script, or what of it has changed since a version */
 
+// So many directives after an edit show at once; the rest follows when there is time, some at a time.
+const AT_ONCE = 200;
+const AT_A_TIME = 500;
+
 export class Live {
   /** @param {Talk} talk */
   constructor(talk) {
@@ -67,7 +71,6 @@ export class Live {
     this.isAsking = false;
     /** Which directive was chosen when that was asked for. */
     this.askedAt = 0;
-    this.reading = new Reading(this);
     this.turns = new Turns();
     /** The newest version that was heard of. */
     this.heard = 0;
@@ -116,18 +119,47 @@ export class Live {
     if (!rows && !(isBased && this.run && (!stretch || this.run.change(stretch, state.of)))) {
       return this.take(await this.talk.post("state", { branch: state.branch }), isOwn);
     }
-    // The browser gets the next frame ready while this one is made.
-    requestAnimationFrame(() => {});
     this.run = rows ? new Run(rows) : this.run;
     const place = isOwn || !this.page ? state.chosen : Math.min(this.page.chosen.place, state.of);
     const isOther = this.state?.branch !== state.branch;
     this.state = state;
-    await this.reading.upTo(place);
+    await this.readUpTo(place);
     this.keepingFocus(() => this.draw(state, rows ? -1 : stretch ? stretch.front : state.of, place, isOther));
     afterFrame(() => {
       this.offers.ask();
       this.theirs.renew();
     });
+  }
+
+  /**
+   * Has the rows come up to those of a directive: after an edit only some come at once.
+   * @param {number} place
+   */
+  async readUpTo(place) {
+    const { run, state } = this;
+    try {
+      while (run && run === this.run && state === this.state && run.missing > 0 && run.steps.length < place) {
+        await this.askRows(run);
+      }
+    } catch (fault) {
+      // Where the script has changed meanwhile, another one is shown soon.
+      if (!(fault instanceof Refusal)) {
+        throw fault;
+      }
+    }
+  }
+
+  /**
+   * Asks for more rows. Where another script is shown by then, nothing is done.
+   * @param {Run} run
+   */
+  async askRows(run) {
+    const { state, talk } = this;
+    const { version } = run;
+    const more = await talk.post("rows", { branch: state?.branch, version: state?.version, from: run.steps.length });
+    if (run === this.run && state === this.state && version === run.version) {
+      run.add(more);
+    }
   }
 
   /**
@@ -176,7 +208,42 @@ export class Live {
       this.made = this.page = new LivePage(model, this);
       this.page.choose(position);
     }
-    this.reading.goOn();
+    this.readOn();
+  }
+
+  /** Reads what is left of a long run, some at a time, once what is read so far is drawn. */
+  readOn() {
+    const { run, page } = this;
+    if (run?.isWhole) {
+      // What is told at once of a short run takes long for one of thousands.
+      (run.of > LONG && byId("counts").textContent ? afterFrame : now)(() => tellCounts(run.model));
+    } else if (run && page) {
+      const { version } = run;
+      afterFrame(() => {
+        if (run === this.run && version === run.version) {
+          this.readSome(run, page).catch((fault) => this.lost(fault));
+        }
+      });
+    }
+  }
+
+  /**
+   * @param {Run} run
+   * @param {LivePage} page
+   */
+  async readSome(run, page) {
+    const { version } = run;
+    if (run.count === run.steps.length && run.missing > 0) {
+      await this.askRows(run);
+    }
+    if (run === this.run && page === this.page && version === run.version) {
+      page.goFurther(run.goOn(AT_A_TIME));
+      if (run.isWhole) {
+        page.finish();
+        this.bar.draw();
+      }
+      this.readOn();
+    }
   }
 
   /**

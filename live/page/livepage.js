@@ -99,11 +99,11 @@ class LiveState extends State {
   }
 
   /**
-   * Has the buttons of a node in their group say what it may do. The group is busy as long as that isn't known.
+   * Puts the buttons of a node into their group, which is busy as long as it isn't known what the node may do.
    * @param {HTMLElement} group
    */
   fill(group) {
-    become(group, this.buttonsOf(Number(group.dataset.node)));
+    group.replaceChildren(...this.buttonsOf(Number(group.dataset.node)));
     group.setAttribute("aria-busy", String(!this.live.offers.areKnown));
   }
 
@@ -128,7 +128,7 @@ class LiveState extends State {
     ];
   }
 
-  /** Has the buttons say more, once more is known of what the nodes may do. */
+  /** Makes the buttons anew, once more is known of what the nodes may do. */
   renewButtons() {
     for (const group of /** @type {NodeListOf<HTMLElement>} */ (this.pane.querySelectorAll("[data-node]"))) {
       this.fill(group);

@@ -23,9 +23,6 @@ export class Writing {
     this.items = [];
     this.at = -1;
     this.asked = 0;
-    this.isAsking = false;
-    /** Whether something was written since it was asked last. */
-    this.isWanted = false;
     this.list = withAttributes(element("ul", "live-offers"), { role: "listbox", id: `live-offers-${made}`, "aria-label": "What may be written here" });
     this.hint = withAttributes(element("div", "live-hint"), { role: "status" });
     withAttributes(field, { autocomplete: "off", spellcheck: "false", role: "combobox", "aria-controls": this.list.id, "aria-expanded": "false", "aria-autocomplete": "list" });
@@ -41,25 +38,16 @@ export class Writing {
     this.show({ items: [], hints: [] });
   }
 
-  /** Asks what may be written where the cursor is: one question at a time, so that whoever writes fast doesn't wait for answers to earlier ones. */
+  /** Asks what may be written where the cursor is. */
   async offer() {
-    this.isWanted = true;
-    if (this.isAsking) {
-      return;
+    this.asked += 1;
+    const own = this.asked;
+    const { value } = this.field;
+    const before = value.slice(0, this.field.selectionStart ?? value.length).split("\n");
+    const found = await this.ask(before.length - 1, before[before.length - 1].length, value);
+    if (own === this.asked) {
+      this.show(found);
     }
-    this.isAsking = true;
-    while (this.isWanted) {
-      this.isWanted = false;
-      this.asked += 1;
-      const own = this.asked;
-      const { value } = this.field;
-      const before = value.slice(0, this.field.selectionStart ?? value.length).split("\n");
-      const found = await this.ask(before.length - 1, before[before.length - 1].length, value);
-      if (own === this.asked && !this.isWanted) {
-        this.show(found);
-      }
-    }
-    this.isAsking = false;
   }
 
   /** @param {Offer} offer */
@@ -111,7 +99,6 @@ export class Writing {
 
   close() {
     this.asked += 1;
-    this.isWanted = false;
     this.show({ items: [], hints: [] });
   }
 

@@ -157,14 +157,12 @@ class Search:
         if found.spec.early:
             self.early.add(found.name)
             return self.add_kinds(found)
-        # Where the reference failed nothing was looked for.
-        shows_nothing = not found.kinds and not found.fault
         if found.spec.number < 0:
             self.classics_tried += 1
-            self.classics_same += shows_nothing
+            self.classics_same += not found.kinds
         else:
             self.scripts += 1
-            self.same += shows_nothing
+            self.same += not found.kinds
         self.made.update(dict(found.made))
         self.compared += found.compared
         self.agreed += found.agreed

@@ -12,28 +12,43 @@ from plain.texts import body_text, config_text
 from ..compare.runner_steps import RunnerStep
 from ..compare.stage import Stage
 from ..process.node import HostedNode
-from .events import EVENTS
 
 Row = list[Any]
 SHOWN_CONTENT = 32
-# The lines of events, and the names of their rows.
-LINES = [(re.compile(line), name) for line, name in EVENTS]
-ANSWERS = {"granted": 1, "refused": 0}
+# The lines of a node's events, and the names of their rows. A group of digits is a number.
+EVENTS = [
+    (re.compile(r"(\d+) became (\w+) at term (\d+)"), "became"),
+    (re.compile(r"(\d+) can't campaign: (.*)"), "cannot-campaign"),
+    (re.compile(r"(\d+) ignored (\w+) from (\d+)"), "ignored"),
+    (re.compile(r"(\d+) dropped a proposal"), "dropped-proposal"),
+    (re.compile(r"(\d+) conflict at (\d+), commit (\d+)"), "conflict"),
+    (re.compile(r"(\d+) appends nothing: index limit"), "appends-nothing"),
+    (re.compile(r"(\d+) replaced change at (\d+) by an empty entry: (.*)"), "replaced-change"),
+    (re.compile(r"(\d+) switched to (.*)"), "switched"),
+    (re.compile(r"(\d+) refused change at (\d+): (\w+)"), "refused-change"),
+    (re.compile(r"(\d+) restored snapshot (\d+)/(\d+)"), "restored"),
+    (re.compile(r"(\d+) starts transfer to (\d+)"), "transfer-starts"),
+    (re.compile(r"(\d+) ends transfer to (\d+)"), "transfer-ends"),
+    (re.compile(r"(\d+) lost its quorum"), "lost-quorum"),
+    (re.compile(r"(\d+) started at .*"), "started"),
+    (re.compile(r"(\d+) restarted at term=(\d+) vote=(\d+) log=(\d+)\.\.(\d+) commit=(\d+)"), "restarted"),
+]
+VOTE = re.compile(r"(\d+) has (\w+) (granted|refused) from (\d+): (\w+)")
 VERBS = {"queue": "queue", "deliver": "deliver", "drop": "drop", "no room for": "no-room"}
-
-
-def cell_of(word: str) -> int | str:
-    """A part of an event's line, as a cell: a number, an answer, or a text."""
-    return int(word) if word.isdigit() else ANSWERS.get(word, word)
 
 
 def event_row(text: str, node: int) -> Row | None:
     """The row of an event's line; None for a line that isn't in the form of docs/SCRIPTS.md, or of another node."""
-    for line, name in LINES:
-        if found := line.fullmatch(text):
-            row: Row = [name, *map(cell_of, found.groups())]
-            return row if row[1] == node else None
-    return None
+    if found := VOTE.fullmatch(text):
+        id, kind, answer, sender, result = found.groups()
+        row: Row = ["vote", int(id), kind, int(answer == "granted"), int(sender), result]
+    else:
+        matches = ((form.fullmatch(text), name) for form, name in EVENTS)
+        matched = next(((found, name) for found, name in matches if found), None)
+        if matched is None:
+            return None
+        row = [matched[1], *(int(word) if word.isdigit() else word for word in matched[0].groups())]
+    return row if row[1] == node else None
 
 
 def message_cells(m: Message) -> list[Any] | None:
@@ -131,15 +146,6 @@ class Recorder(Stage):
         self.rows: list[Row] = []
         self.shown_nodes: dict[int, ShownNode] = {}
         self.mail = Mail()
-        self.is_between = False  # whether steps of the runner are carried out, which are above a directive and no part of its output
-
-    def happens(self, row: Row | None, is_printed: bool | None = None) -> None:
-        """Records something that happens: a `-` before the name says that no line shows it, and `line` is a line of what has no row."""
-        is_shown = self.shown != "none" if is_printed is None else is_printed
-        if row:
-            self.rows.append(row if is_shown and not self.is_between else ["-" + row[0], *row[1:]])
-        elif is_shown and not self.is_between:
-            self.rows.append(["line"])
 
     def record_changes(self, id: int) -> None:
         self.rows += self.shown_nodes.setdefault(id, ShownNode()).changes(self.nodes[id])
@@ -158,38 +164,33 @@ class Recorder(Stage):
             self.record_changes(id)
 
     def put_events(self, node: AnyNode) -> None:
-        for event in list(node.events):
-            node.events, before = [event], len(self.lines)
-            super().put_events(node)
-            self.happens(event_row(event[1], node.id), len(self.lines) > before)
+        self.rows += filter(None, (event_row(text, node.id) for _, text in node.events))
+        super().put_events(node)
 
     def put_message(self, verb: str, message: Message) -> None:
         cells = message_cells(message)
         if cells:
             if verb in ("deliver", "drop"):
-                for row in self.mail.rows_before(message, self.network.pending):
-                    self.happens(row, False)
+                self.rows += self.mail.rows_before(message, self.network.pending)
             elif verb == "queue":
                 self.mail.pending.append(message)
             else:
                 self.mail.pending = [m for m in self.mail.pending if m is not message]
-        self.happens([VERBS[verb], *cells] if cells else None)
+            self.rows.append([VERBS[verb], *cells])
         super().put_message(verb, message)
 
     def take_ready(self, id: int) -> Ready:
         ready = super().take_ready(id)
-        self.happens(["ready", id])
+        self.rows.append(["ready", id])
         if ready.hard:
-            self.happens(["hard", *ready.hard])
+            self.rows.append(["hard", *ready.hard])
         if ready.snapshot:
-            self.happens(["snapshot", *ready.snapshot[::-1]])
-        for verb, entries in (("save", ready.entries), ("apply", ready.committed)):
-            for pair in entries:
-                self.happens(entry_row(verb, *pair))
-        for message in ready.messages:
-            cells = message_cells(message)
-            self.happens(["send", *cells] if cells else None)
-            self.mail.pending += [message] if cells else []
+            self.rows.append(["snapshot", *ready.snapshot[::-1]])
+        self.rows += [entry_row("save", *pair) for pair in ready.entries]
+        self.rows += [entry_row("apply", *pair) for pair in ready.committed]
+        known = [(m, cells) for m in ready.messages if (cells := message_cells(m))]
+        self.rows += [["send", *cells] for _, cells in known]
+        self.mail.pending += [m for m, _ in known]
         return ready
 
     def process(self, id: int) -> bool:
@@ -201,28 +202,21 @@ class Recorder(Stage):
         for id in words:
             is_idle = not self.has_work([id]) or not self.nodes[id].has_ready() and id not in self.under_way
             super().do_process_ready([id], *rest)
-            if is_idle:
-                self.happens(["nothing-ready", id])
+            self.rows += [["nothing-ready", id]] if is_idle else []
 
     def do_deliver_msgs(self, words: Any, options: Any, given: Any) -> None:
         before = len(self.rows)
         self.mail.choice = Choice(options.get("type"), options.get("from"), options.get("skip", 0))
         super().do_deliver_msgs(words, options, given)
         self.mail.choice = Choice()
-        if len(self.rows) == before:
-            self.happens(["no-messages"])
+        self.rows += [] if len(self.rows) > before else [["no-messages"]]
 
     def do_stabilize(self, words: Any, options: Any, given: Any) -> None:
         super().do_stabilize(words, options, given)
         if self.has_work(sorted(set(words)) or list(self.nodes)):
-            self.happens(["stopped", options.get("rounds", 200)])
+            self.rows.append(["stopped", options.get("rounds", 200)])
 
     # The runner's steps
-
-    def carry_out(self, steps: Sequence[RunnerStep]) -> None:
-        self.is_between = True
-        super().carry_out(steps)
-        self.is_between = False
 
     def do_to_node(self, step: RunnerStep) -> None:
         super().do_to_node(step)
@@ -233,8 +227,7 @@ class Recorder(Stage):
         if when == "restart":
             self.record_changes(id)
         else:
-            self.happens(["started", id], False)
-            self.rows.append(["reason", f"crashed {when}, and restarted"])
+            self.rows += [["started", id], ["reason", f"crashed {when}, and restarted"]]
 
 
 def text_cell(data: bytes) -> str:

@@ -1,14 +1,15 @@
 """How long processes waited for a processor. On a busy machine a late answer isn't the nodes' fault, so this time doesn't count."""
 from __future__ import annotations
 
-import collections
+import contextlib
 import os
 import pathlib
+from typing import Iterator
 
 
-def waited(root: int) -> float:
-    """The seconds for which this process, another, and all that descend from that could run and had no processor, as far as Linux tells."""
-    return sum(map(waited_of, {os.getpid(), *family_of(root)}))
+def waited(group: int, mark: str = "") -> float:
+    """The seconds for which this process, those of a group, and those in other sessions with a mark could run and had no processor, as far as Linux tells."""
+    return sum(map(waited_of, {os.getpid(), *processes_of(group), *(marked_with(mark) if mark else ())}))
 
 
 def waited_of(process: int) -> float:
@@ -22,15 +23,19 @@ def waited_of(process: int) -> float:
     return max(waits, default=0.0)
 
 
-def family_of(root: int) -> list[int]:
-    """A process and all that descend from it."""
-    children: collections.defaultdict[int, list[int]] = collections.defaultdict(list)
+def processes_of(group: int) -> Iterator[int]:
     for path in pathlib.Path("/proc").glob("[0-9]*/stat"):
         try:
-            children[int(path.read_text(errors="replace").rpartition(")")[2].split()[1])].append(int(path.parent.name))
-        except (OSError, ValueError, IndexError):
+            parts = path.read_text(errors="replace").rpartition(")")[2].split()
+        except OSError:
             continue
-    family = [root]
-    for each in family:
-        family += children[each]
-    return family
+        if len(parts) > 2 and parts[2] == str(group):
+            yield int(path.parent.name)
+
+
+def marked_with(mark: str) -> Iterator[int]:
+    """The processes that have this in their environment, as far as Linux shows them."""
+    for path in pathlib.Path("/proc").glob("[0-9]*/environ"):
+        with contextlib.suppress(OSError):
+            if mark.encode() in path.read_bytes().split(b"\0"):
+                yield int(path.parent.name)

@@ -1,25 +1,26 @@
 """The process that hosts your nodes: a call is a line to it, an answer a line from it. If it hangs, dies, or writes what isn't an answer, the call raises
 `CallFailure` with a sentence, and the process is killed. The next script starts a new one.
 
-A keeper (keeper.py) starts the process, and kills it and all that it started when the tool ends, however it ends: the keeper reads a pipe that only the
-tool holds open.
+The process runs in a group of its own, with a mark in its environment. A watchdog kills the group, and whatever has the mark, when the tool ends, however
+it ends: it reads a pipe that only the tool holds open.
 """
 from __future__ import annotations
 
+import contextlib
 import importlib
 import json
 import os
-import pathlib
+import secrets
 import select
+import signal
 import subprocess
-import sys
 import time
 from typing import IO, Any, Callable, Sequence
 
 from ..protocol.answers import hello_in
 from ..protocol.encoding import VERSION, Hello, Json, Parts, Wrong, printable, shown
 from .cache import Transcript
-from .delays import waited
+from .delays import marked_with, waited
 
 
 def json_functions() -> tuple[Callable[[bytes], Any], Callable[[Any], bytes]]:
@@ -48,7 +49,13 @@ MOST_ERRORS = 2000
 # So many calls of a batch have the time of one.
 CALLS_IN_TIME = 100
 CHUNK = 1 << 16
-KEEPER = pathlib.Path(__file__).with_name("keeper.py")
+# What all that a command starts has in its environment, with a value of its own: so it is found in whatever group it is.
+MARK = "RAFTBENCH_ADAPTER"
+# Reads the group's number, and kills that group at the end of its input, and what has the mark. Nothing but SIGKILL ends it before.
+WATCHDOG = (
+    'trap "" INT TERM HUP QUIT; read group || exit; while read line; do :; done; kill -s KILL -- "-$group"; '
+    'for file in $(grep -ls "$0" /proc/[0-9]*/environ); do file=${file#/proc/}; kill -s KILL "${file%/environ}"; done'
+)
 
 
 class CallFailure(Exception):
@@ -81,6 +88,26 @@ def error_of(call: Json, answer: Json) -> CallFailure:
     return CallFailure(call, "error: " + printable(error if isinstance(error, str) else shown(error)), at=printable(at)[:80] if isinstance(at, str) else "")
 
 
+class Watchdog:
+    """Kills a process group when this process ends. It is started before the group, whose first process names itself."""
+
+    def __init__(self, mark: str) -> None:
+        reads, self.writes = os.pipe()
+        # It holds none of the streams that others may read to their ends.
+        self.process = subprocess.Popen(["/bin/sh", "-c", WATCHDOG, mark], stdin=reads, stdout=subprocess.DEVNULL, stderr=subprocess.DEVNULL, start_new_session=True)
+        os.close(reads)
+
+    def watch_this_process(self) -> None:
+        """Called in the new process before it becomes the command: the pipe stays open up to then."""
+        os.write(self.writes, b"%d\n" % os.getpid())
+
+    def end(self) -> None:
+        """Ends it without killing anything."""
+        self.process.kill()
+        self.process.wait()
+        os.close(self.writes)
+
+
 class Process:
     """A command, started by the first `reset` and again after each failure."""
 
@@ -107,27 +134,24 @@ class Process:
         return self.hello.without
 
     def start(self) -> None:
-        watched, self.held = os.pipe()
-        self.status, status = os.pipe()
-        command = ["/bin/sh", "-c", self.command] if isinstance(self.command, str) else list(self.command)
+        value = f"{os.getpid()}-{secrets.token_hex(8)}"
+        self.mark = f"{MARK}={value}"
+        watchdog = Watchdog(self.mark)
         try:
             self.process = subprocess.Popen(
-                [sys.executable, "-I", "-S", str(KEEPER), str(watched), str(status), *command], stdin=subprocess.PIPE, stdout=subprocess.PIPE,
-                stderr=subprocess.PIPE, bufsize=0, start_new_session=True, pass_fds=(watched, status),
+                self.command, shell=isinstance(self.command, str), stdin=subprocess.PIPE, stdout=subprocess.PIPE, stderr=subprocess.PIPE,
+                bufsize=0, start_new_session=True, preexec_fn=watchdog.watch_this_process, env={**os.environ, MARK: value},
             )
         except BaseException:
-            os.close(self.held)
-            os.close(self.status)
+            watchdog.end()
             raise
-        finally:
-            os.close(watched)
-            os.close(status)
+        self.watchdog = watchdog
         self.pipes = [pipe.fileno() for pipe in streams_of(self.process)]
         for pipe in self.pipes:
             os.set_blocking(pipe, False)
         self.rest, self.errors = bytearray(), b""
         self.ended: set[int] = set()
-        self.waited = waited(self.process.pid)
+        self.waited = waited(self.process.pid, self.mark)
         self.starts += 1
         call = {"call": "hello", "protocol": VERSION}
         answer = self.ask(call)
@@ -138,12 +162,17 @@ class Process:
             raise self.failed(call, str(wrong)) from None
 
     def close(self) -> None:
-        """Ends the process and all that it started, whatever groups and sessions these are in."""
+        """Ends the process and all that it started, in its group and in others."""
         if self.process is None:
             return
-        os.close(self.held)
+        with contextlib.suppress(ProcessLookupError):
+            os.killpg(self.process.pid, signal.SIGKILL)
+        for process in marked_with(self.mark):
+            with contextlib.suppress(ProcessLookupError):
+                os.kill(process, signal.SIGKILL)
+        # The number isn't another group's until this process is waited for.
+        self.watchdog.end()
         self.process.wait()
-        os.close(self.status)
         for pipe in streams_of(self.process):
             pipe.close()
         self.process = None
@@ -239,9 +268,11 @@ class Process:
                     raise self.failed(calls[len(lines)], self.too_late(call, seconds))
 
     def excused_seconds(self, seconds: float) -> float:
-        """For how long this process and the nodes' had no processor since this was asked last; nothing if that is little. It isn't theirs."""
+        """For how long this process and the nodes', also those in other sessions, had no processor since this was asked last; nothing if that is little. It
+        isn't theirs.
+        """
         assert self.process is not None
-        now = waited(self.process.pid)
+        now = waited(self.process.pid, self.mark)
         excused, self.waited = now - self.waited, now
         if excused < seconds / 10:
             return 0.0
@@ -278,10 +309,11 @@ class Process:
         return f"no answer within {seconds:g} s" + (": is each answer flushed?" if call["call"] == "hello" else "")
 
     def how_it_ended(self) -> str:
-        text = os.read(self.status, 16) if select.select([self.status], [], [], 0.5)[0] else b""
-        if not text:
+        assert self.process is not None
+        try:
+            status = self.process.wait(0.5)
+        except subprocess.TimeoutExpired:
             return "it closed its output"
-        status = int(text)
         return f"it ended by signal {-status}" if status < 0 else f"it ended with status {status}"
 
     def failed(self, call: Json, why: str) -> CallFailure:

@@ -78,11 +78,6 @@ class LogPart:
         at = index - self.base - 1
         return self.list[at] if 0 <= at < self.length else None
 
-    def there(self, index: int) -> str:
-        """What it has at an index, for a text."""
-        entry = self.get(index)
-        return f"has {entry_text(index, entry) if entry else 'nothing'} there"
-
     def pairs(self, most: int) -> Iterator[tuple[int, Entry]]:
         """Indexes with their entries, up to an index."""
         return zip(range(self.base + 1, min(most, self.last()) + 1), self.list)
@@ -212,7 +207,7 @@ class Promises:
         if term == node.term:
             lost = next((index for index, entry in entries.items() if index > node.base and log.get(index) != entry), None)
             if lost is not None:
-                self.note(f"acknowledged entries are held: {node.id} acknowledged {entry_text(lost, entries[lost])} in term {term}, and {log.there(lost)}")
+                self.note(f"acknowledged entries are held: {node.id} acknowledged {lost} in term {term}, and lacks it")
 
     def look_at_led(self, node: AnyNode, log: LogPart) -> None:
         """While it leads, a leader keeps what its log has."""
@@ -223,7 +218,7 @@ class Promises:
         if term == node.term and not (had.base == log.base and log.up_to(had.last()) == had):
             lost = next((index for index, entry in had.pairs(had.last()) if index > log.base and log.get(index) != entry), None)
             if lost is not None:
-                self.note(f"a leader only appends: {node.id} leads in term {term}, had {entry_text(lost, had.list[lost - had.base - 1])}, and {log.there(lost)}")
+                self.note(f"a leader only appends: {node.id} leads in term {term}, had {entry_text(lost, had.list[lost - had.base - 1])}, and lacks it")
 
     def look_at_views(self, node: AnyNode, views: Mapping[int, ShownView]) -> None:
         """Looks at a leader's views: whom it hasn't heard in its term isn't active."""
@@ -245,7 +240,7 @@ class Promises:
     def look_at_leader(self, node: AnyNode, log: LogPart) -> None:
         for index, (term, entry, _) in self.entries.items():
             if term < node.term and index > node.base and log.get(index) != entry:
-                return self.note(f"a leader has all committed entries: {node.id}, in term {node.term}, lacks {entry_text(index, entry)}, and {log.there(index)}")
+                return self.note(f"a leader has all committed entries: {node.id}, in term {node.term}, lacks {index}")
         return None
 
     def compare(self, one: int, mine: LogPart, other: int, theirs: LogPart) -> None:
@@ -289,8 +284,7 @@ class Promises:
         if leader and leader.role == "leader" and leader.term == m.term == node.term and m.index in log:
             there = log_of(leader).get(m.index)
             if there is not None and there != log.get(m.index):
-                mine, theirs = entry_text(m.index, log.list[m.index - log.base - 1]), entry_text(m.index, there)
-                self.note(f"acknowledged entries are held: {node.id} acknowledges {mine} to {m.to}, which has {theirs} there")
+                self.note(f"acknowledged entries are held: {node.id} acknowledges {m.index} to {m.to}, which has another entry there")
         self.untold.setdefault(node.id, {}).update(log.pairs(m.index))
         if m.term == node.term:
             term, entries = self.promised.get(node.id, (0, {}))
@@ -334,9 +328,9 @@ class Promises:
         log, base = log_of(node), node.base
         acknowledged, all_saved = self.acknowledged.get(id, {}).items(), saved.entries.pairs(saved.entries.last())
         for name, kept in (("a restart keeps acknowledged entries", acknowledged), ("a restart keeps saved entries", all_saved)):
-            lost = next(((index, entry) for index, entry in kept if index > base and log.get(index) != entry), None)
+            lost = next((index for index, entry in kept if index > base and log.get(index) != entry), None)
             if lost is not None:
-                self.note(f"{name}: {id} had {entry_text(*lost)}, and {log.there(lost[0])}")
+                self.note(f"{name}: {id} lacks {lost}")
 
     def forget(self, id: int, saved: Saved, base: int) -> None:
         """What a node had not saved binds nobody: it has told nobody."""

@@ -6,7 +6,6 @@ from __future__ import annotations
 from typing import Callable, NamedTuple
 
 from plain.records import AnyNode, Message, Ready
-from plain.texts import entry_text
 
 # What a leader tells a follower about entries.
 FROM_LEADERS = ("MsgApp", "MsgHeartbeat", "MsgSnap")
@@ -105,11 +104,9 @@ class StepPromises:
             return
         log = dict(node.entries_from(node.base + 1))
         for name, entries in (("saves", ready.entries), ("applies", ready.committed)):
-            wrong = next(((index, entry) for index, entry in entries if index > node.base and log.get(index) != entry), None)
+            wrong = next((index for index, entry in entries if index > node.base and log.get(index) != entry), None)
             if wrong is not None:
-                there = log.get(wrong[0])
-                has = entry_text(wrong[0], there) if there else "nothing"
-                self.note(f"what is saved is the state: {node.id} {name} {entry_text(*wrong)}, and its log has {has} there")
+                self.note(f"what is saved is the state: {node.id} {name} at {wrong} another entry than its log has there")
 
 
 def last_of(node: AnyNode) -> tuple[int, int]:

@@ -31,7 +31,7 @@ from .arguments import MINUTES, add_common, add_comparing, add_exploring, checke
 # Of the minutes shrinking has this part.
 SHRINKS = 1 / 3
 # Shrinking some kinds on each processor takes about this many seconds, twice: with what others show, and again.
-SECONDS_OF_SHRINKING = 2.0
+SECONDS_OF_SHRINKING = 5.0
 # So many failures of the reference are shown.
 MOST_FAULTS = 3
 # What is said if nodes that take batches are asked one call at a time.

@@ -191,8 +191,7 @@ class PromiseFiles(Files):
 
     def __init__(self, given: argparse.Namespace) -> None:
         super().__init__(given)
-        self.scripts = self.kept = 0
-        self.excused: collections.Counter[str] = collections.Counter()  # broken promises, by what the script does
+        self.scripts = self.kept = self.joined = 0
         self.made: collections.Counter[str] = collections.Counter()
 
     def run(self, file: pathlib.Path, blocks: Sequence[Block], lines: Sequence[int]) -> list[Mark]:
@@ -205,14 +204,14 @@ class PromiseFiles(Files):
         if alone.failed:
             self.show_kind(file, alone.failed.kind(), difference_lines(f"{file}:{lines[alone.failed.place - 1]}", alone.failed))
         for broken in alone.broken:
-            self.excused.update([broken.excuse] if broken.excuse else [])
+            self.joined += bool(broken.excuse)
             self.show_broken(file, lines, broken)
         return [*([mark_of(alone.failed)] if alone.failed else []), *(Mark(broken.place, f"promise broken: {broken.text}") for broken in alone.broken)]
 
     def tell(self) -> None:
         print(made_line(self.made))
-        excused = "".join(f", {count} broken in {what} and not counted" for what, count in sorted(self.excused.items()))
-        print(f"{self.process.name}, held to Raft's promises: {self.scripts} script{'s' * (self.scripts != 1)}, {self.kept} in which all are kept{excused}")
+        joined = f", {self.joined} broken in joined clusters and not counted" if self.joined else ""
+        print(f"{self.process.name}, held to Raft's promises: {self.scripts} script{'s' * (self.scripts != 1)}, {self.kept} in which all are kept{joined}")
         self.tell_lacking()
         self.show_more()
 

@@ -11,7 +11,7 @@
 
 The command is spelled as in a shell: a word with blanks is quoted, `$'..'` has escapes, and `<&-`, `>&-`, `2>&-`, `>FILE` and `2>FILE` close
 a stream or send it to a file. It runs in an empty folder that has the files of the case. SCRIPT is the path of the case's script, in what is
-written too. `TIME` is what `check` took, at the end or in a suite.
+written too. `TIME` is what `check` took.
 
 Below the command each of these is a line of its own: `status N`; `any output`, `any errors` (not compared); `errors have LINE` (one of their
 lines); `cut to M..N` (it is run with its input, or else its script, cut to each of these lengths, and answers the same each time); `again`

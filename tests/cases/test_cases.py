@@ -29,8 +29,6 @@ MOST_ACCEPTED = 100_000
 # The case in which the program says that it was proved.
 OF_PROOF = "words/version"
 TIME = re.compile(rb"\d+\.\d{3} s\n\Z")
-# Those of suites.
-TIMES = re.compile(rb' time="\d+\.\d{3}"')
 
 
 @dataclasses.dataclass(frozen=True)
@@ -84,9 +82,7 @@ def outcome_of(case: Case, script: bytes | None, given: bytes | None) -> Outcome
                 [*shell, os.fsencode(PROGRAM), *words], cwd=room, input=given or b"", stdout=output, stderr=errors, timeout=MOST_SECONDS)
         left = {str(it.relative_to(room)): it.read_bytes() for it in sorted(room.rglob("*")) if it.is_file()}
     out, said = (text.replace(path, b"SCRIPT") for text in (done.stdout or b"", done.stderr or b""))
-    if case.words[:1] == (b"check",):
-        out = TIMES.sub(b' time="TIME"', TIME.sub(b"TIME\n", out))
-    return Outcome(done.returncode, out, said, left)
+    return Outcome(done.returncode, TIME.sub(b"TIME\n", out) if case.words[:1] == (b"check",) else out, said, left)
 
 
 def differences(case: Case, outcome: Outcome) -> Iterator[str]:

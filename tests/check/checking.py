@@ -79,8 +79,6 @@ def files(room: pathlib.Path, **texts: Any) -> None:
 
 
 UNWRITTEN = b"a.txt: the outputs could not be accepted; the file is as it was\n"
-# What is told of a file that has the name of a new one.
-TAKEN = b": the new text of a script, which a call that was killed left, or one that runs is writing; remove it if none runs\n"
 
 
 def as_nobody() -> Callable[..., object]:

@@ -230,11 +230,11 @@ def test_greatest_status(room: pathlib.Path) -> Iterator[str]:
 
 
 def test_one_script_without_memory(room: pathlib.Path) -> Iterator[str]:
-    """One script prints more than there is memory for; it is told, and the others go on. A `check` holds at most 32 MiB of outputs."""
+    """One script prints gigabytes; it is told, and the others go on. The system may not promise more than there is."""
     elected = ["add-nodes 3 voters=(1,2,3) index=10", "campaign 1", "stabilize log-level=none", "log-level none"]
     heads = [*elected, *["propose 1 " + "x" * 64] * 5000, "stabilize", *["raft-log 1 log-level=debug"] * 9000]
     files(room, a_txt=BAD, b_txt="".join(f"{head}\n----\n\n" for head in heads).encode(), c_txt=BAD)
-    limit = 32 << 20
+    limit = 300 * 1024 * 1024
     came = run(room, "--accept", ".", preexec_fn=lambda: resource.setrlimit(resource.RLIMIT_AS, (limit, limit)))
     accepted = b"".join(mismatch(f"./{name}.txt") + f"./{name}.txt: accepted 1 output\n".encode() for name in "ac")
     yield from differs("it", came, (5, accepted + totals(2, 2, accepted=2, failed=1), b"./b.txt: out of memory\n"))

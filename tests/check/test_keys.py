@@ -124,12 +124,12 @@ def test_end_of_the_input(room: pathlib.Path) -> Iterator[str]:
     for name, way in WAYS.items():
         put(room)
         status, got = way(room, (b"y", b"\x04"), ".")
-        if status != 1 or question(2, 3) + b"\n./a.txt: accepted 1 output\n" + quitted(1, 1) not in got or tree(room) != {"a.txt": ACCEPTED + b"\n" + BAD, "b.txt": BAD}:
+        if status != 1 or question(2, 2) + b"\n./a.txt: accepted 1 output\n" + quitted(1, 1) not in got or tree(room) != {"a.txt": ACCEPTED + b"\n" + BAD, "b.txt": BAD}:
             yield f"{name}: {status} {got!r} {tree(room)!r}"
     put(room)
     with terminal(without=termios.ECHO) as sides:
         status, got = asked_on(sides, [PROGRAM, "check", "--review", "--color=never", "."], room, (b"\x04",), KEYS)
-    if status != 1 or question(1, 3) + quitted(0, 1) not in got or tree(room) != {"a.txt": TWO, "b.txt": BAD}:
+    if status != 1 or question(1, 2) + quitted(0, 1) not in got or tree(room) != {"a.txt": TWO, "b.txt": BAD}:
         yield f"no more input: {status} {got!r}"
 
 

@@ -12,7 +12,7 @@ from tests.harness import PROGRAM
 
 URI, OTHER = "file:///script.txt", "file:///other.txt"
 SMALL = "log-level debug\n----\nno\n"
-STOPPED = "the script is not run from here on: an editor waits for 16,000,000 steps; raftbench run runs it all"
+STOPPED = "the script is not run from here on: an editor waits for 16,000,000 steps; raftbench check runs it all"
 NOT_RUN = {"code": -32803, "message": "the run of this script was stopped"}
 CANCELLED = {"code": -32800, "message": "the request was cancelled"}
 # Processor seconds. A run that stops takes some two; by a program without a proof, which checks each step, eighty. A letter runs nothing.

@@ -11,7 +11,7 @@ from typing import Any
 from plain import script
 from plain.cluster import Cluster
 from tests.editors.oracle import line_starts, position, shown
-from tests.editors.served import fault_line, served
+from tests.editors.served import served
 from tests.harness import TOP, matched
 
 FUNCTION, PROPERTY, VALUE = 3, 10, 12
@@ -34,35 +34,10 @@ MOST_NODES, MOST_WORDS = 32, 64
 
 # ---- where blocks stand
 
-def looks_like_directive(line: str) -> bool:
-    """Whether a line would be a directive of the table with a line ---- below it."""
-    if re.split(r"[ \t]+", line.strip(" \t"))[0] not in DIRECTIVES:
-        return False
-    try:
-        script.read_block(f"{line}\n\n----\n".encode())
-    except script.Fault:
-        return False
-    return True
-
-
-def below(text: str) -> str:
-    """What is served of a text below its first fault, with as many empty lines above it as there are others; nothing if there is no directive."""
-    lines, line = text.split("\n"), fault_line(text)
-    if line is None:
-        return ""
-    at = next((n for n in range(line, len(lines)) if looks_like_directive(lines[n].rstrip("\r"))), None)
-    return "" if at is None else served("\n" * at + "\n".join(lines[at:]))
-
-
 def blocks(text: str) -> Any:
-    """Of each block that reads, above the first fault or below it, the first line of its head, the line behind that head, the line below its separator,
-    and the line behind its last line that isn't blank; lines count from 0, and end at LF."""
-    return [block for part in (served(text), below(text)) for block in blocks_of(part)]
-
-
-def blocks_of(text: str) -> Any:
-    """The same of a script."""
-    lines, found = script.lines_of(text.encode()), []
+    """Of each block that is served the first line of its head, the line behind that head, the line below its separator, and the line behind its last
+    line that isn't blank; lines count from 0, and end at LF."""
+    lines, found = script.lines_of(served(text).encode()), []
     reader = script.Reader(lines)
     while isinstance(block := reader.block(True), script.Block):
         head = reader.heads[-1] - 1
@@ -107,26 +82,6 @@ def symbols(text: str, encoding: str) -> Any:
         range_ = {"start": start, "end": start_of(text, end, encoding)}
         found.append({"name": shown(name), "kind": EVENT, "range": range_, "selectionRange": {"start": start, "end": start_of(text, behind, encoding)}})
     return found
-
-
-def found(text: str, uri: str, wanted: str, encoding: str) -> Any:
-    """The symbols in whose names the characters of a text appear in their order, in either case."""
-    lines, due = text.split("\n"), []
-    for head, behind, _, _ in blocks(text):
-        name = lines[head].rstrip("\r").lstrip(" \t")[:LONGEST_NAME]
-        left = iter(name.encode().lower())
-        if all(byte in left for byte in wanted.encode().lower()):
-            range_ = {"start": start_of(text, head, encoding), "end": start_of(text, behind, encoding)}
-            due.append({"name": shown(name), "kind": EVENT, "location": {"uri": uri, "range": range_}})
-    return due
-
-
-def help_below(text: str, line: int, encoding: str) -> Any:
-    """The directive below the first fault that has a line: its range, and the first word of its head; None if there is none."""
-    for head, _, _, end in blocks_of(below(text)):
-        if head <= line < end:
-            return {"start": start_of(text, head, encoding), "end": start_of(text, end, encoding)}, name_of(text.split("\n")[head])
-    return None
 
 
 # ---- the canonical text
@@ -373,12 +328,10 @@ def completion(text: str, at: int, encoding: str) -> Any:
         is_ids = [it for it in words if it not in asked[0]]
         found = [(word, kind, help_on(head, word, kind, (word, kind) in is_ids)) for word, kind in words if word.startswith(prefix)]
     range_ = {"start": position(text, at - len(prefix), encoding), "end": position(text, at, encoding)}
-    is_free = all(is_blank(line.rstrip("\r")) for line in text[at:].split("\n")[:2])
     items = []
     for word, kind, does in found:
         label = word + ("=" if kind == PROPERTY else "")
-        end = "\n----\n" if kind == FUNCTION and is_free else ""
-        items.append({"label": label, "kind": kind, "does": does, "textEdit": {"range": range_, "newText": label + end}})
+        items.append({"label": label, "kind": kind, "does": does, "textEdit": {"range": range_, "newText": label}})
     return items
 
 

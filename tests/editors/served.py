@@ -15,15 +15,6 @@ def served(text: str) -> str:
     return text
 
 
-def fault_line(text: str) -> int | None:
-    """The line of the first fault, which counts from 1; 1 if it has none. None of a script."""
-    try:
-        script.read_script(text.encode())
-    except script.Fault as fault:
-        return int(fault.args[1]) if len(fault.args) > 1 else 1
-    return None
-
-
 def is_script(text: str) -> bool:
     try:
         script.read_script(text.encode())

@@ -123,13 +123,6 @@ class DocumentSymbol {
   }
 }
 
-class SymbolInformation {
-  constructor(name, kind, container, location) {
-    assert(name && container === "" && location instanceof Location);
-    Object.assign(this, { name, kind, location });
-  }
-}
-
 class FoldingRange {
   constructor(start, end) {
     assert(Number.isInteger(start) && Number.isInteger(end));
@@ -172,7 +165,7 @@ class Task {
   }
 }
 
-const PROVIDERS = ["Hover", "CodeActions", "CompletionItem", "DocumentSymbol", "FoldingRange", "DocumentFormattingEdit", "DocumentRangeFormattingEdit", "Definition", "Reference", "DocumentHighlight", "CodeLens", "InlayHints", "SelectionRange", "Rename"];
+const PROVIDERS = ["Hover", "CodeActions", "CompletionItem", "DocumentSymbol", "FoldingRange", "DocumentFormattingEdit", "DocumentRangeFormattingEdit", "Definition", "Reference", "DocumentHighlight", "CodeLens", "InlayHints", "SelectionRange"];
 
 // What the editor has to say to its user, and does for an extension: `warnings` and `errors` are shown, `lines` are written down, and `done` are
 // commands, tasks and addresses that are opened. `chooses` is the button that the user presses, or undefined.
@@ -226,7 +219,6 @@ function editor(settings) {
   const languages = {
     createDiagnosticCollection: () => ({ set: (uri, list) => shown.set(uri, list), clear: () => shown.clear() }),
     setTextDocumentLanguage,
-    registerWorkspaceSymbolProvider: (provider) => Object.assign(providers, provider),
     ...Object.fromEntries(PROVIDERS.map((name) => [`register${name}Provider`, provided])),
   };
   const workspace = {
@@ -243,7 +235,7 @@ function editor(settings) {
     onDidChangeConfiguration: on("configuration"),
   };
   const Uri = { parse: (text) => text, file: (path) => ({ scheme: "file", path, fsPath: path, toString: () => `file://${path}` }) };
-  const types = { CodeAction, CodeActionKind, CodeLens, CompletionItem, Diagnostic, DiagnosticRelatedInformation, DocumentHighlight, DocumentSymbol, FoldingRange, Hover, InlayHint, Location, MarkdownString, Position, ProcessExecution, Range, SelectionRange, SnippetString, SymbolInformation, Task, TextEdit, WorkspaceEdit };
+  const types = { CodeAction, CodeActionKind, CodeLens, CompletionItem, Diagnostic, DiagnosticRelatedInformation, DocumentHighlight, DocumentSymbol, FoldingRange, Hover, InlayHint, Location, MarkdownString, Position, ProcessExecution, Range, SelectionRange, SnippetString, Task, TextEdit, WorkspaceEdit };
   return { api: { ...types, Uri, languages, workspace, ...api }, shown, providers, documents, tell, user: it, warnings: it.warnings, lines: it.lines };
 }
 

@@ -40,7 +40,7 @@ from tests.editors import oracle
 from tests.editors import plainly
 from tests.editors.client import MOST_SECONDS, Client, changed, framed, notification, opened, recorded, recorder, request, unframed
 from tests.editors.oracle import diagnostics, position
-from tests.editors.served import fault_line, served
+from tests.editors.served import served
 
 CASES = sorted((HERE / "cases").glob("*.json"))
 URI = "file:///script.txt"
@@ -56,8 +56,6 @@ FIXES = {
     "this looks like a directive inside input": ("Insert the missing ---- and an empty line", "----\n\n"),
     "this is input": ("Insert the missing ----", "----\n"),
 }
-# What `check` says of an output that isn't closed.
-NO_END = "the output below this ---- has no end"
 NOT_OPEN = {"code": -32602, "message": "the document isn't open"}
 # How many lists of edits are tried, each on a script as it stands.
 EDITING_LISTS = 500
@@ -385,39 +383,9 @@ def missing_index(_edits: int) -> Iterator[str]:
             yield message
 
 
-def other_hover(text: str, place: Any, encoding: str, told: Any) -> Iterator[str]:
-    """Texts for what is wrong with what is shown of a position: the run of the text above the first fault, or help on a directive below it."""
-    if (found := offers.help_below(text, plainly.line_of(text, place, encoding), encoding)) is None:
-        if told != (due := plainly.hover(served(text), place, encoding)):
-            yield f"{told}, and due is {due}"
-    elif told is None or (told["range"], told["contents"]["value"].split()[:1]) != (found[0], [found[1]]):
-        yield f"{told}, and due is help on {found}"
-
-
-def missing_line(text: str) -> tuple[int, int] | None:
-    """If the output below a line ---- has no end, and has a directive: both lines, counted from 1."""
-    if (line := fault_line(text)) is None or NO_END not in oracle.diagnostics(PROGRAM, text, "utf-8")[-1]["message"]:
-        return None
-    lines = [it.rstrip("\r") for it in text.split("\n")]
-    for n in range(line, len(lines)):
-        if lines[n].strip(" \t") in ("", "----"):
-            return None
-        if offers.looks_like_directive(lines[n]):
-            return line, n + 1
-    return None
-
-
-def other_actions(whole: str, start: Any, end: Any, encoding: str, told: Any) -> Iterator[str]:
+def other_actions(text: str, start: Any, end: Any, encoding: str, told: Any) -> Iterator[str]:
     """Texts for what is wrong with the actions that are told for a range: of each the edits must make the script that is due. Where a line looks
     like a slip there is its quick fix alone."""
-    first, last = (plainly.line_of(whole, place, encoding) for place in (start, end))
-    if (missing := missing_line(whole)) and first < missing[1] and missing[0] - 1 <= last:
-        title, new = FIXES["this looks like a directive inside an expectation"]
-        due = [(title, "quickfix", [{"range": plainly.range_of(whole, missing[1] - 1, missing[1] - 1, encoding), "newText": new}])]
-        if (got := [(it["title"], it["kind"], it["edit"]["changes"][URI]) for it in told]) != due:
-            yield f"{got}, and due is {due}"
-        return
-    text = served(whole)
     first, last = (plainly.line_of(text, place, encoding) for place in (start, end))
     if slips := oracle.slips(oracle.checked(PROGRAM, text, ["--color", "never"])[1]):
         if (got := [(it["title"], it["kind"], it["edit"]["changes"][URI]) for it in told]) != (fixes := fixes_due(slips, text, first, last, encoding)):
@@ -492,9 +460,9 @@ def questions(edits: int) -> Iterator[str]:
                 first, last = sorted(dice.randrange(len(text) + 1) for _ in range(2))
                 start, end = position(text, first, encoding), position(text, dice.choice([first, last]), encoding)
                 told = answer_of(client, version, "codeAction", range={"start": start, "end": end}, context={"diagnostics": []})
-                yield from (f"{path.name}, version {version}, {start}: {it}" for it in other_actions(text, start, end, encoding, told))
-                told = without_reasons(answer_of(client, -version, "hover", position=start))
-                yield from (f"{path.name}, version {version}, {start}: {it}" for it in other_hover(text, start, encoding, told))
+                yield from (f"{path.name}, version {version}, {start}: {it}" for it in other_actions(served(text), start, end, encoding, told))
+                if (told := without_reasons(answer_of(client, -version, "hover", position=start))) != (due := plainly.hover(served(text), start, encoding)):
+                    yield f"{path.name}, version {version}, {start}: {told}, and due is {due}"
                 text, *_ = edited(dice, text)
 
 
@@ -511,9 +479,9 @@ def questions_between_changes(_edits: int) -> Iterator[str]:
             for part in 1, 3:
                 place = position(text, len(text) * part // 4, "utf-16-le")
                 told = answer_of(client, version, "codeAction", range={"start": place, "end": place}, context={"diagnostics": []})
-                yield from (f"text {version}, {place}: {it}" for it in other_actions(text, place, place, "utf-16-le", told))
-                told = without_reasons(answer_of(client, -version, "hover", position=place))
-                yield from (f"text {version}, {place}: {it}" for it in other_hover(text, place, "utf-16-le", told))
+                yield from (f"text {version}, {place}: {it}" for it in other_actions(served(text), place, place, "utf-16-le", told))
+                if (told := without_reasons(answer_of(client, -version, "hover", position=place))) != (due := plainly.hover(served(text), place, "utf-16-le")):
+                    yield f"text {version}, {place}: {told}, and due is {due}"
 
 
 def accepted_by_check(_edits: int) -> Iterator[str]:
@@ -574,102 +542,6 @@ def slips_are_mended(_edits: int) -> Iterator[str]:
             left = [it for it in client.receive()["params"]["diagnostics"] if it["range"] == warned[0]["range"] and it["code"] == "slip"]
             if left:
                 yield f"{text!r}: {fixed!r} has {left}"
-
-
-def unclosed_outputs_are_mended(_edits: int) -> Iterator[str]:
-    """Where the next directive is directly below a line ----, or below an output, a quick fix puts in the empty line above it: at these lines alone."""
-    top, next_ = "add-nodes 1 voters=(1) index=10 log-level=none\n", "campaign 1 log-level=none\n----\n"
-    texts = [(f"{top}----\n{next_}", 2), (f"{top}----\nok\n{next_}", 3), (f"{top}----\n# \U0001d11e\n{next_}\nstatus 1\n----\n", 3), (f"{top}----\r\ncampaign 1\r\n----\r\n", 2),
-             (f"{top}----\ncampaing 1\n----\n", None), (f"{top}----\n----\nok\n{next_}", None), (f"{top}----\nok\n----\n{next_}----\n", None)]
-    for (text, line), (encoding, offered) in itertools.product(texts, ENCODINGS):
-        with Client(PROGRAM) as client:
-            client.begin(*offered)
-            client.send(opened(URI, text))
-            client.receive()
-            for at in range(text.count("\n") + 1):
-                place = {"line": at, "character": 0}
-                told = answer_of(client, at, "codeAction", range={"start": place, "end": place}, context={"diagnostics": []})
-                lines = text.split("\n")
-                due = [] if line is None or not 1 <= at <= line else ["\n".join([*lines[:line], "", *lines[line:]])]
-                if (made := [plainly.applied(text, it["edit"]["changes"][URI], encoding) for it in told if it["title"] == "Insert the missing empty line"]) != due:
-                    yield f"{text!r}, line {at}: {made}, and due is {due}"
-
-
-def found_everywhere(edits: int) -> Iterator[str]:
-    """The symbols of all open documents are found by characters of their names, each in its document, in the order in which these were last changed."""
-    dice = random.Random(67)
-    for encoding, offered in ENCODINGS:
-        with Client(PROGRAM) as client:
-            client.begin(*offered)
-            if not client.capabilities.get("workspaceSymbolProvider"):
-                raise NotHere("workspace/symbol")
-            texts = {f"file:///{n}": text for n, text in enumerate(itertools.islice(offered_texts(dice, min(edits, 2)), 60))}
-            for uri, text in texts.items():
-                client.send(opened(uri, text))
-                client.receive()
-            for number, wanted in enumerate(["", "camp", "CAMPAIGN 1", "c1", "nodes 3", "\U0001d11e", "status 2 ", "no such directive"]):
-                due = [it for uri, text in texts.items() for it in offers.found(text, uri, wanted, encoding)]
-                if (got := client.ask(number, "workspace/symbol", query=wanted)) != due:
-                    yield f"{wanted!r}: {got[:3]}, and due is {due[:3]}"
-            client.send(changed("file:///0", 2, {"text": "campaign 7\n----\n"}))
-            client.receive()
-            if [it["location"]["uri"] for it in client.ask(9, "workspace/symbol", query="campaign 7")] != ["file:///0"]:
-                yield "a document that was changed"
-            if (error := client.ask(10, "workspace/symbol")) != {"code": -32602, "message": "the method takes other params"}:
-                yield f"without a query: {error}"
-
-
-# A script, the place of an id in it, a new name, and what the rename makes of the script; or why there is none.
-NODES = "add-nodes 3 voters=(1,2,3) index=10 log-level=none\n----\nok\n\n"
-RENAMED: list[tuple[str, str, str, str]] = [
-    ("campaign 1\n----\nINFO 1 became candidate at term 1\n", "1\n----\nINFO", "2", "campaign 2\n----\nINFO 1 became candidate at term 1\n"),
-    ("deliver-msgs 1 2 from=(3) drop=(1, 3) skip=1\n----\n", "3)", "1", "deliver-msgs 3 2 from=(1) drop=(3, 1) skip=1\n----\n"),
-    ("transfer-leadership from=1 to=3\r\n----\r\nok\r\n", "3\r", "1", "transfer-leadership from=3 to=1\r\n----\r\nok\r\n"),
-    ("propose-conf-change 1\nv1 l2, r3\nu3\n----\nok\n", "2,", "3", "propose-conf-change 1\nv1 l3, r2\nu2\n----\nok\n"),
-    ("# node 1\n  send-snapshot \\\n  1 \\\n  2\n----\nok\n\npropose 1 1\n----\nok\n", "1 \\", "2", "# node 1\n  send-snapshot \\\n  2 \\\n  1\n----\nok\n\npropose 2 1\n----\nok\n"),
-    ("compact 2 11\n----\nok\n\nset-randomized-election-timeout 1 timeout=2\n----\nok\n", "2 11", "1", "compact 1 11\n----\nok\n\nset-randomized-election-timeout 2 timeout=2\n----\nok\n"),
-    ("campaign 1\n----\nok\n", "1\n", "1", "campaign 1\n----\nok\n"),
-]
-ANOTHER = "the new name must be the id of a node of this script: a rename swaps the two"
-NO_ID = "no directive names a node here; add-nodes gives ids in order, from 1"
-NOT_RENAMED: list[tuple[str, str, str, str]] = [
-    (f"{NODES}campaign 1\n----\nok\n", "1\n----", "4", ANOTHER),
-    (f"{NODES}campaign 1\n----\nok\n", "1\n----", "one", ANOTHER),
-    (f"{NODES}campaign 1\n----\nok\n", "1\n----", "0", ANOTHER),
-    (f"{NODES}campaign 4\n----\nok\n", "4\n----", "1", "no node of this script has this id"),
-    (f"{NODES}campaign 1\n----\nok\n", "3 voters", "1", NO_ID),
-    (f"{NODES}campaign 1\n----\nok\n", "10", "1", NO_ID),
-    (f"{NODES}campaign 1\n----\nok\n", "ok\n\n", "1", NO_ID),
-    (f"{NODES}campaign 1\n", "1\n", "2", "ids are renamed in scripts, and this text isn't one"),
-]
-
-
-def ids_are_renamed(_edits: int) -> Iterator[str]:
-    """A rename swaps two ids of nodes in heads and changes; a second one gives the text back. What isn't renamed is refused by a sentence, also when a
-    client asks first."""
-    swapped = [(NODES + text, at, new, re.sub("1,2,3", "".join({at[0]: new, new: at[0]}.get(it, it) for it in "1,2,3"), NODES) + due) for text, at, new, due in RENAMED]
-    for encoding, offered in ENCODINGS:
-        with Client(PROGRAM) as client:
-            client.begin(*offered)
-            for version, (text, at, new, due) in enumerate(swapped):
-                client.send(opened(URI, text, version))
-                client.receive()
-                place = position(text, text.index(at, len(NODES)), encoding)
-                told = answer_of(client, 1, "prepareRename", position=place)
-                if told != (range_ := {"start": place, "end": place | {"character": place["character"] + 1}}):
-                    yield f"{text!r}, {at!r}: {told}, and due is {range_}"
-                edits = answer_of(client, 2, "rename", position=place, newName=new)["changes"][URI]
-                if (made := plainly.applied(text, edits, encoding)) != due:
-                    yield f"{text!r}, {at!r} to {new}: {made!r}, and due is {due!r}"
-            for version, (text, at, new, sentence) in enumerate(NOT_RENAMED):
-                client.send(opened(URI, text, version))
-                client.receive()
-                place = position(text, text.index(at), encoding)
-                document = {"textDocument": {"uri": URI}, "position": place}
-                first, second = client.ask(3, "textDocument/prepareRename", **document), client.ask(4, "textDocument/rename", **document, newName=new)
-                refused = {"code": -32803, "message": sentence}
-                if second != refused or (sentence != ANOTHER and first != refused):
-                    yield f"{text!r}, {at!r} to {new}: {first}, {second}, and due is {sentence}"
 
 
 def later_mismatches(_edits: int) -> Iterator[str]:
@@ -904,14 +776,13 @@ def conversation() -> Any:
             for method in ("foldingRange", "documentSymbol", "codeLens", "diagnostic", "formatting"):
                 more: dict[str, Any] = options if method == "formatting" else {}
                 client.ask(next(number), f"textDocument/{method}", textDocument={"uri": URI}, **more)
-            client.ask(next(number), "workspace/symbol", query=text[:2])
             for at in dice.choices(range(len(text) + 1), k=4):
                 place = position(text, at, "utf-16-le")
                 acted = {"range": {"start": place, "end": place}, "context": {"diagnostics": []}}
                 asked: list[tuple[str, dict[str, Any]]] = [("hover", {"position": place}), ("completion", {"position": place}), ("codeAction", acted)]
                 asked += [("rangeFormatting", {"range": acted["range"], **options}), ("references", {"position": place, "context": {"includeDeclaration": True}})]
                 asked += [("inlayHint", {"range": acted["range"]}), ("selectionRange", {"positions": [place]})]
-                asked += [(method, {"position": place}) for method in ("definition", "documentHighlight", "prepareRename")]
+                asked += [(method, {"position": place}) for method in ("definition", "documentHighlight")]
                 for method, more in asked:
                     client.ask(next(number), f"textDocument/{method}", textDocument={"uri": URI}, **more)
     return client.talk
@@ -940,7 +811,7 @@ def by_the_meta_model(_edits: int) -> Iterator[str]:
         yield from (f"{name}: {it}" for it in metamodel.faults(model, talk) if not OWN_CAPABILITY.match(it))
 
 
-FUNCTIONS: list[Callable[[int], Iterator[str]]] = [in_neovim, in_vscode, in_monaco, by_the_meta_model, one_byte_at_a_time, cut_off, no_message, reader_that_goes, many_documents, too_many_documents, bounds.bounded_runs, bounds.bounded_comparisons, bounds.bounded_diffs, bounds.cancelled_requests, bounds.versions_that_go_back, other_texts, ends_of_lines, sizes, want_of_memory, refused_allocations, random_edits, editing_lists, what_came, folds, outlines, formatted, ranges_formatted, messages_found, completed, hinted, lensed, selected, reported, questions, hover_shows_reasons, wrong_words, missing_index, questions_between_changes, accepted_by_check, below_a_new_error, slips_are_mended, unclosed_outputs_are_mended, found_everywhere, ids_are_renamed, later_mismatches]
+FUNCTIONS: list[Callable[[int], Iterator[str]]] = [in_neovim, in_vscode, in_monaco, by_the_meta_model, one_byte_at_a_time, cut_off, no_message, reader_that_goes, many_documents, too_many_documents, bounds.bounded_runs, bounds.bounded_comparisons, bounds.bounded_diffs, bounds.cancelled_requests, bounds.versions_that_go_back, other_texts, ends_of_lines, sizes, want_of_memory, refused_allocations, random_edits, editing_lists, what_came, folds, outlines, formatted, ranges_formatted, messages_found, completed, hinted, lensed, selected, reported, questions, hover_shows_reasons, wrong_words, missing_index, questions_between_changes, accepted_by_check, below_a_new_error, slips_are_mended, later_mismatches]
 
 
 def results(word: str) -> Iterator[Result]:

@@ -115,19 +115,6 @@ async function findsMessages() {
   closed(mail);
 }
 
-// An id is renamed, or the server's sentence says why it isn't; heads of the open scripts are found by characters of their names.
-async function renamesAndFinds() {
-  const nodes = opened("nodes.txt", "add-nodes 2 voters=(1,2) index=10\n----\n\ncampaign 1\n----\n", "raftbench");
-  const place = new api.Position(3, 9);
-  assert.deepStrictEqual((await providers.prepareRename(nodes, place)).numbers, [3, 9, 3, 10]);
-  const { edits } = await providers.provideRenameEdits(nodes, place, "2");
-  assert.deepStrictEqual(edits.map(([uri, { range, newText }]) => [uri, range.numbers, newText]), [[nodes.uri, [0, 20, 3, 10], "2,1) index=10\n----\n\ncampaign 2"]]);
-  await assert.rejects(providers.prepareRename(nodes, new api.Position(0, 10)), /^Error: no directive names a node here; add-nodes gives ids in order, from 1$/);
-  const found = await providers.provideWorkspaceSymbols("CAMP 1");
-  assert.deepStrictEqual(found.map(({ name, kind, location }) => [name, kind, location.uri, location.range.numbers]), [["campaign 1", 23, nodes.uri, [3, 0, 4, 0]]]);
-  closed(nodes);
-}
-
 // The extension names the characters where words are asked for before a server runs: they are those that the server names.
 async function asksWhereTheServerSays() {
   const server = new Client(program, { hear() {}, hasGone: assert.fail, traced() {} });
@@ -288,7 +275,6 @@ async function main() {
   await offersWhatTheTextHas(document);
   await formats();
   await findsMessages();
-  await renamesAndFinds();
   await acceptsByALens(document);
   await hintsAndSelects();
   await asksWhereTheServerSays();

@@ -132,25 +132,6 @@ def check_ends() -> Iterator[Result]:
         yield result(f"{mode} of messages", ends_soon("messages that nobody takes", mode, UNSENT, 40_000))
 
 
-def ends_well(name: str, mode: str, script: bytes, status: int) -> str | None:
-    """What is wrong, where a subcommand is to end with this status in 300 MiB, though the script prints gigabytes."""
-    with tempfile.NamedTemporaryFile() as file:
-        file.write(script)
-        file.flush()
-        begun = time.monotonic()
-        path = f"{file.name}:{len(script.splitlines())}" if mode == "look" else file.name
-        output, errors, ended = answer([mode, path], b"", 300_000)
-    print(f"{mode} of {name}: {time.monotonic() - begun:.2f} s")
-    return None if ended == status else f"{mode} of {name}: {output[:200]!r}, {errors!r}, {ended}"
-
-
-def check_tools() -> Iterator[Result]:
-    """The same are refused by other subcommands before they take much memory. A look needs nothing of what is printed."""
-    for name, script in (("gigabytes of logs", GIGABYTES), ("gigabytes of rounds", ROUNDS)):
-        for mode, status in (("check", 3), ("page", 3), ("trace", 3), ("look", 0)):
-            yield result(f"{mode} of {name}", ends_well(name, mode, script, status))
-
-
 def check_page() -> str | None:
     """A page that has no room, by one directive or by many, is refused within 200 MiB."""
     for script in (to_and_fro(1, 1000), to_and_fro(400, 1)):
@@ -179,6 +160,5 @@ def results(word: str) -> Iterator[Result]:
     yield result("an empty script", problem)
     yield from check_steps(least)
     yield from check_ends()
-    yield from check_tools()
     yield result("pages that have no room", check_page())
     yield result("an edit that prints gigabytes", check_edit())

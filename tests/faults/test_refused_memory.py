@@ -6,7 +6,7 @@ A run, a rewriting or a page with a refusal ends with 5, its line on standard er
 that starts refuses the edits that find no memory, and answers everything else as if they hadn't been sent, with the costs that they
 have then; what shows the script and its outputs takes no memory, and is never refused. Each edit is sent twice, so that one that was
 refused is sent again with memory. What has to come is said by the plain bench (plain/). What is told for wrong words and for
-help needs memory too. A check with pages leaves none out.
+help needs memory too.
 """
 import concurrent.futures
 import functools
@@ -15,7 +15,7 @@ import os
 import pathlib
 import subprocess
 import tempfile
-from collections.abc import Callable, Iterator
+from collections.abc import Iterator
 from typing import NamedTuple
 
 from plain.directives import TABLE
@@ -84,11 +84,6 @@ MARK, MARK_REFUSED = b"sing\n", b"refused BadCommand\n"
 TALK = b"".join(command + MARK for command in COMMANDS)
 
 
-# A script that differs, and what is written of it.
-SMALL = b"add-nodes 1\n----\nok, but not so\n"
-PAGES = {"index.html", "page.css", "page.js", "small.html", "small.svg"}
-
-
 class Case(NamedTuple):
     """A call of the program, or without words of rb_plain, and what it answers with memory."""
 
@@ -103,9 +98,8 @@ class Room:
 
     def __init__(self, folder: str) -> None:
         self.folder = pathlib.Path(folder)
-        self.script, self.small, self.refuse = self.folder / "script", self.folder / "small.txt", self.folder / "refuse.so"
+        self.script, self.refuse = self.folder / "script", self.folder / "refuse.so"
         self.script.write_bytes(SCRIPT)
-        self.small.write_bytes(SMALL)
         subprocess.run(["cc", "-shared", "-fPIC", "-O2", "-o", self.refuse, TESTS / "faults" / "refuse.c", "-ldl"], check=True)
 
     def answer(self, words: list[str], given: bytes, at: int, onwards: bool) -> tuple[Answer, bool]:
@@ -149,22 +143,11 @@ def wrong_at(room: Room, case: Case, at: int, onwards: bool) -> tuple[str | None
     return f"at allocation {at}: {came[0][-300:]!r}, {came[1]!r}, {came[2]}", met
 
 
-def wrong_pages(room: Room, at: int) -> tuple[str | None, bool]:
-    """The same of a check with pages of what differs: if it doesn't end with 5, it has said what differs, and all pages are there."""
-    with tempfile.TemporaryDirectory() as folder:
-        site = pathlib.Path(folder) / "site"
-        came, met = room.answer(["check", "--quiet", "--pages", str(site), str(room.small)], b"", at, False)
-        pages = {it.name for it in site.rglob("*") if it.is_file()}
-    if came[2] == 5 or came[2] == 1 and pages == PAGES:
-        return None, met
-    return f"at allocation {at}: {came}, {sorted(pages)}", met
-
-
-def tried(pool: concurrent.futures.Executor, wrong_there: Callable[[int], tuple[str | None, bool]]) -> tuple[list[str], int]:
+def tried(room: Room, pool: concurrent.futures.Executor, case: Case, onwards: bool) -> tuple[list[str], int]:
     """What is wrong, and how many allocations were refused."""
     wrong = []
     for first in range(1, MOST, AT_ONCE):
-        told = list(pool.map(wrong_there, range(first, first + AT_ONCE)))
+        told = list(pool.map(lambda at: wrong_at(room, case, at, onwards), range(first, first + AT_ONCE)))
         wrong += [problem for problem, _ in told if problem]
         met = [met for _, met in told]
         if not all(met):
@@ -208,9 +191,6 @@ def results(word: str) -> Iterator[Result]:
                 name = f"{case.name}, and all later ones" if onwards else case.name
                 if word not in name:
                     continue
-                wrong, count = tried(pool, functools.partial(wrong_at, room, case, onwards=onwards))
+                wrong, count = tried(room, pool, case, onwards)
                 print(f"{name}: {count} refusals")
                 yield Result(name, tuple(wrong) if count >= 2 else (*wrong, "no two allocations are refused"))
-        if word in "pages of a check":
-            wrong, count = tried(pool, functools.partial(wrong_pages, room))
-            yield Result("pages of a check", tuple(wrong) if count >= 2 else (*wrong, "no two allocations are refused"))

@@ -71,18 +71,4 @@ def a_restart_says_before_what_it_loses(browser: Browser) -> None:
     on_script(browser, LED, does)
 
 
-def buttons_stay_once_more_is_known(browser: Browser) -> None:
-    """What the nodes may do is known a little later than what a click did. The buttons that say so then are those that were there."""
-    def does(player: Player, server: Running, path: pathlib.Path) -> None:
-        player.browser.call("Emulation.setEmulatedMedia", features=[{"name": "prefers-reduced-motion", "value": "reduce"}])
-        player.known()
-        player.browser.value("(window.own = [...document.querySelectorAll('[data-node] button')]).length")
-        player.click_to('[data-key="process-ready 1"]', 3, 3)
-        player.known()
-        same("what is said of node 1", player.browser.value("document.querySelector('[data-key=\"process-ready 1\"]').title"), "has nothing ready")
-        others = "[...document.querySelectorAll('[data-node] button')].filter((it) => !window.own.includes(it)).map((it) => it.dataset.key)"
-        same("the buttons that are others", player.browser.value(others), [])
-    on_script(browser, START + CAMPAIGN, does)
-
-
-TESTS = [each_button_of_a_node_plays, a_restart_says_before_what_it_loses, buttons_stay_once_more_is_known]
+TESTS = [each_button_of_a_node_plays, a_restart_says_before_what_it_loses]

@@ -72,15 +72,13 @@ def choose_side(player: Player, ids: str) -> None:
             player.click(f'[data-key="{box[0]}"]')
 
 
-def by_mouse(player: Player, heads: list[str], done: int) -> None:
-    """Plays the directives after the first ones by the buttons that say them; a way that has no button is clicked together."""
-    if done == 0:
-        player.comes("document.getElementById('live-count') !== null")
-        for _ in range(int(heads[0].split()[1]) - 3):
-            player.click_at("#live-count", -9, 0.25)
-        player.click(".live-begin button")
-    first = max(1, done)
-    for count, head in enumerate(heads[first:], first + 1):
+def by_mouse(player: Player, heads: list[str]) -> None:
+    """Plays directives by the buttons that say them; a way that has no button is clicked together."""
+    player.comes("document.getElementById('live-count') !== null")
+    for _ in range(int(heads[0].split()[1]) - 3):
+        player.click_at("#live-count", -9, 0.25)
+    player.click(".live-begin button")
+    for count, head in enumerate(heads[1:], 2):
         player.at(count - 1, count - 1)
         name, _, rest = head.partition(" ")
         if name == "deliver-msgs" and rest.startswith("drop="):
@@ -103,16 +101,14 @@ def by_mouse(player: Player, heads: list[str], done: int) -> None:
         player.at(count, count)
 
 
-def by_keys(player: Player, heads: list[str], done: int) -> None:
-    """Plays the directives after the first ones by writing them."""
-    if done == 0:
-        player.comes("document.activeElement.id", "live-count")
-        for _ in range(int(heads[0].split()[1]) - 3):
-            player.key("ArrowUp")
-        player.key("Enter")
-        player.at(1, 1)
-    first = max(1, done)
-    for count, head in enumerate(heads[first:], first + 1):
+def by_keys(player: Player, heads: list[str]) -> None:
+    """Plays directives by writing them."""
+    player.comes("document.activeElement.id", "live-count")
+    for _ in range(int(heads[0].split()[1]) - 3):
+        player.key("ArrowUp")
+    player.key("Enter")
+    player.at(1, 1)
+    for count, head in enumerate(heads[1:], 2):
         if head == "stabilize":
             player.key("s")
         else:
@@ -123,32 +119,31 @@ def by_keys(player: Player, heads: list[str], done: int) -> None:
         player.comes("document.activeElement.id", "directives")
 
 
-def play(browser: Browser, parts: list[list[str]], does: Callable[[Player, list[str], int], None], name: str) -> None:
-    """Plays directives on a new file. Each part goes on after the one before it; once it is played it is saved, and what was saved is looked at."""
+def play(browser: Browser, heads: list[str], does: Callable[[Player, list[str]], None], name: str) -> None:
+    """Plays directives on a new file, saves it, and looks at what was saved."""
     with tempfile.TemporaryDirectory() as room:
         path = pathlib.Path(room, "new.txt")
         with Running(path) as server:
             player = Player(browser, server.address)
-            for done, heads in zip([0, *map(len, parts)], parts):
-                does(player, heads, done)
-                player.seen(f"{name}-{len(heads)}")
-                if does is by_mouse:
-                    player.click('[data-key="save"]')
-                else:
-                    player.key("s", modifiers=2, text="")
-                # What is proposed by mouse has the words that the field offers.
-                wanted = [head.replace("propose 1 a", "propose 1 x1") if does is by_mouse else head for head in heads]
-                saved(player, server, path, wanted)
-                if heads in (FIGURE, REPAIR):
-                    same("the logs", logs_of(path), FIGURE_LOGS if heads is FIGURE else dict.fromkeys(FIGURE_LOGS, FIGURE_LOGS[1]))
+            does(player, heads)
+            player.seen(name)
+            if does is by_mouse:
+                player.click('[data-key="save"]')
+            else:
+                player.key("s", modifiers=2, text="")
+            # What is proposed by mouse has the words that the field offers.
+            wanted = [head.replace("propose 1 a", "propose 1 x1") if does is by_mouse else head for head in heads]
+            saved(player, server, path, wanted)
+            if heads in (FIGURE, REPAIR):
+                same("the logs", logs_of(path), FIGURE_LOGS if heads is FIGURE else dict.fromkeys(FIGURE_LOGS, FIGURE_LOGS[1]))
 
 
 def election_by_mouse(browser: Browser) -> None:
-    play(browser, [ELECTION], by_mouse, "election-mouse")
+    play(browser, ELECTION, by_mouse, "election-mouse")
 
 
 def election_by_keys(browser: Browser) -> None:
-    play(browser, [ELECTION], by_keys, "election-keys")
+    play(browser, ELECTION, by_keys, "election-keys")
 
 
 def press_until(player: Player, key: str, code: str, wanted: str) -> None:
@@ -160,7 +155,7 @@ def press_until(player: Player, key: str, code: str, wanted: str) -> None:
     same(code, player.browser.value(code), wanted)
 
 
-def on_buttons(player: Player, heads: list[str], done: int) -> None:
+def on_buttons(player: Player, heads: list[str]) -> None:
     """Plays the election by keys that go to buttons, and Enter; no directive is written."""
     player.comes("document.activeElement.id", "live-count")
     player.key("Enter")
@@ -180,19 +175,19 @@ def on_buttons(player: Player, heads: list[str], done: int) -> None:
 
 
 def election_by_keys_on_buttons(browser: Browser) -> None:
-    play(browser, [ELECTION], on_buttons, "election-buttons")
+    play(browser, ELECTION, on_buttons, "election-buttons")
 
 
 def figure_by_mouse(browser: Browser) -> None:
-    play(browser, [FIGURE], by_mouse, "figure-mouse")
+    play(browser, FIGURE, by_mouse, "figure-mouse")
 
 
 def repair_by_mouse(browser: Browser) -> None:
-    play(browser, [REPAIR], by_mouse, "repair-mouse")
+    play(browser, REPAIR, by_mouse, "repair-mouse")
 
 
 def figure_and_repair_by_keys(browser: Browser) -> None:
-    play(browser, [FIGURE, REPAIR], by_keys, "figure-keys")
+    play(browser, REPAIR, by_keys, "repair-keys")
 
 
 def what_can_t_be_done_says_why(browser: Browser) -> None:

@@ -1,22 +1,16 @@
 """The server, without a browser: whom it answers, what it refuses, and that what one does becomes the script."""
 from __future__ import annotations
 
-import concurrent.futures
-import contextlib
 import json
 import os
 import pathlib
 import re
 import socket
 import subprocess
-import time
 from collections.abc import Iterator
 
 from tests.live.edited import steps_in
 from tests.live.running import CAMPAIGN, COMMAND, MOST_SECONDS, START, Running, around, checked, put
-
-# Who sends a request byte by byte waits so many seconds between them.
-DRIP = 0.5
 
 
 def script(room: pathlib.Path, data: bytes = START + CAMPAIGN) -> pathlib.Path:
@@ -155,54 +149,17 @@ def test_large_and_broken_requests_end(room: pathlib.Path) -> Iterator[str]:
             yield "something has changed"
 
 
-def drips(port: int, begin: bytes) -> str:
-    """Sends a request, and then a byte of it at a time, for ever. Gives what is wrong: an answer, or that the server goes on reading for much too long."""
-    with socket.create_connection(("127.0.0.1", port), MOST_SECONDS) as slow:
-        slow.sendall(begin)
-        slow.settimeout(DRIP)
-        until = time.monotonic() + MOST_SECONDS
-        while time.monotonic() < until:
-            try:
-                slow.sendall(b"x")
-                return f"answered {found!r}" if (found := slow.recv(1 << 16)) else ""
-            except TimeoutError:
-                pass
-            except ConnectionError:
-                return ""
-    return "it is read on and on"
-
-
 def test_slow_requests_end(room: pathlib.Path) -> Iterator[str]:
-    """A head or a body that doesn't come whole is given up, also if a little of it comes all the time: the other side closes."""
+    """A head or a body that doesn't come whole is given up: the other side closes."""
     with Running(script(room)).enter() as server:
-        body = f"POST /state HTTP/1.1\r\nHost: {server.host}\r\nOrigin: http://{server.host}\r\nContent-Type: application/json\r\nAuthorization: Bearer {server.token}\r\nContent-Length: 9999\r\n\r\n{{"
-        with concurrent.futures.ThreadPoolExecutor() as many:
-            dripping = {what: many.submit(drips, server.port, text.encode()) for what, text in {"head": "GET / HTTP/1.1\r\nHo", "body": body, "line": "GET /"}.items()}
-            for what, text in {"head": "GET / HTTP/1.1\r\nHo", "body": body, "nothing": ""}.items():
-                with socket.create_connection(("127.0.0.1", server.port), MOST_SECONDS) as slow:
-                    slow.sendall(text.encode())
-                    if b"HTTP/1.1 200" in slow.recv(1 << 16):
-                        yield f"{what} is answered"
-            yield from (f"{what}, byte by byte: {wrong}" for what, drip in dripping.items() if (wrong := drip.result()))
+        body = f"POST /state HTTP/1.1\r\nHost: {server.host}\r\nOrigin: http://{server.host}\r\nContent-Type: application/json\r\nAuthorization: Bearer {server.token}\r\nContent-Length: 99\r\n\r\n{{"
+        for what, text in {"head": "GET / HTTP/1.1\r\nHo", "body": body, "nothing": ""}.items():
+            with socket.create_connection(("127.0.0.1", server.port), MOST_SECONDS) as slow:
+                slow.sendall(text.encode())
+                if b"HTTP/1.1 200" in slow.recv(1 << 16):
+                    yield f"{what} is answered"
         if server.post("/state", {})[0] != 200:
             yield "others aren't answered any more"
-
-
-def test_what_is_no_request_has_the_headers_of_each_answer(room: pathlib.Path) -> Iterator[str]:
-    """Other methods, and what Python's own library refuses: a sentence, and the strict policy."""
-    with Running(script(room)) as server:
-        long = "x" * 70_000
-        for what, text, status in [("PUT", "PUT / HTTP/1.1\r\n\r\n", 501), ("no words", "x\r\n\r\n", 400), ("a version", "GET / HTTP/9.9\r\n\r\n", 505),
-                                   ("a long address", f"GET /{long} HTTP/1.1\r\n\r\n", 414), ("a long header", f"GET / HTTP/1.1\r\nX: {long}\r\n\r\n", 431)]:
-            with socket.create_connection(("127.0.0.1", server.port), MOST_SECONDS) as own:
-                own.sendall(text.encode())
-                told = b""
-                with contextlib.suppress(ConnectionError):
-                    while more := own.recv(1 << 16):
-                        told += more
-            head, _, body = told.decode().partition("\r\n\r\n")
-            if not head.startswith(f"HTTP/1.1 {status} ") or "default-src 'none'" not in head or "text/plain" not in head or not body or "<" in body:
-                yield f"{what}: {told[:400]!r}"
 
 
 def test_many_connections_are_bounded(room: pathlib.Path) -> None:

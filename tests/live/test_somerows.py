@@ -8,13 +8,10 @@ import random
 from collections.abc import Iterator
 from typing import Any
 
-from live.blocks import cut
 from live.branch import AT_ONCE, Branch
 from live.chunks import Shown
-from live.program import Program, Refused
-from live.rows import PageRows
+from live.program import Refused
 from live.somerows import RowServer
-from tests.editors.test_rows import PUT_IN
 from tests.harness import PROGRAM, TOP
 from tests.live.edited import Edited, branch_of, edit, page_rows, put, steps_in, told_of
 
@@ -139,48 +136,6 @@ def test_a_long_edit_sends_its_first_rows_at_once() -> Iterator[str]:
             is_part = branch.count - it.told["stretch"]["front"] > AT_ONCE
             if put(it) != it.now or bool(it.more) != is_part or not 0 < it.sent <= AT_ONCE or bool(it.told["stretch"]["end"]) == is_part:
                 yield f"{it.what}: {it.sent} directives, {len(it.more)} answers more"
-
-
-def spliced(data: bytes, dice: random.Random) -> bytes:
-    """A text in which some lines are others, or some bytes."""
-    if dice.random() < 0.2:
-        first = dice.randrange(len(data))
-        return data[:first] + dice.choice([b"", b"\n", b"x", b"\r", b"----\n", b"\n\n"]) + data[first + dice.choice([0, 1, 30]):]
-    lines = data.splitlines(keepends=True)
-    first = dice.randrange(len(lines) + 1)
-    return b"".join([*lines[:first], dice.choice(PUT_IN).encode(), *lines[first + dice.choice([0, 0, 1, 4, 40]):]])
-
-
-def test_a_text_is_cut_alike_whatever_was_shown_before() -> Iterator[str]:
-    """One that another program wrote: it is refused where the program refuses it, and its rows are those of the page. Most of it isn't read again."""
-    taken = refused = few = 0
-    for seed, path in enumerate(SCRIPTS):
-        dice = random.Random(seed)
-        server = Counting(PROGRAM)
-        with branch_of(path.read_bytes(), server) as branch:
-            for version in range(1, 61):
-                data, before = spliced(branch.data, dice), page_rows(branch.data)
-                server.asked.clear()
-                try:
-                    wanted = page_rows(data)
-                except Refused:
-                    wanted = None
-                try:
-                    edit(branch, "text", {"text": data})
-                except Refused:
-                    refused += 1
-                    if wanted is not None:
-                        yield f"{path.name}: {data!r} is refused"
-                    continue
-                it = told_of(branch, "text", before, version)
-                blocks, tail = cut(data, PageRows(Program(PROGRAM).rows(data).raw).heads() if data else ())
-                if wanted is None or put(it) != wanted or branch.data != data:
-                    yield f"{path.name}: {data!r}: {it.told}"
-                if (list(branch.shown.blocks), list(branch.shown.tail)) != (blocks, tail):
-                    yield f"{path.name}: {data!r} is cut into {list(branch.shown.blocks)}"
-                taken, few = taken + 1, few + (branch.page is None)
-    if taken < 60 or refused < 20 or few < taken // 2:
-        yield f"{taken} texts are taken, {few} of them near to the one before, and {refused} refused"
 
 
 def test_where_few_cells_are_left_all_rows_after_an_edit_are_sent_again() -> Iterator[str]:

@@ -82,41 +82,6 @@ def directives_are_written_without_waiting(browser: Browser) -> None:
     on_script(browser, START + CAMPAIGN, does)
 
 
-# Counts the questions about a directive that is being written that are on their way at the same time.
-ASKS = """(() => {
-  const own = window.fetch;
-  let now = 0;
-  window.most = window.asks = 0;
-  window.fetch = async (path, ...more) => {
-    const isAsk = path === "ask";
-    now += Number(isAsk);
-    window.asks += Number(isAsk);
-    window.most = Math.max(window.most, now);
-    try {
-      return await own(path, ...more);
-    } finally {
-      now -= Number(isAsk);
-    }
-  };
-})()"""
-
-
-def who_writes_fast_waits_for_no_offers(browser: Browser) -> None:
-    """What may be written is asked once at a time, where the writer is by then: so the directive is asked for behind one question at most."""
-    def does(player: Player, server: Running, path: pathlib.Path) -> None:
-        player.browser.value(ASKS)
-        player.browser.value("document.getElementById('directives').focus()")
-        answer_late(player)
-        player.directive("deliver-msgs 2 type=MsgVote")
-        player.comes(f"{HEADS}.slice(2)", ["deliver-msgs 2 type=MsgVote"])
-        player.write("raft-s")
-        player.comes("document.querySelector('.live-writing .live-offers b')?.textContent", "raft-state")
-        answer_late(player, 0)
-        same("how many questions were on their way together", player.browser.value("[window.most, window.asks > 0]"), [1, True])
-    browser.size(1500, 1600)
-    on_script(browser, START + CAMPAIGN, does)
-
-
 def what_was_chosen_meanwhile_isn_t_removed(browser: Browser) -> None:
     """Whoever goes elsewhere before an answer comes sees another page then, so what is pressed there is left out, and that is said."""
     def does(player: Player, server: Running, path: pathlib.Path) -> None:
@@ -197,6 +162,6 @@ def a_side_is_chosen_though_the_bar_is_drawn_again(browser: Browser) -> None:
 
 
 TESTS = [
-    presses_wait_for_those_before_them, messages_are_those_that_were_pressed, directives_are_written_without_waiting, who_writes_fast_waits_for_no_offers,
-    what_was_chosen_meanwhile_isn_t_removed, a_key_that_is_held_goes_no_faster_than_the_server, a_press_counts_though_its_button_moves, a_side_is_chosen_though_the_bar_is_drawn_again,
+    presses_wait_for_those_before_them, messages_are_those_that_were_pressed, directives_are_written_without_waiting, what_was_chosen_meanwhile_isn_t_removed,
+    a_key_that_is_held_goes_no_faster_than_the_server, a_press_counts_though_its_button_moves, a_side_is_chosen_though_the_bar_is_drawn_again,
 ]

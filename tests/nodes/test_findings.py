@@ -9,6 +9,7 @@ import os
 import pathlib
 import random
 import re
+import signal
 import subprocess
 import time
 from collections.abc import Iterator, Sequence
@@ -16,7 +17,6 @@ from typing import Any
 
 from plain.node import Node
 from plain.records import Message, Ready
-from plain.script import Script
 from raftbench_nodes.compare.comparison import Comparison, excuse_of, excuse_without_reference
 from raftbench_nodes.compare.exceptions import AcceptedKinds
 from raftbench_nodes.compare.expected import Checker
@@ -30,7 +30,7 @@ from raftbench_nodes.explore.remake import Remaker, remade
 from raftbench_nodes.explore.results import KindResult
 from raftbench_nodes.explore.search import Candidate, Kind, Library, Limits, Search
 from raftbench_nodes.explore.shrinking import LEAST_DIRECTIVES, AdoptTask, Shortest, ShrunkKind, Trying, by_cause, chosen_of, shrunk_kinds
-from raftbench_nodes.process.delays import waited
+from raftbench_nodes.process.delays import marked_with, waited
 from raftbench_nodes.process.process import Process
 from raftbench_nodes.promises.checker import name_of
 from raftbench_nodes.promises.clusters import WatchedReference
@@ -64,7 +64,8 @@ def test_states_within_directives(room: pathlib.Path) -> Iterator[str]:
     result = answers[at]
     assert isinstance(result, CallResult)
     for part, value, wanted in (("commit", 3, "commit behind after advance at a leader within a directive"), ("ready", None, "ready after advance at a leader within a directive")):
-        state = result.states[0]._replace(**{part: not result.states[0].ready if value is None else value})
+        changed: dict[str, Any] = {part: not result.states[0].ready if value is None else value}
+        state = result.states[0]._replace(**changed)
         wrong = [*answers[:at], dataclasses.replace(result, states=[state]), *answers[at + 1:]]
         found = compared_at_once(plan.asked, wrong, checker, plan.places)
         if found.agrees or found.state is None or found.state.kind() != wanted or found.state.directive != "stabilize":
@@ -433,27 +434,28 @@ def test_what_nodes_were_made_to_do(room: pathlib.Path) -> Iterator[str]:
 
 
 def test_waiting_for_a_processor(room: pathlib.Path) -> Iterator[str]:
-    """Linux says how long a process waited; none does so for one that isn't there."""
-    if not 0 <= waited(os.getpid()) < 1e7 or waited(1 << 22) > waited(os.getpid()) + 1:
-        yield f"{waited(os.getpid())}, {waited(1 << 22)}"
+    """Linux says how long a process waited; none does so for a group that isn't there."""
+    if not 0 <= waited(os.getpgrp()) < 1e7 or waited(1 << 22) > waited(os.getpgrp()) + 1:
+        yield f"{waited(os.getpgrp())}, {waited(1 << 22)}"
 
 
 def test_waiting_in_another_session(room: pathlib.Path) -> Iterator[str]:
-    """What nodes wait counts in whatever session they are, without their environment too. Here two of them have one processor."""
-    one = min(os.sched_getaffinity(0))
-    busy = f"env -i setsid --fork taskset -c {one} sh -c 'while :; do :; done'"
-    process = Process(f"{busy}; {busy}; exec {PLAIN}", 600.0)
+    """What nodes wait counts in whatever session they are: they are known by their mark. Here two of them have one processor."""
+    mark, one = "RAFTBENCH_TEST=" + str(room), min(os.sched_getaffinity(0))
+    busy = ["taskset", "-c", str(one), "setsid", "sh", "-c", "while :; do :; done"]
+    started = [subprocess.Popen(busy, env={**os.environ, "RAFTBENCH_TEST": str(room)}, start_new_session=True) for _ in range(2)]
     try:
-        process.reset()
-        assert process.process
-        root, end = process.process.pid, time.monotonic() + 60
-        begun = waited(root) - waited(1 << 22)
-        while (gained := waited(root) - waited(1 << 22) - begun) < 0.3 and time.monotonic() < end:
+        end = time.monotonic() + 60
+        while (gained := waited(1 << 22, mark) - waited(1 << 22)) < 0.3 and time.monotonic() < end:
             time.sleep(0.1)
         if gained < 0.3:
             yield f"{gained} s"
     finally:
-        process.close()
+        for process in started:
+            process.kill()
+            process.wait()
+        for number in marked_with(mark):
+            os.kill(number, signal.SIGKILL)
 
 
 # Two changes come to node 3 with one save, whose commit is lost: two changes behind, it is elected by 2, and what 1, 4 and 5 have committed is lost.
@@ -475,8 +477,3 @@ def test_torn_changes(room: pathlib.Path) -> Iterator[str]:
             yield f"an excuse: {[step.text() for step in steps]}"
     if excuse_of(blocks_of(TORN)):
         yield "beside a reference it is an excuse"
-    file = room / "torn.txt"
-    file.write_bytes(Script(tuple(blocks_of(TORN)), ()).text([()] * len(TORN)))
-    status, text = said(files.promises, "--with", PLAIN, str(file))
-    if status or not re.search(r"1 script, 1 in which all are kept, \d broken in torn changes and not counted$", text, re.M):
-        yield f"{status}, {text}"

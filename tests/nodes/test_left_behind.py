@@ -120,15 +120,12 @@ def test_tools_leave_nothing(room: pathlib.Path) -> Iterator[str]:
         yield from filter(None, pool.map(lambda it: ended(room, *it), tried))
 
 
-# Programs that start an adapter in a process group or session of its own, or also without its environment.
-WRAPPED = {
-    "timeout": "timeout 900 sh -c '{}'", "setsid": "setsid sh -c '{}'", "setsid that goes on alone": "setsid --fork sh -c '{}'",
-    "another environment": "env -i PATH=\"$PATH\" setsid --fork sh -c '{}'",
-}
+# Programs that start an adapter in a process group or session of its own.
+WRAPPED = {"timeout": "timeout 900 sh -c '{}'", "setsid": "setsid sh -c '{}'", "setsid that goes on alone": "setsid --fork sh -c '{}'"}
 
 
 def test_adapters_in_other_groups(room: pathlib.Path) -> Iterator[str]:
-    """Nor does an adapter outlive the tool below `timeout` or `setsid`, or in an environment of its own."""
+    """Nor does an adapter outlive the tool below `timeout` or `setsid`."""
     def left(name: str, end: int) -> str | None:
         place = room / f"{name} {end}".replace(" ", "-")
         place.mkdir()

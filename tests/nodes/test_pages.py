@@ -75,8 +75,7 @@ def met_without_mail(rows: Sequence[list[Any]]) -> list[list[Any]]:
     """Messages that are delivered or dropped, though none of their type to their node is pending, or another is the earliest."""
     pending: list[list[Any]] = []
     wrong = []
-    for name, *cells in rows:
-        verb = name.removeprefix("-")
+    for verb, *cells in rows:
         if verb in ("send", "queue"):
             pending.append(cells)
         elif verb in ("deliver", "drop"):
@@ -88,12 +87,8 @@ def met_without_mail(rows: Sequence[list[Any]]) -> list[list[Any]]:
     return wrong
 
 
-# The rows that print no line of their own.
-SILENT = {"reason", "node", "config", "log", "entry", "view", "no-view"}
-
-
 def test_messages_are_sent_before_they_arrive() -> None:
-    """Reversed, doubled, late, repeated, cut and held messages, and crashes at each point. As many rows are unmarked as lines are printed."""
+    """Reversed, doubled, late, repeated, cut and held messages, and crashes at each point."""
     steps = [Step(head) for head in ("add-nodes 3 voters=(1,2,3) index=10", "campaign 1", "stabilize", "propose 1 a", "process-ready 1", "propose 1 b", "process-ready 1")]
     for text in ("network: reverse 2", "network: double 3", "network: late 2", "network: again 2 1", "network: cut 3 1", "network: hold 1 2", "network: release 1 2"):
         before = step_of(f"# {text}")
@@ -112,9 +107,6 @@ def test_messages_are_sent_before_they_arrive() -> None:
     rows = [row for _, _, events in run.steps for row in events]
     assert run.failure is None and len(run.steps) == len(steps), run.failure
     assert met_without_mail(rows) == [], met_without_mail(rows)
-    for _, output, events in run.steps:
-        unmarked = [row for row in events if row[0] not in SILENT and not row[0].startswith("-")]
-        assert len(unmarked) == (0 if output == ["ok"] else len(output)), (output, unmarked)
     assert ["reason", "crashed before advance, and restarted"] in rows, "a crash isn't told"
 
 

@@ -4,8 +4,7 @@ style and code are files of their own, also from those of crates/rb_book/assets.
     assemble.py before|after       writes one of the two
     assemble.py page < JSON        writes a whole page
     assemble.py renew < PAGE       writes a page anew: its rows as they are, and what is around them as the files are today
-    assemble.py sources            writes the sources of rb_view's frame and of rb_book's, in which the program has the same; and before them what is
-                                   known of events (forms.py)
+    assemble.py sources            writes the sources of rb_view's frame and of rb_book's, in which the program has the same
 """
 from __future__ import annotations
 
@@ -20,9 +19,7 @@ from collections.abc import Callable, Sequence
 sys.dont_write_bytecode = True
 sys.path[:1] = [str(pathlib.Path(__file__).resolve().parents[2])]
 
-from tests.page.forms import TOP, module_text, python_text  # noqa: E402
-
-CRATES = TOP / "crates"
+CRATES = pathlib.Path(__file__).resolve().parents[2] / "crates"
 CRATE = CRATES / "rb_view"
 BOOK = CRATES / "rb_book"
 ASSETS = CRATE / "assets"
@@ -31,8 +28,7 @@ ENTRY = "start.js"
 # What each file of sources says of itself, the file that it is made of, and its constants, each with what it is.
 HTML = ("The elements of a page.", "page.html", {
     "HEAD": "The page's head, up to its style.",
-    "BODY": "From behind the style up to the lines of the part that is shown.",
-    "STEPS": "From behind these up to the rows.",
+    "BODY": "From behind the style up to the rows.",
     "BETWEEN": "From behind the rows up to the code.",
     "END": "What stands behind the code.",
 })
@@ -45,10 +41,6 @@ BOOK_HTML = ("The elements of a book's pages.", "page.html, and of assets/book.c
     "CONTENTS": "The head of a contents page, up to its title.",
     "BOOK_STYLE": "What a book's style has more than a page's.",
 })
-# The lines between which directives are shown: 0 is no line.
-WHOLE = "[0,0]"
-# Pages of a book have none.
-PART = '<script type="application/json" id="part">{part}</script>\n'
 GENERATOR = '<meta name="generator" content="raftbench">'
 # Style and code of a book are files, and pictures are shown.
 BOOK_POLICY = "default-src 'none'; style-src 'self'; script-src 'self'; img-src 'self'; base-uri 'none'; form-action 'none'"
@@ -109,21 +101,21 @@ def codes() -> list[str]:
 def elements() -> list[str]:
     """The parts of the page's own elements: those around the style, the rows and the code."""
     policy = f"default-src 'none'; style-src {hash_of(''.join(styles()))}; script-src {hash_of(''.join(codes()))}; base-uri 'none'; form-action 'none'"
-    return re.split("{style}|{part}|{steps}|{code}", text_of("page.html").replace("{policy}", policy))
+    return re.split("{style}|{steps}|{code}", text_of("page.html").replace("{policy}", policy))
 
 
 def book_elements() -> list[str]:
     """The same of a book's page, whose style and code are files; and the head of the contents page, and the book's style."""
-    page = text_of("page.html").replace(PART, "").replace("<style>{style}</style>", '<link rel="stylesheet" href="{up}page.css">')
+    page = text_of("page.html").replace("<style>{style}</style>", '<link rel="stylesheet" href="{up}page.css">')
     page = page.replace("<script>{code}</script>", '<script src="{up}page.js"></script>').replace("<body>\n", "<body>\n{links}")
     texts = re.split("{up}|{links}|{steps}", page.replace("{policy}", BOOK_POLICY).replace("<meta name=\"viewport\"", GENERATOR + "\n<meta name=\"viewport\""))
     return [*texts, texts[0].split("raftbench</title>")[0], (BOOK / "assets" / "book.css").read_text(encoding="utf-8")]
 
 
-def parts(part: str = WHOLE) -> tuple[str, str]:
-    """What stands before the JSON text, and what stands after it, of the page of a part of a script."""
-    head, body, steps, between, end = elements()
-    return head + "".join(styles()) + body + part + steps, between + "".join(codes()) + end
+def parts() -> tuple[str, str]:
+    """What stands before the JSON text, and what stands after it."""
+    head, body, between, end = elements()
+    return head + "".join(styles()) + body, between + "".join(codes()) + end
 
 
 def rows_in(page: str) -> str:
@@ -157,22 +149,20 @@ def order() -> str:
     """Which constants are before the rows and which are after them, in order."""
     names = [constant_of(module) for module in modules()]
     style_names = [name.upper() for name in STYLES]
-    uses = sorted(["use crate::frame::html::{BETWEEN, BODY, END, HEAD, STEPS};", *(f"use crate::frame::{name.lower()}::{name};" for name in [*names, *style_names])])
+    uses = sorted(["use crate::frame::html::{BETWEEN, BODY, END, HEAD};", *(f"use crate::frame::{name.lower()}::{name};" for name in [*names, *style_names])])
 
-    def function(said: str, head: str, lifetime: str, parts: Sequence[str]) -> str:
+    def function(said: str, name: str, parts: Sequence[str]) -> str:
         facts = " ∷ ".join(f"{part}.now" for part in parts)
         return (
-            f"/// {said}\n#[rattlefmt::skip]\npub fn {head} -> [&'{lifetime} [u8]; {len(parts)}]\n"
-            f"    ensures {{ map (λ piece. piece.now) result ≡ {facts} ∷ [] }}\n"
+            f"/// {said}\n#[rattlefmt::skip]\npub fn {name}() -> [&'static [u8]; {len(parts)}]\n"
+            f"    ensures {{ map (λ part. part.now) result ≡ {facts} ∷ [] }}\n"
             f"{{\n    [{', '.join(parts)}]\n}}\n")
     return "\n".join([
         "//! What is around the rows of a page, in parts. Made by `tests/page/assemble.py sources`.\n",
         "ghost use Rattle.std.specs.Prelude.{◌≡◌, ◌∷◌, [], map};\n",
         "\n".join(uses) + "\n",
-        f"/// The lines between which all directives are.\npub const WHOLE: &[u8] = b\"{WHOLE}\";\n",
-        function("The parts before the rows: the page's head with its style, its elements, and the lines between which directives are shown.",
-                 "front<'a>(part: &'a [u8])", "a", ["HEAD", *style_names, "BODY", "part", "STEPS"]),
-        function("The parts after them: the page's code.", "back()", "static", ["BETWEEN", *names, "END"]),
+        function("The parts before the rows: the page's head with its style, and its elements.", "front", ["HEAD", *style_names, "BODY"]),
+        function("The parts after them: the page's code.", "back", ["BETWEEN", *names, "END"]),
     ])
 
 
@@ -185,7 +175,7 @@ def library() -> str:
         "//! The files are in assets, and the sources are made of them. The page's head names its style and its code by their hashes, so that no other",
         "//! runs in it.\n",
         *(f"mod {name};" for name in names),
-        "\npub use frame::{WHOLE, back, front};\n",
+        "\npub use frame::{back, front};\n",
     ])
 
 
@@ -198,12 +188,7 @@ def sources() -> dict[pathlib.Path, str]:
         about = first_comment(module)
         made[module.removesuffix(".js")] = source((about, module, {constant_of(module): "The code."}), [text])
     book = {BOOK / "src" / "html.rt": source(BOOK_HTML, book_elements())}
-    return {SOURCES / f"{name}.rt": text for name, text in made.items()} | {SOURCES.with_suffix(".rt"): library()} | book | tables()
-
-
-def tables() -> dict[pathlib.Path, str]:
-    """What the page and the tools for nodes of others know of events, made of the one table."""
-    return {ASSETS / "events.js": module_text(), TOP / "raftbench_nodes" / "page" / "events.py": python_text()}
+    return {SOURCES / f"{name}.rt": text for name, text in made.items()} | {SOURCES.with_suffix(".rt"): library()} | book
 
 
 def first_comment(module: str) -> str:
@@ -214,8 +199,6 @@ def first_comment(module: str) -> str:
 
 
 def write_sources() -> str:
-    for path, text in tables().items():
-        path.write_text(text, encoding="utf-8")
     made = sources()
     for path in SOURCES.glob("*.rt"):
         if path not in made:
@@ -225,16 +208,11 @@ def write_sources() -> str:
     return ""
 
 
-def whole_page(rows: str) -> str:
-    """A whole page."""
-    before, after = parts()
-    return before + rows + after
-
-
 def main() -> None:
+    before, after = parts()
     text: dict[str, Callable[[], str]] = {
-        "before": lambda: parts()[0], "after": lambda: parts()[1], "page": lambda: whole_page(sys.stdin.read()), "renew": lambda: whole_page(rows_in(sys.stdin.read())),
-        "sources": write_sources,
+        "before": lambda: before, "after": lambda: after, "page": lambda: before + sys.stdin.read() + after, "sources": write_sources,
+        "renew": lambda: before + rows_in(sys.stdin.read()) + after,
     }
     sys.stdout.write(text[sys.argv[1]]())
 

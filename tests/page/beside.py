@@ -10,7 +10,7 @@ from typing import Any
 
 from tests.page import standing
 from tests.page.assemble import parts
-from tests.page.plain_steps import json_text, rows_of, unmarked_rows_of
+from tests.page.plain_steps import json_text, rows_of
 from tests.page.printed import Node, Step, steps_of
 from tests.page.reader import TALL, Reader
 from tests.page.scripts import FULL, HOSTILE, LOST, MANY, NOBODY, RARE, RESTARTS, SELF, TOUR, Failed, page_of, same
@@ -36,7 +36,7 @@ def same_counts(what: str, came: Counter[Any], wanted: Counter[Any]) -> None:
 def rows_tell_what_is_printed() -> None:
     """Without a browser: by a page's rows messages take the course that they take by what is printed."""
     for name, data in {**SCRIPTS, "full": FULL}.items():
-        printed, rows = messages_of_lines(steps_of(data)), messages_of_rows(unmarked_rows_of(data, name))
+        printed, rows = messages_of_lines(steps_of(data)), messages_of_rows(rows_of(data, name))
         same(f"the messages of {name}", [message.course() for message in rows], [message.course() for message in printed])
     same("what became of messages", {message.fate for message in printed}, {"waiting", "delivered", "dropped", "given up"})
 
@@ -158,10 +158,9 @@ def pages_without_a_row() -> Iterator[tuple[str, str, bytes, str]]:
     tried, (before, after) = set(UNSEEN), parts()
     for name, data in sorted(SCRIPTS.items(), key=lambda pair: len(pair[1])):
         rows = list(rows_of(data, name))
-        kinds = [row[0].removeprefix("-") for row in rows]
-        for kind in sorted({*kinds} - tried):
+        for kind in sorted({row[0] for row in rows} - tried):
             tried.add(kind)
-            last = max(at for at, it in enumerate(kinds) if it == kind)
+            last = max(at for at, row in enumerate(rows) if row[0] == kind)
             yield kind, name, data, before + json_text(rows[:last] + rows[last + 1:]) + after
 
 

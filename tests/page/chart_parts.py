@@ -2,7 +2,7 @@
 import xml.etree.ElementTree
 
 from tests.page.plain_chart import HEADING, svg_of
-from tests.page.plain_steps import DIRECTIVES, unmarked_rows_of
+from tests.page.plain_steps import DIRECTIVES, rows_of
 from tests.page.printed import steps_of
 from tests.page.scripts import TOUR, same
 from tests.page.told import messages_of_rows
@@ -21,7 +21,7 @@ def parts_have_what_came_before() -> None:
     tried = 0
     for path in TOUR[:6]:
         data = path.read_bytes()
-        messages, steps = messages_of_rows(unmarked_rows_of(data, path.name, DIRECTIVES)), steps_of(data)
+        messages, steps = messages_of_rows(rows_of(data, path.name, DIRECTIVES)), steps_of(data)
         for at in range(1, len(steps), 3):
             first, last = steps[at].line, steps[min(at + 4, len(steps) - 1)].line
             picture = xml.etree.ElementTree.fromstring(svg_of(data, path.name, last, first))

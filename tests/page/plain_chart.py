@@ -17,7 +17,7 @@ import sys
 from collections import defaultdict
 from collections.abc import Callable, Iterator, Sequence
 from dataclasses import dataclass, field
-from typing import Any, TypeVar
+from typing import Any
 from xml.sax.saxutils import escape
 
 sys.dont_write_bytecode = True
@@ -26,9 +26,7 @@ sys.path[:1] = [str(pathlib.Path(__file__).resolve().parents[2])]
 from plain.directives import Refused, Request  # noqa: E402
 from plain.network import Choice  # noqa: E402
 from plain.script import Directive, lines_of, read_script  # noqa: E402
-from tests.page.forms import forms  # noqa: E402
-from tests.page.plain_logs import Logs  # noqa: E402
-from tests.page.plain_steps import DIRECTIVES, unmarked_rows_of  # noqa: E402
+from tests.page.plain_steps import DIRECTIVES, rows_of  # noqa: E402
 
 # Sizes, in pixels. A row is its heading, a slot for each thing that happens in it, and a little room.
 SLOT, ROW_TOP, ROW_BOTTOM, HEADING = 18, 25, 8, 34
@@ -46,7 +44,7 @@ MOST_HEAD, MOST_NOTE, MOST_LABEL, MOST_MARK = 32, 36, 30, 29
 NARROW, NARROW_WIDTH = " !'(),./:;I[]fijlrt|", 6
 BROAD, BROAD_WIDTH = "#%&+<=>@ABCDEFGHJKLMNOPQRSTUVWXYZmw~", 12
 WIDTH = 8
-# What the messages of each type are about, which tells their colour.
+# The types of messages, in the order in which those on their way to a node are told.
 KINDS = {
     "MsgVote": "vote", "MsgPreVote": "vote", "MsgVoteResp": "vote", "MsgPreVoteResp": "vote", "MsgApp": "append", "MsgAppResp": "append",
     "MsgHeartbeat": "heartbeat", "MsgHeartbeatResp": "heartbeat", "MsgSnap": "snapshot", "MsgProp": "proposal",
@@ -106,17 +104,23 @@ def vote_mark(id: int, kind: str, granted: int, sender: int, result: str) -> Mar
     return f"{whose}: {result}", "quiet"
 
 
-def mark_of_cells(words: str, look: str) -> Callable[..., Mark]:
-    """A mark whose words are made of the cells of its row alone."""
-    return lambda *cells: (words.format(*cells), look)
-
-
-# What a node tells: its words beside the band, and how they look. Events are here only if their words aren't made of cells alone; none marks the start.
+# What a node tells: its words beside the band, and how they look.
 MARKS: dict[str, Callable[..., Mark]] = {
-    **{form.name: mark_of_cells(*words) for form in forms() if form.name != "started" and (words := form.words())},
     "became": lambda id, role, term: (f"★ leader, t{term}", "won") if role == "leader" else (f"{role}, t{term}", "turn"),
+    "cannot-campaign": lambda id, why: (f"! can't campaign: {why}", "bad"),
     "vote": vote_mark,
     "ignored": lambda id, kind, sender: (f"ignores {kind[3:]}", "quiet"),
+    "dropped-proposal": lambda id: ("! proposal dropped", "bad"),
+    "conflict": lambda id, index, commit: (f"! conflict at {index}, commit {commit}", "bad"),
+    "appends-nothing": lambda id: ("! appends nothing: index limit", "bad"),
+    "replaced-change": lambda id, index, why: (f"! change {index} made empty: {why}", "bad"),
+    "switched": lambda id, config: (f"◆ {config}", "change"),
+    "refused-change": lambda id, index, fault: (f"! change {index} refused: {fault}", "bad"),
+    "restarted": lambda id, term, *_: (f"↻ restarted, t{term}", "turn"),
+    "restored": lambda id, term, index: (f"▣ snapshot {term}/{index}", "installed"),
+    "transfer-starts": lambda id, to: (f"hands over to {to}", "change"),
+    "transfer-ends": lambda id, to: (f"hand-over to {to} ends", "quiet"),
+    "lost-quorum": lambda id: ("! lost its quorum", "bad"),
     "committed": lambda id, index: (f"✓ commit {index}", "moved"),
     "compacted": lambda id, index: (f"▣ compacted to {index}", "installed"),
     "saved": lambda id, first, last: (f"saves {first}" if first == last else f"saves {first}–{last}", "quiet"),
@@ -130,11 +134,13 @@ NOTES: dict[str, Callable[..., Mark]] = {
 
 @dataclass
 class Arrow:
-    """A message on its way: who sent it, where its line begins, which of the lines is its own and which of the texts, and the cells of its row."""
+    """A message on its way: who sent it, where its line begins, which of the lines is its own and which of the texts, its label, and the cells of
+    its row."""
     sender: int
     start: int
     place: int
     text: int
+    label: str
     cells: tuple[Any, ...]
 
 
@@ -323,7 +329,7 @@ class Drafter:
 
     def send(self, sender: int, to: int, kind: str, term: int, *cells: Any) -> None:
         label, is_left = label_of(kind, term, cells), to < sender
-        arrow = Arrow(sender, self.slot(), len(self.chart.over), len(self.chart.texts), (sender, to, kind, term, *cells))
+        arrow = Arrow(sender, self.slot(), len(self.chart.over), len(self.chart.texts), label, (sender, to, kind, term, *cells))
         self.chart.over += line(sender, to, kind, arrow.start, "waiting")
         self.chart.reach(x_of(sender) + (HALF_BAND + 1 + OUT if to == sender else 0 if is_left else LEAD + WAITING))
         x = x_of(sender) + (-HALF_BAND - 5 if is_left else HALF_BAND + 5)
@@ -365,38 +371,14 @@ class Drafter:
 
     # The end
 
-    def show_logs(self, logs: Logs) -> None:
-        """The table of logs, if something is drawn: a row for each index, and in it what each node has there."""
-        if not self.rows or not logs.nodes:
-            return
+    def done(self) -> Chart:
         self.end_row()
-        self.rows.append(Row(self.row.line, self.chart.height))
-        self.begin_table()
-        for index in logs.indexes():
-            y = self.slot()
-            for id, text, look in logs.cells_at(index):
-                self.cell(id, y, text, look)
-
-    def begin_table(self) -> None:
-        self.chart.under.append(f'<rect class="edge" y="{self.row.top}" width="100%" height="1"/>')
-        self.words("quiet", HEAD_X, self.row.top + 17, "logs")
-        self.tell("the logs")
-
-    def cell(self, id: int, y: int, text: str, look: str) -> None:
-        self.words(look, x_of(id) + HALF_BAND + 5, y - 2, fitted(text, MOST_MARK))
-        self.tell(f"node {id}: {text}")
-
-    def done(self) -> None:
-        """Tells what is on its way, and ends the nodes' bands."""
-        self.end_row()
-        waiting = (arrow for queue in self.mail.values() for arrow in queue)
-        for sender, to, kind, term, *cells in (arrow.cells for arrow in sorted(waiting, key=lambda arrow: (arrow.cells[1], arrow.text))):
-            self.tell_end("on its way", sender, to, message_words(kind, term, cells))
+        for to, kind in sorted(self.mail, key=lambda queue: (queue[0], [*KINDS].index(queue[1]))):
+            for arrow in self.mail[to, kind]:
+                self.tell_end("on its way", arrow.sender, to, arrow.label)
         self.chart.under += [self.end_band(id, self.chart.height) for id in sorted(self.bands)]
         self.chart.reach(x_of(max([*self.bands, 1])) + LEAST)
-
-
-Drafted = TypeVar("Drafted", bound=Drafter)
+        return self.chart
 
 
 def choice_of(directive: Directive) -> Choice:
@@ -414,44 +396,33 @@ def title_of(name: str, until: int | None, start: int | None) -> str:
     return title + (f", from line {start}" if start is not None else "") + (f", up to line {until}" if until is not None else "")
 
 
-def drawn(kind: Callable[[str], Drafted], data: bytes, name: str, until: int | None, start: int | None, has_logs: bool = False) -> Drafted:
-    """A drafter that has gone over a script; over the directives up to the one at a line, and from one at a line on, where there are these. It ends
-    with a table of logs where that is asked for."""
+def chart_of(data: bytes, name: str, until: int | None = None, start: int | None = None) -> Chart:
+    """All that a script's picture has; of the directives up to the one at a line, and from one at a line on, where there are these."""
     title = title_of(name, until, start)
-    above, drafter = None, kind(title)
-    logs = Logs()
+    above, drafter = None, Drafter(title)
     if start is not None:
-        above, drafter = drafter, kind(title)
+        above, drafter = drafter, Drafter(title)
     script = read_script(data)
     blocks = iter(script.blocks)
-    for row in unmarked_rows_of(data, name, DIRECTIVES):
-        if row[0] == "end" or row[0] == "step" and until is not None and row[1] > until:
-            drafter.end_saves()
-            if has_logs:
-                drafter.show_logs(logs)
-            if row[0] == "end":
-                drafter.tell_notes(1 + len(lines_of(data)) - len(script.tail), script.tail)
+    for row in rows_of(data, name, DIRECTIVES):
+        if row[0] == "step" and until is not None and row[1] > until:
             break
-        logs.read(*row)
         if row[0] == "step" and above and row[1] >= start:
             above.end_saves()
             drafter.begin_after(above, row[1])
             above = None
         if row[0] == "step":
-            block, drawing = next(blocks), above or drafter
-            drawing.end_saves()
-            drawing.choice = choice_of(block.directive())
-            drawing.tell_notes(row[1] - len(block.lead), block.lead)
-            drawing.begin_row(row[1], shown(block.head[0]))
+            block, drawn = next(blocks), above or drafter
+            drawn.end_saves()
+            drawn.choice = choice_of(block.directive())
+            drawn.tell_notes(row[1] - len(block.lead), block.lead)
+            drawn.begin_row(row[1], shown(block.head[0]))
+        elif row[0] == "end":
+            drafter.end_saves()
+            drafter.tell_notes(1 + len(lines_of(data)) - len(script.tail), script.tail)
         elif row[0] not in ("raftbench", "text", "output", "expected", "mismatch"):
             (above or drafter).read(*row)
-    drafter.done()
-    return drafter
-
-
-def chart_of(data: bytes, name: str, until: int | None = None, start: int | None = None, has_logs: bool = False) -> Chart:
-    """All that a script's picture has, or that of a part of it."""
-    return drawn(Drafter, data, name, until, start, has_logs).chart
+    return drafter.done()
 
 
 # Drawing
@@ -513,15 +484,14 @@ def svg_lines(chart: Chart) -> Iterator[str]:
     yield "</svg>"
 
 
-def svg_of(data: bytes, name: str, until: int | None = None, start: int | None = None, has_logs: bool = False) -> str:
+def svg_of(data: bytes, name: str, until: int | None = None, start: int | None = None) -> str:
     """The picture of a script, as the text of an SVG file."""
-    return "\n".join(svg_lines(chart_of(data, name, until, start, has_logs))) + "\n"
+    return "\n".join(svg_lines(chart_of(data, name, until, start))) + "\n"
 
 
 def main() -> None:
     path = pathlib.Path(sys.argv[1])
-    until, start = [*map(int, sys.argv[2:]), None, None][:2]
-    sys.stdout.write(svg_of(path.read_bytes(), path.name, until, start))
+    sys.stdout.write(svg_of(path.read_bytes(), path.name, *map(int, sys.argv[2:])))
 
 
 if __name__ == "__main__":

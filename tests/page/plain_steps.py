@@ -1,5 +1,5 @@
-"""The rows of a page in the plainest way: a run of the plain bench (plain/), watched. It is written from docs/FORMATS.md and shares nothing with the
-code in crates/; names of events are those of their one table (forms.py).
+"""The rows of a page in the plainest way: a run of the plain bench (plain/), watched. It is written from docs/FORMATS.md and shares
+nothing with the code in crates/.
 
     plain_steps.py FILE [NAME]     writes the JSON text of the script's page
 """
@@ -18,29 +18,46 @@ from plain.cluster import Cluster  # noqa: E402
 from plain.node import Node  # noqa: E402
 from plain.script import Directive, read_script, read_with_lines  # noqa: E402
 from plain.texts import body_text, config_text  # noqa: E402
-from tests.page.forms import forms  # noqa: E402
-from tests.page.plain_difference import MOST_WORK_OF_SCRIPT, difference_rows, work_of  # noqa: E402
+from tests.page.plain_difference import MOST_WORK_OF_SCRIPT, difference_rows, work_of
 from plain.records import AnyNode, Entry, Message, ShownView  # noqa: E402
 
 Row = list[Any]
 # Format 1 says what changed at the end of a directive, format 2 after each ready, each delivery and each restart too.
 DIRECTIVES, EVENTS_TOO = 1, 2
 SHOWN_CONTENT = 32
-# What a node tells, as its line shows it, and the name of its row.
-EVENTS = [(re.compile(form.line()), form.name) for form in forms()]
-ANSWERS = {"granted": 1, "refused": 0}
+# What a node tells, as its line shows it, and the row of it; a group that is all digits is a number.
+EVENTS = [
+    (r"(\d+) became (\w+) at term (\d+)", "became"),
+    (r"(\d+) can't campaign: (.*)", "cannot-campaign"),
+    (r"(\d+) ignored (\w+) from (\d+)", "ignored"),
+    (r"(\d+) dropped a proposal", "dropped-proposal"),
+    (r"(\d+) conflict at (\d+), commit (\d+)", "conflict"),
+    (r"(\d+) appends nothing: index limit", "appends-nothing"),
+    (r"(\d+) replaced change at (\d+) by an empty entry: (.*)", "replaced-change"),
+    (r"(\d+) switched to (.*)", "switched"),
+    (r"(\d+) refused change at (\d+): (\w+)", "refused-change"),
+    (r"(\d+) restored snapshot (\d+)/(\d+)", "restored"),
+    (r"(\d+) starts transfer to (\d+)", "transfer-starts"),
+    (r"(\d+) ends transfer to (\d+)", "transfer-ends"),
+    (r"(\d+) lost its quorum", "lost-quorum"),
+    (r"(\d+) started at .*", "started"),
+    (r"(\d+) restarted at term=(\d+) vote=(\d+) log=(\d+)\.\.(\d+) commit=(\d+)", "restarted"),
+]
+VOTE = re.compile(r"(\d+) has (\w+) (granted|refused) from (\d+): (\w+)")
 
 
-def cell_of(word: str) -> int | str:
-    """A part of an event's line, as a cell: a number, an answer, or a text."""
-    return int(word) if word.isdigit() else ANSWERS.get(word, word)
+def number_or_text(word: str) -> int | str:
+    return int(word) if word.isdigit() else word
 
 
 def event_row(text: str) -> Row:
     """The row of what a node tells: a list that begins with a name."""
-    for line, name in EVENTS:
-        if found := line.fullmatch(text):
-            return [name, *map(cell_of, found.groups())]
+    if found := VOTE.fullmatch(text):
+        id, kind, answer, sender, result = found.groups()
+        return ["vote", int(id), kind, int(answer == "granted"), int(sender), result]
+    for form, name in EVENTS:
+        if found := re.fullmatch(form, text):
+            return [name, *map(number_or_text, found.groups())]
     raise ValueError(text)
 
 
@@ -90,11 +107,6 @@ def ready_rows(node: AnyNode) -> Iterator[Row]:
     yield from (message_row("send", message) for message in ready.messages)
 
 
-def marked(row: Row, is_printed: bool) -> Row:
-    """The row of something that happens: a `-` before its name says that no line shows it."""
-    return row if is_printed else ["-" + row[0], *row[1:]]
-
-
 class Watched(Cluster):
     """A cluster that also keeps the rows of what it did: what each directive can show, at any level."""
 
@@ -113,10 +125,6 @@ class Watched(Cluster):
             self.put_changes(id)
         return lines
 
-    def happens(self, *rows: Row) -> None:
-        """Keeps the rows of what no level but `none` hides."""
-        self.rows += [marked(row, self.shown != "none") for row in rows]
-
     def put_changes(self, id: int) -> None:
         """What of a node is not as it was when this was asked last."""
         node = self.nodes[id]
@@ -133,18 +141,16 @@ class Watched(Cluster):
             self.put_changes_of_event(id)
 
     def put_events(self, node: AnyNode) -> None:
-        for event in list(node.events):
-            node.events, before = [event], len(self.lines)
-            super().put_events(node)
-            self.rows.append(marked(event_row(event[1]), len(self.lines) > before))
+        self.rows += [event_row(text) for _, text in node.events]
+        super().put_events(node)
 
     def put_message(self, verb: str, message: Message) -> None:
-        self.happens(message_row(VERBS[verb], message))
+        self.rows.append(message_row(VERBS[verb], message))
         super().put_message(verb, message)
 
     def process(self, id: int) -> bool:
         if self.nodes[id].has_ready():
-            self.happens(*ready_rows(self.nodes[id]))
+            self.rows += ready_rows(self.nodes[id])
         is_done = super().process(id)
         self.put_changes_of_event(id)
         return is_done
@@ -153,18 +159,16 @@ class Watched(Cluster):
         for id in words:
             is_idle = not self.nodes[id].has_ready()
             super().do_process_ready([id], *rest)
-            if is_idle:
-                self.happens(["nothing-ready", id])
+            self.rows += [["nothing-ready", id]] if is_idle else []
 
     def do_deliver_msgs(self, *asked: Any) -> None:
         super().do_deliver_msgs(*asked)
-        if not self.rows:
-            self.happens(["no-messages"])
+        self.rows += [] if self.rows else [["no-messages"]]
 
     def do_stabilize(self, words: Any, options: Any, given: Any) -> None:
         super().do_stabilize(words, options, given)
         if self.has_work(sorted(set(words)) or list(self.nodes)):
-            self.happens(["stopped", options.get("rounds", 200)])
+            self.rows.append(["stopped", options.get("rounds", 200)])
 
 
 def numbers_of(node: AnyNode) -> list[Any]:
@@ -245,11 +249,6 @@ def rows_of(data: bytes, name: str, format: int = EVENTS_TOO) -> Iterator[Row]:
             left -= work_of(block.expected, output, left)
         yield from cluster.rows
     yield ["end", len(script.blocks), wrong]
-
-
-def unmarked_rows_of(data: bytes, name: str, format: int = EVENTS_TOO) -> Iterator[Row]:
-    """The same without the marks of what no line shows."""
-    return ([row[0].removeprefix("-"), *row[1:]] for row in rows_of(data, name, format))
 
 
 def text_cell(data: bytes) -> str:

@@ -82,14 +82,6 @@ def pages_are_those_of_the_plain_rows() -> None:
             writes_the_plain_page(name, [put(room, name, data)], b"", page_of(data, name, FORMAT), status)
 
 
-def parts_are_named_by_their_lines() -> None:
-    data = TOUR[2].read_bytes()
-    parts = {("--from", "90", "--until=140"): (90, 140), ("--until", "30"): (0, 30), ("--from=9999999999",): (9999999999, 0)}
-    for words, part in parts.items():
-        writes_the_plain_page(" ".join(words), ["-", *words], data, page_of(data, "standard input", FORMAT, part), 0)
-    same("a line that is none", answer(["page", "-", "--from", "x"], data), (b"", b"raftbench: --from x: the line of a directive\n", 2))
-
-
 def remarks(data: bytes, room: str) -> list[list[int | str]]:
     """The rows of a script's page that say something about others."""
     page = answer(["page", put(room, "remarks.txt", data)])[0]
@@ -189,7 +181,7 @@ def rows_of_events_take_little() -> None:
 
 
 WRITTEN = [
-    pages_are_those_of_the_plain_rows, parts_are_named_by_their_lines, reasons_are_those_of_traces, hints_and_warnings_are_those_of_check, names_are_told_as_they_are,
+    pages_are_those_of_the_plain_rows, reasons_are_those_of_traces, hints_and_warnings_are_those_of_check, names_are_told_as_they_are,
     every_changes_no_page, large_pages_are_refused, refusals_are_those_of_run, full_devices_are_told, readers_that_go_away_are_told, rows_of_events_take_little,
     twenty_thousand_directives_are_written,
 ]

@@ -12,7 +12,7 @@ from contextlib import AbstractContextManager
 
 from plain.script import Block, read_script
 from tests.page.browser import Browser, found
-from tests.page.plain_steps import Row, unmarked_rows_of
+from tests.page.plain_steps import Row, rows_of
 from tests.page.scripts import FULL, HOSTILE, LESS, LOST, MANY, OUTPUT, TOUR, Failed, long_page, mismatched, page_of, same
 
 TALL = 12000
@@ -131,7 +131,7 @@ IN_VIEW = """['script .block.chosen', 'drawing .row.chosen'].every((it) => {
 def tour_is_right_to_the_arrow(reader: Reader) -> None:
     for path in TOUR:
         data = path.read_bytes()
-        rows, blocks = list(unmarked_rows_of(data, path.name)), read_script(data).blocks
+        rows, blocks = list(rows_of(data, path.name)), read_script(data).blocks
         reader.browser.size(1500, TALL)
         reader.open(data, path.stem)
         same(f"the arrows of {path.name}", drawn(reader), counted(rows))

@@ -96,9 +96,8 @@ def mismatched() -> tuple[bytes, list[int]]:
     return changed, [place for place, block in enumerate(read_script(changed).blocks, 1) if b"from 2: other" in block.text()]
 
 
-def page_of(data: bytes, name: str, format: int = EVENTS_TOO, part: tuple[int, int] = (0, 0)) -> str:
-    """The page of a script, or of the part of it between two lines."""
-    before, after = parts(f"[{part[0]},{part[1]}]")
+def page_of(data: bytes, name: str, format: int = EVENTS_TOO) -> str:
+    before, after = parts()
     return before + json_text(rows_of(data, name, format)) + after
 
 

@@ -23,8 +23,7 @@ from plain.script import read_script, read_with_lines
 from tests.harness import PROGRAM, TOP, Result, results_of
 from tests.page.browser import Browser, found
 from tests.page.plain_chart import svg_of
-from tests.page.plain_diagram import diagram_of
-from tests.page.plain_steps import Row, unmarked_rows_of
+from tests.page.plain_steps import Row, rows_of
 from tests.page.scripts import HOSTILE, LOST, MANY, PAYLOADS, TOUR, same
 
 ELECTION = TOP / "docs" / "pictures" / "election.svg"
@@ -41,8 +40,6 @@ LONG = b"".join([
     b"add-nodes 2 voters=(1,2) index=999999999\n----\n\ncampaign 1\n----\n\nstabilize\n----\n\npropose 1 x\n----\n\nprocess-ready 1\n----\n\n",
     b"deliver-msgs drop=(2)\n----\n\npropose 1 y\n----\n\nstabilize\n----\n\n",
 ])
-# The same, where the answer is still on its way.
-ANSWERED = LONG.removesuffix(b"stabilize\n----\n\n") + b"process-ready 1\n----\n\ndeliver-msgs 2\n----\n\nprocess-ready 2\n----\n\n"
 # Comments, and lines that look like some and are none: input, and what is expected, in both forms.
 NOTED = b"".join([
     b"#\n#  The first \r\n\t## and more of it.\n\n# Another <b>.\nadd-nodes 1 voters=(1) \\\n# no note\n----\n# no note\n\n# A third.\nraft-state\n",
@@ -105,7 +102,7 @@ def what_no_arrow_leads_to_is_named() -> None:
     """The labels of messages that are lost or on their way say to whom they are, and no others do."""
     for data in [LOST, SELF, HOSTILE, *(path.read_bytes() for path in TOUR)]:
         aimed, others = labels_of(parts_of(svg_of(data, "x")))
-        wanted, delivered = unmet([row for row in unmarked_rows_of(data, "x") if row[0] in ("send", "queue", "deliver")])
+        wanted, delivered = unmet([row for row in rows_of(data, "x") if row[0] in ("send", "queue", "deliver")])
         same("to whom what was lost or is on its way was sent", sorted(to for to, _ in aimed), wanted)
         same("how many were delivered", len(others), delivered)
 
@@ -113,7 +110,7 @@ def what_no_arrow_leads_to_is_named() -> None:
 def labels_say_type_and_term() -> None:
     """Each label begins with etcd's name of the type, and has the term, where the message is of one, and there is room."""
     for data in [LOST, SELF, *(path.read_bytes() for path in TOUR)]:
-        sent = [row[3:5] for row in unmarked_rows_of(data, "x") if row[0] in ("send", "queue")]
+        sent = [row[3:5] for row in rows_of(data, "x") if row[0] in ("send", "queue")]
         wanted = sorted(" ".join([kind[3:], *([f"t{term}"] if term else [])]) for kind, term in sent)
         aimed, others = labels_of(parts_of(svg_of(data, "x")))
         texts = [*(text for _, text in aimed), *others]
@@ -152,29 +149,8 @@ def what_is_on_its_way_is_told() -> None:
         "Vote t2 last 1/10 from node 1 to node 3 is on its way.",
     ]
     same("what is on its way", told[-3:], [f"Line 16: {sentence}" for sentence in wanted])
-    # By receiver, in the order in which it was sent, with all its words.
-    told = [line for line in described(svg_of(ANSWERED, "x")) if "on its way" in line]
-    same("long words on their way", told, ["Line 28: AppResp t1 refused 1000000001, hint 1000000000 from node 2 to node 1 is on its way."])
-    told = described(svg_of(LOST, "x"))
     same("what is lost", [line for line in told if "dropped" in line], ["Line 10: Vote t1 last 1/10 from node 1 to node 2 is dropped."])
     same("a note of the program's", "Line 16: stopped after 2 rounds." in described(svg_of(SELF, "x")), True)
-
-
-# A line of a diagram, as Mermaid's grammar has it: mermaid.js.org, "Sequence Diagrams".
-STATEMENT = re.compile(
-    r"participant n\d+ as node \d+|Note over n\d+(,n\d+)?: (?:[^#;<>&%\n]|#\d+;)*|n\d+(?:->>|-x|--\))n\d+: (?:[^#;<>&%\n]|#\d+;)*")
-
-
-def diagrams_are_statements() -> None:
-    """Each line is one, whatever the texts are; each message that ends has one, and each that is on its way."""
-    for data in [LOST, SELF, HOSTILE, LONG, b"", *(path.read_bytes() for path in TOUR)]:
-        first, title, *lines = diagram_of(data, "a;b#c<d>").splitlines()
-        same("the front", (first, title), ("sequenceDiagram", "accTitle: a#59;b#35;c#60;d#62;"))
-        same("lines that are no statements", [line for line in lines if not STATEMENT.fullmatch(line)], [])
-        told = described(svg_of(data, "x"))
-        for arrow, ends in (("->>", r"delivered"), ("-x", r"(dropped|given up)"), ("--)", r"on its way")):
-            wanted = sum(bool(re.search(rf" from node \d+ to node \d+ is {ends}\.$", line)) for line in told)
-            same(f"how many lines have {arrow}", sum(bool(re.match(rf"n\d+{re.escape(arrow)}n\d+: ", line)) for line in lines), wanted)
 
 
 # What the program does
@@ -199,34 +175,6 @@ def pictures_are_the_plain_ones() -> None:
         for line in (0, 1, 10**9):
             same(f"up to line {line}", answer(["chart", "-", "--until", str(line)], data)[0].decode(), svg_of(data, "standard input", line))
             same(f"from line {line}", answer(["chart", "-", "--from", str(line)], data)[0].decode(), svg_of(data, "standard input", None, line))
-
-
-def diagrams_are_the_plain_ones() -> None:
-    """Also of parts; `--format svg` is the picture."""
-    for data, status in [(NOTED, 1), (SELF, 1), (LOST, 1), (HOSTILE, 1), (b"", 0), *((path.read_bytes(), 0) for path in TOUR)]:
-        same("the diagram", answer(["chart", "-", "--format", "mermaid"], data), (diagram_of(data, "standard input").encode(), b"", status))
-        for line in (0, 12, 10**9):
-            words = ["chart", "-", "--format=mermaid", "--from", str(line), "--until", str(line + 20)]
-            same(f"from line {line}", answer(words, data)[0].decode(), diagram_of(data, "standard input", line + 20, line))
-    same("the picture", answer(["chart", TOUR[0], "--format", "svg"]), answer(["chart", TOUR[0]]))
-
-
-# A log of more entries than a table has rows, one that isn't durable whole, and a snapshot; one that a restart cuts.
-LOGS = b"".join([
-    b"add-nodes 2 voters=(1,2) index=10\n----\n\ncampaign 1\n----\n\nstabilize\n----\n\n", *(b"propose 1 x\n----\n\n" for _ in range(45)), b"process-ready 1\n----\n\n",
-    b"propose 1 y\n----\n\n", b"propose-conf-change 1 v3\n----\n\n",
-])
-CUT = LOGS.replace(b"propose 1 y\n----\n\n", b"stabilize\n----\n\ncompact 1 30\n----\n\nrestart 2\n----\n\nadd-nodes 1 learners=(2) index=20\n----\n\n")
-
-
-def tables_are_the_plain_ones() -> None:
-    """The table of logs, in a picture and in a diagram; where the part ends, and none where nothing is drawn."""
-    for data, status in [(LOGS, 1), (CUT, 1), (LOST, 1), (b"", 0), *((path.read_bytes(), 0) for path in TOUR)]:
-        same("the picture", answer(["chart", "-", "--logs"], data), (svg_of(data, "standard input", has_logs=True).encode(), b"", status))
-        same("the diagram", answer(["chart", "-", "--logs", "--format=mermaid"], data)[0].decode(), diagram_of(data, "standard input", has_logs=True))
-        for line in (0, 12, 10**9):
-            words = ["chart", "-", "--logs", "--from", str(line), "--until", str(line + 20)]
-            same(f"from line {line}", answer(words, data)[0].decode(), svg_of(data, "standard input", line + 20, line, True))
 
 
 def parts_come_in_from_above() -> None:
@@ -372,10 +320,10 @@ def hostile_texts_act_in_no_browser(browser: Browser, room: pathlib.Path, kept: 
 
 ALONE = [
     picture_is_named_and_described, what_no_arrow_leads_to_is_named, labels_say_type_and_term, labels_have_room,
-    notes_are_told, what_is_on_its_way_is_told, diagrams_are_statements,
+    notes_are_told, what_is_on_its_way_is_told,
 ]
 WRITTEN = [
-    election_of_the_documents_is_the_program_s, pictures_are_the_plain_ones, diagrams_are_the_plain_ones, tables_are_the_plain_ones, parts_come_in_from_above, large_pictures_are_refused, refusals_are_those_of_run, full_devices_are_told,
+    election_of_the_documents_is_the_program_s, pictures_are_the_plain_ones, parts_come_in_from_above, large_pictures_are_refused, refusals_are_those_of_run, full_devices_are_told,
     readers_that_go_away_are_told, closed_outputs_are_told, hostile_texts_are_text, hostile_names_are_text,
 ]
 SEEN = [all_is_within_the_picture, light_and_dark_differ, hostile_texts_act_in_no_browser]

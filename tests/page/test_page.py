@@ -6,7 +6,7 @@ mailbox, of 32 nodes, of long output and of 20,000 directives are opened in a he
 by the place in the address and within frames, light and dark. Each arrow is followed from end to end, and each mark, each band and all
 that stands after each step is held to what is printed; so is what stands after each ready and each delivery (events.py). Nothing may stand
 in the console, and nothing may be fetched. Other tests try mismatches (difference.py), finding and filters (finding.py), keys, buttons and
-playing (stepping.py), what is told of a page to readers who can't see it (access.py), print and narrow screens (paper.py), pages of parts (parting.py), how texts are spelled (spelling.py), and the types of
+playing (stepping.py), what is told of a page to readers who can't see it (access.py), print and narrow screens (paper.py), how texts are spelled (spelling.py), and the types of
 the page's modules (types_of_modules.py). Where there is no browser, or no program, this says so.
 
 With SEEN=FOLDER in the environment it writes what is seen into a folder, to look at.
@@ -32,10 +32,10 @@ from plain.cluster import Cluster
 from plain.script import Fault, read_script, read_with_lines
 from tests.cases.case import scripts_below
 from tests.harness import PROGRAM, TESTS, TOP, Result, results_of
-from tests.page import access, assemble, beside, chart_parts, difference, events, finding, paper, parting, program, spelling, stepping, traces, types_of_modules
+from tests.page import access, assemble, beside, chart_parts, difference, events, finding, paper, program, spelling, stepping, traces, types_of_modules
 from tests.page.browser import Browser, found
 from tests.page.plain_chart import svg_of
-from tests.page.plain_steps import cell, json_text, rows_of, unmarked_rows_of
+from tests.page.plain_steps import cell, json_text, rows_of
 from tests.page.reader import SEEN, Reader, counted
 from tests.page.scripts import HOSTILE, LOST, MANY, NOBODY, SELF, TOUR, page_of, same
 
@@ -93,9 +93,9 @@ def hash_of(text: str) -> str:
 
 def policy_names_its_own_by_hash() -> None:
     marks = Marks(page_of(HOSTILE, "x"))
-    elements: list[tuple[str, dict[str, str | None]]] = [("style", {}), *(("script", {"type": "application/json", "id": id}) for id in ("part", "steps")), ("script", {})]
+    elements: list[tuple[str, dict[str, str | None]]] = [("style", {}), ("script", {"type": "application/json", "id": "steps"}), ("script", {})]
     same("the elements", [(it.tag, it.given) for it in marks.elements], elements)
-    style, _, _, code = (it.text for it in marks.elements)
+    style, _, code = (it.text for it in marks.elements)
     wanted = {"default-src 'none'", f"style-src {hash_of(style)}", f"script-src {hash_of(code)}", "base-uri 'none'", "form-action 'none'"}
     same("the policy", set(marks.policy.split("; ")), wanted)
     same("the attributes that act", {name for name in marks.attributes if name.startswith("on") or name in ("src", "href", "style")}, set())
@@ -184,7 +184,7 @@ def charts_have_every_message() -> None:
         parts = list(xml.etree.ElementTree.fromstring(svg_of(data, "<&>")).iter())
         looks = [part.get("class") or "" for part in parts]
         came = tuple(sum(wanted in look.split() for look in looks) for wanted in ("delivered", "cross", "waiting"))
-        same("the arrows", came, counted(list(unmarked_rows_of(data, "x"))))
+        same("the arrows", came, counted(list(rows_of(data, "x"))))
         kinds = {part.tag.removeprefix("{http://www.w3.org/2000/svg}") for part in parts}
         same("the elements", kinds, {"svg", "title", "desc", "style", "defs", "marker", "path", "rect", "text"})
         same("what fetches or acts", [name for part in parts for name in part.keys() if "href" in name or name.startswith("on")], [])
@@ -256,7 +256,7 @@ ALONE = [
     charts_have_every_message, pictures_of_documents_are_the_plain_ones, page_of_documents_is_todays, style_of_pictures_is_its_file, beside.rows_tell_what_is_printed,
     *chart_parts.ALONE, *types_of_modules.ALONE,
 ]
-MODULES = [events, difference, finding, stepping, access, paper, parting, spelling]
+MODULES = [events, difference, finding, stepping, access, paper, spelling]
 IN_A_BROWSER = [*SEEN, *beside.BESIDE, *(test for module in MODULES for test in module.TESTS)]
 
 

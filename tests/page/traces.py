@@ -43,19 +43,12 @@ def decoded(value: Any) -> Any:
 
 def happenings(data: bytes) -> list[list[Row]]:
     """The rows of what happens at each directive, by the plain bench."""
-    return [[[row[0].removeprefix("-"), *row[1:]] for row in rows] for _, rows in with_marks(data)]
-
-
-def with_marks(data: bytes) -> list[tuple[list[str], list[Row]]]:
-    """The lines that each directive prints, and the rows of what happens, with their marks."""
-    found: list[tuple[list[str], list[Row]]] = []
+    found: list[list[Row]] = []
     for row in rows_of(data, "x", DIRECTIVES):
         if row[0] == "step":
-            found.append(([], []))
-        elif found and row[0] == "output":
-            found[-1][0].append(decoded(row[1]))
+            found.append([])
         elif found and row[0] not in OTHERS and row[0] != "end":
-            found[-1][1].append([decoded(cell) for cell in row])
+            found[-1].append([decoded(cell) for cell in row])
     return found
 
 
@@ -96,18 +89,6 @@ def rows_are_those_of_the_page() -> None:
         wanted = happenings(data)
         came = by_directive(traced(data, status_of(data)), len(wanted))
         same(f"the rows of {name}", [[event["row"] for event in events if "row" in event] for events in came], wanted)
-
-
-def unmarked_rows_are_the_lines() -> None:
-    """The lines of a directive are, in order, those of its events whose rows have no mark. One that shows states has no event, and none has the line `ok`."""
-    marked = 0
-    for name, data in scripts():
-        for (lines, rows), events in zip(steps := with_marks(data), by_directive(traced(data, status_of(data)), len(steps))):
-            texts = [event["text"] for event in events if "row" in event]
-            printed = [text for text, row in zip(texts, rows) if not row[0].startswith("-")]
-            marked += len(texts) - len(printed)
-            same(f"what is printed in {name}", printed, lines if rows and lines != ["ok"] else [])
-    same("whether some are marked", marked > 100, True)
 
 
 def members_are_in_order() -> None:
@@ -300,6 +281,6 @@ def shiviz_reads_it() -> None:
 
 
 TRACES = [
-    rows_are_those_of_the_page, unmarked_rows_are_the_lines, members_are_in_order, directives_are_where_they_stand, texts_are_the_lines_that_are_printed, nodes_are_those_of_the_rows,
+    rows_are_those_of_the_page, members_are_in_order, directives_are_where_they_stand, texts_are_the_lines_that_are_printed, nodes_are_those_of_the_rows,
     messages_keep_their_numbers, reasons_are_told, what_gives_way_is_what_plain_nodes_remove, refusals_are_those_of_run, names_are_told_as_they_are, object_of_the_format_is_there, shiviz_reads_it,
 ]

@@ -1,7 +1,7 @@
-"""Makes the texts of rb_help from docs/SCRIPTS.md: its table as an overview, and a page for each directive.
+"""Makes the texts of rb_report from docs/SCRIPTS.md: its table as an overview, and a page for each directive.
 
 A page has the directive's usage, what the document says of it, what each argument may be, and an example: of the blocks in the document's
-scripts that are this directive, the one that shows most. The texts go into crates/rb_help/src/pages.rt, the keys of options into
+scripts that are this directive, the one that shows most. The texts go into crates/rb_report/src/help/pages.rt, the keys of options into
 keys.rt, and a line on each option into options.rt.
 """
 import dataclasses
@@ -13,7 +13,7 @@ from collections.abc import Iterator
 from tests.harness import TOP
 
 DOCUMENT = TOP / "docs/SCRIPTS.md"
-SOURCES = TOP / "crates/rb_help/src"
+SOURCES = TOP / "crates/rb_report/src/help"
 WIDTH = 80
 CODE = re.compile(r"`([^`]*)`")
 MORE = "raftbench-directives(7) explains the lines of outputs, and the errors."

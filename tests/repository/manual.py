@@ -1,5 +1,5 @@
 #!/usr/bin/env python3
-"""Makes the manual pages and the texts of rb_help of the documents."""
+"""Makes the manual pages and the texts of rb_report of the documents."""
 import pathlib
 import sys
 

@@ -1,5 +1,5 @@
 """Holds the manual pages that are made of documents: they are what the documents say, they lose nothing of them, raftbench(1) and they
-name each other, and man and groff show them, where these are here. The pages that are written by hand are shown, and their examples run in bash. And the texts of rb_help: they are what docs/SCRIPTS.md says.
+name each other, and man and groff show them, where these are here. The pages that are written by hand are shown, and their examples run in bash. And the texts of rb_report: they are what docs/SCRIPTS.md says.
 tests/repository/manual.py makes the pages and these texts.
 """
 import collections
@@ -193,11 +193,11 @@ CHECKS = [
 
 
 def results(word: str) -> Iterator[Result]:
-    """Each check of each page, and the texts of rb_help."""
+    """Each check of each page, and the texts of rb_report."""
     looks: list[tuple[str, Callable[[], None]]] = [(f"{page.name} {check.__name__}", partial(check, page)) for page in pages.PAGES for check in CHECKS]
     looks += [(f"{name} {check.__name__}", partial(check, name)) for name in TOOLS for check in (tool_page_is_shown, examples_run)]
     looks.append(("examples that fail", examples_that_fail_are_seen))
-    looks.append(("rb_help", sources_are_what_the_document_says))
+    looks.append(("rb_report", sources_are_what_the_document_says))
     for name, look in looks:
         if word in name:
             yield result_of(name, look)

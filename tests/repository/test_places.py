@@ -7,7 +7,6 @@ from collections.abc import Iterator
 from typing import NamedTuple
 
 from tests.harness import TOP
-from tests.page.forms import forms
 
 
 class Sample(NamedTuple):
@@ -26,7 +25,7 @@ OPTION = Sample("How an option of a directive is added", re.compile(r"checkquoru
 TYPE = Sample("How a type of message is added", re.compile(r"TimeoutNow"), 8, ("rb_node", "rb_calls", "rb_laws"))
 SAMPLES = (DIRECTIVE, OPTION, TYPE, EVENT)
 # The texts of the manual are made of the document. What the names of other tools stand for takes a line only if there is such a name.
-NO_PLACES = {f"crates/rb_help/src/{name}.rt" for name in ("pages", "keys", "options", "other_names")}
+NO_PLACES = {f"crates/rb_report/src/help/{name}.rt" for name in ("pages", "keys", "options", "other_names")}
 
 
 def listed(sample: Sample) -> list[str]:
@@ -40,25 +39,6 @@ def known(sample: Sample) -> Counter[str]:
     files = [path for part in ("src", "specs", "proofs") for path in TOP.glob(f"crates/*/{part}/**/*") if path.suffix in (".rt", ".antt") and not {"tests", "frame", *sample.rules} & set(path.parts[len(TOP.parts):])]
     counts = {str(path.relative_to(TOP)): sum(bool(sample.known.search(line)) for line in path.read_text().splitlines()) for path in files}
     return Counter({file: count for file, count in counts.items() if count and file not in NO_PLACES})
-
-
-# What shows events elsewhere, and what of it is made of the table of forms.
-SHOWING = ("crates/*/assets/*.js", "live/**/*.js", "live/*.py", "plain/*.py", "raftbench_nodes/**/*.py", "tests/page/*.py")
-MADE = {"crates/rb_view/assets/events.js", "raftbench_nodes/page/events.py"}
-EVENT_NAME = re.compile(r"""["'`]lost-quorum["'`]""")
-
-
-def test_no_other_code_names_the_event() -> Iterator[str]:
-    files = {str(path.relative_to(TOP)) for pattern in SHOWING for path in TOP.glob(pattern) if EVENT_NAME.search(path.read_text())}
-    yield from (f"{file} names the event's row, which isn't in the list" for file in sorted(files - MADE))
-    yield from (f"{file} doesn't know the event" for file in sorted(MADE - files))
-
-
-def test_each_event_has_its_row_in_the_document() -> Iterator[str]:
-    """docs/FORMATS.md names the rows of the events in its one paragraph of them."""
-    said = (TOP / "docs" / "FORMATS.md").read_text().split("\nEvents of a node have its id first: ")[1].split("\n\n")[0]
-    names, told = {form.name for form in forms()}, set(re.findall(r"`([a-z-]+)`", said))
-    yield from (f"{name} has no row in the document, or none in the table" for name in sorted(names ^ told))
 
 
 def test_places_are_few() -> Iterator[str]:

@@ -18,7 +18,7 @@ VIEWERS = {
 # rb_text writes texts for all, those of JSON too; logs and messages keep entries in pages.
 OWN = {"rb_text": {"json", "page"}, "rb_raftlog": {"page", "pages"}, "rb_message": {"page", "pages"}}
 SHOWS = {
-    "rb_view", "rb_report", "rb_help", "rb_script_report", "rb_lsp", "rb_editor", "rb_args", "rb_bench", "rb_files", "rb_check", "rb_book", "rb_site", "rb_program", "raftbench",
+    "rb_view", "rb_report", "rb_script_report", "rb_lsp", "rb_editor", "rb_args", "rb_bench", "rb_files", "rb_check", "rb_book", "rb_site", "rb_program", "raftbench",
 }
 WORD = re.compile(r"[A-Z]?[a-z]+|[A-Z]+(?![a-z])")
 COMMENT = re.compile(r"(?://|-- ).*")

@@ -13,11 +13,11 @@ use std::io;
 pub(crate) fn serve_editor<R: Input + Print + AllocGlobal>(rt: &R) -> Result<u8, ProgramError> {
     let mut source = ReadSource(rt.reader());
     let mut sink = Through(io::writer(rt));
-    exit_code_of_serving(lsp(rt.alloc(), &mut source, &mut sink))
+    ended(lsp(rt.alloc(), &mut source, &mut sink))
 }
 
 // The status of a conversation: 0 only if it ended as the protocol says.
-fn exit_code_of_serving(served: Result<ExitStatus, ServeFault>) -> Result<u8, ProgramError>
+fn ended(served: Result<ExitStatus, ServeFault>) -> Result<u8, ProgramError>
     ensures done { served ≡ Ok ExitStatus.Done → result ≡ Ok 0 }
     ensures exited { (served ≡ Ok ExitStatus.Exited) ⊎ (served ≡ Ok ExitStatus.Closed) → result ≡ Ok 1 }
     ensures cut_off { (served ≡ Ok ExitStatus.CutOff) ⊎ (served ≡ Ok ExitStatus.NoMessage) ⊎ (served ≡ Err ServeFault.Io) → result ≡ Err ProgramError.Io }

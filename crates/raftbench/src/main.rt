@@ -1,4 +1,4 @@
-//! Reads the arguments, runs the subcommand, and reports errors.
+//! The program: its arguments are read, and what they ask for is done, or it says why it isn't. The streams are the process's own.
 #![tactic(auto)]
 
 mod editing;
@@ -9,9 +9,9 @@ use crate::pages::{with_pages, write_pages};
 use rb_args::{CommandChoice, ScriptCommand, Subcommand};
 use rb_program::{
     ProgramError, RuntimeConsole, Terminals, UsageError, carry_out, check_all, choice_by,
-    write_directive_help,
+    show_directives,
 };
-use rb_report::Status;
+use rb_report::check::Status;
 use std::io::{IsTerminal, Write};
 use std::process::ExitCode;
 use std::rt::{Env, Files};
@@ -25,17 +25,17 @@ fn main(rt: HostRuntime) -> ExitCode {
         output: rt.stdout().is_terminal(),
         errors: errors.is_terminal(),
     };
-    let code = match dispatch(&rt, errors, terminals) {
+    let code = match answered(&rt, errors, terminals) {
         Ok(code) => code,
         Err(refusal) => {
             let mut console = RuntimeConsole::new(&rt);
-            u8::from(refusal.write_to(rt.alloc(), &mut console, &rt, terminals.errors))
+            u8::from(refusal.tell(rt.alloc(), &mut console, &rt, terminals.errors))
         }
     };
     ExitCode::from(code)
 }
 
-fn dispatch<R: Files + Input + Print + Eprint + Env + Clock + AllocGlobal, E: Write + Drop>(
+fn answered<R: Files + Input + Print + Eprint + Env + Clock + AllocGlobal, E: Write + Drop>(
     rt: &R,
     errors: E,
     terminals: Terminals,
@@ -49,10 +49,7 @@ fn dispatch<R: Files + Input + Print + Eprint + Env + Clock + AllocGlobal, E: Wr
         Some(Subcommand::Script(ScriptCommand::Page)) if choice.out.is_some() => exit_code_of(
             write_pages(rt, &choice),
         ),
-        Some(Subcommand::Directives) => exit_code_of(write_directive_help(
-            rt,
-            choice.name.as_deref(),
-        )),
+        Some(Subcommand::Directives) => exit_code_of(show_directives(rt, choice.name.as_deref())),
         Some(Subcommand::Lsp) => serve_editor(rt),
         Some(Subcommand::Script(command)) => exit_code_of(carry_out(
             rt, command, &choice, errors, terminals,

@@ -4,7 +4,7 @@ use rb_args::{CheckChoice, CommandChoice};
 use rb_book::BookFault;
 use rb_files::PathError;
 use rb_program::{ProgramError, UsageError};
-use rb_report::Status;
+use rb_report::check::Status;
 use rb_site::{SiteFault, SiteRequest, write_site};
 use std::alloc::Global;
 use std::convert::AsStr;

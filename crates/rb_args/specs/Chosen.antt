@@ -61,7 +61,7 @@ pub record IsCheckOf (rows : Option (List Row)) (check : CheckChoice) : Type 0 w
   pub explains : check.explains ≡ is_set (option_and_then (first_of (codes "why")) rows)
   pub strict : check.is_strict ≡ is_set (option_and_then (first_of (codes "strict")) rows)
 
--- the subcommand that was met, and the values of its FILE, its NAME, its --every, its --from, its --until and its --out; its --warn and its --logs; and what is said to `check`
+-- the subcommand that was met, and the values of its FILE, its NAME, its --every, its --from, its --until and its --out; its --warn; and what is said to `check`
 pub record IsChoiceOf (met : Option (Text × List Row)) (choice : CommandChoice) : Type 0 where
   pub subcommand : choice.subcommand ≡ option_and_then (λ p. named_by p.0) met
   pub file : option_map string_bytes choice.file ≡ option_and_then (λ p. first_of (codes "file") p.1) met
@@ -71,7 +71,6 @@ pub record IsChoiceOf (met : Option (Text × List Row)) (choice : CommandChoice)
   pub until : option_map string_bytes choice.until ≡ option_and_then (λ p. first_of (codes "until") p.1) met
   pub out : option_map string_bytes choice.out ≡ option_and_then (λ p. first_of (codes "out") p.1) met
   pub warns : choice.warns ≡ is_set (option_and_then (λ p. first_of (codes "warn") p.1) met)
-  pub logs : choice.has_logs ≡ is_set (option_and_then (λ p. first_of (codes "logs") p.1) met)
   pub check : IsCheckOf (option_map (λ p. p.1) met) choice.check
 
 -- an error of one of these kinds, or that memory was refused, which no error tells

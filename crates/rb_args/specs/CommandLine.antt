@@ -116,10 +116,10 @@ with_files line =
 abbrev pub directives_line : App
 directives_line = with_rule (new_app (codes "directives")) name_rule
 
--- .. look FILE:LINE, page FILE [--every K] [--from LINE] [--until LINE] [--out SITE], chart FILE [--from LINE] [--until LINE] [--format FORMAT] [--logs], trace FILE
+-- .. look FILE:LINE, page FILE [--every K] [--out SITE], chart FILE [--from LINE] [--until LINE], trace FILE
 abbrev pub with_views : App → App
 with_views line =
-    with_subcommand (with_subcommand (with_subcommand (with_subcommand line (file_line (codes "look")).top) (with_option (codes "out") (with_option (codes "until") (with_option (codes "from") (with_option (codes "every") (file_line (codes "page")))))).top) (with_rule (with_option (codes "format") (with_option (codes "until") (with_option (codes "from") (file_line (codes "chart"))))) (flag_rule (codes "logs"))).top) (file_line (codes "trace")).top
+    with_subcommand (with_subcommand (with_subcommand (with_subcommand line (file_line (codes "look")).top) (with_option (codes "out") (with_option (codes "every") (file_line (codes "page")))).top) (with_option (codes "until") (with_option (codes "from") (file_line (codes "chart")))).top) (file_line (codes "trace")).top
 
 -- lsp
 abbrev pub server_line : App

@@ -52,8 +52,6 @@ pub struct CommandChoice {
     pub out: Option<String>,
     /// Whether `--warn` is given.
     pub warns: bool,
-    /// Whether `--logs` is given.
-    pub has_logs: bool,
     /// What is said to `check` alone.
     pub check: CheckChoice,
 }
@@ -70,7 +68,6 @@ impl Drop for CommandChoice {
             until: _,
             out: _,
             warns: _,
-            has_logs: _,
             check: _,
         } = self;
     }
@@ -92,7 +89,6 @@ impl CommandChoice {
             until: _,
             out: _,
             warns: _,
-            has_logs: _,
             check: _,
         } = self;
         (subcommand, file, every)

@@ -88,7 +88,6 @@ fn no_choice(alloc: Global) -> CommandChoice
         until: None,
         out: None,
         warns: false,
-        has_logs: false,
         check,
     }
 }
@@ -107,7 +106,6 @@ fn given(alloc: Global, name: &str, inner: &ArgMatches<'_>) -> Result<CommandCho
         until: None,
         out: None,
         warns: is_given(inner, "warn"),
-        has_logs: is_given(inner, "logs"),
         check,
     };
     choice.file = text_of(alloc, inner, "file")?;

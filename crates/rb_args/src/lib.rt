@@ -1,6 +1,5 @@
 //! The arguments of the command line: `raftbench run|rewrite|session|page FILE [--every K]`, `raftbench look FILE:LINE`,
-//! `raftbench page FILE [--from LINE] [--until LINE]`,
-//! `raftbench chart FILE [--from LINE] [--until LINE] [--format FORMAT] [--logs]`, `raftbench directives [NAME]`, `raftbench lsp`, and
+//! `raftbench chart FILE [--from LINE] [--until LINE]`, `raftbench directives [NAME]`, `raftbench lsp`, and
 //! `raftbench check PATH.. [--accept] [--accept-errors] [--force] [--review] [--filter WORD].. [-v] [--first] [--brief] [-q] [--why] [--every K]
 //! [--color WHEN] [--format FORMAT]`.
 //!
@@ -15,3 +14,4 @@ mod table;
 
 pub use choice::{CheckChoice, ChoiceFault, CommandChoice, ScriptCommand, Subcommand};
 pub use choosing::chosen;
+pub use commands::VERSION;

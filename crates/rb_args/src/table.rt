@@ -61,7 +61,7 @@ const EVERY_UNSEEN: ArgumentRow = ArgumentRow {
 #[rattlefmt::skip]
 const CHECK: [ArgumentRow; 16] = [
     ArgumentRow { form: ArgumentForm::Paths, name: "path", help: "Script, or folder whose *.txt and those of its folders are the scripts" },
-    ArgumentRow { form: ArgumentForm::Flag, name: "accept", help: "Writes the actual outputs into the scripts, up to the first new error; with FILE:LINE, of one directive only" },
+    ArgumentRow { form: ArgumentForm::Flag, name: "accept", help: "Writes the actual outputs into the scripts, up to the first new error; of FILE:LINE that of one directive" },
     ArgumentRow { form: ArgumentForm::Flag, name: "accept-errors", help: "Accepts new errors too" },
     ArgumentRow { form: ArgumentForm::Flag, name: "force", help: "Accepts outputs of a script that has warnings too" },
     ArgumentRow { form: ArgumentForm::Flag, name: "review", help: "Asks about each output that differs, on a terminal, and accepts those that you say" },
@@ -83,17 +83,9 @@ const FILE_ALONE: [ArgumentRow; 1] = [FILE];
 const FILE_AND_EVERY: [ArgumentRow; 2] = [FILE, EVERY];
 
 #[rattlefmt::skip]
-const FROM: ArgumentRow = ArgumentRow { form: ArgumentForm::Value("LINE"), name: "from", help: "Shows the directives from the one at this line on" };
-
-#[rattlefmt::skip]
-const UNTIL: ArgumentRow = ArgumentRow { form: ArgumentForm::Value("LINE"), name: "until", help: "Shows the directives up to the one at this line" };
-
-#[rattlefmt::skip]
-const PAGE: [ArgumentRow; 5] = [
+const PAGE: [ArgumentRow; 3] = [
     FILE,
     EVERY_UNSEEN,
-    FROM,
-    UNTIL,
     ArgumentRow { form: ArgumentForm::Value("SITE"), name: "out", help: "Writes a page for each script of the folder FILE, with contents, into a new folder SITE" },
 ];
 
@@ -105,12 +97,10 @@ const REWRITE: [ArgumentRow; 3] = [
 ];
 
 #[rattlefmt::skip]
-const CHART: [ArgumentRow; 5] = [
+const FILE_AND_LINES: [ArgumentRow; 3] = [
     FILE,
-    FROM,
-    UNTIL,
-    ArgumentRow { form: ArgumentForm::Value("FORMAT"), name: "format", help: "Writes it as svg, or as mermaid, a sequence diagram [default: svg]" },
-    ArgumentRow { form: ArgumentForm::Flag, name: "logs", help: "Shows the logs at the end, as a table" },
+    ArgumentRow { form: ArgumentForm::Value("LINE"), name: "from", help: "Shows the directives from the one at this line on" },
+    ArgumentRow { form: ArgumentForm::Value("LINE"), name: "until", help: "Shows the directives up to the one at this line" },
 ];
 
 #[rattlefmt::skip]
@@ -143,7 +133,7 @@ pub(crate) static LINES: [Line; 10] = [
     },
     Line {
         name: "session",
-        about: "Keeps a script loaded, and answers edit commands from standard input",
+        about: "Keeps a script and answers the edits that standard input asks for",
         usage: "raftbench session [OPTIONS] <FILE>",
         after: "FILE is a script's file",
         rows: &FILE_AND_EVERY,
@@ -164,10 +154,10 @@ pub(crate) static LINES: [Line; 10] = [
     },
     Line {
         name: "chart",
-        about: "Runs a script and writes a picture of what it does",
+        about: "Runs a script and writes a picture of what it does, as SVG",
         usage: "raftbench chart [OPTIONS] <FILE>",
         after: FILE_OR_INPUT,
-        rows: &CHART,
+        rows: &FILE_AND_LINES,
     },
     Line {
         name: "trace",

@@ -3,7 +3,6 @@ pub mod MakeLaws
 pub mod NameLaws
 pub mod OneLaws
 pub mod ReasonLaws
-pub mod RoomLaws
 pub mod RunLaws
 pub mod ServeLaws
 pub mod SpellingLaws

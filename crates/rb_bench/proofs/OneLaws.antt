@@ -18,7 +18,7 @@ use Rattle.rb_replay.specs.Run.{state, outputs}
 use Rattle.rb_replay.specs.Report.{mismatches}
 use Rattle.rb_replay.specs.Holding.{Holding, IsOneRun}
 use Rattle.rb_replay.specs.Reuse.{Change, IsFirstMeeting, ReusesIf, change_of, start, stop, points_after}
-use Rattle.rb_report.specs.declared.status.Status.{Status}
+use Rattle.rb_report.specs.declared.check.status.Status.{Status}
 use Rattle.rb_bench.specs.Responses.{Says, IsDone, AnswersMade, AnswersBlock, AnswersCommand, edit_of, done}
 use Rattle.rb_bench.specs.Talk.{Exchange, taken, answer_of, wanted, is_long, HasLong, IsCut, Responds, Converses, Ends, Talks, refusals}
 

@@ -12,7 +12,7 @@ use Rattle.rb_replay.specs.Run.{state, outputs}
 use Rattle.rb_replay.specs.Report.{mismatches}
 use Rattle.rb_replay.specs.Points.{start_points}
 use Rattle.rb_replay.specs.Holding.{Holding}
-use Rattle.rb_report.specs.declared.status.Status.{Status}
+use Rattle.rb_report.specs.declared.check.status.Status.{Status}
 use Rattle.rb_bench.specs.declared.running.Mode.{Mode}
 use Rattle.rb_bench.specs.declared.fault.BenchFault.TheVariants as faults
 use Rattle.rb_bench.specs.Runs.{Answers, IsNoScript, IsWritten, status_for, text_for}

@@ -1,7 +1,7 @@
 -- A conversation that begins with a session that was just started.
 use Rattle.std.proofs.Common.{◌≡◌, ℕ, List, Option, Result, Ok, Err, subst}
 use Rattle.rb_replay.specs.Holding.{Holding}
-use Rattle.rb_report.specs.declared.status.Status.{Status}
+use Rattle.rb_report.specs.declared.check.status.Status.{Status}
 use Rattle.rb_bench.specs.declared.fault.BenchFault.{BenchFault}
 use Rattle.rb_bench.specs.declared.fault.BenchFault.TheVariants.{Io}
 use Rattle.rb_bench.specs.Serves.{TalksOut, IsStarted, Serves, ServesOut}

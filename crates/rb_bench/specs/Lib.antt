@@ -9,7 +9,6 @@ pub mod Names
 pub mod Reasons
 pub mod Replies
 pub mod Responses
-pub mod Room
 pub mod Runs
 pub mod Serves
 pub mod Spelling

@@ -9,8 +9,8 @@ use Rattle.rb_script.specs.Writes.{AppendsFront}
 use Rattle.rb_replay.specs.Report.{mismatches, report, rewritten}
 use Rattle.rb_bench.specs.declared.running.Mode.{Mode}
 use Rattle.rb_bench.specs.declared.running.Mode.TheVariants as modes
-use Rattle.rb_report.specs.declared.status.Status.{Status}
-use Rattle.rb_report.specs.declared.status.Status.TheVariants as statuses
+use Rattle.rb_report.specs.declared.check.status.Status.{Status}
+use Rattle.rb_report.specs.declared.check.status.Status.TheVariants as statuses
 use Rattle.rb_bench.specs.declared.fault.BenchFault.{BenchFault}
 use Rattle.rb_bench.specs.declared.fault.BenchFault.TheVariants as faults
 use Rattle.rb_text.specs.declared.reading.ReadFault.{ReadFault}

@@ -6,7 +6,7 @@ use Rattle.rb_script.specs.Reads.{Reads}
 use Rattle.rb_script.specs.Writes.{AppendsFront}
 use Rattle.rb_replay.specs.Points.{start_points}
 use Rattle.rb_replay.specs.Holding.{Holding, IsFresh}
-use Rattle.rb_report.specs.declared.status.Status.{Status}
+use Rattle.rb_report.specs.declared.check.status.Status.{Status}
 use Rattle.rb_bench.specs.declared.fault.BenchFault.{BenchFault}
 use Rattle.rb_bench.specs.declared.fault.BenchFault.TheVariants.{Io}
 use Rattle.rb_bench.specs.Talk.{Begins, Talks}

@@ -11,7 +11,7 @@ use Rattle.rb_text.specs.Left.{left_of}
 use Rattle.rb_text.specs.Taken.{AreWhole, TakesWhole}
 use Rattle.rb_bench.specs.declared.hear.HeardCommand.{HeardCommand}
 use Rattle.rb_bench.specs.declared.hear.HeardCommand.TheVariants as heards
-use Rattle.rb_report.specs.declared.status.Status.{Status}
+use Rattle.rb_report.specs.declared.check.status.Status.{Status}
 use Rattle.rb_bench.specs.Talk.{is_long, IsCut, Begins}
 use Rattle.rb_bench.specs.Serves.{IsStarted}
 

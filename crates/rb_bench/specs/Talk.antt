@@ -8,8 +8,8 @@ use Rattle.rb_bench.specs.declared.command.Command.TheVariants.{Given}
 use Rattle.rb_bench.specs.Commands.{command_of}
 use Rattle.rb_replay.specs.Report.{mismatches}
 use Rattle.rb_replay.specs.Holding.{Holding}
-use Rattle.rb_report.specs.declared.status.Status.{Status}
-use Rattle.rb_report.specs.declared.status.Status.TheVariants.{Failed}
+use Rattle.rb_report.specs.declared.check.status.Status.{Status}
+use Rattle.rb_report.specs.declared.check.status.Status.TheVariants.{Failed}
 use Rattle.rb_bench.specs.Runs.{status_of}
 use Rattle.rb_bench.specs.Responses.{AnswersCommand, refused}
 

@@ -4,7 +4,7 @@ use Rattle.std.specs.Io.KnownBytes.{Appends}
 use Rattle.rb_script.specs.Lines.{Line, lines}
 use Rattle.rb_script.specs.Writes.{AppendsFront}
 use Rattle.rb_replay.specs.Holding.{Holding}
-use Rattle.rb_report.specs.declared.status.Status.{Status}
+use Rattle.rb_report.specs.declared.check.status.Status.{Status}
 use Rattle.rb_bench.specs.declared.fault.BenchFault.{BenchFault}
 use Rattle.rb_bench.specs.Talk.{Exchange, taken, Responds, Ends}
 use Rattle.rb_bench.specs.Known.{IfKnown}

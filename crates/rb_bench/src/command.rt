@@ -14,9 +14,9 @@ use rb_text::{first_word, number_of};
 /// The use of a command's lines.
 #[derive(Clone, Copy, Debug, PartialEq, Eq)]
 pub enum Purpose {
-    /// They are a block to insert.
+    /// They are a block to put in.
     Insert,
-    /// They are a block that replaces another.
+    /// They are a block that takes another's place.
     Replace,
     /// They are the expected output.
     Expect,

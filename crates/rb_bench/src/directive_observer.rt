@@ -12,14 +12,12 @@ use rb_script_report::LineReasons;
 use rb_texts::{Item, Level};
 use std::alloc::{AllocError, Global};
 
-/// Collects the printed lines of a directive, and the reasons below them if they are asked for, until the lines have too many bytes. Reports the
-/// directive to a [`RunProgress`] while it runs.
+/// Collects the printed lines of a directive, and the reasons below them if they are asked for. Reports the directive to a [`RunProgress`]
+/// while it runs.
 #[derive(Drop)]
 pub(crate) struct DirectiveObserver<'a, 'd, P> {
     pub(crate) printed: PrintedLines,
     pub(crate) reasons: Option<LineReasons>,
-    /// How many bytes the lines may have.
-    pub(crate) most: usize,
     progress: &'a P,
     directive: &'a DirectiveRef<'d>,
 }
@@ -42,17 +40,14 @@ impl<'a, 'd, P: RunProgress> DirectiveObserver<'a, 'd, P> {
         progress: &'a P,
         directive: &'a DirectiveRef<'d>,
         explains: bool,
-        most: usize,
     ) -> DirectiveObserver<'a, 'd, P>
         ensures printed { result.printed.lines ≡ [] }
         ensures reasons { begins explains result.reasons }
-        ensures most { result.most ≡ most }
     {
         progress.next();
         DirectiveObserver {
             printed: PrintedLines::new(alloc),
             reasons: begin_reasons(alloc, explains),
-            most,
             progress,
             directive,
         }
@@ -60,18 +55,22 @@ impl<'a, 'd, P: RunProgress> DirectiveObserver<'a, 'd, P> {
 }
 
 impl<'a, 'd, L: RaftLog, P: RunProgress> Observer<L> for DirectiveObserver<'a, 'd, P> {
+    ghost use Rattle.std.specs.Prelude.{Option};
+    ghost use Rattle.rb_machine.specs.declared.printed.PrintedLines.{PrintedLines};
     ghost use Rattle.rb_machine.specs.Observations.{passing};
-    ghost use Rattle.rb_bench.specs.Room.{Observed, at_level, with_item};
+    ghost use Rattle.rb_machine.specs.Printing.{at_level, with_item};
+    ghost use Rattle.rb_script_report.specs.declared.reasons.LineReasons.{LineReasons};
+    ghost use Rattle.rb_bench.specs.Reasons.{with_level, with_reason};
 
-    ghost Meaning = { Observed };
+    ghost Meaning = { PrintedLines × Option LineReasons };
 
-    ghost meaning = { λ o. record { printed = o.printed; reasons = o.reasons; most = o.most } };
+    ghost meaning = { λ o. (o.printed, o.reasons) };
 
-    ghost starting = { at_level };
+    ghost starting = { λ m level. (at_level m.0 level, with_level m.1 level) };
 
-    ghost taking = { with_item };
+    ghost taking = { λ m item. (with_item m.0 item, with_reason m.1 item) };
 
-    ghost settling = { passing };
+    ghost settling = { λ m id n. (passing m.0 id n, passing m.1 id n) };
 
     fn start(&mut self, level: Level) {
         Observer::<L>::start(&mut self.printed, level);
@@ -81,10 +80,7 @@ impl<'a, 'd, L: RaftLog, P: RunProgress> Observer<L> for DirectiveObserver<'a, '
     }
 
     fn observe(&mut self, item: &Item<'_>) -> Result<(), AllocError> {
-        self.progress.update(self.directive);
-        if self.printed.lines.text().len() > self.most {
-            return Ok(());
-        }
+        self.progress.tell(self.directive);
         Observer::<L>::observe(&mut self.printed, item)?;
         match &mut self.reasons {
             Some(reasons) => Observer::<L>::observe(reasons, item),

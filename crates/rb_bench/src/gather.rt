@@ -42,7 +42,7 @@ pub(crate) fn gather<S: Source>(
     let mut taken: usize = 0;
     while taken < count {
         match input.next(source)? {
-            Next::Line => given.push(input.line()),
+            Next::Line => given.add(input.line()),
             Next::TooLong => return Ok(HeardCommand::LineTooLong),
             Next::End => return Ok(HeardCommand::CutOff),
         }

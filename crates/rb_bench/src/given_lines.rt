@@ -30,7 +30,7 @@ impl GivenLines {
     }
 
     /// One more line.
-    pub(crate) fn push(&mut self, line: &[u8])
+    pub(crate) fn add(&mut self, line: &[u8])
         ensures { (ls : List Line) → IsGiven self.old ls → IsGiven self.new (ls ++ line.now ∷ []) }
     {
         self.text_len = self.text_len.saturating_add(line.len()).saturating_add(1);

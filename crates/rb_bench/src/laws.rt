@@ -18,7 +18,7 @@ ghost use Rattle.rb_report.specs.Refusals.{fault_line};
 ghost use Rattle.rb_bench.specs.Names.{script_name, edit_name};
 ghost use Rattle.rb_bench.specs.declared.running.Mode.{Mode};
 ghost use Rattle.rb_bench.specs.declared.fault.BenchFault.TheVariants as faults;
-ghost use Rattle.rb_report.specs.declared.status.Status.{Status};
+ghost use Rattle.rb_report.specs.declared.check.status.Status.{Status};
 
 use rb_replay::{edits_answer_as_one_run, started_sessions_stay_fresh};
 

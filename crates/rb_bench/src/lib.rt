@@ -21,8 +21,6 @@ mod outlet;
 mod progress;
 mod reply;
 mod respond;
-mod room;
-mod run_fault;
 mod runner;
 mod running;
 mod send;
@@ -36,13 +34,12 @@ pub use laws::{
     conversations_answer_as_one_run, conversations_are_one, names_are_distinct, runs_are_one,
     sessions_start_as_one,
 };
-pub use limits::{DEFAULT_CHECKPOINT_INTERVAL, MAX_READS, limits_are};
-pub use names::script_fault_name;
+pub use limits::{DEFAULT_CHECKPOINT_INTERVAL, MAX_GIVEN, MAX_READS, limits_are};
+pub use names::{edit_fault_name, script_fault_name};
 pub use outlet::Outlet;
 pub use progress::{NoProgress, RunProgress};
 pub use rb_args::{ChoiceFault, ScriptCommand, Subcommand};
-pub use rb_report::Status;
-pub use run_fault::RunFault;
+pub use rb_report::check::Status;
 pub use runner::{Runner, ScriptRun};
 pub use running::{Mode, run_over, write_run};
 pub use session::serve;

@@ -13,7 +13,7 @@ pub trait RunProgress {
     fn next(&self);
 
     /// The directive does something: a message is delivered, an event is shown. It is called that often, so it has to be quick.
-    fn update(&self, directive: &DirectiveRef<'_>);
+    fn tell(&self, directive: &DirectiveRef<'_>);
 
     /// The script has run, or memory was refused. Nothing of the report is written yet.
     fn end(&self);
@@ -28,7 +28,7 @@ impl RunProgress for NoProgress {
 
     fn next(&self) {}
 
-    fn update(&self, _directive: &DirectiveRef<'_>) {}
+    fn tell(&self, _directive: &DirectiveRef<'_>) {}
 
     fn end(&self) {}
 }

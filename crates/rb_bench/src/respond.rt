@@ -16,7 +16,7 @@ use crate::reply::Reply;
 use crate::running::{Mode, status};
 use crate::starting::BenchSession;
 use rb_cluster::Meter;
-use rb_report::Status;
+use rb_report::check::Status;
 use rb_script::{Block, Edit, EditFault, Lines, MAX_SCRIPT, ScriptFault};
 use std::alloc::Global;
 

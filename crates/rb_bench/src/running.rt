@@ -15,7 +15,7 @@ use crate::progress::RunProgress;
 use crate::runner::Runner;
 use crate::starting::BenchSession;
 use rb_replay::is_checkpoint_interval;
-use rb_report::Status;
+use rb_report::check::Status;
 use rb_script::{MAX_SCRIPT, Sink, WriteFault};
 use rb_text::{Source, read_up_to};
 use std::alloc::Global;
@@ -123,14 +123,14 @@ fn write_out<W: Outlet>(
     ensures handed { OnOk result (IsHandedOn (W.handed writer.new) (W.held writer.new)) }
     ensures all { W.takes_all writer.old → IsOk result × W.takes_all writer.new }
 {
-    match write_text(session, writer, mode) {
+    match put_text(session, writer, mode) {
         Ok(()) => writer.flush(),
         Err(fault) => Err(fault),
     }
 }
 
 // Writes what the mode asks for.
-fn write_text<S: Sink>(session: &BenchSession, sink: &mut S, mode: Mode) -> Result<(), WriteFault>
+fn put_text<S: Sink>(session: &BenchSession, sink: &mut S, mode: Mode) -> Result<(), WriteFault>
     ensures wrote { Writes result (S.held sink.old) (S.held sink.new) (text_for mode session.now.script) }
     ensures all { S.takes_all sink.old → IsOk result × S.takes_all sink.new }
 {

@@ -12,15 +12,15 @@ use crate::outlet::Outlet;
 use crate::reply::Reply;
 use crate::starting::BenchSession;
 use rb_replay::Changed;
-use rb_report::fault_line;
+use rb_report::check::fault_line;
 use rb_script::{Lines, ScriptFault, Sink, WriteFault};
-use rb_text::{Piece, write_pieces};
+use rb_text::{Piece, put_pieces};
 
-fn write_refused<S: Sink>(sink: &mut S, name: &[u8]) -> Result<(), WriteFault>
+fn put_refused<S: Sink>(sink: &mut S, name: &[u8]) -> Result<(), WriteFault>
     ensures wrote { Writes result (S.held sink.old) (S.held sink.new) (refused name.now) }
     ensures all { S.takes_all sink.old → IsOk result × S.takes_all sink.new }
 {
-    write_pieces(
+    put_pieces(
         sink,
         &[
             Piece::Bytes(b"refused "),
@@ -31,13 +31,13 @@ fn write_refused<S: Sink>(sink: &mut S, name: &[u8]) -> Result<(), WriteFault>
 }
 
 // The name of a fault, and its line, if it has one.
-fn write_bad_block<S: Sink>(sink: &mut S, fault: ScriptFault) -> Result<(), WriteFault>
+fn put_bad_block<S: Sink>(sink: &mut S, fault: ScriptFault) -> Result<(), WriteFault>
     ensures wrote { Writes result (S.held sink.old) (S.held sink.new) (refused (fault_text fault)) }
     ensures all { S.takes_all sink.old → IsOk result × S.takes_all sink.new }
 {
     let name = script_fault_name(fault).as_bytes();
     match fault_line(fault) {
-        Some(line) => write_pieces(
+        Some(line) => put_pieces(
             sink,
             &[
                 Piece::Bytes(b"refused "),
@@ -47,15 +47,15 @@ fn write_bad_block<S: Sink>(sink: &mut S, fault: ScriptFault) -> Result<(), Writ
                 Piece::Bytes(b"\n"),
             ],
         ),
-        None => write_refused(sink, name),
+        None => put_refused(sink, name),
     }
 }
 
-fn write_done<S: Sink>(sink: &mut S, changed: Changed) -> Result<(), WriteFault>
+fn put_done<S: Sink>(sink: &mut S, changed: Changed) -> Result<(), WriteFault>
     ensures wrote { Writes result (S.held sink.old) (S.held sink.new) (done changed) }
     ensures all { S.takes_all sink.old → IsOk result × S.takes_all sink.new }
 {
-    write_pieces(
+    put_pieces(
         sink,
         &[
             Piece::Bytes(b"done executed="),
@@ -67,11 +67,11 @@ fn write_done<S: Sink>(sink: &mut S, changed: Changed) -> Result<(), WriteFault>
     )
 }
 
-fn write_output<S: Sink>(sink: &mut S, output: &Lines) -> Result<(), WriteFault>
+fn put_output<S: Sink>(sink: &mut S, output: &Lines) -> Result<(), WriteFault>
     ensures wrote { Writes result (S.held sink.old) (S.held sink.new) (output_text output.now) }
     ensures all { S.takes_all sink.old → IsOk result × S.takes_all sink.new }
 {
-    write_pieces(
+    put_pieces(
         sink,
         &[
             Piece::Bytes(b"output "),
@@ -83,37 +83,29 @@ fn write_output<S: Sink>(sink: &mut S, output: &Lines) -> Result<(), WriteFault>
 }
 
 // The output at a place, or that there is none.
-fn write_output_at<S: Sink>(
-    sink: &mut S,
-    session: &BenchSession,
-    place: usize,
-) -> Result<(), WriteFault>
+fn put_shown<S: Sink>(sink: &mut S, session: &BenchSession, place: usize) -> Result<(), WriteFault>
     ensures wrote { Writes result (S.held sink.old) (S.held sink.new) (shown (output_at session.now.script place)) }
     ensures all { S.takes_all sink.old → IsOk result × S.takes_all sink.new }
 {
     match session.output(place) {
-        Some(output) => write_output(sink, output),
-        None => write_refused(sink, b"NoSuchPlace"),
+        Some(output) => put_output(sink, output),
+        None => put_refused(sink, b"NoSuchPlace"),
     }
 }
 
-fn write_reply<S: Sink>(
-    sink: &mut S,
-    session: &BenchSession,
-    reply: Reply,
-) -> Result<(), WriteFault>
+fn put_reply<S: Sink>(sink: &mut S, session: &BenchSession, reply: Reply) -> Result<(), WriteFault>
     ensures wrote { Writes result (S.held sink.old) (S.held sink.new) (reply_text session.now reply) }
     ensures all { S.takes_all sink.old → IsOk result × S.takes_all sink.new }
 {
     match reply {
         Reply::Nothing => Ok(()),
-        Reply::BadCommand => write_refused(sink, b"BadCommand"),
-        Reply::BadBlock(fault) => write_bad_block(sink, fault),
-        Reply::BadEdit(fault) => write_refused(sink, edit_fault_name(fault).as_bytes()),
-        Reply::LineTooLong => write_refused(sink, b"LineTooLong"),
-        Reply::CutOff => write_refused(sink, b"CutOff"),
-        Reply::Done(changed) => write_done(sink, changed),
-        Reply::Output(place) => write_output_at(sink, session, place),
+        Reply::BadCommand => put_refused(sink, b"BadCommand"),
+        Reply::BadBlock(fault) => put_bad_block(sink, fault),
+        Reply::BadEdit(fault) => put_refused(sink, edit_fault_name(fault).as_bytes()),
+        Reply::LineTooLong => put_refused(sink, b"LineTooLong"),
+        Reply::CutOff => put_refused(sink, b"CutOff"),
+        Reply::Done(changed) => put_done(sink, changed),
+        Reply::Output(place) => put_shown(sink, session, place),
         Reply::Report => session.write_report(sink),
         Reply::Script => session.write_script(sink),
         Reply::Rewrite => session.write_rewritten(sink),
@@ -133,7 +125,7 @@ pub(crate) fn send<W: Outlet>(
     if reply == Reply::Nothing {
         return Ok(());
     }
-    match write_reply(writer, session, reply) {
+    match put_reply(writer, session, reply) {
         Ok(()) => writer.flush(),
         Err(fault) => Err(fault),
     }

@@ -20,7 +20,7 @@ use crate::outlet::Outlet;
 use crate::respond::reply_to;
 use crate::send::send;
 use crate::starting::{BenchSession, started};
-use rb_report::Status;
+use rb_report::check::Status;
 use rb_text::{LineReader, Source};
 use std::alloc::Global;
 

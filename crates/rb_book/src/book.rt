@@ -13,7 +13,7 @@ use crate::fault::BookFault;
 use crate::html::BOOK_STYLE;
 use crate::page::{back, front};
 use crate::site::Site;
-use rb_text::push_pieces;
+use rb_text::add_pieces;
 use std::alloc::{AllocError, Global};
 
 /// The style and the code of pages, in parts.
@@ -111,6 +111,6 @@ fn joined(alloc: Global, parts: &[&[u8]]) -> Result<Vec<u8>, AllocError>
     ensures { IfOk result (λ text. text.items ≡ joined parts.now) }
 {
     let mut text = Vec::new(alloc);
-    push_pieces(&mut text, parts)?;
+    add_pieces(&mut text, parts)?;
     Ok(text)
 }

@@ -6,7 +6,7 @@ ghost use Rattle.rb_book.specs.Contents.{differs_text, row_text, title_or};
 
 use crate::piece::HtmlPiece;
 use rb_script::{Sink, WriteFault};
-use rb_text::{WrittenPiece, write_pieces};
+use rb_text::{WrittenPiece, put_pieces};
 
 /// A script of a book.
 #[derive(Drop)]
@@ -25,10 +25,10 @@ pub struct Chapter {
 impl WrittenPiece for Chapter {
     ghost text = { row_text };
 
-    fn write_to<S: Sink>(&self, sink: &mut S) -> Result<(), WriteFault> {
+    fn put<S: Sink>(&self, sink: &mut S) -> Result<(), WriteFault> {
         let place = self.place.as_bytes();
         let title = title_or(self.title.as_slice(), place);
-        write_pieces(
+        put_pieces(
             sink,
             &[
                 HtmlPiece::Bytes(b"<li><a href=\""),

@@ -6,7 +6,7 @@ ghost use Rattle.rb_book.specs.Contents.{contents_text, head_text, rows_text};
 use crate::chapter::Chapter;
 use crate::html::CONTENTS;
 use crate::piece::HtmlPiece;
-use rb_text::push_pieces;
+use rb_text::add_pieces;
 use std::alloc::{AllocError, Global};
 
 /// The contents page of the chapters, under a title.
@@ -18,16 +18,16 @@ pub(crate) fn contents(
     ensures { IfOk result (λ text. text.items ≡ contents_text title.now chapters.now) }
 {
     let mut text = Vec::new(alloc);
-    push_head(&mut text, title)?;
-    push_rows(&mut text, chapters)?;
+    add_head(&mut text, title)?;
+    add_rows(&mut text, chapters)?;
     text.extend_from_slice(b"</ol>\n</body>\n</html>\n")?;
     Ok(text)
 }
 
-fn push_head(text: &mut Vec<u8>, title: &[u8]) -> Result<(), AllocError>
+fn add_head(text: &mut Vec<u8>, title: &[u8]) -> Result<(), AllocError>
     ensures { OnOk result (text.new.items ≡ text.old.items ++ head_text title.now) }
 {
-    push_pieces(
+    add_pieces(
         text,
         &[
             HtmlPiece::Bytes(CONTENTS),
@@ -42,11 +42,11 @@ fn push_head(text: &mut Vec<u8>, title: &[u8]) -> Result<(), AllocError>
 }
 
 // A row for each chapter, or one that says that there is none.
-fn push_rows(text: &mut Vec<u8>, chapters: &[Chapter]) -> Result<(), AllocError>
+fn add_rows(text: &mut Vec<u8>, chapters: &[Chapter]) -> Result<(), AllocError>
     ensures { OnOk result (text.new.items ≡ text.old.items ++ rows_text chapters.now) }
 {
     match chapters {
         [] => text.extend_from_slice(b"<li>No script differs.</li>\n"),
-        _ => push_pieces(text, chapters),
+        _ => add_pieces(text, chapters),
     }
 }

@@ -6,7 +6,7 @@ ghost use Rattle.rb_book.specs.Pages.{back_text, first_link_text, front_text, he
 use crate::chapter::Chapter;
 use crate::html::{BETWEEN, ELEMENTS, END, HEAD, LINKED};
 use crate::piece::HtmlPiece;
-use rb_text::push_pieces;
+use rb_text::add_pieces;
 use std::alloc::{AllocError, Global};
 
 /// What is before the rows of a chapter's page, between those of two others.
@@ -20,18 +20,18 @@ pub(crate) fn front(
 {
     let place = chapter.place.as_bytes();
     let mut text = Vec::new(alloc);
-    push_head(&mut text, place)?;
-    push_links(&mut text, place, last, following)?;
-    push_fallback(&mut text, place)?;
+    add_head(&mut text, place)?;
+    add_links(&mut text, place, last, following)?;
+    add_without(&mut text, place)?;
     text.extend_from_slice(ELEMENTS)?;
     Ok(text)
 }
 
 // The head of the page at a place, up to its links.
-fn push_head(text: &mut Vec<u8>, place: &[u8]) -> Result<(), AllocError>
+fn add_head(text: &mut Vec<u8>, place: &[u8]) -> Result<(), AllocError>
     ensures { OnOk result (text.new.items ≡ text.old.items ++ head_text place.now) }
 {
-    push_pieces(
+    add_pieces(
         text,
         &[
             HtmlPiece::Bytes(HEAD),
@@ -46,7 +46,7 @@ pub(crate) fn back(alloc: Global, chapter: &Chapter) -> Result<Vec<u8>, AllocErr
     ensures { IfOk result (λ text. text.items ≡ back_text chapter.now) }
 {
     let mut text = Vec::new(alloc);
-    push_pieces(
+    add_pieces(
         &mut text,
         &[
             HtmlPiece::Bytes(BETWEEN),
@@ -58,7 +58,7 @@ pub(crate) fn back(alloc: Global, chapter: &Chapter) -> Result<Vec<u8>, AllocErr
 }
 
 // The links of the page at a place to the contents, and to the pages of the chapters before and after it.
-fn push_links(
+fn add_links(
     text: &mut Vec<u8>,
     place: &[u8],
     last: Option<&Chapter>,
@@ -66,18 +66,18 @@ fn push_links(
 ) -> Result<(), AllocError>
     ensures { OnOk result (text.new.items ≡ text.old.items ++ links_text place.now (option_copied last.entry) (option_copied following.entry)) }
 {
-    push_first_link(text, place)?;
-    push_link(text, place, Neighbour::Last, last)?;
-    push_link(text, place, Neighbour::Following, following)?;
+    add_first_link(text, place)?;
+    add_link(text, place, Neighbour::Last, last)?;
+    add_link(text, place, Neighbour::Following, following)?;
     text.extend_from_slice(b"</nav>\n")?;
     Ok(())
 }
 
 // The link to the contents.
-fn push_first_link(text: &mut Vec<u8>, place: &[u8]) -> Result<(), AllocError>
+fn add_first_link(text: &mut Vec<u8>, place: &[u8]) -> Result<(), AllocError>
     ensures { OnOk result (text.new.items ≡ text.old.items ++ first_link_text place.now) }
 {
-    push_pieces(
+    add_pieces(
         text,
         &[
             HtmlPiece::Bytes(b"<nav class=\"book\" aria-label=\"Book\"><a href=\""),
@@ -115,7 +115,7 @@ fn link_sign(neighbour: Neighbour) -> &'static [u8]
 }
 
 // A link from the page at a place to that of another chapter, if there is one.
-fn push_link(
+fn add_link(
     text: &mut Vec<u8>,
     place: &[u8],
     neighbour: Neighbour,
@@ -124,12 +124,12 @@ fn push_link(
     ensures { OnOk result (text.new.items ≡ text.old.items ++ link_text place.now neighbour (place_of (option_copied other.entry))) }
 {
     match other {
-        Some(other) => push_link_to(text, place, neighbour, other.place.as_bytes()),
+        Some(other) => add_link_to(text, place, neighbour, other.place.as_bytes()),
         None => Ok(()),
     }
 }
 
-fn push_link_to<'x>(
+fn add_link_to<'x>(
     text: &mut Vec<u8>,
     place: &'x [u8],
     neighbour: Neighbour,
@@ -137,7 +137,7 @@ fn push_link_to<'x>(
 ) -> Result<(), AllocError>
     ensures { OnOk result (text.new.items ≡ text.old.items ++ link_text place.now neighbour (Some name.now)) }
 {
-    push_pieces(
+    add_pieces(
         text,
         &[
             HtmlPiece::Bytes(link_front(neighbour)),
@@ -151,10 +151,10 @@ fn push_link_to<'x>(
 }
 
 // What is shown where scripts don't run: a sentence, and the picture.
-fn push_fallback(text: &mut Vec<u8>, place: &[u8]) -> Result<(), AllocError>
+fn add_without(text: &mut Vec<u8>, place: &[u8]) -> Result<(), AllocError>
     ensures { OnOk result (text.new.items ≡ text.old.items ++ without_text place.now) }
 {
-    push_pieces(
+    add_pieces(
         text,
         &[
             HtmlPiece::Bytes(

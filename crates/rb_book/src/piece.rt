@@ -5,7 +5,7 @@ ghost use Rattle.rb_script.specs.Writes.{Writes};
 ghost use Rattle.rb_book.specs.Html.{address_byte, byte_text, is_plain, piece_text, text_byte, way_up};
 
 use rb_script::{Sink, WriteFault};
-use rb_text::{Escape, WrittenPiece, hex_digit, write_escaped};
+use rb_text::{Escape, WrittenPiece, hex_digit, put_escaped};
 
 /// Where bytes are in HTML.
 #[derive(Clone, Copy)]
@@ -21,29 +21,29 @@ pub(crate) enum HtmlPart {
 impl Escape for HtmlPart {
     ghost text = { byte_text };
 
-    fn write_byte<S: Sink>(&self, sink: &mut S, b: u8) -> Result<(), WriteFault> {
+    fn put<S: Sink>(&self, sink: &mut S, b: u8) -> Result<(), WriteFault> {
         match *self {
-            HtmlPart::Text => write_text_byte(sink, b),
-            HtmlPart::Address => write_address_byte(sink, b),
-            HtmlPart::WayUp => write_way_up(sink, b),
+            HtmlPart::Text => put_text_byte(sink, b),
+            HtmlPart::Address => put_address_byte(sink, b),
+            HtmlPart::WayUp => put_way_up(sink, b),
         }
     }
 }
 
-fn write_text_byte<S: Sink>(sink: &mut S, b: u8) -> Result<(), WriteFault>
+fn put_text_byte<S: Sink>(sink: &mut S, b: u8) -> Result<(), WriteFault>
     ensures wrote { Writes result (S.held sink.old) (S.held sink.new) (text_byte b) }
     ensures all { S.takes_all sink.old → IsOk result × S.takes_all sink.new }
 {
     if b == b'&' {
-        sink.write_all(b"&amp;")
+        sink.put(b"&amp;")
     } else if b == b'<' {
-        sink.write_all(b"&lt;")
+        sink.put(b"&lt;")
     } else if b == b'>' {
-        sink.write_all(b"&gt;")
+        sink.put(b"&gt;")
     } else if b == b'"' {
-        sink.write_all(b"&quot;")
+        sink.put(b"&quot;")
     } else {
-        sink.write_all(&[b])
+        sink.put(&[b])
     }
 }
 
@@ -58,25 +58,25 @@ fn is_plain(b: u8) -> bool
         || b == b'~'
 }
 
-fn write_address_byte<S: Sink>(sink: &mut S, b: u8) -> Result<(), WriteFault>
+fn put_address_byte<S: Sink>(sink: &mut S, b: u8) -> Result<(), WriteFault>
     ensures wrote { Writes result (S.held sink.old) (S.held sink.new) (address_byte b) }
     ensures all { S.takes_all sink.old → IsOk result × S.takes_all sink.new }
 {
     if is_plain(b) {
-        sink.write_all(&[b])
+        sink.put(&[b])
     } else {
-        sink.write_all(&[b'%', hex_digit(b / 16), hex_digit(b % 16)])
+        sink.put(&[b'%', hex_digit(b / 16), hex_digit(b % 16)])
     }
 }
 
-fn write_way_up<S: Sink>(sink: &mut S, b: u8) -> Result<(), WriteFault>
+fn put_way_up<S: Sink>(sink: &mut S, b: u8) -> Result<(), WriteFault>
     ensures wrote { Writes result (S.held sink.old) (S.held sink.new) (way_up b) }
     ensures all { S.takes_all sink.old → IsOk result × S.takes_all sink.new }
 {
     if b == b'/' {
-        sink.write_all(b"../")
+        sink.put(b"../")
     } else {
-        sink.write_all(b"")
+        sink.put(b"")
     }
 }
 
@@ -96,12 +96,12 @@ pub(crate) enum HtmlPiece<'a> {
 impl WrittenPiece for HtmlPiece<'_> {
     ghost text = { piece_text };
 
-    fn write_to<S: Sink>(&self, sink: &mut S) -> Result<(), WriteFault> {
+    fn put<S: Sink>(&self, sink: &mut S) -> Result<(), WriteFault> {
         match *self {
-            HtmlPiece::Bytes(bytes) => sink.write_all(bytes),
-            HtmlPiece::Text(bytes) => write_escaped(sink, &HtmlPart::Text, bytes),
-            HtmlPiece::Address(bytes) => write_escaped(sink, &HtmlPart::Address, bytes),
-            HtmlPiece::WayUp(bytes) => write_escaped(sink, &HtmlPart::WayUp, bytes),
+            HtmlPiece::Bytes(bytes) => sink.put(bytes),
+            HtmlPiece::Text(bytes) => put_escaped(sink, &HtmlPart::Text, bytes),
+            HtmlPiece::Address(bytes) => put_escaped(sink, &HtmlPart::Address, bytes),
+            HtmlPiece::WayUp(bytes) => put_escaped(sink, &HtmlPart::WayUp, bytes),
         }
     }
 }

@@ -9,7 +9,7 @@ use Rattle.rb_script.proofs.ListLaws.{take_there}
 use Rattle.rb_check.specs.declared.question.ReviewQuestion.{ReviewQuestion}
 use Rattle.rb_check.specs.declared.review.Review.{Review}
 use Rattle.rb_check.specs.declared.review.Review.TheVariants as reviews
-use Rattle.rb_check.specs.Asking.{AreAsked, AreGone, IsAskedAt, asked_of, echo_of, help_text, missed_text}
+use Rattle.rb_check.specs.Asking.{AreAsked, AreReviewed, IsAskedAt, asked_of, echo_of, help_text, missed_text}
 use Rattle.rb_check.specs.Reviews.{review_behind}
 use Rattle.rb_check.specs.Subjects.{PlainChecked}
 
@@ -43,62 +43,60 @@ asked_both c count n (question ∷ these) those t u some more =
 -- ---- a review as far as it has come
 
 -- the first of the questions are asked, or passed over: once one is passed over none is asked
-pub record Gone (c : PlainChecked) (count passed : ℕ) (questions : List ReviewQuestion) (before now : Review) (i : ℕ) (text : List ℕ) : Type 0 where
-  pub gone : AreGone c count passed (take i questions) before now text
+pub record Gone (c : PlainChecked) (questions : List ReviewQuestion) (before now : Review) (i : ℕ) (text : List ℕ) : Type 0 where
+  pub asked : List ReviewQuestion
+  pub passed : List ReviewQuestion
+  pub parts : take i questions ≡ asked ++ passed
+  pub each : now ≡ reviews.Each → passed ≡ []
   pub over : before ≡ reviews.Over → now ≡ reviews.Over
+  pub none : before ≡ reviews.Over → asked ≡ []
+  pub are_asked : AreAsked c (length questions) 1 asked text
 
-pub none_gone : (c : PlainChecked) (count passed : ℕ) (questions : List ReviewQuestion) (before : Review) → Gone c count passed questions before before 0 []
-none_gone c count passed questions before =
-    record { gone = record { asked = []; unasked = []; parts = refl; all = λ e. refl; none = λ e. refl; are_asked = none_asked c count (passed + 1) }; over = λ e. e }
+pub none_gone : (c : PlainChecked) (questions : List ReviewQuestion) (before : Review) → Gone c questions before before 0 []
+none_gone c questions before = record { asked = []; passed = []; parts = refl; each = λ e. refl; over = λ e. e; none = λ e. refl; are_asked = none_asked c (length questions) 1 }
 
-module _ (c : PlainChecked) (count passed : ℕ) (questions : List ReviewQuestion) (before : Review) (i : ℕ) (question : ReviewQuestion) (so_far text : List ℕ) where
+module _ (c : PlainChecked) (questions : List ReviewQuestion) (before : Review) (i : ℕ) (question : ReviewQuestion) (so_far text : List ℕ) where
   -- it is asked
-  asked_next : (next : Review) → Gone c count passed questions before reviews.Each i so_far → slice_get questions i ≡ Some question → (before ≡ reviews.Over → next ≡ reviews.Over) → AreAsked c count (passed + i + 1) (question ∷ []) text
-      → Gone c count passed questions before next (i + 1) (so_far ++ text)
+  asked_next : (next : Review) → Gone c questions before reviews.Each i so_far → slice_get questions i ≡ Some question → (before ≡ reviews.Over → next ≡ reviews.Over) → AreAsked c (length questions) (i + 1) (question ∷ []) text
+      → Gone c questions before next (i + 1) (so_far ++ text)
   asked_next next had got over asked =
-      let gone = had.gone in
-      let whole : take i questions ≡ gone.asked = gone.parts ∙ ap (λ (l : List ReviewQuestion). gone.asked ++ l) (gone.all refl) ∙ append-nil gone.asked in
-      let number : passed + i + 1 ≡ passed + 1 + length gone.asked = omega (arith, ap (λ (l : List ReviewQuestion). length l) whole, length-take-le i questions (omega (arith, slice_get_within questions i question got))) in
+      let whole : take i questions ≡ had.asked = had.parts ∙ ap (λ (l : List ReviewQuestion). had.asked ++ l) (had.each refl) ∙ append-nil had.asked in
+      let number : i + 1 ≡ 1 + length had.asked = omega (arith, ap (λ (l : List ReviewQuestion). length l) whole, length-take-le i questions (omega (arith, slice_get_within questions i question got))) in
       record {
-        gone = record {
-          asked = gone.asked ++ question ∷ [];
-          unasked = [];
-          parts = take_there questions i question got ∙ ap (λ (l : List ReviewQuestion). l ++ question ∷ []) whole ∙ sym (append-nil (gone.asked ++ question ∷ []));
-          all = λ e. refl;
-          none = λ e. let no : reviews.Each ≡ reviews.Over = had.over e in absurd cc;
-          are_asked = asked_both c count (passed + 1) gone.asked (question ∷ []) so_far text gone.are_asked (subst (λ (n : ℕ). AreAsked c count n (question ∷ []) text) number asked);
-        };
+        asked = had.asked ++ question ∷ [];
+        passed = [];
+        parts = take_there questions i question got ∙ ap (λ (l : List ReviewQuestion). l ++ question ∷ []) whole ∙ sym (append-nil (had.asked ++ question ∷ []));
+        each = λ e. refl;
         over = over;
+        none = λ e. let no : reviews.Each ≡ reviews.Over = had.over e in absurd cc;
+        are_asked = asked_both c (length questions) 1 had.asked (question ∷ []) so_far text had.are_asked (subst (λ (n : ℕ). AreAsked c (length questions) n (question ∷ []) text) number asked);
       }
 
   -- it is passed over
-  passed_next : (now next : Review) → Gone c count passed questions before now i so_far → slice_get questions i ≡ Some question → (before ≡ reviews.Over → next ≡ reviews.Over) → (next ≡ reviews.Each → ⊥) → AreAsked c count (passed + i + 1) [] text
-      → Gone c count passed questions before next (i + 1) (so_far ++ text)
+  passed_next : (now next : Review) → Gone c questions before now i so_far → slice_get questions i ≡ Some question → (before ≡ reviews.Over → next ≡ reviews.Over) → (next ≡ reviews.Each → ⊥) → AreAsked c (length questions) (i + 1) [] text
+      → Gone c questions before next (i + 1) (so_far ++ text)
   unfolding AreAsked
-  passed_next now next had got over passes none =
-      let gone = had.gone in
-      record {
-        gone = record {
-          asked = gone.asked;
-          unasked = gone.unasked ++ question ∷ [];
-          parts = take_there questions i question got ∙ ap (λ (l : List ReviewQuestion). l ++ question ∷ []) gone.parts ∙ append_assoc gone.asked gone.unasked (question ∷ []);
-          all = λ e. absurd (passes e);
-          none = gone.none;
-          are_asked = subst (λ (l : List ℕ). AreAsked c count (passed + 1) gone.asked l) (sym (append-nil so_far) ∙ sym (ap (λ (l : List ℕ). so_far ++ l) none)) gone.are_asked;
-        };
-        over = over;
-      }
+  passed_next now next had got over passes none = record {
+    asked = had.asked;
+    passed = had.passed ++ question ∷ [];
+    parts = take_there questions i question got ∙ ap (λ (l : List ReviewQuestion). l ++ question ∷ []) had.parts ∙ append_assoc had.asked had.passed (question ∷ []);
+    each = λ e. absurd (passes e);
+    over = over;
+    none = had.none;
+    are_asked = subst (λ (l : List ℕ). AreAsked c (length questions) 1 had.asked l) (sym (append-nil so_far) ∙ sym (ap (λ (l : List ℕ). so_far ++ l) none)) had.are_asked;
+  }
 
-  pub gone_on : (now next : Review) → Gone c count passed questions before now i so_far → slice_get questions i ≡ Some question → (next ≡ reviews.Each → now ≡ reviews.Each) → (now ≡ reviews.Over → next ≡ reviews.Over)
-      → AreAsked c count (passed + i + 1) (asked_of now question) text → Gone c count passed questions before next (i + 1) (so_far ++ text)
+  pub gone_on : (now next : Review) → Gone c questions before now i so_far → slice_get questions i ≡ Some question → (next ≡ reviews.Each → now ≡ reviews.Each) → (now ≡ reviews.Over → next ≡ reviews.Over)
+      → AreAsked c (length questions) (i + 1) (asked_of now question) text → Gone c questions before next (i + 1) (so_far ++ text)
   gone_on reviews.Each next had got each over asked = asked_next next had got (λ e. over (had.over e)) asked
   gone_on reviews.Rest next had got each over asked = passed_next reviews.Rest next had got (λ e. over (had.over e)) (λ e. let no : reviews.Rest ≡ reviews.Each = each e in absurd cc) asked
   gone_on reviews.Skipped next had got each over asked = passed_next reviews.Skipped next had got (λ e. over (had.over e)) (λ e. let no : reviews.Skipped ≡ reviews.Each = each e in absurd cc) asked
   gone_on reviews.Over next had got each over asked = passed_next reviews.Over next had got (λ e. over (had.over e)) (λ e. let no : reviews.Over ≡ reviews.Each = each e in absurd cc) asked
 
-pub gone_all : (c : PlainChecked) (count passed : ℕ) (questions : List ReviewQuestion) (before after : Review) (i : ℕ) (text : List ℕ) → Gone c count passed questions before after i text → length questions ≤ i → AreGone c count passed questions before after text
-gone_all c count passed questions before after i text had past = subst (λ (qs : List ReviewQuestion). AreGone c count passed qs before after text) (take_all i questions past) had.gone
+pub gone_all : (c : PlainChecked) (questions : List ReviewQuestion) (before after : Review) (i : ℕ) (text : List ℕ) → Gone c questions before after i text → length questions ≤ i → AreReviewed c questions before after text
+gone_all c questions before after i text gone past =
+    record { asked = gone.asked; unasked = gone.passed; parts = sym (take_all i questions past) ∙ gone.parts; all = gone.each; none = gone.none; are_asked = gone.are_asked }
 
 -- what was asked before ends with the script before
-pub from_before : (c : PlainChecked) (count passed : ℕ) (questions : List ReviewQuestion) (before after : Review) (text : List ℕ) → AreGone c count passed questions (review_behind before) after text → AreGone c count passed questions before after text
-from_before c count passed questions before after text gone = record { asked = gone.asked; unasked = gone.unasked; parts = gone.parts; all = gone.all; none = λ is. gone.none (ap review_behind is); are_asked = gone.are_asked }
+pub from_before : (c : PlainChecked) (questions : List ReviewQuestion) (before after : Review) (text : List ℕ) → AreReviewed c questions (review_behind before) after text → AreReviewed c questions before after text
+from_before c questions before after text are = record { asked = are.asked; unasked = are.unasked; parts = are.parts; all = are.all; none = λ is. are.none (ap review_behind is); are_asked = are.are_asked }

@@ -2,9 +2,9 @@ pub mod AcceptLaws
 pub mod AnswerLaws
 pub mod AskingLaws
 pub mod CommentLaws
-pub mod ExtendLaws
 pub mod FormatLaws
 pub mod LineLaws
+pub mod LostLaws
 pub mod NamedLaws
 pub mod PlaceLaws
 pub mod QuietLaws

@@ -6,8 +6,8 @@ use Rattle.rb_script.specs.Lines.{Line}
 use Rattle.rb_script.specs.Script.{PlainBlock}
 use Rattle.rb_replay.specs.Run.{outputs}
 use Rattle.rb_replay.specs.Report.{same_lines, differing}
-use Rattle.rb_report.specs.declared.colors.Colors.{Colors}
-use Rattle.rb_report.specs.declared.table.TheConstants.{MAX_SCRIPT_CELLS}
+use Rattle.rb_report.specs.declared.check.colors.Colors.{Colors}
+use Rattle.rb_report.specs.declared.check.table.TheConstants.{MAX_SCRIPT_CELLS}
 use Rattle.rb_script_report.specs.declared.view.Detail.{Detail}
 use Rattle.rb_script_report.specs.declared.view.Detail.TheVariants as details
 use Rattle.rb_script_report.specs.Checked.{brief_at, of_first}
@@ -15,11 +15,11 @@ use Rattle.rb_script_report.specs.Errors.{is_error, says_error, is_unexpected}
 use Rattle.rb_script_report.specs.Shows.{IsQuiet}
 use Rattle.rb_script_report.specs.Whys.{all_told, told_at}
 use Rattle.rb_check.specs.declared.check_request.CheckRequest.{CheckRequest}
-use Rattle.rb_check.specs.declared.format.LineFormat.{LineFormat}
-use Rattle.rb_check.specs.declared.format.LineFormat.TheVariants.{Json, Github}
+use Rattle.rb_check.specs.declared.format.Format.{Format}
+use Rattle.rb_check.specs.declared.format.Format.TheVariants.{Json, Github, Junit}
 use Rattle.rb_check.specs.Formats.{directive_object, error_command, errors_of, mismatch_command, script_text}
-use Rattle.rb_check.specs.Forms.{in_form}
-use Rattle.rb_check.specs.ScriptTexts.{people_report, report_text}
+use Rattle.rb_check.specs.ScriptTexts.{may_be_empty, people_report, report_text}
+use Rattle.rb_check.specs.Shown.{in_form}
 use Rattle.rb_check.specs.Subjects.{PlainChecked, PlainRan, ran_at, runs_from}
 
 by_test : {A : Type 0} (t : Bool) → (t ≡ true → A) → (t ≡ false → A) → A
@@ -71,11 +71,12 @@ people_none details.All c q = absurd (q.not_all refl)
 people_none details.First c q = ap (λ (ks : List ℕ). of_first (told_at MAX_SCRIPT_CELLS false c.colors c.path c.whys c.layout.heads.items c.script) ks) q.same
 people_none details.Brief c q = ap (λ (ks : List ℕ). of_first (brief_at c.path c.layout.heads.items c.script) ks) q.same
 
-none_in : (format : Option LineFormat) (wanted : Detail) (c : PlainChecked) → IsQuiet wanted c.script → in_form format (people_report wanted c) (λ f. script_text f c) ≡ []
-none_in None wanted c q = people_none wanted c q
-none_in (Some Json) wanted c q = each_none (directive_object c.layout.text c.path) c.layout.text (object_none c.layout.text c.path) c.whys 0 c.layout.heads.items c.script.blocks (outputs c.script) 1 q.same q.no_error
-none_in (Some Github) wanted c q =
-    ap (λ (ks : List ℕ). of_first (mismatch_command c) ks ++ errors_of c.form.is_strict c) q.same ∙ each_none (error_command c.form.is_strict c.layout.text c.path) c.layout.text (command_none c.form.is_strict c.layout.text c.path) c.whys 0 c.layout.heads.items c.script.blocks (outputs c.script) 1 q.same q.no_error
+none_in : (format : Option Format) (wanted : Detail) (strict : Bool) (c : PlainChecked) → may_be_empty format ≡ true → IsQuiet wanted c.script → in_form format (people_report wanted c) (λ f. script_text f strict c) ≡ []
+none_in None wanted strict c empty q = people_none wanted c q
+none_in (Some Json) wanted strict c empty q = each_none (directive_object c.layout.text c.path) c.layout.text (object_none c.layout.text c.path) c.whys 0 c.layout.heads.items c.script.blocks (outputs c.script) 1 q.same q.no_error
+none_in (Some Github) wanted strict c empty q =
+    ap (λ (ks : List ℕ). of_first (mismatch_command c) ks ++ errors_of strict c) q.same ∙ each_none (error_command strict c.layout.text c.path) c.layout.text (command_none strict c.layout.text c.path) c.whys 0 c.layout.heads.items c.script.blocks (outputs c.script) 1 q.same q.no_error
+none_in (Some Junit) wanted strict c empty q = absurd cc
 
-pub report_none : (asked : CheckRequest) (c : PlainChecked) → IsQuiet asked.shown c.script → report_text asked c ≡ []
-report_none asked c q = none_in c.form.format asked.shown c q
+pub report_none : (asked : CheckRequest) (c : PlainChecked) → may_be_empty asked.format ≡ true → IsQuiet asked.shown c.script → report_text asked c ≡ []
+report_none asked c empty q = none_in asked.format asked.shown asked.is_strict c empty q

@@ -1,17 +1,21 @@
 -- What goes out on a report's streams, one text after another.
-use Rattle.std.proofs.Common.{◌≡◌, ◌∙◌, ℕ, suc, ◌+◌, ◌-◌, ◌^◌, Bool, true, false, List, [], ◌∷◌, ◌++◌, length, Option, Result, Ok, Err, refl, ap, sym, subst, append_assoc, append-nil, arith}
+use Rattle.std.proofs.Common.{◌≡◌, ◌∙◌, ℕ, suc, ◌+◌, ◌-◌, ◌^◌, Bool, true, false, List, [], ◌∷◌, ◌++◌, length, Option, Some, None, Result, Ok, Err, refl, ap, sym, subst, append_assoc, append-nil, arith}
 use Rattle.std.specs.Io.KnownBytes.{Appends, Keeps}
-use Rattle.std.specs.Prelude.{◌≢◌, IfErr, IfOk, IsOk, min, not, ◌==◌}
+use Rattle.std.specs.Prelude.{◌≢◌, IfErr, IfOk, IsOk, min, not, ◌==◌, is_some}
 use Rattle.std.proofs.KnownBytes.{Appends-nil, Appends-trans, Appends-kept}
-use Rattle.rb_report.specs.declared.failure.Failure.TheVariants.{NotShown}
-use Rattle.rb_report.specs.declared.outcome.Outcome.TheVariants as outcomes
-use Rattle.rb_report.specs.declared.totals.Totals.{Totals}
+use Rattle.rb_report.specs.declared.check.failure.Failure.TheVariants.{NotShown}
+use Rattle.rb_report.specs.declared.check.outcome.Outcome.TheVariants as outcomes
+use Rattle.rb_report.specs.declared.check.totals.Totals.{Totals}
 use Rattle.rb_report.specs.Counts.{of_outcome, together}
 use Rattle.rb_script.specs.declared.sink.WriteFault.{WriteFault}
 use Rattle.rb_script.specs.Writes.{AppendsFront, Writes}
+use Rattle.rb_check.specs.declared.format.Format.{Format}
+use Rattle.rb_script_report.specs.declared.fault.ShowFault.{ShowFault}
+use Rattle.rb_script_report.specs.declared.fault.ShowFault.TheVariants as faults
+use Rattle.rb_script_report.specs.Shows.{Shows}
 use Rattle.rb_check.specs.declared.report_state.ReportForm.{ReportForm}
 use Rattle.rb_check.specs.declared.report_state.ReportState.{ReportState}
-use Rattle.rb_check.specs.Shown.{HeldAfter, GoesOut, GoesOutInPart, Told, cleared, clearing, closed, lacking, lacks_memory, own_after}
+use Rattle.rb_check.specs.Shown.{HeldAfter, GoesOut, GoesOutIf, GoesOutInPart, Told, cleared, clearing, closed, in_form, lacking, lacks_memory, own_after}
 
 -- ---- held bytes
 
@@ -42,6 +46,12 @@ front_flushed {a} {b} {c} f k = record { front = f.front; rest = f.rest; parts =
 pub written_front : {X : Type 0} (r : Result X WriteFault) {a b : Option (List ℕ)} {t : List ℕ} → Writes r a b t → AppendsFront a b t
 written_front (Ok x) w = whole_front w
 written_front (Err e) w = w
+
+-- and whatever failed as a script was shown
+pub showed_front : {X : Type 0} (r : Result X ShowFault) (fault : ShowFault) (a b : Option (List ℕ)) (t : List ℕ) → r ≡ Err fault → Shows r a b t → AppendsFront a b t
+showed_front (Ok x) fault a b t e shows = absurd cc
+showed_front (Err faults.Writing) fault a b t e shows = shows
+showed_front (Err faults.OutOfMemory) fault a b t e same = record { front = []; rest = t; parts = refl; appended = subst (λ (h : Option (List ℕ)). Appends a h []) same (Appends-nil a) }
 
 -- ---- one text after another
 
@@ -150,6 +160,13 @@ pub goes_failed : {s u : ReportState} {a b c d : Option (List ℕ)} {t : List �
 goes_failed {s} {u} {a} {b} {c} {d} {t} not_closed f k is at =
     subst (λ (v : ReportState). GoesOut s v a d t) (sym is) (subst (λ (e : Option (List ℕ)). GoesOut s (closed s) a e t) (sym at) (went_failed not_closed f k))
 
+-- a beginning of a text was put
+pub goes_front : {s : ReportState} {a b : Option (List ℕ)} {t : List ℕ} → s.is_closed ≡ false → AppendsFront a b t → GoesOutInPart s s a b
+goes_front {s} {a} {b} not_closed f = record {
+  text = f.front;
+  out = record { form = refl; out = λ memory. record { memory = memory; held = held_open s.is_closed a b f.front not_closed f.appended; own = own_none s.is_closed s.own } };
+}
+
 pub along : {s u : ReportState} {a b : Option (List ℕ)} {t v : List ℕ} → t ≡ v → GoesOut s u a b t → GoesOut s u a b v
 along {s} {u} {a} {b} e h = subst (λ (l : List ℕ). GoesOut s u a b l) e h
 
@@ -160,6 +177,18 @@ goes_kept s {a} {b} k = record { form = refl; out = λ memory. record { memory =
     held_kept : (x : Bool) (a b : Option (List ℕ)) → Keeps a b → HeldAfter x x a b []
     held_kept false a b k = Appends-kept a a b [] (Appends-nil a) k
     held_kept true a b k = Appends-kept a a b [] (Appends-nil a) k
+
+-- something was put before it, and handed on with it
+held_before : (x y : Bool) (a b c : Option (List ℕ)) (t v : List ℕ) → x ≡ false → Appends a b t → HeldAfter x y b c v → HeldAfter x y a c (t ++ v)
+held_before false false a b c t v is h k = Appends-trans a b c t v h k
+held_before false true a b c t v is h k = front_after t h k
+held_before true y a b c t v is h k = absurd cc
+
+pub goes_before : {s u : ReportState} {b c : Option (List ℕ)} {v : List ℕ} (a : Option (List ℕ)) (t : List ℕ) → s.is_closed ≡ false → Appends a b t → GoesOut s u b c v → GoesOut s u a c (t ++ v)
+goes_before {s} {u} {b} {c} {v} a t unclosed h out = record {
+  form = out.form;
+  out = λ memory. let went = out.out memory in record { memory = went.memory; held = held_before s.is_closed u.is_closed a b c t v unclosed h went.held; own = went.own };
+}
 
 -- ---- by equations
 
@@ -200,6 +229,21 @@ part_whole t out = record { text = t; out = out }
 pub part_then : {one two three : ReportState} {a b c : Option (List ℕ)} {t : List ℕ} → GoesOut one two a b t → GoesOutInPart two three b c → GoesOutInPart one three a c
 part_then {t = t} first part = record { text = t ++ part.text; out = goes_on (λ (f : ReportForm). part.text) first part.out }
 
+pub if_along : {X E : Type 0} (r : Result X E) (s u : ReportState) (a b : Option (List ℕ)) (t v : List ℕ) → t ≡ v → GoesOutIf r s u a b t → GoesOutIf r s u a b v
+if_along r s u a b t v e h = subst (λ (l : List ℕ). GoesOutIf r s u a b l) e h
+
+pub if_from : {X E : Type 0} (r : Result X E) (s u n : ReportState) (a b : Option (List ℕ)) (t : List ℕ) → u ≡ s → GoesOutIf r u n a b t → GoesOutIf r s n a b t
+if_from r s u n a b t e h = subst (λ (v : ReportState). GoesOutIf r v n a b t) e h
+
+-- two texts in a row; writing the second may fail
+pub if_ok : {X E : Type 0} {P : Type 0} (r : Result X E) (one two three : ReportState) (a b c : Option (List ℕ)) (t u : List ℕ) → GoesOut one two a b t → GoesOutIf r two three b c u → (GoesOut one three a c (t ++ u) → P) → IfOk r (λ _. P)
+if_ok (Ok x) one two three a b c t u first second so = so (goes_on (λ (form : ReportForm). u) first second)
+if_ok (Err e) one two three a b c t u first second so = tt
+
+pub if_err : {X E : Type 0} (r : Result X E) (one two three : ReportState) (a b c : Option (List ℕ)) (t u : List ℕ) → GoesOut one two a b t → GoesOutIf r two three b c u → IfErr r (λ _. GoesOutInPart one three a c)
+if_err (Ok x) one two three a b c t u first second = tt
+if_err (Err e) one two three a b c t u first second = part_then first second
+
 pub ok_so : {X E : Type 0} {P Q : Type 0} (r : Result X E) → (P → Q) → IfOk r (λ _. P) → IfOk r (λ _. Q)
 ok_so (Ok x) so p = so p
 ok_so (Err e) so p = tt
@@ -219,6 +263,48 @@ err_with (Err e) so p = so e p
 pub err_so : {X E : Type 0} {P Q : Type 0} (r : Result X E) → (P → Q) → IfErr r (λ _. P) → IfErr r (λ _. Q)
 err_so (Ok x) so p = tt
 err_so (Err e) so p = so p
+
+pub if_before : {X E : Type 0} (r : Result X E) (s u : ReportState) (a b c : Option (List ℕ)) (t v : List ℕ) → s.is_closed ≡ false → Appends a b t → GoesOutIf r s u b c v → GoesOutIf r s u a c (t ++ v)
+if_before (Ok x) s u a b c t v unclosed h out = goes_before a t unclosed h out
+if_before (Err e) s u a b c t v unclosed h part = record { text = t ++ part.text; out = goes_before a t unclosed h part.out }
+
+-- the output was found open, and a script was shown
+pub goes_showed : {X Y E : Type 0} (s u n : ReportState) (a b c d : Option (List ℕ)) (t : List ℕ) (r : Result X ShowFault) (done : Result Y E) (found : Bool) → u ≡ s → b ≡ a → found ≡ not s.is_closed → found ≡ true
+    → Shows r b c t → ((before : Option (List ℕ)) (text : List ℕ) → u.is_closed ≡ false → Shows r before c text → GoesOutIf done u n before d text) → GoesOutIf done s n a d t
+goes_showed s u n a b c d t r done found e f is open_is put shows =
+    if_from done s u n a d t e (shows a t (ap (λ (v : ReportState). v.is_closed) e ∙ not_closed_true s.is_closed (sym is ∙ open_is)) (subst (λ (h : Option (List ℕ)). Shows r h c t) f put))
+
+-- a text is put, and then a script is shown
+module _ {Y E : Type 0} (s u n : ReportState) (a b c d : Option (List ℕ)) (t v : List ℕ) (done : Result Y E) (found : Bool) where
+  pub goes_both : {X : Type 0} (e : Option (List ℕ)) (r : Result X ShowFault) → u ≡ s → b ≡ a → found ≡ not s.is_closed → found ≡ true → Appends b c t → Shows r c d v
+      → ((before : Option (List ℕ)) (text : List ℕ) → u.is_closed ≡ false → Shows r before d text → GoesOutIf done u n before e text) → GoesOutIf done s n a e (t ++ v)
+  goes_both e r same held is open_is put shown shows =
+      let unclosed : u.is_closed ≡ false = ap (λ (x : ReportState). x.is_closed) same ∙ not_closed_true s.is_closed (sym is ∙ open_is) in
+      if_from done s u n a e (t ++ v) same (subst (λ (h : Option (List ℕ)). GoesOutIf done u n h e (t ++ v)) held (if_before done u n b c e t v unclosed put (shows c v unclosed shown)))
+
+  -- the text is cut off
+  pub goes_cut : {X : Type 0} (r : Result X WriteFault) → u ≡ s → b ≡ a → found ≡ not s.is_closed → found ≡ true → Writes r b c t
+      → ((before : Option (List ℕ)) (text : List ℕ) → u.is_closed ≡ false → AppendsFront before c text → GoesOutIf done u n before d text) → GoesOutIf done s n a d (t ++ v)
+  goes_cut r same held is open_is put shows =
+      let unclosed : u.is_closed ≡ false = ap (λ (x : ReportState). x.is_closed) same ∙ not_closed_true s.is_closed (sym is ∙ open_is) in
+      if_from done s u n a d (t ++ v) same (shows a (t ++ v) unclosed (front_more v (written_front r (subst (λ (h : Option (List ℕ)). Writes r h c t) held put))))
+
+-- ---- to people, or to programs
+
+module _ {s u : ReportState} {a b : Option (List ℕ)} {form : Option Format} (people : List ℕ) (programs : Format → List ℕ) where
+  pub to_programs : (format : Format) → form ≡ Some format → GoesOut s u a b (programs format) → GoesOut s u a b (in_form form people programs)
+  to_programs format e h = subst (λ (f : Option Format). GoesOut s u a b (in_form f people programs)) (sym e) h
+
+  pub to_people : form ≡ None → GoesOut s u a b people → GoesOut s u a b (in_form form people programs)
+  to_people e h = subst (λ (f : Option Format). GoesOut s u a b (in_form f people programs)) (sym e) h
+
+pub none_listed : (o : Option Format) (t : List ℕ) → is_some o ≡ true → in_form o t (λ _. []) ≡ []
+none_listed None t is = absurd cc
+none_listed (Some f) t is = refl
+
+pub all_listed : (o : Option Format) (t : List ℕ) → is_some o ≡ false → in_form o t (λ _. []) ≡ t
+all_listed None t is = refl
+all_listed (Some f) t is = absurd cc
 
 pub none_there : {X : Type 0} (xs : List X) → (length xs == 0) ≡ true → xs ≡ []
 none_there [] is = refl

@@ -3,7 +3,7 @@ use Rattle.std.proofs.Common.{◌≡◌, ◌∙◌, ℕ, ◌+◌, ◌<◌, Bool,
 use Rattle.std.specs.Prelude.{slice_get}
 use Rattle.std.proofs.lemmas.Option.{slice_get_read}
 use Rattle.rb_files.specs.declared.path_error.PathError.{PathError}
-use Rattle.rb_report.specs.declared.failure.Failure.{Failure}
+use Rattle.rb_report.specs.declared.check.failure.Failure.{Failure}
 use Rattle.rb_script.proofs.ListLaws.{take_there}
 use Rattle.rb_check.specs.declared.target.Target.{Target}
 use Rattle.rb_check.specs.Targets.{AddsLine, AreLines, AreNotFound, IsOfScript, another, memory, missing}

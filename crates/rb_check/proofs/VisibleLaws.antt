@@ -46,9 +46,9 @@ hex_quiet : (n : ℕ) → n < 16 → is_quiet (hex_digit n) ≡ true
 hex_quiet n lt = hex_by (nat_lt n 10) n refl lt
 
 stays_quiet : (b : ℕ) → stays b ≡ true → is_quiet b ≡ true
-stays_quiet b is = by_cases (b == 10) (b == 9) (nat_le 32 b && nat_le b 126) (nat_lt b 32) (b == 127) is
+stays_quiet b is = by_cases (b == 10) (b == 9) (nat_le 32 b && (nat_le b 126 && not (b == 92))) (nat_lt b 32) (b == 127) is
     (λ all. let low = leb-true 32 b (and_parts (nat_le 32 b) _ all).0 in
-    let high = leb-true b 126 (and_parts (nat_le 32 b) _ all).1 in
+    let high = leb-true b 126 (and_parts (nat_le b 126) (not (b == 92)) (and_parts (nat_le 32 b) _ all).1).0 in
     printable b low high)
     (λ nine. tab_quiet b nine)
   where

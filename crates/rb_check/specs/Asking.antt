@@ -1,13 +1,12 @@
 -- What goes out as a review asks about the outputs of a script. (This project's.)
-use Rattle.std.specs.Prelude.{◌≡◌, ℕ, ◌+◌, ◌-◌, ◌^◌, List, [], ◌∷◌, ◌++◌, Option, Some, None, codes, length}
+use Rattle.std.specs.Prelude.{◌≡◌, ℕ, ◌+◌, ◌-◌, ◌^◌, false, List, [], ◌∷◌, ◌++◌, Option, Some, None, codes, length}
 use Rattle.std.specs.List.{flat_map}
-use Rattle.rb_script_report.specs.declared.view.Detail.TheVariants as details
+use Rattle.rb_report.specs.declared.check.table.TheConstants.{MAX_SCRIPT_CELLS}
+use Rattle.rb_script_report.specs.Whys.{told_alone}
 use Rattle.rb_check.specs.declared.question.ReviewQuestion.{ReviewQuestion}
 use Rattle.rb_check.specs.declared.review.Review.{Review}
 use Rattle.rb_check.specs.declared.review.Review.TheVariants as reviews
-use Rattle.rb_check.specs.declared.review.ReviewPoint.{ReviewPoint}
-use Rattle.rb_check.specs.Reviews.{comment_text, most, question_text, visible_key}
-use Rattle.rb_check.specs.ScriptTexts.{shown_alone}
+use Rattle.rb_check.specs.Reviews.{comment_text, question_text, visible_key}
 use Rattle.rb_check.specs.Subjects.{PlainChecked}
 
 -- ---- one question
@@ -33,32 +32,28 @@ pub data IsAsked (question text : List ℕ) : Type 0 where
 
 -- what is shown before a question: the comment above the head, and what differs
 abbrev pub subject_text : PlainChecked → ReviewQuestion → List ℕ
-subject_text c question = comment_text c.layout.text question.head ++ shown_alone details.Differing c (question.index + 1)
+subject_text c question =
+    comment_text c.layout.text question.head ++ told_alone MAX_SCRIPT_CELLS false c.colors c.layout.text c.path c.whys c.layout.heads.items c.script (question.index + 1)
 
--- a question: which it is of all questions of the review, and how many these are
+-- a question: its number, and how many there are
 pub record IsAskedAt (c : PlainChecked) (count number : ℕ) (question : ReviewQuestion) (text : List ℕ) : Type 0 where
   pub asking : List ℕ
-  pub asked : IsAsked (question_text (most number) count) asking
+  pub asked : IsAsked (question_text number count) asking
   pub text_is : text ≡ subject_text c question ++ asking
 
--- one after another, with numbers from one on
+-- one after another, with numbers from the first on
 unfoldable pub AreAsked : PlainChecked → ℕ → ℕ → List ReviewQuestion → List ℕ → Type 0
 AreAsked c count number [] text = text ≡ []
 AreAsked c count number (question ∷ questions) text = (first : List ℕ) × (others : List ℕ) × IsAskedAt c count number question first × AreAsked c count (number + 1) questions others × (text ≡ first ++ others)
 
--- in order, until an answer ends that; none once the review is over. Their numbers go on from those that were passed.
-pub record AreGone (c : PlainChecked) (count passed : ℕ) (questions : List ReviewQuestion) (before after : Review) (text : List ℕ) : Type 0 where
+-- in order, until an answer ends that; none once the review is over
+pub record AreReviewed (c : PlainChecked) (questions : List ReviewQuestion) (before after : Review) (text : List ℕ) : Type 0 where
   pub asked : List ReviewQuestion
   pub unasked : List ReviewQuestion
   pub parts : questions ≡ asked ++ unasked
   pub all : after ≡ reviews.Each → unasked ≡ []
   pub none : before ≡ reviews.Over → asked ≡ []
-  pub are_asked : AreAsked c count (passed + 1) asked text
-
--- those of a script are passed, whether they are asked or not
-pub record AreReviewed (c : PlainChecked) (questions : List ReviewQuestion) (before after : ReviewPoint) (text : List ℕ) : Type 0 where
-  pub gone : AreGone c before.count before.passed questions before.review after.review text
-  pub point_is : after ≡ record { review = after.review; passed = most (before.passed + length questions); count = before.count }
+  pub are_asked : AreAsked c (length questions) 1 asked text
 
 -- a question, if it is still to be asked
 abbrev pub asked_of : Review → ReviewQuestion → List ReviewQuestion

@@ -4,7 +4,7 @@ use Rattle.std.specs.Prelude.{ℕ, zero, suc, ◌==◌, ◌-◌, nat_le, if◌th
 use Rattle.std.specs.List.{flat_map}
 use Rattle.std.specs.Str.{bytes_eq}
 use Rattle.rb_script.specs.Lines.{Line}
-use Rattle.rb_report.specs.declared.colors.Colors.TheVariants.{Off}
+use Rattle.rb_report.specs.declared.check.colors.Colors.TheVariants.{Off}
 use Rattle.rb_report.specs.Pieces.{noun}
 use Rattle.rb_report.specs.Whys.{told_diff}
 use Rattle.rb_check.specs.declared.piece.CommandPiece.{CommandPiece}

@@ -1,5 +1,5 @@
 -- What is done with the outputs of a script, and what goes out of it. (This project's.)
-use Rattle.std.specs.Prelude.{◌≡◌, ◌≢◌, ℕ, ◌<◌, ◌^◌, ◌==◌, ◌&&◌, ◌||◌, ⊤, Bool, true, not, if◌then◌else◌, List, [], ◌++◌, Option, None, Some, length, option_map}
+use Rattle.std.specs.Prelude.{◌≡◌, ℕ, ◌<◌, ◌^◌, ◌==◌, ◌&&◌, ◌||◌, ⊤, Bool, true, not, if◌then◌else◌, List, [], ◌++◌, Option, None, Some, length}
 use Rattle.std.specs.List.{list_any}
 use Rattle.rb_replay.specs.Report.{mismatches}
 use Rattle.rb_script_report.specs.declared.accept_options.AcceptFilter.{AcceptFilter}
@@ -11,14 +11,13 @@ use Rattle.rb_check.specs.declared.check_request.CheckRequest.{CheckRequest}
 use Rattle.rb_check.specs.declared.ending.CheckEnding.{CheckEnding}
 use Rattle.rb_check.specs.declared.ending.CheckEnding.TheVariants.{Kept, Refused, Accepted, Reviewed}
 use Rattle.rb_check.specs.declared.remark.Remark.TheVariants as remarks
-use Rattle.rb_check.specs.declared.picking.NamedDirectives.{NamedDirectives}
+use Rattle.rb_check.specs.declared.report_state.ReportForm.{ReportForm}
 use Rattle.rb_check.specs.declared.review.Review.{Review}
-use Rattle.rb_check.specs.declared.review.ReviewPoint.{ReviewPoint}
 use Rattle.rb_check.specs.declared.script_result.ScriptResult.{ScriptResult}
 use Rattle.rb_check.specs.AcceptTexts.{Accepts}
 use Rattle.rb_check.specs.Asking.{AreReviewed}
 use Rattle.rb_check.specs.Reviews.{Reviewing, questions_of, review_of}
-use Rattle.rb_check.specs.ScriptTexts.{AreNamedDirectives, shown_of}
+use Rattle.rb_check.specs.ScriptTexts.{AreNamedHeads, IsTold}
 use Rattle.rb_check.specs.Shown.{remark_text}
 use Rattle.rb_check.specs.Subjects.{PlainChecked, result_of, warnings_in}
 
@@ -57,42 +56,33 @@ pub record IsReviewOf (r : Reviewing) (said : List ℕ) (after : Review) : Type 
   pub review_is : r.review ≡ after
 
 -- it is asked about outputs, and those that are said yes to are accepted: if the lines that are read are known, those that the review of the questions accepts
-pub record AcceptsSaid (asked : CheckRequest) (is_known : Type 0) (coming : List HeardAnswer) (c : PlainChecked) (picked : AcceptFilter) (before after : ReviewPoint) (r : ScriptResult) (asking accepting : List ℕ) : Type 0 where
+pub record AcceptsSaid (asked : CheckRequest) (is_known : Type 0) (coming : List HeardAnswer) (form : ReportForm) (c : PlainChecked) (picked : AcceptFilter) (before after : Review) (r : ScriptResult) (text : List ℕ) : Type 0 where
   pub said : List ℕ
   pub wanted : AcceptOptions
-  pub review : is_known → length coming < 2 ^ 64 → IsReviewOf (review_of before.review coming (questions_of asked picked c)) said after.review
+  pub asking : List ℕ
+  pub accepting : List ℕ
+  pub review : is_known → length coming < 2 ^ 64 → IsReviewOf (review_of before coming (questions_of asked picked c)) said after
   pub are_wanted : AreWanted said wanted
   pub are_asked : AreReviewed c (questions_of asked picked c) before after asking
-  pub accepts : Accepts (λ _. ⊤) wanted c r accepting
+  pub accepts : Accepts (λ _. ⊤) form wanted c r accepting
+  pub text_is : text ≡ asking ++ accepting
 
 -- nothing is accepted, and nothing failed; or outputs are accepted, whatever the stream of errors has of it
-abbrev pub EndsAs : CheckEnding → CheckRequest → Type 0 → List HeardAnswer → PlainChecked → AcceptFilter → ReviewPoint → ReviewPoint → ScriptResult → List ℕ → List ℕ → Type 0
-EndsAs Kept asked is_known coming c picked before after r asking text = (r ≡ result_of c) × (after ≡ before) × (text ≡ [])
-EndsAs Refused asked is_known coming c picked before after r asking text = (r ≡ result_of c) × (after ≡ before) × (text ≡ remark_text c.form c.path remarks.Unaccepted)
-EndsAs Accepted asked is_known coming c picked before after r asking text = Accepts (λ _. ⊤) (record { picked = picked; errors = asked.accepts_errors }) c r text × (after ≡ before)
-EndsAs Reviewed asked is_known coming c picked before after r asking text = AcceptsSaid asked is_known coming c picked before after r asking text
+abbrev pub EndsAs : CheckEnding → CheckRequest → Type 0 → List HeardAnswer → ReportForm → PlainChecked → AcceptFilter → Review → Review → ScriptResult → List ℕ → Type 0
+EndsAs Kept asked is_known coming form c picked before after r text = (r ≡ result_of c) × (after ≡ before) × (text ≡ [])
+EndsAs Refused asked is_known coming form c picked before after r text = (r ≡ result_of c) × (after ≡ before) × (text ≡ remark_text form c.path remarks.Unaccepted)
+EndsAs Accepted asked is_known coming form c picked before after r text = Accepts (λ _. ⊤) form (record { picked = picked; errors = asked.accepts_errors }) c r text × (after ≡ before)
+EndsAs Reviewed asked is_known coming form c picked before after r text = AcceptsSaid asked is_known coming form c picked before after r text
 
--- in a review all that comes before the last answer goes out at once, and else all is still to be shown
-abbrev pub GoesOutAs : CheckEnding → List ℕ → List ℕ → List ℕ → List ℕ → List ℕ → Type 0
-GoesOutAs Kept told asking ended out shown = (out ≡ []) × (shown ≡ told ++ ended)
-GoesOutAs Refused told asking ended out shown = (out ≡ []) × (shown ≡ told ++ ended)
-GoesOutAs Accepted told asking ended out shown = (out ≡ []) × (shown ≡ told ++ ended)
-GoesOutAs Reviewed told asking ended out shown = (out ≡ told ++ asking) × (shown ≡ ended)
-
--- A script that was checked: it is shown, with which of the directives that are named match, and then what happened to its outputs.
-pub record IsAnswered (tells : List ℕ → List ℕ → Bool → Type 0) (asked : CheckRequest) (is_known : Type 0) (coming : List HeardAnswer) (c : PlainChecked) (before after : ReviewPoint) (r : ScriptResult) (out shown : List ℕ) : Type 0 where
-  pub named : Option NamedDirectives
+-- A script that was checked: it is shown, then it is said which of the directives that are named match, and then what happened to its outputs.
+pub record IsAnswered (tells : List ℕ → List ℕ → Bool → Type 0) (asked : CheckRequest) (is_known : Type 0) (coming : List HeardAnswer) (form : ReportForm) (c : PlainChecked) (before after : Review) (r : ScriptResult) (text : List ℕ) : Type 0 where
+  pub heads : Option (List ℕ)
   pub picked : AcceptFilter
-  pub asking : List ℕ
+  pub told : List ℕ
+  pub named : List ℕ
   pub ended : List ℕ
-  pub naming : AreNamedDirectives tells asked c named
-  pub picking : IsPicked asked c (option_map (λ some. some.heads.items) named) picked
-  pub ending : EndsAs (ending_at asked c) asked is_known coming c picked before after r asking ended
-  pub goes_out : GoesOutAs (ending_at asked c) (shown_of asked c (option_map (λ some. some.places.items) named)) asking ended out shown
-
--- ---- how many questions a review asks about it
-
-pub data AsksAbout (tells : List ℕ → List ℕ → Bool → Type 0) (asked : CheckRequest) (c : PlainChecked) (n : ℕ) : Type 0 where
-  reviewed : (named : Option NamedDirectives) → (picked : AcceptFilter) → ending_at asked c ≡ Reviewed → AreNamedDirectives tells asked c named → IsPicked asked c (option_map (λ some. some.heads.items) named) picked
-      → n ≡ length (questions_of asked picked c) → AsksAbout tells asked c n
-  unreviewed : ending_at asked c ≢ Reviewed → n ≡ 0 → AsksAbout tells asked c n
+  pub telling : IsTold tells asked form c told
+  pub naming : AreNamedHeads tells asked form c heads named
+  pub picking : IsPicked asked c heads picked
+  pub ending : EndsAs (ending_at asked c) asked is_known coming form c picked before after r ended
+  pub text_is : text ≡ told ++ (named ++ ended)

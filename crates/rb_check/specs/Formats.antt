@@ -3,15 +3,16 @@ use Rattle.std.specs.Prelude.{ℕ, ◌-◌, Bool, if◌then◌else◌, List, [],
 use Rattle.std.specs.List.{flat_map}
 use Rattle.rb_script.specs.Lines.{Line}
 use Rattle.rb_replay.specs.Report.{same_lines, mismatches}
-use Rattle.rb_report.specs.declared.table.TheConstants.{MAX_SCRIPT_CELLS}
+use Rattle.rb_report.specs.declared.check.table.TheConstants.{MAX_SCRIPT_CELLS}
 use Rattle.rb_script_report.specs.Checked.{head_of, of_first}
 use Rattle.rb_script_report.specs.Errors.{first_line, is_unexpected}
-use Rattle.rb_check.specs.declared.format.LineFormat.{LineFormat}
-use Rattle.rb_check.specs.declared.format.LineFormat.TheVariants.{Json, Github}
+use Rattle.rb_check.specs.declared.format.Format.{Format}
+use Rattle.rb_check.specs.declared.format.Format.TheVariants.{Json, Github, Junit}
 use Rattle.rb_check.specs.declared.kind.NoticeKind.{NoticeKind}
 use Rattle.rb_check.specs.declared.kind.NoticeKind.TheVariants as kinds
 use Rattle.rb_check.specs.Objects.{object_text, notice_object}
 use Rattle.rb_check.specs.Commands.{command_text, difference_text}
+use Rattle.rb_check.specs.Junit.{script_suite, notice_suite}
 use Rattle.rb_check.specs.Subjects.{PlainChecked, PlainRan, runs_of}
 
 -- ---- JSON: its directives in order
@@ -56,9 +57,10 @@ errors_of strict c = flat_map (error_command strict c.layout.text c.path) (runs_
 
 -- ---- a script
 
-abbrev pub script_text : LineFormat → PlainChecked → List ℕ
-script_text Json c = objects_of c
-script_text Github c = of_first (mismatch_command c) (mismatches c.script) ++ errors_of c.form.is_strict c
+abbrev pub script_text : Format → Bool → PlainChecked → List ℕ
+script_text Json strict c = objects_of c
+script_text Github strict c = of_first (mismatch_command c) (mismatches c.script) ++ errors_of strict c
+script_text Junit strict c = script_suite strict c
 
 -- ---- notices about a script
 
@@ -76,6 +78,7 @@ command_of strict kinds.Warning = severity strict
 command_of strict kinds.Left = codes "warning"
 command_of strict kinds.Accepted = codes "notice"
 
-abbrev pub notice_text : LineFormat → Bool → List ℕ → Option ℕ → NoticeKind → List ℕ → List ℕ
+abbrev pub notice_text : Format → Bool → List ℕ → Option ℕ → NoticeKind → List ℕ → List ℕ
 notice_text Json strict path line kind message = notice_object path line (status_of kind) message
 notice_text Github strict path line kind message = command_text (command_of strict kind) path line (codes "raftbench") message
+notice_text Junit strict path line kind message = notice_suite path line kind message

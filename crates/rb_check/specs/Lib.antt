@@ -1,7 +1,6 @@
 pub mod AcceptTexts
 pub mod Asking
 pub mod Escapes
-pub mod Forms
 pub mod Replaced
 pub mod Objects
 pub mod Commands
@@ -17,6 +16,5 @@ pub mod Reported
 pub mod Reviews
 pub mod ScriptTexts
 pub mod Shown
-pub mod ShownTexts
 pub mod Targets
 pub mod Visible

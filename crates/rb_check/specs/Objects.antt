@@ -4,7 +4,7 @@ use Rattle.std.specs.List.{flat_map}
 use Rattle.rb_text.specs.Json.{ascii}
 use Rattle.rb_script.specs.Lines.{Line}
 use Rattle.rb_report.specs.Heads.{listed}
-use Rattle.rb_report.specs.declared.totals.Totals.{Totals}
+use Rattle.rb_report.specs.declared.check.totals.Totals.{Totals}
 use Rattle.rb_script_report.specs.Checked.{head_of}
 use Rattle.rb_check.specs.declared.totals_object.TotalsPiece.{TotalsPiece}
 use Rattle.rb_check.specs.declared.totals_object.TotalsPiece.TheVariants as pieces

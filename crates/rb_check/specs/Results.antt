@@ -1,10 +1,10 @@
 -- The results of a check: of each path what is counted of it, and what is listed. (This project's.)
-use Rattle.std.specs.Prelude.{ℕ, ◌-◌, ◌==◌, ◌++◌, Bool, if◌then◌else◌, List, [], ◌∷◌, Option, None, Some, length, map, slice_get}
+use Rattle.std.specs.Prelude.{ℕ, ◌-◌, ◌==◌, if◌then◌else◌, List, [], ◌∷◌, Option, None, Some, length, map, slice_get, string_bytes}
 use Rattle.std.specs.List.{flat_map, fold}
-use Rattle.rb_report.specs.declared.failure.Failure.{Failure}
-use Rattle.rb_report.specs.declared.outcome.Outcome.{Outcome}
-use Rattle.rb_report.specs.declared.outcome.Outcome.TheVariants as outcomes
-use Rattle.rb_report.specs.declared.totals.Totals.{Totals}
+use Rattle.rb_report.specs.declared.check.failure.Failure.{Failure}
+use Rattle.rb_report.specs.declared.check.outcome.Outcome.{Outcome}
+use Rattle.rb_report.specs.declared.check.outcome.Outcome.TheVariants as outcomes
+use Rattle.rb_report.specs.declared.check.totals.Totals.{Totals}
 use Rattle.rb_report.specs.Counts.{of_all}
 use Rattle.rb_check.specs.declared.differing.Differing.{Differing}
 use Rattle.rb_check.specs.declared.script_result.PathResult.{PathResult}
@@ -39,16 +39,13 @@ outcomes_of (paths.Failed failure) = outcomes.Failed failure ∷ []
 abbrev pub counts_with : Totals → PathResult → Totals
 counts_with t found = of_all t (outcomes_of found)
 
--- a path: its result, what went out as it was asked about, what is shown of it, and how long that took
+-- a path, and its result
 pub record CheckedPath : Type 0 where
   pub path : List ℕ
   pub found : PathResult
-  pub asking : List ℕ
-  pub shown : List ℕ
-  pub milliseconds : ℕ
 
-abbrev pub checked_path : List ℕ → PathResult → List ℕ → List ℕ → ℕ → CheckedPath
-checked_path path found asking shown milliseconds = record { path = path; found = found; asking = asking; shown = shown; milliseconds = milliseconds }
+abbrev pub checked_path : List ℕ → PathResult → CheckedPath
+checked_path path found = record { path = path; found = found }
 
 abbrev pub counts_of : Totals → List CheckedPath → Totals
 counts_of t results = fold (λ (u : Totals) (checked : CheckedPath). counts_with u checked.found) t results
@@ -63,7 +60,7 @@ pub record ListedScript : Type 0 where
   pub line : ℕ
 
 abbrev pub listed_as : Differing → ListedScript
-listed_as d = record { path = d.path.items; directives = d.directives; mismatches = d.mismatches; line = d.line }
+listed_as d = record { path = string_bytes d.path; directives = d.directives; mismatches = d.mismatches; line = d.line }
 
 abbrev pub listing : List Differing → List ListedScript
 listing ds = map listed_as ds
@@ -80,15 +77,3 @@ listed_of path (paths.Failed failure) = []
 
 abbrev pub listed_in : List CheckedPath → List ListedScript
 listed_in results = flat_map (λ checked. listed_of checked.path checked.found) results
-
--- ---- what goes out
-
--- what is shown, unless it goes into a suite
-abbrev pub out_beside : Bool → List ℕ → List ℕ
-out_beside has_suites text = if has_suites then [] else text
-
-abbrev pub out_of : Bool → CheckedPath → List ℕ
-out_of has_suites checked = checked.asking ++ out_beside has_suites checked.shown
-
-abbrev pub out_in : Bool → List CheckedPath → List ℕ
-out_in has_suites results = flat_map (out_of has_suites) results

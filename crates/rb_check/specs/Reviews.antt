@@ -17,7 +17,6 @@ use Rattle.rb_check.specs.declared.question.ReviewQuestion.{ReviewQuestion}
 use Rattle.rb_check.specs.declared.review.Review.{Review}
 use Rattle.rb_check.specs.declared.review.Review.TheVariants as reviews
 use Rattle.rb_check.specs.declared.review.Reviewer.{Reviewer}
-use Rattle.rb_check.specs.declared.review.ReviewPoint.{ReviewPoint}
 use Rattle.rb_check.specs.Subjects.{PlainChecked, PlainRan, runs_of}
 
 -- ---- what is asked about
@@ -35,10 +34,6 @@ questions_of asked picked c = flat_map (question_of asked.accepts_errors picked 
 -- they are about the first n directives
 abbrev pub AreWithin : List ReviewQuestion → ℕ → Type 0
 AreWithin questions n = (i : ℕ) → (question : ReviewQuestion) → slice_get questions i ≡ Some question → question.index < n
-
--- numbers stay at the greatest that fits
-abbrev pub most : ℕ → ℕ
-most n = min n (2 ^ 64 - 1)
 
 -- which of how many it is
 abbrev pub question_text : ℕ → ℕ → List ℕ
@@ -164,7 +159,7 @@ reviewing said review left = record { said = said; review = review; left = left 
 
 -- a reviewer's review, by the lines that are left
 abbrev pub review_so_far : {P : Type 0} → (P → List HeardAnswer) → Reviewer P → Reviewing
-review_so_far left r = reviewing r.said.items r.point.review (left r.person)
+review_so_far left r = reviewing r.said.items r.review (left r.person)
 
 -- if it is known what is still to be read, and that is few lines, then so it is afterwards; no line comes back, and this holds
 pub record Hears {P : Type 0} (is_known : P → Type 0) (left : P → List HeardAnswer) (old new : P) (holds : Type 0) : Type 0 where
@@ -187,10 +182,6 @@ reviewed_one r question = reviewed_as r.review r question
 
 abbrev pub reviewed_all : Reviewing → List ReviewQuestion → Reviewing
 reviewed_all r questions = fold reviewed_one r questions
-
--- before the first script: how many questions there are
-abbrev pub first_point : ℕ → ReviewPoint
-first_point count = record { review = reviews.Each; passed = 0; count = count }
 
 -- what is to be asked of the next script
 abbrev pub review_behind : Review → Review

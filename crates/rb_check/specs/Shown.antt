@@ -1,5 +1,5 @@
 -- What a report writes on its streams. (This project's.)
-use Rattle.std.specs.Prelude.{◌≡◌, ℕ, Bool, true, false, not, if◌then◌else◌, ◌==◌, ◌&&◌, ◌||◌, nat_lt, List, [], ◌∷◌, ◌++◌, Option, None, Some, is_some, Result, Ok, Err, codes, decimal, length}
+use Rattle.std.specs.Prelude.{◌≡◌, ℕ, Bool, true, false, not, if◌then◌else◌, ◌==◌, ◌&&◌, ◌||◌, nat_lt, List, [], ◌∷◌, ◌++◌, Option, None, Some, is_some, Result, Ok, Err, codes, decimal, string_bytes, length}
 use Rattle.std.specs.List.{flat_map}
 use Rattle.std.specs.Io.KnownBytes.{Appends}
 use Rattle.std.specs.IoError.{error_kind}
@@ -8,19 +8,19 @@ use Rattle.std.specs.declared.io.ErrorKind.{ErrorKind}
 use Rattle.std.specs.declared.io.ErrorKind.TheVariants as errors
 use Rattle.rb_files.specs.declared.path_error.PathError.{PathError}
 use Rattle.rb_script.specs.Writes.{AppendsFront}
-use Rattle.rb_report.specs.declared.colors.Colors.{Colors}
-use Rattle.rb_report.specs.declared.colors.Colors.TheVariants.{Off}
-use Rattle.rb_report.specs.declared.failure.Failure.{Failure}
-use Rattle.rb_report.specs.declared.failure.Failure.TheVariants.{NotRead, NotShown, NotWritten, OutOfMemory}
-use Rattle.rb_report.specs.declared.outcome.Outcome.TheVariants as outcomes
-use Rattle.rb_report.specs.declared.totals.Totals.{Totals}
+use Rattle.rb_report.specs.declared.check.colors.Colors.{Colors}
+use Rattle.rb_report.specs.declared.check.colors.Colors.TheVariants.{Off}
+use Rattle.rb_report.specs.declared.check.failure.Failure.{Failure}
+use Rattle.rb_report.specs.declared.check.failure.Failure.TheVariants.{NotRead, NotShown, NotWritten, OutOfMemory}
+use Rattle.rb_report.specs.declared.check.outcome.Outcome.TheVariants as outcomes
+use Rattle.rb_report.specs.declared.check.totals.Totals.{Totals}
 use Rattle.rb_report.specs.Briefs.{brief_text}
 use Rattle.rb_report.specs.Counts.{accepted_text, nothing, of_outcome, together, totals_text}
 use Rattle.rb_report.specs.Failures.{failure_sentence, failure_text}
 use Rattle.rb_report.specs.Names.{acts_in_line, shown_name}
 use Rattle.rb_report.specs.Notices.{unaccepted_text, warning_sentence, warning_text}
 use Rattle.rb_report.specs.Pieces.{noun}
-use Rattle.rb_report.specs.Refusals.{refusal_line, refusal_sentence, refusal_text}
+use Rattle.rb_report.specs.Refusals.{fault_line, refusal_text, sentence}
 use Rattle.rb_report.specs.Shown.{escape}
 use Rattle.rb_script_report.specs.declared.accept_options.AcceptFilter.{AcceptFilter}
 use Rattle.rb_script_report.specs.declared.view.Detail.{Detail}
@@ -29,9 +29,8 @@ use Rattle.rb_script_report.specs.declared.warning.Warning.{Warning}
 use Rattle.rb_script_report.specs.Accepting.{is_picked}
 use Rattle.rb_check.specs.declared.check_request.CheckRequest.{CheckRequest}
 use Rattle.rb_check.specs.declared.differing.Differing.{Differing}
-use Rattle.rb_check.specs.declared.error_stream.ErrorStream.{ErrorStream}
-use Rattle.rb_check.specs.declared.format.LineFormat.{LineFormat}
-use Rattle.rb_check.specs.declared.format.LineFormat.TheVariants.{Json, Github}
+use Rattle.rb_check.specs.declared.format.Format.{Format}
+use Rattle.rb_check.specs.declared.format.Format.TheVariants.{Json, Github, Junit}
 use Rattle.rb_check.specs.declared.kind.NoticeKind.{NoticeKind}
 use Rattle.rb_check.specs.declared.kind.NoticeKind.TheVariants as kinds
 use Rattle.rb_check.specs.declared.notes.Note.{Note}
@@ -44,21 +43,16 @@ use Rattle.rb_check.specs.declared.report_state.ReportState.{ReportState}
 use Rattle.rb_check.specs.declared.visible.Showing.{Showing}
 use Rattle.rb_check.specs.declared.visible.Showing.TheVariants as showings
 use Rattle.rb_check.specs.Formats.{notice_text}
-use Rattle.rb_check.specs.Forms.{in_form, is_junit, line_format}
-use Rattle.rb_check.specs.Junit.{PlainSuites, document_text}
 use Rattle.rb_check.specs.Objects.{totals_object}
+use Rattle.rb_check.specs.Results.{ListedScript, listing}
 use Rattle.rb_check.specs.Reviews.{quit_text}
 
 -- ---- the state of a report
 
--- suites are made, unless nothing is wanted
-abbrev pub form_of : CheckRequest → ReportForm
-form_of asked = record { format = line_format asked.format; has_suites = is_junit asked.format && not asked.is_quiet; is_strict = asked.is_strict }
-
 -- before it has written anything: if nothing is wanted, nothing goes to standard output
 abbrev pub started : CheckRequest → ReportState
 started asked = record {
-  form = form_of asked;
+  form = record { format = asked.format; is_strict = asked.is_strict };
   is_closed = asked.is_quiet;
   own = nothing;
 }
@@ -106,6 +100,11 @@ pub record GoesOutInPart (old new : ReportState) (before after : Option (List �
   pub text : List ℕ
   pub out : GoesOut old new before after text
 
+-- the text went out; or the call failed, and some text did
+abbrev pub GoesOutIf : {X E : Type 0} → Result X E → ReportState → ReportState → Option (List ℕ) → Option (List ℕ) → List ℕ → Type 0
+GoesOutIf (Ok x) old new before after text = GoesOut old new before after text
+GoesOutIf (Err e) old new before after text = GoesOutInPart old new before after
+
 -- the text was written, if the stream takes all
 abbrev pub Told : Type 0 → Type 0 → Option (List ℕ) → Option (List ℕ) → List ℕ → Type 0
 Told takes_before takes_after before after text = takes_before → takes_after × Appends before after text
@@ -117,24 +116,34 @@ Prints held old new text = GoesOut old.state new.state (held old.output) (held n
 abbrev pub PrintsPart : {W E : Type 0} → (W → Option (List ℕ)) → Report W E → Report W E → Type 0
 PrintsPart held old new = GoesOutInPart old.state new.state (held old.output) (held new.output)
 
--- of the stream of errors
-abbrev pub Tells : {E : Type 0} → (E → Type 0) → (E → Option (List ℕ)) → ErrorStream E → ErrorStream E → List ℕ → Type 0
-Tells takes held old new text = Told (takes old.sink) (takes new.sink) (held old.sink) (held new.sink) text
+abbrev pub PrintsIf : {X F W E : Type 0} → Result X F → (W → Option (List ℕ)) → Report W E → Report W E → List ℕ → Type 0
+PrintsIf r held old new text = GoesOutIf r old.state new.state (held old.output) (held new.output) text
+
+-- of its stream of errors
+abbrev pub Tells : {W E : Type 0} → (E → Type 0) → (E → Option (List ℕ)) → Report W E → Report W E → List ℕ → Type 0
+Tells takes held old new text = Told (takes old.errors.sink) (takes new.errors.sink) (held old.errors.sink) (held new.errors.sink) text
+
+-- the list of the scripts that differ grows by these, unless memory was refused for it
+abbrev pub Lists : ReportState → List Differing → List Differing → List ListedScript → Type 0
+Lists state before after scripts = lacks_memory state ≡ false → listing after ≡ listing before ++ scripts
+
+-- neither memory nor standard output failed
+pub record LosesNothing (old new : ReportState) : Type 0 where
+  pub memory : lacks_memory new ≡ false
+  pub output : new.is_closed ≡ old.is_closed
 
 -- how what is about a script at a path goes out in a format; a workflow command has the path itself
-abbrev pub shown_in : Option LineFormat → List ℕ → Showing → Showing
+abbrev pub shown_in : Option Format → List ℕ → Showing → Showing
 shown_in None path showing = showing
 shown_in (Some Json) path showing = showings.Json
 shown_in (Some Github) path showing = if acts_in_line path then showings.Visible else showing
+shown_in (Some Junit) path showing = showings.AsIs
 
--- the chosen colours, if bytes go out as they are; none in a suite
+-- the chosen colours, if bytes go out as they are
 abbrev pub colors_in : Showing → Colors → Colors
 colors_in showings.AsIs wanted = wanted
 colors_in showings.Visible wanted = Off
 colors_in showings.Json wanted = Off
-
-abbrev pub colors_for : ReportForm → Showing → Colors → Colors
-colors_for form showing wanted = if form.has_suites then Off else colors_in showing wanted
 
 -- ---- what is said of a script
 
@@ -146,7 +155,7 @@ abbrev pub accepted_sentence : ℕ → List ℕ
 accepted_sentence n = codes "accepted " ++ (decimal n ++ noun n (codes " output") (codes " outputs"))
 
 abbrev pub remark_sentence : Remark → List ℕ
-remark_sentence (remarks.Refused refusal) = refusal_sentence refusal
+remark_sentence (remarks.Refused fault) = sentence fault
 remark_sentence (remarks.Failed failure) = failure_sentence failure
 remark_sentence (remarks.Warning w) = warning_sentence w.doubt
 remark_sentence (remarks.Accepted n) = accepted_sentence n
@@ -157,7 +166,7 @@ remark_sentence (remarks.Matches line) = codes "there is nothing to accept: the 
 
 -- to people: a failure goes to the stream of errors, and a new error that is left is shown with its directive
 abbrev pub people_text : List ℕ → Remark → List ℕ
-people_text path (remarks.Refused refusal) = refusal_text path refusal
+people_text path (remarks.Refused fault) = refusal_text path fault
 people_text path (remarks.Failed failure) = []
 people_text path (remarks.Warning w) = warning_text path w.line w.doubt
 people_text path (remarks.Accepted n) = accepted_text path n
@@ -167,7 +176,7 @@ people_text path (remarks.Echoes line) = note_text path line (remark_sentence (r
 people_text path (remarks.Matches line) = note_text path line (remark_sentence (remarks.Matches line))
 
 abbrev pub remark_line : Remark → Option ℕ
-remark_line (remarks.Refused refusal) = refusal_line refusal
+remark_line (remarks.Refused fault) = fault_line fault
 remark_line (remarks.Failed failure) = None
 remark_line (remarks.Warning w) = Some w.line
 remark_line (remarks.Accepted n) = None
@@ -187,8 +196,13 @@ remark_kind (remarks.Echoes line) = kinds.Left
 remark_kind (remarks.Matches line) = kinds.Left
 
 -- to programs
-abbrev pub programs_text : LineFormat → Bool → List ℕ → Remark → List ℕ
+abbrev pub programs_text : Format → Bool → List ℕ → Remark → List ℕ
 programs_text format strict path remark = notice_text format strict path (remark_line remark) (remark_kind remark) (remark_sentence remark)
+
+-- the text, to people or in the format for programs
+abbrev pub in_form : Option Format → List ℕ → (Format → List ℕ) → List ℕ
+in_form None people programs = people
+in_form (Some format) people programs = programs format
 
 abbrev pub remark_text : ReportForm → List ℕ → Remark → List ℕ
 remark_text form path remark = in_form form.format (people_text path remark) (λ format. programs_text format form.is_strict path remark)
@@ -204,10 +218,18 @@ left_one form path picked line = if is_picked picked line then remark_text form 
 abbrev pub left_text : ReportForm → List ℕ → AcceptFilter → List ℕ → List ℕ
 left_text form path picked left = flat_map (λ line. left_one form path picked line) left
 
--- ---- the end
+-- ---- the beginning and the end
+
+abbrev pub beginning : Format → List ℕ
+beginning Json = []
+beginning Github = []
+beginning Junit = codes "<?xml version=\"1.0\" encoding=\"UTF-8\"?>\n<testsuites name=\"raftbench\">\n"
+
+abbrev pub begun_text : ReportForm → List ℕ
+begun_text form = in_form form.format [] beginning
 
 abbrev pub differing_text : List Differing → List ℕ
-differing_text ds = flat_map (λ d. brief_text (d.path.items) d.mismatches d.directives d.line) ds
+differing_text ds = flat_map (λ d. brief_text (string_bytes d.path) d.mismatches d.directives d.line) ds
 
 -- the scripts that differ, if there are any, and an empty line
 abbrev pub list_text : List Differing → List ℕ
@@ -217,9 +239,10 @@ list_text ds = if length ds == 0 then [] else differing_text ds ++ codes "\n"
 abbrev pub listed_text : Bool → List Differing → List ℕ
 listed_text lists ds = if lists then list_text ds else []
 
-abbrev pub ending : Totals → LineFormat → List ℕ
+abbrev pub ending : Totals → Format → List ℕ
 ending t Json = totals_object t
 ending t Github = []
+ending t Junit = codes "</testsuites>\n"
 
 -- to people the list and the last line
 abbrev pub end_text : Bool → ReportForm → List Differing → Totals → ℕ → List ℕ
@@ -233,12 +256,8 @@ lists details.Differing n = nat_lt 1 n
 lists details.All n = nat_lt 1 n
 
 -- nothing is said at the end if there is no script, unless programs read it
-abbrev pub lines_text : CheckRequest → ℕ → ReportForm → List Differing → Totals → ℕ → List ℕ
-lines_text asked n form ds t ms = if nat_lt 0 n || is_some form.format then end_text (lists asked.shown n) form ds t ms else []
-
--- the suites are one document
-abbrev pub last_text : CheckRequest → ℕ → ReportForm → List Differing → PlainSuites → Totals → ℕ → List ℕ
-last_text asked n form ds suites t ms = if form.has_suites then document_text suites ms else lines_text asked n form ds t ms
+abbrev pub last_text : CheckRequest → ℕ → ReportForm → List Differing → Totals → ℕ → List ℕ
+last_text asked n form ds t milliseconds = if nat_lt 0 n || is_some form.format then end_text (lists asked.shown n) form ds t milliseconds else []
 
 -- ---- the stream of errors
 
@@ -290,11 +309,6 @@ failure_lines path error words = failure_text path error.failure ++ cause_text (
 abbrev pub left_file_text : List ℕ → List ℕ
 left_file_text path = shown_name path ++ codes ": this new file could not be removed\n"
 
--- a file that has the name of a new one
-abbrev pub taken_name_text : List ℕ → List ℕ
-taken_name_text path =
-    shown_name path ++ codes ": the new text of a script, which a call that was killed left, or one that runs is writing; remove it if none runs\n"
-
 -- a note about an output that no script can expect
 abbrev pub long_line_text : List ℕ → ℕ → List ℕ
 long_line_text path line = note_text path line (codes "this output has a line of more than 65,536 bytes, which no script can expect")
@@ -303,7 +317,6 @@ abbrev pub note_line : Note → List ℕ
 note_line (notes.Failure path failure) = failure_text path.now failure
 note_line (notes.Cause path words) = cause_line path.now words.now
 note_line (notes.LeftFile path) = left_file_text path.now
-note_line (notes.TakenName path) = taken_name_text path.now
 note_line (notes.LongLine path line) = long_line_text path.now line
 note_line (notes.Quit accepted left) = quit_text accepted left
 note_line (notes.Totals totals milliseconds) = totals_text totals milliseconds

@@ -4,7 +4,7 @@ use Rattle.rb_script.specs.Lines.{Line}
 use Rattle.rb_script.specs.Script.{PlainBlock, PlainScript}
 use Rattle.rb_replay.specs.Report.{mismatches}
 use Rattle.rb_replay.specs.Run.{outputs}
-use Rattle.rb_report.specs.declared.colors.Colors.{Colors}
+use Rattle.rb_report.specs.declared.check.colors.Colors.{Colors}
 use Rattle.rb_report.specs.Whys.{reasons_in}
 use Rattle.rb_script_report.specs.declared.layout.Layout.{Layout}
 use Rattle.rb_script_report.specs.declared.warning.Warning.{Warning}
@@ -14,25 +14,19 @@ use Rattle.rb_script_report.specs.Errors.{error_count}
 use Rattle.rb_script_report.specs.Layouts.{IsLayout}
 use Rattle.rb_script_report.specs.Whys.{why_at}
 use Rattle.rb_check.specs.declared.checked_script.CheckedScript.{CheckedScript}
-use Rattle.rb_check.specs.declared.checked_script.RanScript.{RanScript}
 use Rattle.rb_check.specs.declared.ran_directive.RanDirective.{RanDirective}
-use Rattle.rb_check.specs.declared.report_state.ReportForm.{ReportForm}
 use Rattle.rb_check.specs.declared.script_result.ScriptResult.{ScriptResult}
 
 -- the script, with the reasons and the colours of what is shown of it
 pub record PlainChecked : Type 0 where
   pub path : List ℕ
-  pub form : ReportForm
   pub layout : Layout
   pub whys : List (List Line)
   pub script : PlainScript
   pub colors : Colors
 
-abbrev pub plain_with : List ℕ → ReportForm → Colors → RanScript → PlainChecked
-plain_with path form colors ran = record { path = path; form = form; layout = ran.run.layout; whys = ran.run.whys.items; script = ran.run.session.script; colors = colors }
-
-abbrev pub plain_of : CheckedScript → PlainChecked
-plain_of subject = plain_with subject.path.now subject.form subject.colors subject.script.now
+abbrev pub plain_of : {M E : Type 0} → CheckedScript M E → PlainChecked
+plain_of subject = record { path = subject.path.now; layout = subject.layout.now; whys = subject.whys.now; script = subject.session.now.script; colors = subject.colors }
 
 -- ---- its directives
 
@@ -66,7 +60,7 @@ runs_of c = runs_from c.whys 0 c.layout.heads.items c.script.blocks (outputs c.s
 abbrev pub warnings_in : PlainChecked → List Warning
 warnings_in c = all_warnings c.layout.text c.layout.heads.items c.script.blocks (outputs c.script)
 
--- its result, if nothing of it is accepted
+-- the result of a script with n warnings, if nothing of it is accepted
 abbrev pub numbers_of : Layout → PlainScript → ℕ → ScriptResult
 numbers_of l s n = record {
   directives = length s.blocks;
@@ -81,13 +75,8 @@ numbers_of l s n = record {
 abbrev pub result_of : PlainChecked → ScriptResult
 result_of c = numbers_of c.layout c.script (length (warnings_in c))
 
--- its bytes are the script, in its layout, and it has these warnings
-pub record IsRunOf (ran : RanScript) : Type 0 where
-  pub layout : IsLayout ran.text.bytes.items ran.run.session.script ran.run.layout
-  pub warnings : ran.warnings.items ≡ all_warnings ran.run.layout.text ran.run.layout.heads.items ran.run.session.script.blocks (outputs ran.run.session.script)
-
--- and this result
-pub record AreFindings (subject : CheckedScript) : Type 0 where
-  pub layout : IsLayout subject.script.now.text.bytes.items subject.script.now.run.session.script subject.script.now.run.layout
-  pub warnings : subject.script.now.warnings.items ≡ warnings_in (plain_of subject)
+-- its bytes are the script, in its layout; it has these warnings, and this result
+pub record AreFindings {M E : Type 0} (subject : CheckedScript M E) : Type 0 where
+  pub layout : IsLayout subject.text.now.bytes.items subject.session.now.script subject.layout.now
+  pub warnings : subject.warnings.now ≡ warnings_in (plain_of subject)
   pub result : subject.ran ≡ result_of (plain_of subject)

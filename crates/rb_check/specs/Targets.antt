@@ -2,8 +2,8 @@
 use Rattle.std.specs.Prelude.{◌≡◌, ◌≢◌, ℕ, Bool, true, false, if◌then◌else◌, List, [], ◌∷◌, ◌++◌, Option, None, Some, slice_get, string_bytes}
 use Rattle.std.specs.List.Sorted.{IsNonDecreasing}
 use Rattle.rb_files.specs.declared.path_error.PathError.{PathError}
-use Rattle.rb_report.specs.declared.failure.Failure.{Failure}
-use Rattle.rb_report.specs.declared.failure.Failure.TheVariants.{NoDirective, NotWritten, OutOfMemory}
+use Rattle.rb_report.specs.declared.check.failure.Failure.{Failure}
+use Rattle.rb_report.specs.declared.check.failure.Failure.TheVariants.{NoDirective, NotWritten, OutOfMemory}
 use Rattle.rb_check.specs.declared.target.Target.{Target}
 use Rattle.rb_check.specs.Place.{ArePartedAt}
 

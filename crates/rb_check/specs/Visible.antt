@@ -10,9 +10,9 @@ use Rattle.rb_check.specs.declared.visible.Showing.TheVariants.{AsIs, Visible, J
 abbrev pub acts : ℕ → Bool
 acts b = (nat_lt b 32 && not (b == 9)) || (b == 127)
 
--- an end of a line, a tab, or printable ASCII
+-- an end of a line, a tab, or printable ASCII but for the backslash
 abbrev pub stays : ℕ → Bool
-stays b = (b == 10) || ((b == 9) || (nat_le 32 b && nat_le b 126))
+stays b = (b == 10) || ((b == 9) || (nat_le 32 b && (nat_le b 126 && not (b == 92))))
 
 abbrev pub visible_byte : ℕ → List ℕ
 visible_byte b = if stays b then b ∷ [] else by_number b

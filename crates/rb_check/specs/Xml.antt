@@ -1,7 +1,8 @@
 -- Bytes as they are in XML: printable ASCII, and all other bytes by their numbers, so that a script's bytes are neither markup nor bytes that XML
 -- doesn't have. (W3C, Extensible Markup Language 1.0, 2.2 and 2.4.)
-use Rattle.std.specs.Prelude.{ℕ, ◌/◌, ◌%◌, ◌==◌, if◌then◌else◌, List, ◌++◌, Option, Some, None, codes, decimal}
+use Rattle.std.specs.Prelude.{ℕ, ◌==◌, if◌then◌else◌, List, ◌++◌, Option, Some, None, codes, decimal}
 use Rattle.std.specs.List.{flat_map}
+use Rattle.rb_report.specs.Names.{shown_name}
 use Rattle.rb_check.specs.Commands.{without_front}
 use Rattle.rb_check.specs.Visible.{visible_byte}
 use Rattle.rb_check.specs.declared.xml.XmlPart.{XmlPart}
@@ -27,14 +28,10 @@ abbrev pub line_end : Option ℕ → List ℕ
 line_end None = codes "\">"
 line_end (Some line) = codes "\" line=\"" ++ (decimal line ++ codes "\">")
 
--- seconds, with three digits after the point
-abbrev pub seconds_text : ℕ → List ℕ
-seconds_text ms = decimal (ms / 1000) ++ (codes "." ++ (decimal (ms / 100 % 10) ++ (decimal (ms / 10 % 10) ++ decimal (ms % 10))))
-
 abbrev pub piece_text : XmlPiece → List ℕ
 piece_text (pieces.Bytes bytes) = bytes.now
+piece_text (pieces.Name name) = shown_name name.now
 piece_text (pieces.Number n) = decimal n
-piece_text (pieces.Seconds ms) = seconds_text ms
 piece_text (pieces.Text bytes) = flat_map in_text bytes.now
 piece_text (pieces.Value bytes) = flat_map in_value bytes.now
 piece_text (pieces.File path) = flat_map in_value (without_front (codes "./") path.now)

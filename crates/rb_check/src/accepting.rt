@@ -1,144 +1,139 @@
 //! Accepting the outputs of one script.
 
-ghost use Rattle.std.specs.Prelude.{◌≡◌, ℕ, IfOk, List, Some, nat_lt};
+ghost use Rattle.std.specs.Prelude.{◌≡◌, ℕ, List, Some, nat_lt};
 ghost use Rattle.std.specs.List.{list_any};
 ghost use Rattle.rb_script.specs.Reads.{Reads};
 ghost use Rattle.rb_script_report.specs.Accepting.{accepted};
 ghost use Rattle.rb_files.specs.Places.{WasPut};
 ghost use Rattle.rb_check.specs.declared.remark.Remark.TheVariants as remarks;
-ghost use Rattle.rb_check.specs.AcceptTexts.{Accepts, TellsRefusal, WritesAccepted, echoes_text, ended_text, leaving_text, left_errors, left_in, left_shown, refusal_failure, refusal_says};
+ghost use Rattle.rb_check.specs.AcceptTexts.{Accepts, TellsRefusal, WritesAccepted, echoes_text, ended_text, leaving_text, left_in, left_shown, refusal_failure, refusal_says};
 ghost use Rattle.rb_check.specs.Results.{result_after};
-ghost use Rattle.rb_check.specs.Shown.{left_one, left_text, remark_text, says_cause};
-ghost use Rattle.rb_check.specs.ShownTexts.{Extends};
+ghost use Rattle.rb_check.specs.Shown.{Prints, left_one, left_text, remark_text, says_cause};
 ghost use Rattle.rb_check.specs.Subjects.{AreFindings, plain_of};
 
 use crate::checked_script::CheckedScript;
-use crate::error_stream::ErrorStream;
 use crate::notes::Note;
 use crate::remark::Remark;
+use crate::report::Report;
 use crate::report_sink::ReportSink;
 use crate::script_result::ScriptResult;
-use crate::shown_text::ShownText;
 use crate::system::System;
 use rb_files::PathError;
-use rb_report::Failure;
-use rb_script::Through;
+use rb_machine::Machine;
+use rb_report::check::Failure;
 use rb_script_report::{
     AcceptFault, AcceptFilter, AcceptOptions, Accepted, accept as accepted, is_picked, number_at,
-    write_left_errors,
+    put_left_errors,
 };
-use std::alloc::{AllocError, Global};
 use std::io;
 
-/// Writes the accepted outputs into the script's file, and reports those that aren't accepted.
-pub(crate) fn accept<S: System, E: ReportSink>(
+/// Writes those outputs into the script's file that are accepted, and says which are not.
+pub(crate) fn accept<M: Machine, S: System, W: ReportSink, E: ReportSink>(
     system: &S,
     wanted: AcceptOptions<'_>,
-    subject: &CheckedScript<'_>,
-    shown: &mut ShownText,
-    errors: &mut ErrorStream<E>,
+    subject: &CheckedScript<'_, M>,
+    report: &mut Report<W, E>,
 ) -> ScriptResult
     requires { AreFindings subject.now }
-    ensures said { (text : List ℕ) × Accepts (TellsRefusal E.takes_all E.held errors.old errors.new subject.now.path.now) wanted.entry (plain_of subject.now) result text × Extends shown.old shown.new text }
+    ensures said { (text : List ℕ) × Accepts (TellsRefusal E.takes_all E.held report.old report.new subject.now.path.now) report.old.state.form wanted.entry (plain_of subject.now) result text × Prints W.held report.old report.new text }
     ensures written { WritesAccepted (λ bytes. S.has_written system.now subject.now.path.now bytes × WasPut S.Place.contents S.Place.is_unchanged S.Place.is_settled bytes) wanted.entry (plain_of subject.now) result }
 {
-    let run = &subject.script.run;
-    let bytes = &subject.script.text.bytes;
-    match accepted(system.alloc(), &run.session, bytes, &run.layout, wanted) {
+    match accepted(
+        system.alloc(),
+        subject.session,
+        &subject.text.bytes,
+        subject.layout,
+        wanted,
+    ) {
         Ok(made) => {
-            leave(subject, wanted, &made.left, shown);
-            save(system, wanted, &made, subject, shown, errors)
+            leave(subject, wanted, &made.left, report);
+            keep(system, wanted, &made, subject, report)
         }
-        Err(fault) => fail(subject, fault, shown, errors),
+        Err(fault) => fail(subject, fault, report),
     }
 }
 
-// Reports that the outputs of these heads aren't accepted.
-fn leave(
-    subject: &CheckedScript<'_>,
+// Says of the outputs of these heads that they are not accepted.
+fn leave<M: Machine, W: ReportSink, E: ReportSink>(
+    subject: &CheckedScript<'_, M>,
     wanted: AcceptOptions<'_>,
     left: &[usize],
-    shown: &mut ShownText,
+    report: &mut Report<W, E>,
 )
     requires findings { AreFindings subject.now }
     requires left { left.now ≡ left_in wanted (plain_of subject.now) }
-    ensures { Extends shown.old shown.new (leaving_text wanted.entry (plain_of subject.now)) }
+    ensures { Prints W.held report.old report.new (leaving_text report.old.state.form wanted.entry (plain_of subject.now)) }
 {
-    leave_each(subject, wanted.picked, left, shown);
-    write_left(subject, wanted, shown);
-    write_echoes(subject, wanted.picked, left, shown);
+    if left.is_empty() {
+        return;
+    }
+    let path = subject.path.as_bytes();
+    leave_each(path, wanted.picked, left, report);
+    tell_left(subject, wanted, report);
+    tell_echoes(path, wanted.picked, left, report);
 }
 
-// Reports to programs, for each of these heads that is picked, that its output isn't accepted.
-fn leave_each(
-    subject: &CheckedScript<'_>,
+// Says to programs, of each of these heads that is picked, that its output is not accepted.
+fn leave_each<W: ReportSink, E: ReportSink>(
+    path: &[u8],
     picked: AcceptFilter<'_>,
     left: &[usize],
-    shown: &mut ShownText,
+    report: &mut Report<W, E>,
 )
-    ensures { Extends shown.old shown.new (left_text subject.now.form subject.now.path.now picked.entry left.now) }
+    ensures { Prints W.held report.old report.new (left_text report.old.state.form path.now picked.entry left.now) }
 {
     for i in 0..left.len() {
-        leave_one(subject, picked, number_at(left, i), shown);
+        leave_one(path, picked, number_at(left, i), report);
     }
 }
 
-// Reports to programs that an output isn't accepted, if its head is picked.
-fn leave_one(
-    subject: &CheckedScript<'_>,
+fn leave_one<W: ReportSink, E: ReportSink>(
+    path: &[u8],
     picked: AcceptFilter<'_>,
     line: usize,
-    shown: &mut ShownText,
+    report: &mut Report<W, E>,
 )
-    ensures { Extends shown.old shown.new (left_one subject.now.form subject.now.path.now picked.entry line) }
+    ensures { Prints W.held report.old report.new (left_one report.old.state.form path.now picked.entry line) }
 {
     if is_picked(picked, line) {
-        shown.remark(subject.form, subject.path.as_bytes(), Remark::Left(line));
+        report.remark(path, Remark::Left(line));
     }
 }
 
-// Reports to people which outputs aren't accepted.
-fn write_left(subject: &CheckedScript<'_>, wanted: AcceptOptions<'_>, shown: &mut ShownText)
-    requires { AreFindings subject.now }
-    ensures { Extends shown.old shown.new (left_shown wanted.entry (plain_of subject.now)) }
-{
-    match subject.form.format {
-        Some(_) => {}
-        None => shown.push_made(left_errors(shown.alloc, subject, wanted)),
-    }
-}
-
-fn left_errors(
-    alloc: Global,
-    subject: &CheckedScript<'_>,
+// Shows people the outputs that are not accepted.
+fn tell_left<M: Machine, W: ReportSink, E: ReportSink>(
+    subject: &CheckedScript<'_, M>,
     wanted: AcceptOptions<'_>,
-) -> Result<Vec<u8>, AllocError>
+    report: &mut Report<W, E>,
+)
     requires { AreFindings subject.now }
-    ensures { IfOk result (λ made. made.items ≡ left_errors wanted.entry (plain_of subject.now)) }
+    ensures { Prints W.held report.old report.new (left_shown report.old.state.form wanted.entry (plain_of subject.now)) }
 {
-    let mut sink = Through(Vec::new(alloc));
-    let run = &subject.script.run;
-    let path = subject.path.as_bytes();
-    match write_left_errors(&mut sink, &run.session, &run.layout, path, wanted) {
-        Ok(()) => Ok(sink.0),
-        Err(_) => Err(AllocError),
+    if report.is_for_programs() {
+        return;
     }
+    if !report.is_open() {
+        return;
+    }
+    let path = subject.path.as_bytes();
+    let sink = &mut report.output;
+    let written = put_left_errors(sink, subject.session, subject.layout, path, wanted);
+    report.wrote(written);
 }
 
-// Reports that nothing below the first new error is accepted, if an output differs there.
-fn write_echoes(
-    subject: &CheckedScript<'_>,
+// Says that nothing below the first new error is accepted, if an output differs there.
+fn tell_echoes<W: ReportSink, E: ReportSink>(
+    path: &[u8],
     picked: AcceptFilter<'_>,
     left: &[usize],
-    shown: &mut ShownText,
+    report: &mut Report<W, E>,
 )
-    ensures { Extends shown.old shown.new (echoes_text subject.now.form subject.now.path.now picked.entry left.now) }
+    ensures { Prints W.held report.old report.new (echoes_text report.old.state.form path.now picked.entry left.now) }
 {
     match picked {
         AcceptFilter::UpTo(line) => {
             if has_below(left, line) {
-                let remark = Remark::Echoes(line);
-                shown.remark(subject.form, subject.path.as_bytes(), remark);
+                report.remark(path, Remark::Echoes(line));
             }
         }
         AcceptFilter::All | AcceptFilter::Heads(_) => {}
@@ -152,65 +147,60 @@ fn has_below(heads: &[usize], line: usize) -> bool
     heads.iter().any(|head| line < *head)
 }
 
-// Replaces the script's file by the accepted text, unless nothing is accepted.
-fn save<S: System, E: ReportSink>(
+// Puts the new text in the file's place, unless nothing is accepted.
+fn keep<M: Machine, S: System, W: ReportSink, E: ReportSink>(
     system: &S,
     wanted: AcceptOptions<'_>,
     made: &Accepted,
-    subject: &CheckedScript<'_>,
-    shown: &mut ShownText,
-    errors: &mut ErrorStream<E>,
+    subject: &CheckedScript<'_, M>,
+    report: &mut Report<W, E>,
 ) -> ScriptResult
-    requires reads { Reads made.now.text.items (accepted wanted (plain_of subject.now).layout.text (plain_of subject.now).layout.heads.items (plain_of subject.now).script) }
+    requires reads { Reads made.now.text.items (accepted wanted subject.now.layout.now.text subject.now.layout.now.heads.items subject.now.session.now.script) }
     requires left { made.now.left.items ≡ left_in wanted (plain_of subject.now) }
     requires findings { AreFindings subject.now }
     ensures found { result ≡ result_after subject.now.ran made.now.left.items result.failure }
-    ensures shown { Extends shown.old shown.new (ended_text (plain_of subject.now) result) }
+    ensures shown { Prints W.held report.old report.new (ended_text report.old.state.form (plain_of subject.now) result) }
     ensures written { WritesAccepted (λ bytes. S.has_written system.now subject.now.path.now bytes × WasPut S.Place.contents S.Place.is_unchanged S.Place.is_settled bytes) wanted.entry (plain_of subject.now) result }
 {
     let ran = subject.ran;
     if made.left.len() == ran.left {
         return ran;
     }
-    let path = subject.path.as_bytes();
-    match system.write(subject, wanted, &made.text, errors) {
+    match system.write(subject, wanted, &made.text, report) {
         Ok(()) => {
             let found = ran.accepting(&made.left);
-            shown.remark(subject.form, path, Remark::Accepted(found.accepted));
+            report.remark(subject.path.as_bytes(), Remark::Accepted(found.accepted));
             found
         }
         Err(error) => {
-            errors.write_failure(path, error);
-            shown.remark(subject.form, path, Remark::Failed(error.failure));
+            report.fail(subject.path.as_bytes(), error);
             ran.failing(error.failure)
         }
     }
 }
 
 // Reports why nothing of the script is accepted.
-fn fail<E: ReportSink>(
-    subject: &CheckedScript<'_>,
+fn fail<M: Machine, W: ReportSink, E: ReportSink>(
+    subject: &CheckedScript<'_, M>,
     fault: AcceptFault,
-    shown: &mut ShownText,
-    errors: &mut ErrorStream<E>,
+    report: &mut Report<W, E>,
 ) -> ScriptResult
     ensures found { result ≡ record subject.now.ran { failure = Some (refusal_failure fault) } }
-    ensures shown { Extends shown.old shown.new (remark_text subject.now.form subject.now.path.now (remarks.Failed (refusal_failure fault))) }
-    ensures told { TellsRefusal E.takes_all E.held errors.old errors.new subject.now.path.now fault }
+    ensures shown { Prints W.held report.old report.new (remark_text report.old.state.form subject.now.path.now (remarks.Failed (refusal_failure fault))) }
+    ensures told { TellsRefusal E.takes_all E.held report.old report.new subject.now.path.now fault }
 {
     let path = subject.path.as_bytes();
     let error = error_of(fault);
-    errors.write_failure(path, error);
-    shown.remark(subject.form, path, Remark::Failed(error.failure));
+    report.fail(path, error);
     match fault {
-        AcceptFault::BadOutput(line) => errors.write(&Note::LongLine(path, line)),
+        AcceptFault::BadOutput(line) => report.errors.tell(&Note::LongLine(path, line)),
         AcceptFault::TooLong => {}
         AcceptFault::OutOfMemory => {}
     }
     subject.ran.failing(error.failure)
 }
 
-// The error of a script whose accepted outputs can't be written.
+// What is reported of a script that can't be written with what is accepted.
 fn error_of(fault: AcceptFault) -> PathError
     ensures failure { result.failure ≡ refusal_failure fault }
     ensures says { says_cause result ≡ refusal_says fault }

@@ -1,4 +1,4 @@
-//! What a reader's line or key means as an answer of a review.
+//! Answers to the questions of a review.
 
 ghost use Rattle.std.specs.Prelude.{◌≡◌, option_map};
 ghost use Rattle.rb_check.specs.Reviews.{answer_of, answer_to, heard_as, heard_by_key, heard_by_line, heard_by_read, heard_in, visible_key};
@@ -31,7 +31,7 @@ pub(crate) enum HeardAnswer {
     End,
 }
 
-/// What the bytes of a line mean. None are the end of input, and so is a read that failed.
+/// What a read of a line means. An empty line is the end of the input, and a read that failed ends it too.
 pub(crate) fn heard_by_line(line: Option<&str>) -> HeardAnswer
     ensures { result ≡ heard_by_line (option_map (λ line. line.now) line.entry) }
 {
@@ -41,14 +41,14 @@ pub(crate) fn heard_by_line(line: Option<&str>) -> HeardAnswer
     }
 }
 
-// What a line means that isn't empty.
+// What the line means.
 fn heard_in(line: &str) -> HeardAnswer
     ensures { result ≡ heard_in line.now }
 {
     heard_as(answer_to(line.trim().as_bytes()))
 }
 
-/// What a read of keys means. A failed read is the end of input, and so is an empty one.
+/// What a read of keys means. One that failed is the end, as nothing is.
 pub(crate) fn heard_by_read(keys: Option<&[u8]>, is_soon: bool) -> HeardAnswer
     ensures { result ≡ heard_by_read is_soon (option_map (λ keys. keys.now) keys.entry) }
 {
@@ -58,8 +58,8 @@ pub(crate) fn heard_by_read(keys: Option<&[u8]>, is_soon: bool) -> HeardAnswer
     }
 }
 
-// What keys mean that were read at once. Only a single key is an answer: several are an arrow key or a pasted text, and what soon follows them
-// belongs to them.
+// What the bytes of one read mean, if the terminal gives each key at once. Several that come together, as of an arrow key or a text that is
+// pasted, are no answer, nor is what comes soon after them.
 fn heard_by_key(keys: &[u8], is_soon: bool) -> HeardAnswer
     ensures { result ≡ heard_by_key is_soon keys.now }
 {
@@ -72,7 +72,7 @@ fn heard_by_key(keys: &[u8], is_soon: bool) -> HeardAnswer
     }
 }
 
-/// What a terminal shows of keys: a single one that is visible.
+/// What is shown of them: a key alone that is visible.
 pub(crate) fn visible_key(keys: &[u8]) -> &[u8]
     ensures { result.now ≡ visible_key keys.now }
 {
@@ -82,7 +82,7 @@ pub(crate) fn visible_key(keys: &[u8]) -> &[u8]
     }
 }
 
-// An answer, or something that is none.
+// An answer, or something else.
 fn heard_as(answer: Option<Answer>) -> HeardAnswer
     ensures { result ≡ heard_as answer }
 {
@@ -92,7 +92,7 @@ fn heard_as(answer: Option<Answer>) -> HeardAnswer
     }
 }
 
-// The answer that a word is.
+// What the word means.
 fn answer_to(word: &[u8]) -> Option<Answer>
     ensures { result ≡ answer_to word.now }
 {
@@ -102,7 +102,6 @@ fn answer_to(word: &[u8]) -> Option<Answer>
     }
 }
 
-// The answer that a letter is.
 fn answer_of(letter: u8) -> Option<Answer>
     ensures { result ≡ answer_of letter }
 {

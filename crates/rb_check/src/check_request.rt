@@ -2,7 +2,7 @@
 
 use crate::format::Format;
 use crate::target::Target;
-use rb_report::Colors;
+use rb_report::check::Colors;
 use rb_script_report::Detail;
 
 /// The options of a check.

@@ -3,23 +3,23 @@
 ghost use Rattle.std.specs.Prelude.{◌≡◌, ◌==◌, ◌<◌, ◌≤◌, ◌++◌, OnOk, IfOk, codes, length, slice_index};
 ghost use Rattle.rb_report.specs.Pieces.{noun};
 ghost use Rattle.std.specs.List.{flat_map};
-ghost use Rattle.rb_report.specs.declared.colors.Colors.TheVariants.{Off};
+ghost use Rattle.rb_report.specs.declared.check.colors.Colors.TheVariants.{Off};
 ghost use Rattle.rb_report.specs.Whys.{reasons_in, told_diff};
 ghost use Rattle.rb_script_report.specs.Checked.{head_of};
 ghost use Rattle.rb_check.specs.Commands.{command_with, difference_text, kept_of, last_end, legend_text, others_text, piece_text, rest_text, shortened};
 
 use crate::piece::CommandPiece;
 use crate::ran_directive::{RanDirective, head_of};
-use rb_report::{Colors, Table, write_explained_diff};
+use rb_report::check::{Colors, Table, put_explained_diff};
 use rb_script::Through;
-use rb_text::{Piece, push_pieces};
+use rb_text::{Piece, add_pieces};
 use std::alloc::{AllocError, Global};
 
 // How many bytes a diff may have in a command: GitHub shows the first lines of a message, and takes 64 KiB.
 pub(crate) const MAX_DIFF: usize = 4_096;
 
-/// Appends a workflow command: its properties file, line and title, and the pieces of its message.
-pub(crate) fn push_command<'a>(
+/// Adds a command with the file, the line and the title that it is shown with, and then the pieces of its message.
+pub(crate) fn add_command<'a>(
     text: &mut Vec<u8>,
     command: &'a [u8],
     path: &'a [u8],
@@ -29,7 +29,7 @@ pub(crate) fn push_command<'a>(
 ) -> Result<(), AllocError>
     ensures { OnOk result (text.new.items ≡ text.old.items ++ command_with command.now path.now line title.now (flat_map piece_text message.now)) }
 {
-    push_pieces(
+    add_pieces(
         text,
         &[
             CommandPiece::Bytes(b"::"),
@@ -42,40 +42,40 @@ pub(crate) fn push_command<'a>(
             CommandPiece::Bytes(b"::"),
         ],
     )?;
-    push_pieces(text, message)
+    add_pieces(text, message)
 }
 
-// The diff of a directive's output with its reasons, as a report shows it.
+// The differences, as a report shows them with their reasons.
 fn diff_of(alloc: Global, ran: RanDirective<'_>, table: &mut Table) -> Result<Vec<u8>, AllocError>
     ensures { IfOk result (λ made. made.items ≡ told_diff table.old.left Off (reasons_in ran.entry.why) ran.entry.block.now.expected ran.entry.output.now) }
 {
     let mut sink = Through(Vec::new(alloc));
     let expected = ran.block.expected();
-    match write_explained_diff(&mut sink, table, expected, ran.output, ran.why, Colors::Off) {
+    match put_explained_diff(&mut sink, table, expected, ran.output, ran.why, Colors::Off) {
         Ok(()) => Ok(sink.0),
         Err(_) => Err(AllocError),
     }
 }
 
-// What the signs of a diff mean, and how many other directives differ.
+// What the signs mean, and how many other directives differ.
 fn legend(alloc: Global, others: usize) -> Result<Vec<u8>, AllocError>
     ensures { IfOk result (λ made. made.items ≡ legend_text others) }
 {
     let mut text = Vec::new(alloc);
-    push_pieces(&mut text, &[Piece::Bytes(b"(- expected, + output")])?;
-    push_count_of_others(&mut text, others)?;
-    push_pieces(&mut text, &[Piece::Bytes(b")\n")])?;
+    add_pieces(&mut text, &[Piece::Bytes(b"(- expected, + output")])?;
+    add_others(&mut text, others)?;
+    add_pieces(&mut text, &[Piece::Bytes(b")\n")])?;
     Ok(text)
 }
 
 // Adds how many other directives differ, if any does.
-fn push_count_of_others(text: &mut Vec<u8>, others: usize) -> Result<(), AllocError>
+fn add_others(text: &mut Vec<u8>, others: usize) -> Result<(), AllocError>
     ensures { OnOk result (text.new.items ≡ text.old.items ++ others_text others) }
 {
     if others == 0 {
         return Ok(());
     }
-    push_pieces(
+    add_pieces(
         text,
         &[
             Piece::Bytes(b"; "),
@@ -102,7 +102,7 @@ fn ends_line(diff: &[u8], index: usize) -> bool
     diff[index] == b'\n'
 }
 
-// How many of the first `n` bytes are whole lines.
+// How many of the first n bytes are up to the last end of a line among them.
 fn last_end(diff: &[u8], n: usize) -> usize
     requires { n ≤ length diff.now }
     ensures same { result ≡ last_end diff.now n }
@@ -118,7 +118,7 @@ fn last_end(diff: &[u8], n: usize) -> usize
     0
 }
 
-// How many bytes of a diff are in its command: all of a short one, else whole lines.
+// How many bytes of a diff are in its command: all if there are few, or else those of whole lines.
 fn kept_of(diff: &[u8]) -> usize
     ensures same { result ≡ kept_of diff.now }
     ensures within { result ≤ length diff.now }
@@ -130,14 +130,14 @@ fn kept_of(diff: &[u8]) -> usize
     }
 }
 
-// Appends how many bytes are left out; nothing if none are.
-fn push_count_of_rest(text: &mut Vec<u8>, n: usize) -> Result<(), AllocError>
+// The note in the place of n bytes; nothing if n is 0.
+fn add_rest(text: &mut Vec<u8>, n: usize) -> Result<(), AllocError>
     ensures { OnOk result (text.new.items ≡ text.old.items ++ rest_text n) }
 {
     if n == 0 {
         return Ok(());
     }
-    push_pieces(
+    add_pieces(
         text,
         &[
             Piece::Bytes(b".. "),
@@ -153,13 +153,13 @@ fn shortened(alloc: Global, diff: &[u8]) -> Result<Vec<u8>, AllocError>
 {
     let kept = kept_of(diff);
     let mut text = Vec::from_slice(alloc, &diff[..kept])?;
-    push_count_of_rest(&mut text, diff.len() - kept)?;
+    add_rest(&mut text, diff.len() - kept)?;
     Ok(text)
 }
 
-/// Appends the command of a mismatch. Its title is the head; its message has the diff, the legend, and how many other directives of the script
-/// differ.
-pub(crate) fn push_difference(
+/// Adds a command that says what differs in a directive's output, what its signs mean, and how many other directives of its script differ: the
+/// head is its title.
+pub(crate) fn add_difference(
     alloc: Global,
     text: &mut Vec<u8>,
     ran: RanDirective<'_>,
@@ -177,7 +177,7 @@ pub(crate) fn push_difference(
         CommandPiece::Bytes(legend.as_slice()),
     ];
     let place = ran.place;
-    push_command(
+    add_command(
         text,
         b"error",
         place.path,

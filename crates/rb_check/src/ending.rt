@@ -1,4 +1,4 @@
-//! Whether the outputs of a script are accepted, reviewed, or left as they are.
+//! Whether the outputs of a script are accepted, asked about, or left.
 
 ghost use Rattle.std.specs.Prelude.{◌≡◌};
 ghost use Rattle.rb_check.specs.Endings.{ending_of};

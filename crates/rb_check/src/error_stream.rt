@@ -1,15 +1,15 @@
-//! Standard error: failures, and the progress line.
+//! The stream of errors: failures, and how far the work is.
 
 ghost use Rattle.std.specs.Prelude.{◌≡◌, ℕ, List, ◌++◌, false, is_some, IsOk, IsSome};
 ghost use Rattle.rb_script.specs.Writes.{Writes};
-ghost use Rattle.rb_check.specs.Shown.{Tells, cause_line, cleared, failure_lines, progress_text, says_cause, says_little};
+ghost use Rattle.rb_check.specs.Shown.{Told, cause_line, cleared, failure_lines, progress_text, says_cause, says_little};
 
 use crate::notes::Note;
 use crate::report_sink::ReportSink;
 use rb_files::PathError;
-use rb_report::Failure;
+use rb_report::check::Failure;
 use rb_script::WriteFault;
-use rb_text::{Piece, WrittenPiece, write_pieces};
+use rb_text::{Piece, WrittenPiece, put_pieces};
 use std::alloc::{AllocError, Global};
 use std::io;
 
@@ -26,7 +26,7 @@ pub(crate) struct ErrorStream<E: ReportSink> {
 }
 
 impl<E: ReportSink> ErrorStream<E> {
-    /// The stream has no progress line yet.
+    /// There is no progress line on the terminal yet.
     pub(crate) fn new(alloc: Global, sink: E) -> ErrorStream<E>
         ensures sink { result.sink ≡ sink }
         ensures shown { result.shows_progress ≡ false }
@@ -41,58 +41,57 @@ impl<E: ReportSink> ErrorStream<E> {
     /// Removes the progress line.
     pub(crate) fn clear(&mut self)
         ensures shown { self.new.shows_progress ≡ false }
-        ensures told { Tells E.takes_all E.held self.old self.new (cleared self.old.shows_progress) }
+        ensures told { Told (E.takes_all self.old.sink) (E.takes_all self.new.sink) (E.held self.old.sink) (E.held self.new.sink) (cleared self.old.shows_progress) }
         ensures kept { self.old.shows_progress ≡ false → self.new ≡ self.old }
     {
         if !self.shows_progress {
             return;
         }
-        let _ = self.sink.write_acting(CLEARED);
+        let _ = self.sink.put_acting(CLEARED);
         let _ = self.sink.flush();
         self.shows_progress = false;
     }
 
-    /// Writes a text in place of the progress line. If that fails, it can't be reported.
-    pub(crate) fn write<T: WrittenPiece>(&mut self, text: &T)
+    /// Writes the text in the place of the progress line. If that fails, it can't be reported.
+    pub(crate) fn tell<T: WrittenPiece>(&mut self, text: &T)
         ensures shown { self.new.shows_progress ≡ false }
-        ensures told { Tells E.takes_all E.held self.old self.new (cleared self.old.shows_progress ++ T.text text.now) }
+        ensures told { Told (E.takes_all self.old.sink) (E.takes_all self.new.sink) (E.held self.old.sink) (E.held self.new.sink) (cleared self.old.shows_progress ++ T.text text.now) }
         ensures flushed { E.takes_all self.old.sink → E.is_flushed self.new.sink }
     {
         self.clear();
-        let _ = text.write_to(&mut self.sink);
+        let _ = text.put(&mut self.sink);
         let _ = self.sink.flush();
     }
 
-    /// Writes why a path failed, and the system's words, if the failure alone says too little.
-    pub(crate) fn write_failure(&mut self, path: &[u8], error: PathError)
+    /// Writes why a path failed, and what the system says of it, if the failure alone says too little.
+    pub(crate) fn tell_failure(&mut self, path: &[u8], error: PathError)
         ensures shown { self.new.shows_progress ≡ false }
-        ensures told { (words : List ℕ) × Tells E.takes_all E.held self.old self.new (cleared self.old.shows_progress ++ failure_lines path.now error words) }
+        ensures told { (words : List ℕ) × Told (E.takes_all self.old.sink) (E.takes_all self.new.sink) (E.held self.old.sink) (E.held self.new.sink) (cleared self.old.shows_progress ++ failure_lines path.now error words) }
         ensures flushed { E.takes_all self.old.sink → E.is_flushed self.new.sink }
     {
         let failure = error.failure;
-        self.write(&Note::Failure(path, failure));
+        self.tell(&Note::Failure(path, failure));
         match said_cause(error) {
-            Some(cause) => self.write_cause(path, cause),
+            Some(cause) => self.tell_cause(path, cause),
             None => {}
         }
     }
 
-    // Writes the system's words about a failure.
-    fn write_cause(&mut self, path: &[u8], cause: io::Error)
+    fn tell_cause(&mut self, path: &[u8], cause: io::Error)
         ensures shown { self.new.shows_progress ≡ false }
-        ensures told { (words : List ℕ) × Tells E.takes_all E.held self.old self.new (cleared self.old.shows_progress ++ cause_line path.now words) }
+        ensures told { (words : List ℕ) × Told (E.takes_all self.old.sink) (E.takes_all self.new.sink) (E.held self.old.sink) (E.held self.new.sink) (cleared self.old.shows_progress ++ cause_line path.now words) }
         ensures flushed { E.takes_all self.old.sink → E.is_flushed self.new.sink }
     {
         let cause = cause.to_string(self.alloc);
-        self.write(&Note::Cause(path, words_of(&cause)));
+        self.tell(&Note::Cause(path, words_of(&cause)));
     }
 
-    /// Shows the progress line.
-    pub(crate) fn write_progress(&mut self, done: usize, all: usize)
-        ensures told { Tells E.takes_all E.held self.old self.new (progress_text done all) }
+    /// Shows how far the work is.
+    pub(crate) fn show_progress(&mut self, done: usize, all: usize)
+        ensures told { Told (E.takes_all self.old.sink) (E.takes_all self.new.sink) (E.held self.old.sink) (E.held self.new.sink) (progress_text done all) }
         ensures flushed { E.takes_all self.old.sink → E.is_flushed self.new.sink }
     {
-        let _ = write_progress_line(&mut self.sink, done, all);
+        let _ = put_progress(&mut self.sink, done, all);
         let _ = self.sink.flush();
         self.shows_progress = true;
     }
@@ -106,16 +105,12 @@ fn words_of(cause: &Result<String, AllocError>) -> &[u8] {
     }
 }
 
-fn write_progress_line<E: ReportSink>(
-    sink: &mut E,
-    done: usize,
-    all: usize,
-) -> Result<(), WriteFault>
+fn put_progress<E: ReportSink>(sink: &mut E, done: usize, all: usize) -> Result<(), WriteFault>
     ensures wrote { Writes result (E.held sink.old) (E.held sink.new) (progress_text done all) }
     ensures all { E.takes_all sink.old → IsOk result × E.takes_all sink.new }
 {
-    sink.write_acting(CLEARED)?;
-    write_pieces(
+    sink.put_acting(CLEARED)?;
+    put_pieces(
         sink,
         &[
             Piece::Number(done as u64),

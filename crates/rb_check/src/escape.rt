@@ -1,10 +1,10 @@
-//! Bytes in a workflow command.
+//! Bytes as they are in a workflow command.
 
 ghost use Rattle.std.specs.Prelude.{IsOk};
 ghost use Rattle.rb_script.specs.Writes.{Writes};
 ghost use Rattle.rb_check.specs.Escapes.{byte_text, in_message, in_property};
 
-use crate::replaced::{Replaced, write_replaced};
+use crate::replaced::{Replaced, put_replaced};
 use rb_script::{Sink, WriteFault};
 use rb_text::Escape;
 
@@ -20,15 +20,15 @@ pub(crate) enum CommandPart {
 impl Escape for CommandPart {
     ghost text = { byte_text };
 
-    fn write_byte<S: Sink>(&self, sink: &mut S, b: u8) -> Result<(), WriteFault> {
+    fn put<S: Sink>(&self, sink: &mut S, b: u8) -> Result<(), WriteFault> {
         match *self {
-            CommandPart::Message => write_message_byte(sink, b),
-            CommandPart::Property => write_property_byte(sink, b),
+            CommandPart::Message => put_message_byte(sink, b),
+            CommandPart::Property => put_property_byte(sink, b),
         }
     }
 }
 
-fn write_message_byte<S: Sink>(sink: &mut S, b: u8) -> Result<(), WriteFault>
+fn put_message_byte<S: Sink>(sink: &mut S, b: u8) -> Result<(), WriteFault>
     ensures wrote { Writes result (S.held sink.old) (S.held sink.new) (in_message b) }
     ensures all { S.takes_all sink.old → IsOk result × S.takes_all sink.new }
 {
@@ -37,10 +37,10 @@ fn write_message_byte<S: Sink>(sink: &mut S, b: u8) -> Result<(), WriteFault>
         Replaced(b'\r', b"%0D"),
         Replaced(b'\n', b"%0A"),
     ];
-    write_replaced(sink, &table, b, &[b])
+    put_replaced(sink, &table, b, &[b])
 }
 
-fn write_property_byte<S: Sink>(sink: &mut S, b: u8) -> Result<(), WriteFault>
+fn put_property_byte<S: Sink>(sink: &mut S, b: u8) -> Result<(), WriteFault>
     ensures wrote { Writes result (S.held sink.old) (S.held sink.new) (in_property b) }
     ensures all { S.takes_all sink.old → IsOk result × S.takes_all sink.new }
 {
@@ -51,5 +51,5 @@ fn write_property_byte<S: Sink>(sink: &mut S, b: u8) -> Result<(), WriteFault>
         Replaced(b'\r', b"%0D"),
         Replaced(b'\n', b"%0A"),
     ];
-    write_replaced(sink, &table, b, &[b])
+    put_replaced(sink, &table, b, &[b])
 }

@@ -1,4 +1,4 @@
-//! What programs get of a script that ran: JSON objects, or workflow commands.
+//! What programs get of a script that ran: JSON objects, workflow commands, or a suite of JUnit's.
 
 ghost use Rattle.std.specs.Prelude.{◌≡◌, ◌++◌, ◌+◌, ◌-◌, ◌<◌, IfOk, length};
 ghost use Rattle.rb_replay.specs.Report.{mismatches};
@@ -7,21 +7,22 @@ ghost use Rattle.rb_check.specs.Formats.{differing_command, directive_object, er
 ghost use Rattle.rb_check.specs.Subjects.{AreFindings, plain_of, plain_ran};
 
 use crate::checked_script::CheckedScript;
-use crate::command::{push_command, push_difference};
-use crate::format::LineFormat;
+use crate::command::{add_command, add_difference};
+use crate::format::Format;
+use crate::junit::script_suite;
 use crate::kind::severity;
-use crate::object::push_object;
+use crate::object::add_object;
 use crate::piece::CommandPiece;
 use crate::ran_directive::{RanDirective, directive_at, head_of};
 use rb_machine::Machine;
 use rb_replay::Session;
-use rb_report::Table;
+use rb_report::check::Table;
 use rb_script::Lines;
 use rb_script_report::{first_index, first_line, is_same, is_unexpected};
 use std::alloc::{AllocError, Global};
 
 // Adds a directive as an object if its output is a mismatch or a new error.
-fn push_directive(
+fn add_directive(
     alloc: Global,
     text: &mut Vec<u8>,
     lines: &Lines,
@@ -30,32 +31,31 @@ fn push_directive(
     ensures { IfOk result (λ _. text.new.items ≡ text.old.items ++ directive_object lines.now ran.entry.place.path.now (plain_ran ran.entry)) }
 {
     if !is_same(ran.block.expected(), ran.output) {
-        return push_object(alloc, text, ran, b"mismatch");
+        return add_object(alloc, text, ran, b"mismatch");
     }
     if is_unexpected(lines, ran.place.line, ran.output) {
-        return push_object(alloc, text, ran, b"error");
+        return add_object(alloc, text, ran, b"error");
     }
     Ok(())
 }
 
 // Adds the script's directives as objects.
-fn push_objects(
+fn add_objects<M: Machine>(
     alloc: Global,
     text: &mut Vec<u8>,
-    subject: &CheckedScript<'_>,
+    subject: &CheckedScript<'_, M>,
 ) -> Result<(), AllocError>
-    requires { AreFindings subject.now }
+    requires { length subject.now.layout.now.heads.items ≡ length subject.now.session.now.script.blocks }
     ensures { IfOk result (λ _. text.new.items ≡ text.old.items ++ objects_of (plain_of subject.now)) }
 {
-    let run = &subject.script.run;
-    for i in 0..run.session.len() {
-        push_directive(alloc, text, &run.layout.text, directive_at(subject, i))?;
+    for i in 0..subject.session.len() {
+        add_directive(alloc, text, &subject.layout.text, directive_at(subject, i))?;
     }
     Ok(())
 }
 
-// Appends the command of a new error that is the expected output.
-fn push_error(
+// Adds a directive that expects its output, a new error, as a command.
+fn add_error(
     alloc: Global,
     text: &mut Vec<u8>,
     is_strict: bool,
@@ -75,29 +75,23 @@ fn push_error(
         CommandPiece::Bytes(b"\n"),
     ];
     let severity = severity(is_strict);
-    push_command(text, severity, place.path, Some(place.line), head, &pieces)?;
+    add_command(text, severity, place.path, Some(place.line), head, &pieces)?;
     Ok(())
 }
 
-// Appends the commands of the new errors that are expected outputs.
-fn push_errors(
+// Adds the new errors that are expected, each as a command.
+fn add_errors<M: Machine>(
     alloc: Global,
     text: &mut Vec<u8>,
-    subject: &CheckedScript<'_>,
+    is_strict: bool,
+    subject: &CheckedScript<'_, M>,
 ) -> Result<(), AllocError>
-    requires { AreFindings subject.now }
-    ensures { IfOk result (λ _. text.new.items ≡ text.old.items ++ errors_of subject.now.form.is_strict (plain_of subject.now)) }
+    requires { length subject.now.layout.now.heads.items ≡ length subject.now.session.now.script.blocks }
+    ensures { IfOk result (λ _. text.new.items ≡ text.old.items ++ errors_of is_strict (plain_of subject.now)) }
 {
-    let run = &subject.script.run;
-    let is_strict = subject.form.is_strict;
-    for i in 0..run.session.len() {
-        push_error(
-            alloc,
-            text,
-            is_strict,
-            &run.layout.text,
-            directive_at(subject, i),
-        )?;
+    let lines = &subject.layout.text;
+    for i in 0..subject.session.len() {
+        add_error(alloc, text, is_strict, lines, directive_at(subject, i))?;
     }
     Ok(())
 }
@@ -109,8 +103,8 @@ fn others_of<M: Machine>(session: &Session<M>) -> usize
     session.mismatches().len().saturating_sub(1)
 }
 
-// Appends the command of a mismatch.
-fn push_differing(
+// Adds a directive that expects other lines, as a command.
+fn add_differing(
     alloc: Global,
     text: &mut Vec<u8>,
     ran: RanDirective<'_>,
@@ -119,36 +113,36 @@ fn push_differing(
     ensures { IfOk result (λ _. text.new.items ≡ text.old.items ++ differing_command ran.entry.place.path.now others (plain_ran ran.entry)) }
 {
     let mut table = Table::new(alloc)?;
-    push_difference(alloc, text, ran, others, &mut table)?;
+    add_difference(alloc, text, ran, others, &mut table)?;
     Ok(())
 }
 
 // Adds the mismatch at an index as a command.
-fn push_mismatch(
+fn add_mismatch<M: Machine>(
     alloc: Global,
     text: &mut Vec<u8>,
-    subject: &CheckedScript<'_>,
+    subject: &CheckedScript<'_, M>,
     index: usize,
 ) -> Result<(), AllocError>
-    requires findings { AreFindings subject.now }
-    requires within { index < length (plain_of subject.now).script.blocks }
+    requires count { length subject.now.layout.now.heads.items ≡ length subject.now.session.now.script.blocks }
+    requires within { index < length subject.now.session.now.script.blocks }
     ensures { IfOk result (λ _. text.new.items ≡ text.old.items ++ mismatch_command (plain_of subject.now) (index + 1)) }
 {
-    let others = others_of(&subject.script.run.session);
-    push_differing(alloc, text, directive_at(subject, index), others)
+    let others = others_of(subject.session);
+    add_differing(alloc, text, directive_at(subject, index), others)
 }
 
 // Adds the first mismatch as a command.
-fn push_first_mismatch(
+fn add_first<M: Machine>(
     alloc: Global,
     text: &mut Vec<u8>,
-    subject: &CheckedScript<'_>,
+    subject: &CheckedScript<'_, M>,
 ) -> Result<(), AllocError>
-    requires { AreFindings subject.now }
-    ensures { IfOk result (λ _. text.new.items ≡ text.old.items ++ of_first (mismatch_command (plain_of subject.now)) (mismatches (plain_of subject.now).script)) }
+    requires { length subject.now.layout.now.heads.items ≡ length subject.now.session.now.script.blocks }
+    ensures { IfOk result (λ _. text.new.items ≡ text.old.items ++ of_first (mismatch_command (plain_of subject.now)) (mismatches subject.now.session.now.script)) }
 {
-    match first_index(&subject.script.run.session) {
-        Some(index) => push_mismatch(alloc, text, subject, index),
+    match first_index(subject.session) {
+        Some(index) => add_mismatch(alloc, text, subject, index),
         None => Ok(()),
     }
 }
@@ -158,21 +152,23 @@ fn push_first_mismatch(
 /// # Errors
 ///
 /// If memory was refused.
-pub(crate) fn formatted(
+pub(crate) fn formatted<M: Machine>(
     alloc: Global,
-    format: LineFormat,
-    subject: &CheckedScript<'_>,
+    format: Format,
+    is_strict: bool,
+    subject: &CheckedScript<'_, M>,
 ) -> Result<Vec<u8>, AllocError>
     requires { AreFindings subject.now }
-    ensures { IfOk result (λ made. made.items ≡ script_text format (plain_of subject.now)) }
+    ensures { IfOk result (λ made. made.items ≡ script_text format is_strict (plain_of subject.now)) }
 {
     let mut text = Vec::new(alloc);
     match format {
-        LineFormat::Json => push_objects(alloc, &mut text, subject)?,
-        LineFormat::Github => {
-            push_first_mismatch(alloc, &mut text, subject)?;
-            push_errors(alloc, &mut text, subject)?;
+        Format::Json => add_objects(alloc, &mut text, subject)?,
+        Format::Github => {
+            add_first(alloc, &mut text, subject)?;
+            add_errors(alloc, &mut text, is_strict, subject)?;
         }
+        Format::Junit => return script_suite(alloc, subject, is_strict),
     }
     Ok(text)
 }

@@ -1,19 +1,21 @@
-//! The report of paths as JUnit's XML. A suite has what people are shown of its path. The suites are kept until the end, since their totals stand before them.
+//! The report of scripts as JUnit's XML. Each script is a suite with one case, so nothing has to be counted before it is written.
 
-ghost use Rattle.std.specs.Prelude.{◌≡◌, ◌++◌, ℕ, [], IfOk, List, OnOk};
-ghost use Rattle.rb_check.specs.Junit.{body_of, counts_more, counts_of, document_text, failure_after, failure_in, line_of, message_of, message_with, no_counts, no_suites, plain_suites, suite_front, suites_with, verdict_by, verdict_of};
-ghost use Rattle.rb_check.specs.Results.{checked_path};
-ghost use Rattle.rb_check.specs.ShownTexts.{Holds};
+ghost use Rattle.std.specs.Prelude.{◌≡◌, ◌++◌, [], IfOk, OnOk, length};
+ghost use Rattle.rb_report.specs.Notices.{warning_text};
+ghost use Rattle.rb_check.specs.Junit.{body_of, counts_of, details_of, message_with, notice_suite, placed, script_suite, suite_front, suite_text, verdict_by, verdict_of, warnings_text};
+ghost use Rattle.rb_check.specs.Subjects.{AreFindings, plain_of};
 
-use crate::script_result::PathResult;
-use crate::shown_text::ShownText;
+use crate::checked_script::CheckedScript;
+use crate::kind::{NoticeKind, ScriptNotice};
+use crate::script_result::{PathResult, ScriptResult};
 use crate::xml::XmlPiece;
-use rb_report::{
-    Failure, Status, Totals, failure_sentence, refusal_line, refusal_sentence, write_failure,
-};
-use rb_script::{Sink, Through, WriteFault};
-use rb_text::{WrittenPiece, push_pieces, write_pieces};
+use rb_machine::Machine;
+use rb_report::check::{Colors, Status, Totals, put_warning};
+use rb_script::Through;
+use rb_script_report::{Detail, View, Warning, put_checked};
+use rb_text::add_pieces;
 use std::alloc::{AllocError, Global};
+use std::mem;
 
 /// The verdict of a case.
 #[derive(Clone, Copy, Debug, PartialEq, Eq)]
@@ -21,51 +23,110 @@ pub(crate) enum CaseVerdict {
     Passes,
     /// The script has a mismatch, or, if the check is strict, a new error or a warning.
     Fails,
-    /// The path could not be checked, or its outputs not be accepted.
+    /// The script did not run.
     Errs,
-}
-
-/// How many cases there are, how many fail, and how many are errors.
-#[derive(Clone, Copy)]
-pub(crate) struct SuiteCounts {
-    pub(crate) tests: u64,
-    pub(crate) failures: u64,
-    pub(crate) errors: u64,
-}
-
-impl SuiteCounts {
-    /// There is none.
-    pub(crate) fn new() -> SuiteCounts
-        ensures { result ≡ no_counts }
-    {
-        SuiteCounts {
-            tests: 0,
-            failures: 0,
-            errors: 0,
-        }
-    }
-
-    /// Counts a case more.
-    pub(crate) fn add(&mut self, verdict: CaseVerdict)
-        ensures { self.new ≡ counts_more self.old verdict }
-    {
-        self.tests = self.tests.saturating_add(1);
-        match verdict {
-            CaseVerdict::Passes => {}
-            CaseVerdict::Fails => self.failures = self.failures.saturating_add(1),
-            CaseVerdict::Errs => self.errors = self.errors.saturating_add(1),
-        }
-    }
 }
 
 fn counts_of(verdict: CaseVerdict) -> &'static [u8]
     ensures { result.now ≡ counts_of verdict }
 {
     match verdict {
-        CaseVerdict::Passes => b"\" tests=\"1\" failures=\"0\" errors=\"0\" time=\"",
-        CaseVerdict::Fails => b"\" tests=\"1\" failures=\"1\" errors=\"0\" time=\"",
-        CaseVerdict::Errs => b"\" tests=\"1\" failures=\"0\" errors=\"1\" time=\"",
+        CaseVerdict::Passes => b"\" tests=\"1\" failures=\"0\" errors=\"0\">",
+        CaseVerdict::Fails => b"\" tests=\"1\" failures=\"1\" errors=\"0\">",
+        CaseVerdict::Errs => b"\" tests=\"1\" failures=\"0\" errors=\"1\">",
     }
+}
+
+// Adds the suite up to what is in its case.
+fn add_front(
+    text: &mut Vec<u8>,
+    path: &[u8],
+    line: Option<usize>,
+    verdict: CaseVerdict,
+) -> Result<(), AllocError>
+    ensures { OnOk result (text.new.items ≡ text.old.items ++ suite_front path.now line verdict) }
+{
+    add_pieces(
+        text,
+        &[
+            XmlPiece::Bytes(b"<testsuite name=\""),
+            XmlPiece::Value(path),
+            XmlPiece::Bytes(counts_of(verdict)),
+            XmlPiece::Bytes(b"<testcase classname=\"raftbench\" name=\""),
+            XmlPiece::Value(path),
+            XmlPiece::Bytes(b"\" file=\""),
+            XmlPiece::File(path),
+            XmlPiece::LineEnd(line),
+        ],
+    )
+}
+
+// Adds what is in its case.
+fn add_body<'a>(
+    text: &mut Vec<u8>,
+    verdict: CaseVerdict,
+    message: &'a [u8],
+    details: &'a [u8],
+) -> Result<(), AllocError>
+    ensures { OnOk result (text.new.items ≡ text.old.items ++ body_of verdict message.now details.now) }
+{
+    match verdict {
+        CaseVerdict::Passes => add_output(text, details),
+        CaseVerdict::Fails => add_pieces(
+            text,
+            &[
+                XmlPiece::Bytes(b"<failure type=\"mismatch\" message=\""),
+                XmlPiece::Value(message),
+                XmlPiece::Bytes(b"\">"),
+                XmlPiece::Text(details),
+                XmlPiece::Bytes(b"</failure>"),
+            ],
+        ),
+        CaseVerdict::Errs => add_pieces(
+            text,
+            &[
+                XmlPiece::Bytes(b"<error type=\"refused\" message=\""),
+                XmlPiece::Value(message),
+                XmlPiece::Bytes(b"\">"),
+                XmlPiece::Text(details),
+                XmlPiece::Bytes(b"</error>"),
+            ],
+        ),
+    }
+}
+
+// The element of a case that passes.
+fn add_output(text: &mut Vec<u8>, details: &[u8]) -> Result<(), AllocError>
+    ensures { OnOk result (text.new.items ≡ text.old.items ++ body_of CaseVerdict.Passes [] details.now) }
+{
+    if details.is_empty() {
+        return Ok(());
+    }
+    add_pieces(
+        text,
+        &[
+            XmlPiece::Bytes(b"<system-out>"),
+            XmlPiece::Text(details),
+            XmlPiece::Bytes(b"</system-out>"),
+        ],
+    )
+}
+
+// Adds the suite of a script.
+fn add_suite(
+    text: &mut Vec<u8>,
+    path: &[u8],
+    line: Option<usize>,
+    verdict: CaseVerdict,
+    message: &[u8],
+    details: &[u8],
+) -> Result<(), AllocError>
+    ensures { IfOk result (λ _. text.new.items ≡ text.old.items ++ suite_text path.now line verdict message.now details.now) }
+{
+    add_front(text, path, line, verdict)?;
+    add_body(text, verdict, message, details)?;
+    add_pieces(text, &[XmlPiece::Bytes(b"</testcase></testsuite>\n")])?;
+    Ok(())
 }
 
 fn verdict_by(status: Status) -> CaseVerdict
@@ -77,57 +138,17 @@ fn verdict_by(status: Status) -> CaseVerdict
     }
 }
 
-// Why the path failed: it could not be checked, or its outputs could not be accepted.
-fn failure_in(found: PathResult) -> Option<Failure>
-    ensures { result ≡ failure_in found }
+// The verdict of a script by itself.
+fn verdict_of(ran: ScriptResult, is_strict: bool) -> CaseVerdict
+    ensures { result ≡ verdict_of is_strict ran }
 {
-    match found {
-        PathResult::Ran(ran) => ran.failure,
-        PathResult::Refused(_) => None,
-        PathResult::Failed(failure) => Some(failure),
-    }
+    let mut totals = Totals::new();
+    PathResult::Ran(ran).count_in(&mut totals);
+    verdict_by(totals.status(is_strict))
 }
 
-/// The verdict of a path by itself.
-pub(crate) fn verdict_of(found: PathResult, is_strict: bool) -> CaseVerdict
-    ensures { result ≡ verdict_of is_strict found }
-{
-    match found {
-        PathResult::Ran(ran) if ran.failure.is_none() => {
-            let mut totals = Totals::new();
-            found.count_in(&mut totals);
-            verdict_by(totals.status(is_strict))
-        }
-        _ => CaseVerdict::Errs,
-    }
-}
-
-// The line that the case is about.
-fn line_of(found: PathResult) -> Option<usize>
-    ensures { result ≡ line_of found }
-{
-    match found {
-        PathResult::Ran(ran) => ran.first,
-        PathResult::Refused(refusal) => refusal_line(refusal),
-        PathResult::Failed(_) => None,
-    }
-}
-
-// What the case says in a line.
-fn message_of(alloc: Global, found: PathResult) -> Result<Vec<u8>, AllocError>
-    ensures { IfOk result (λ made. made.items ≡ message_of found) }
-{
-    if let Some(failure) = failure_in(found) {
-        return Vec::from_slice(alloc, failure_sentence(failure));
-    }
-    match found {
-        PathResult::Ran(ran) => message_with(alloc, ran.left, ran.errors, ran.warnings),
-        PathResult::Refused(refusal) => Vec::from_slice(alloc, refusal_sentence(refusal)),
-        PathResult::Failed(_) => Ok(Vec::new(alloc)),
-    }
-}
-
-fn message_with(
+// What a case that fails says in a line.
+fn message(
     alloc: Global,
     mismatches: usize,
     errors: usize,
@@ -136,7 +157,7 @@ fn message_with(
     ensures { IfOk result (λ made. made.items ≡ message_with mismatches errors warnings) }
 {
     let mut text = Vec::new(alloc);
-    push_pieces(
+    add_pieces(
         &mut text,
         &[
             XmlPiece::Bytes(b"mismatches: "),
@@ -150,184 +171,149 @@ fn message_with(
     Ok(text)
 }
 
-// What people are shown of a path, with its failure, which they get on the stream of errors.
-fn details_of(
-    alloc: Global,
-    path: &[u8],
-    shown: &[u8],
-    failure: Option<Failure>,
-) -> Result<Vec<u8>, AllocError>
-    ensures { IfOk result (λ made. made.items ≡ shown.now ++ failure_after path.now failure) }
+fn add_warning(text: &mut Vec<u8>, path: &[u8], warning: Warning) -> Result<(), AllocError>
+    ensures { OnOk result (text.new.items ≡ text.old.items ++ warning_text path.now warning.line warning.doubt) }
 {
-    let text = Vec::from_slice(alloc, shown)?;
-    let Some(failure) = failure else {
-        return Ok(text);
+    let nothing = Vec::new(*text.allocator());
+    let mut sink = Through(mem::replace(text, nothing));
+    let written = put_warning(&mut sink, path, warning.line, warning.doubt);
+    *text = sink.0;
+    match written {
+        Ok(()) => Ok(()),
+        Err(_) => Err(AllocError),
+    }
+}
+
+fn add_warnings(text: &mut Vec<u8>, path: &[u8], warnings: &[Warning]) -> Result<(), AllocError>
+    ensures { IfOk result (λ _. text.new.items ≡ text.old.items ++ warnings_text path.now warnings.now) }
+{
+    for warning in warnings {
+        add_warning(text, path, *warning)?;
+    }
+    Ok(())
+}
+
+// The script's report for people.
+fn details_of<M: Machine>(
+    alloc: Global,
+    subject: &CheckedScript<'_, M>,
+) -> Result<Vec<u8>, AllocError>
+    requires { AreFindings subject.now }
+    ensures { IfOk result (λ made. made.items ≡ details_of (plain_of subject.now)) }
+{
+    let path = subject.path.as_bytes();
+    let mut text = Vec::new(alloc);
+    add_warnings(&mut text, path, subject.warnings)?;
+    let view = View {
+        path,
+        colors: Colors::Off,
+        shown: Detail::Differing,
     };
     let mut sink = Through(text);
-    match write_failure(&mut sink, path, failure) {
+    let shown = put_checked(
+        alloc,
+        &mut sink,
+        subject.session,
+        subject.layout,
+        view,
+        subject.whys,
+    );
+    match shown {
         Ok(()) => Ok(sink.0),
         Err(_) => Err(AllocError),
     }
 }
 
-// Appends the beginning of a suite, up to its case's content.
-fn push_front(
-    text: &mut Vec<u8>,
-    path: &[u8],
+/// The suite of a script that ran: its case fails where the script alone would end the check with another status than 0.
+pub(crate) fn script_suite<M: Machine>(
+    alloc: Global,
+    subject: &CheckedScript<'_, M>,
+    is_strict: bool,
+) -> Result<Vec<u8>, AllocError>
+    requires { AreFindings subject.now }
+    ensures { IfOk result (λ made. made.items ≡ script_suite is_strict (plain_of subject.now)) }
+{
+    let ran = subject.ran;
+    let details = details_of(alloc, subject)?;
+    let message = message(alloc, ran.left, ran.errors, ran.warnings)?;
+    let mut text = Vec::new(alloc);
+    let path = subject.path.as_bytes();
+    let verdict = verdict_of(ran, is_strict);
+    add_suite(&mut text, path, ran.first, verdict, &message, &details)?;
+    Ok(text)
+}
+
+// The message after its path and its line.
+fn placed<'a>(
+    alloc: Global,
+    path: &'a [u8],
     line: Option<usize>,
-    milliseconds: u64,
-    verdict: CaseVerdict,
-) -> Result<(), AllocError>
-    ensures { OnOk result (text.new.items ≡ text.old.items ++ suite_front path.now line milliseconds verdict) }
+    message: &'a [u8],
+) -> Result<Vec<u8>, AllocError>
+    ensures { IfOk result (λ made. made.items ≡ placed path.now line message.now) }
 {
-    push_pieces(
-        text,
-        &[
-            XmlPiece::Bytes(b"<testsuite name=\""),
-            XmlPiece::Value(path),
-            XmlPiece::Bytes(counts_of(verdict)),
-            XmlPiece::Seconds(milliseconds),
-            XmlPiece::Bytes(b"\"><testcase classname=\"raftbench\" name=\""),
-            XmlPiece::Value(path),
-            XmlPiece::Bytes(b"\" file=\""),
-            XmlPiece::File(path),
-            XmlPiece::Bytes(b"\" time=\""),
-            XmlPiece::Seconds(milliseconds),
-            XmlPiece::LineEnd(line),
-        ],
-    )
+    let mut text = Vec::new(alloc);
+    match line {
+        Some(line) => add_pieces(
+            &mut text,
+            &[
+                XmlPiece::Name(path),
+                XmlPiece::Bytes(b":"),
+                XmlPiece::Number(line as u64),
+                XmlPiece::Bytes(b": "),
+                XmlPiece::Bytes(message),
+                XmlPiece::Bytes(b"\n"),
+            ],
+        )?,
+        None => add_pieces(
+            &mut text,
+            &[
+                XmlPiece::Name(path),
+                XmlPiece::Bytes(b": "),
+                XmlPiece::Bytes(message),
+                XmlPiece::Bytes(b"\n"),
+            ],
+        )?,
+    }
+    Ok(text)
 }
 
-// Appends the content of a suite's case.
-fn push_body<'a>(
+// Adds the suite of a notice, with this verdict.
+fn add_placed(
+    alloc: Global,
     text: &mut Vec<u8>,
     verdict: CaseVerdict,
-    message: &'a [u8],
-    details: &'a [u8],
+    notice: ScriptNotice<'_>,
 ) -> Result<(), AllocError>
-    ensures { OnOk result (text.new.items ≡ text.old.items ++ body_of verdict message.now details.now) }
+    ensures { IfOk result (λ _. text.new.items ≡ text.old.items ++ suite_text notice.entry.path.now notice.entry.line verdict notice.entry.message.now (placed notice.entry.path.now notice.entry.line notice.entry.message.now)) }
 {
-    match verdict {
-        CaseVerdict::Passes => push_output(text, details),
-        CaseVerdict::Fails => push_pieces(
-            text,
-            &[
-                XmlPiece::Bytes(b"<failure type=\"mismatch\" message=\""),
-                XmlPiece::Value(message),
-                XmlPiece::Bytes(b"\">"),
-                XmlPiece::Text(details),
-                XmlPiece::Bytes(b"</failure>"),
-            ],
-        ),
-        CaseVerdict::Errs => push_pieces(
-            text,
-            &[
-                XmlPiece::Bytes(b"<error type=\"refused\" message=\""),
-                XmlPiece::Value(message),
-                XmlPiece::Bytes(b"\">"),
-                XmlPiece::Text(details),
-                XmlPiece::Bytes(b"</error>"),
-            ],
-        ),
-    }
-}
-
-// Appends the output of a case that passes.
-fn push_output(text: &mut Vec<u8>, details: &[u8]) -> Result<(), AllocError>
-    ensures { OnOk result (text.new.items ≡ text.old.items ++ body_of CaseVerdict.Passes [] details.now) }
-{
-    if details.is_empty() {
-        return Ok(());
-    }
-    push_pieces(
+    let details = placed(alloc, notice.path, notice.line, notice.message)?;
+    add_suite(
         text,
-        &[
-            XmlPiece::Bytes(b"<system-out>"),
-            XmlPiece::Text(details),
-            XmlPiece::Bytes(b"</system-out>"),
-        ],
-    )
+        notice.path,
+        notice.line,
+        verdict,
+        notice.message,
+        &details,
+    )?;
+    Ok(())
 }
 
-/// The suites so far, and how many cases they have.
-#[derive(Drop)]
-pub(crate) struct Suites {
-    pub(crate) text: Vec<u8>,
-    pub(crate) counts: SuiteCounts,
-}
-
-impl Suites {
-    /// There is none yet.
-    pub(crate) fn new(alloc: Global) -> Suites
-        ensures { plain_suites result ≡ no_suites }
-    {
-        Suites {
-            text: Vec::new(alloc),
-            counts: SuiteCounts::new(),
+/// Adds the suite of a notice about a script. A warning is in the suite of the script's run.
+pub(crate) fn add_notice_suite(
+    alloc: Global,
+    text: &mut Vec<u8>,
+    notice: ScriptNotice<'_>,
+) -> Result<(), AllocError>
+    ensures { IfOk result (λ _. text.new.items ≡ text.old.items ++ notice_suite notice.entry.path.now notice.entry.line notice.entry.kind notice.entry.message.now) }
+{
+    match notice.kind {
+        NoticeKind::Refused | NoticeKind::Failed => {
+            add_placed(alloc, text, CaseVerdict::Errs, notice)
         }
-    }
-
-    /// Adds the suite of a path, of which people are shown this.
-    ///
-    /// # Errors
-    ///
-    /// If memory was refused.
-    pub(crate) fn push(
-        &mut self,
-        is_strict: bool,
-        path: &[u8],
-        found: PathResult,
-        shown: &ShownText,
-        milliseconds: u64,
-    ) -> Result<(), AllocError>
-        ensures { (text : List ℕ) → Holds shown.now text → IfOk result (λ _. plain_suites self.new ≡ suites_with is_strict (plain_suites self.old) (checked_path path.now found [] text milliseconds)) }
-    {
-        if !shown.is_whole {
-            return Err(AllocError);
+        NoticeKind::Left | NoticeKind::Accepted => {
+            add_placed(alloc, text, CaseVerdict::Passes, notice)
         }
-        let alloc = *self.text.allocator();
-        let verdict = verdict_of(found, is_strict);
-        let message = message_of(alloc, found)?;
-        let details = details_of(alloc, path, &shown.bytes, failure_in(found))?;
-        self.counts.add(verdict);
-        push_front(&mut self.text, path, line_of(found), milliseconds, verdict)?;
-        push_body(&mut self.text, verdict, &message, &details)?;
-        push_pieces(
-            &mut self.text,
-            &[XmlPiece::Bytes(b"</testcase></testsuite>\n")],
-        )
-    }
-}
-
-/// The suites with their totals, and the time in milliseconds.
-#[derive(Clone, Copy)]
-pub(crate) struct SuitesDocument<'a> {
-    pub(crate) suites: &'a Suites,
-    pub(crate) milliseconds: u64,
-}
-
-impl WrittenPiece for SuitesDocument<'_> {
-    ghost text = { λ document. document_text (plain_suites document.suites.now) document.milliseconds };
-
-    fn write_to<S: Sink>(&self, sink: &mut S) -> Result<(), WriteFault> {
-        let counts = self.suites.counts;
-        write_pieces(
-            sink,
-            &[
-                XmlPiece::Bytes(
-                    b"<?xml version=\"1.0\" encoding=\"UTF-8\"?>\n<testsuites name=\"raftbench\" tests=\"",
-                ),
-                XmlPiece::Number(counts.tests),
-                XmlPiece::Bytes(b"\" failures=\""),
-                XmlPiece::Number(counts.failures),
-                XmlPiece::Bytes(b"\" errors=\""),
-                XmlPiece::Number(counts.errors),
-                XmlPiece::Bytes(b"\" time=\""),
-                XmlPiece::Seconds(self.milliseconds),
-                XmlPiece::Bytes(b"\">\n"),
-                XmlPiece::Bytes(&self.suites.text),
-                XmlPiece::Bytes(b"</testsuites>\n"),
-            ],
-        )
+        NoticeKind::Warning => Ok(()),
     }
 }

@@ -1,14 +1,15 @@
 //! A check of scripts and folders of scripts: they are found, run one after another, shown and accepted.
 //!
-//! [`check`] does a [`CheckRequest`] over the files, the terminal and the clock of a runtime, and rb_bench's [`Runner`](rb_bench::Runner) runs the
-//! scripts. Of each path it makes a result and a text in memory. The results are counted and listed; the text goes to standard output, by one call. Failures and how
-//! far the work is go to a stream of errors. The texts of a report are in rb_report and rb_script_report, accepting in rb_script_report.
+//! [`check`] does a [`CheckRequest`] over the files, the terminal and the clock of a runtime, and rb_bench's [`Runner`](rb_bench::Runner) runs the scripts. What is found out about scripts goes to standard output, failures and how far the work
+//! goes to a stream of errors. The texts of a report are in rb_report and rb_script_report, accepting in rb_script_report.
 //!
-//! Programs read a [`Format`]: JSON, with an object on each line; workflow commands, which GitHub shows next to the lines of a file; or JUnit's
-//! XML, where a suite has what people are shown of its path. `Formats.script_text`, `Formats.notice_text` and `Junit.suite_of` are their texts.
+//! Programs read a [`Format`]: JSON, with an object on each line; workflow commands, which GitHub shows next to the lines of a file; or JUnit's XML.
+//! `formatted` gives the report of a script that ran, and `notice_of` everything else. Their texts are `Formats.script_text` and
+//! `Formats.notice_text`. A text is made in memory first, so a lack of memory never leaves half of one.
 #![tactic(auto)]
 
 mod accepting;
+mod alone;
 mod answer;
 mod check_request;
 mod checked_script;
@@ -46,7 +47,6 @@ mod review;
 mod running_check;
 mod script_result;
 mod showing;
-mod shown_text;
 mod system;
 mod target;
 mod totals_object;
@@ -63,4 +63,4 @@ pub use paths::check;
 pub use place::place_at;
 pub use progress::ProgressClock;
 pub use target::Target;
-pub use visible::{VisibleSink, shown_of_script};
+pub use visible::{Showing, VisibleSink, shown_of_script};

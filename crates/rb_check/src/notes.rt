@@ -1,13 +1,13 @@
-//! Lines to people that belong to no run: failures and their causes, the end of a review, the totals.
+//! Lines to people that are not about a run: failures and their causes, the end of a review, the totals.
 
 ghost use Rattle.std.specs.Prelude.{IsOk};
 ghost use Rattle.rb_script.specs.Writes.{Writes};
 ghost use Rattle.rb_check.specs.Reviews.{quit_text};
-ghost use Rattle.rb_check.specs.Shown.{cause_line, left_file_text, note_line, note_text, taken_name_text};
+ghost use Rattle.rb_check.specs.Shown.{cause_line, left_file_text, note_line, note_text};
 
-use rb_report::{Failure, ReportPiece, Totals, write_failure, write_totals};
+use rb_report::check::{Failure, ReportPiece, Totals, put_failure, put_totals};
 use rb_script::{Sink, WriteFault};
-use rb_text::{WrittenPiece, write_pieces};
+use rb_text::{WrittenPiece, put_pieces};
 
 /// A note of a report.
 #[derive(Clone, Copy)]
@@ -18,8 +18,6 @@ pub(crate) enum Note<'a> {
     Cause(&'a [u8], &'a [u8]),
     /// A new file could be neither used nor removed.
     LeftFile(&'a [u8]),
-    /// There was a file that has the name of a new one.
-    TakenName(&'a [u8]),
     /// The output on this line can't be expected.
     LongLine(&'a [u8], usize),
     /// A review ended after this many accepted outputs, before this many scripts.
@@ -31,25 +29,24 @@ pub(crate) enum Note<'a> {
 impl WrittenPiece for Note<'_> {
     ghost text = { note_line };
 
-    fn write_to<S: Sink>(&self, sink: &mut S) -> Result<(), WriteFault> {
+    fn put<S: Sink>(&self, sink: &mut S) -> Result<(), WriteFault> {
         match *self {
-            Note::Failure(path, failure) => write_failure(sink, path, failure),
-            Note::Cause(path, words) => write_cause(sink, path, words),
-            Note::LeftFile(path) => write_left_file(sink, path),
-            Note::TakenName(path) => write_taken_name(sink, path),
+            Note::Failure(path, failure) => put_failure(sink, path, failure),
+            Note::Cause(path, words) => put_cause(sink, path, words),
+            Note::LeftFile(path) => put_left_file(sink, path),
             Note::LongLine(path, line) => {
                 let note =
                     b"this output has a line of more than 65,536 bytes, which no script can expect";
-                write_note(sink, path, line, note)
+                put_note(sink, path, line, note)
             }
-            Note::Quit(accepted, left) => write_quit(sink, accepted, left),
-            Note::Totals(totals, milliseconds) => write_totals(sink, &totals, milliseconds),
+            Note::Quit(accepted, left) => put_quit(sink, accepted, left),
+            Note::Totals(totals, milliseconds) => put_totals(sink, &totals, milliseconds),
         }
     }
 }
 
 /// Writes a note about a line of a script.
-pub(crate) fn write_note<'a, S: Sink>(
+pub(crate) fn put_note<'a, S: Sink>(
     sink: &mut S,
     path: &'a [u8],
     line: usize,
@@ -58,7 +55,7 @@ pub(crate) fn write_note<'a, S: Sink>(
     ensures wrote { Writes result (S.held sink.old) (S.held sink.new) (note_text path.now line note.now) }
     ensures all { S.takes_all sink.old → IsOk result × S.takes_all sink.new }
 {
-    write_pieces(
+    put_pieces(
         sink,
         &[
             ReportPiece::Name(path),
@@ -71,11 +68,11 @@ pub(crate) fn write_note<'a, S: Sink>(
     )
 }
 
-fn write_cause<'a, S: Sink>(sink: &mut S, path: &'a [u8], words: &'a [u8]) -> Result<(), WriteFault>
+fn put_cause<'a, S: Sink>(sink: &mut S, path: &'a [u8], words: &'a [u8]) -> Result<(), WriteFault>
     ensures wrote { Writes result (S.held sink.old) (S.held sink.new) (cause_line path.now words.now) }
     ensures all { S.takes_all sink.old → IsOk result × S.takes_all sink.new }
 {
-    write_pieces(
+    put_pieces(
         sink,
         &[
             ReportPiece::Name(path),
@@ -86,12 +83,11 @@ fn write_cause<'a, S: Sink>(sink: &mut S, path: &'a [u8], words: &'a [u8]) -> Re
     )
 }
 
-// Writes that a new file could be neither used nor removed.
-fn write_left_file<S: Sink>(sink: &mut S, path: &[u8]) -> Result<(), WriteFault>
+fn put_left_file<S: Sink>(sink: &mut S, path: &[u8]) -> Result<(), WriteFault>
     ensures wrote { Writes result (S.held sink.old) (S.held sink.new) (left_file_text path.now) }
     ensures all { S.takes_all sink.old → IsOk result × S.takes_all sink.new }
 {
-    write_pieces(
+    put_pieces(
         sink,
         &[
             ReportPiece::Name(path),
@@ -100,27 +96,12 @@ fn write_left_file<S: Sink>(sink: &mut S, path: &[u8]) -> Result<(), WriteFault>
     )
 }
 
-fn write_taken_name<S: Sink>(sink: &mut S, path: &[u8]) -> Result<(), WriteFault>
-    ensures wrote { Writes result (S.held sink.old) (S.held sink.new) (taken_name_text path.now) }
-    ensures all { S.takes_all sink.old → IsOk result × S.takes_all sink.new }
-{
-    write_pieces(
-        sink,
-        &[
-            ReportPiece::Name(path),
-            ReportPiece::Bytes(
-                b": the new text of a script, which a call that was killed left, or one that runs is writing; remove it if none runs\n",
-            ),
-        ],
-    )
-}
-
-// Writes that a review ended, and how many scripts weren't reviewed.
-fn write_quit<S: Sink>(sink: &mut S, accepted: u64, left: usize) -> Result<(), WriteFault>
+// Writes what is said where a review ends before all scripts were looked at.
+fn put_quit<S: Sink>(sink: &mut S, accepted: u64, left: usize) -> Result<(), WriteFault>
     ensures wrote { Writes result (S.held sink.old) (S.held sink.new) (quit_text accepted left) }
     ensures all { S.takes_all sink.old → IsOk result × S.takes_all sink.new }
 {
-    write_pieces(
+    put_pieces(
         sink,
         &[
             ReportPiece::Bytes(b"the review ends here; accepted so far: "),

@@ -4,14 +4,15 @@ ghost use Rattle.std.specs.Prelude.{◌≡◌, ◌++◌, OnOk, IfOk};
 ghost use Rattle.rb_check.specs.Formats.{notice_text};
 ghost use Rattle.rb_check.specs.Objects.{notice_object};
 
-use crate::command::push_command;
-use crate::format::LineFormat;
+use crate::command::add_command;
+use crate::format::Format;
+use crate::junit::add_notice_suite;
 use crate::kind::ScriptNotice;
 use crate::piece::CommandPiece;
-use rb_text::{Json, Piece, push_pieces};
+use rb_text::{Json, Piece, add_pieces};
 use std::alloc::{AllocError, Global};
 
-fn push_object<'a>(
+fn add_object<'a>(
     text: &mut Vec<u8>,
     path: &'a [u8],
     line: Option<usize>,
@@ -21,7 +22,7 @@ fn push_object<'a>(
     ensures { OnOk result (text.new.items ≡ text.old.items ++ notice_object path.now line status.now message.now) }
 {
     match line {
-        Some(line) => push_pieces(
+        Some(line) => add_pieces(
             text,
             &[
                 Piece::Bytes(b"{\"script\":\""),
@@ -35,7 +36,7 @@ fn push_object<'a>(
                 Piece::Bytes(b"\"}\n"),
             ],
         ),
-        None => push_pieces(
+        None => add_pieces(
             text,
             &[
                 Piece::Bytes(b"{\"script\":\""),
@@ -51,9 +52,10 @@ fn push_object<'a>(
     }
 }
 
-fn push_notice(
+fn add_notice(
+    alloc: Global,
     text: &mut Vec<u8>,
-    format: LineFormat,
+    format: Format,
     is_strict: bool,
     notice: ScriptNotice<'_>,
 ) -> Result<(), AllocError>
@@ -61,19 +63,19 @@ fn push_notice(
 {
     let kind = notice.kind;
     match format {
-        LineFormat::Json => push_object(
+        Format::Json => add_object(
             text,
             notice.path,
             notice.line,
             kind.status(),
             notice.message,
         ),
-        LineFormat::Github => {
+        Format::Github => {
             let pieces = [
                 CommandPiece::Message(notice.message),
                 CommandPiece::Bytes(b"\n"),
             ];
-            push_command(
+            add_command(
                 text,
                 kind.command(is_strict),
                 notice.path,
@@ -82,6 +84,7 @@ fn push_notice(
                 &pieces,
             )
         }
+        Format::Junit => add_notice_suite(alloc, text, notice),
     }
 }
 
@@ -92,13 +95,13 @@ fn push_notice(
 /// If memory was refused.
 pub(crate) fn notice_of(
     alloc: Global,
-    format: LineFormat,
+    format: Format,
     is_strict: bool,
     notice: ScriptNotice<'_>,
 ) -> Result<Vec<u8>, AllocError>
     ensures { IfOk result (λ made. made.items ≡ notice_text format is_strict notice.entry.path.now notice.entry.line notice.entry.kind notice.entry.message.now) }
 {
     let mut text = Vec::new(alloc);
-    push_notice(&mut text, format, is_strict, notice)?;
+    add_notice(alloc, &mut text, format, is_strict, notice)?;
     Ok(text)
 }

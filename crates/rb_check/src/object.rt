@@ -7,9 +7,9 @@ ghost use Rattle.rb_check.specs.Objects.{lines_members, object_end, object_front
 ghost use Rattle.rb_check.specs.Subjects.{plain_ran};
 
 use crate::ran_directive::{RanDirective, head_of};
-use rb_report::{FileLine, Why};
+use rb_report::check::{FileLine, Why};
 use rb_script::Lines;
-use rb_text::{Json, Piece, push_pieces};
+use rb_text::{Json, Piece, add_pieces};
 use std::alloc::{AllocError, Global};
 
 // The text before the line at an index.
@@ -19,11 +19,10 @@ fn separator(index: usize) -> &'static [u8]
     if index == 0 { b"" } else { b"," }
 }
 
-// Appends a line between quotes, with a comma before it unless it is the first.
-fn push_string(text: &mut Vec<u8>, index: usize, line: &[u8]) -> Result<(), AllocError>
+fn add_string(text: &mut Vec<u8>, index: usize, line: &[u8]) -> Result<(), AllocError>
     ensures { OnOk result (text.new.items ≡ text.old.items ++ (before_value index ++ quoted line.now)) }
 {
-    push_pieces(
+    add_pieces(
         text,
         &[
             Piece::Bytes(separator(index)),
@@ -35,17 +34,16 @@ fn push_string(text: &mut Vec<u8>, index: usize, line: &[u8]) -> Result<(), Allo
 }
 
 // Adds the lines, each between quotes.
-fn push_strings(text: &mut Vec<u8>, lines: &Lines) -> Result<(), AllocError>
+fn add_strings(text: &mut Vec<u8>, lines: &Lines) -> Result<(), AllocError>
     ensures { OnOk result (text.new.items ≡ text.old.items ++ strings_from 0 lines.now) }
 {
     for i in 0..lines.len() {
-        push_string(text, i, lines.line(i))?;
+        add_string(text, i, lines.line(i))?;
     }
     Ok(())
 }
 
-// Appends the members of an object about the directive: its file, line, head and status.
-fn push_front<'a>(
+fn add_front<'a>(
     text: &mut Vec<u8>,
     place: FileLine<'a>,
     head: &'a [u8],
@@ -53,7 +51,7 @@ fn push_front<'a>(
 ) -> Result<(), AllocError>
     ensures { OnOk result (text.new.items ≡ text.old.items ++ object_front place.entry.path.now place.entry.line head.now status.now) }
 {
-    push_pieces(
+    add_pieces(
         text,
         &[
             Piece::Bytes(b"{\"script\":\""),
@@ -70,7 +68,7 @@ fn push_front<'a>(
 }
 
 /// Adds a directive with its expected lines, its output and the reasons of that, in a line.
-pub(crate) fn push_object(
+pub(crate) fn add_object(
     alloc: Global,
     text: &mut Vec<u8>,
     ran: RanDirective<'_>,
@@ -80,7 +78,7 @@ pub(crate) fn push_object(
 {
     let head = head_of(alloc, ran.block)?;
     let expected = ran.block.expected();
-    push_lines(
+    add_lines(
         text,
         ran.place,
         head.as_slice(),
@@ -88,12 +86,12 @@ pub(crate) fn push_object(
         expected,
         ran.output,
     )?;
-    push_end(text, ran.why)?;
+    add_end(text, ran.why)?;
     Ok(())
 }
 
-// Appends the object's members up to the output.
-fn push_lines(
+// Adds the directive's members up to its output.
+fn add_lines(
     text: &mut Vec<u8>,
     place: FileLine<'_>,
     head: &[u8],
@@ -103,32 +101,31 @@ fn push_lines(
 ) -> Result<(), AllocError>
     ensures { IfOk result (λ _. text.new.items ≡ text.old.items ++ lines_members place.entry.path.now place.entry.line head.now status.now expected.now output.now) }
 {
-    push_front(text, place, head, status)?;
-    push_strings(text, expected)?;
-    push_pieces(text, &[Piece::Bytes(b"],\"output\":[")])?;
-    push_strings(text, output)?;
+    add_front(text, place, head, status)?;
+    add_strings(text, expected)?;
+    add_pieces(text, &[Piece::Bytes(b"],\"output\":[")])?;
+    add_strings(text, output)?;
     Ok(())
 }
 
 // Adds the reasons, a text for each line, if there are any, and the end of the object.
-fn push_end(text: &mut Vec<u8>, why: Why<'_>) -> Result<(), AllocError>
+fn add_end(text: &mut Vec<u8>, why: Why<'_>) -> Result<(), AllocError>
     ensures { IfOk result (λ _. text.new.items ≡ text.old.items ++ object_end (reasons_in why.entry)) }
 {
     if let Why::Given(reasons) = why {
-        push_reasons(text, reasons)?;
+        add_reasons(text, reasons)?;
     }
-    push_pieces(text, &[Piece::Bytes(b"]}\n")])?;
+    add_pieces(text, &[Piece::Bytes(b"]}\n")])?;
     Ok(())
 }
 
-// Appends the reasons, one for each line of the output.
-fn push_reasons(text: &mut Vec<u8>, reasons: &Lines) -> Result<(), AllocError>
+fn add_reasons(text: &mut Vec<u8>, reasons: &Lines) -> Result<(), AllocError>
     ensures { IfOk result (λ _. text.new.items ≡ text.old.items ++ reasons_member reasons.now) }
 {
     if reasons.is_empty() {
         return Ok(());
     }
-    push_pieces(text, &[Piece::Bytes(b"],\"reasons\":[")])?;
-    push_strings(text, reasons)?;
+    add_pieces(text, &[Piece::Bytes(b"],\"reasons\":[")])?;
+    add_strings(text, reasons)?;
     Ok(())
 }

@@ -1,40 +1,36 @@
 //! `raftbench check`: scripts, and folders of scripts.
 
-ghost use Rattle.std.specs.Prelude.{◌≡◌, ◌≢◌, ◌<◌, ◌≤◌, ◌∷◌, ◌++◌, ℕ, false, [], List, IfErr, IfOk, IsTrue, map, true};
-ghost use Rattle.std.specs.Io.KnownBytes.{Keeps};
+ghost use Rattle.std.specs.Prelude.{◌≡◌, ◌≢◌, ◌<◌, ◌≤◌, ℕ, false, List, IfErr, IfOk, IsTrue, map};
 ghost use Rattle.std.specs.IoError.{error_kind};
-ghost use Rattle.rb_check.specs.declared.remark.Remark.TheVariants as remarks;
+ghost use Rattle.rb_report.specs.Counts.{together};
+ghost use Rattle.rb_check.specs.declared.script_result.PathResult.{PathResult};
 ghost use Rattle.rb_check.specs.declared.visible.Showing.{Showing};
-ghost use Rattle.rb_check.specs.Lost.{failed_path, lost_path, lost_results, whole_failure};
-ghost use Rattle.rb_check.specs.Reported.{AreCounted, AreReported, IsChecked, IsCheckStatus, IsReport, Reports};
+ghost use Rattle.rb_check.specs.Lost.{lost_path, lost_results, lost_text, path_text, paths_text, whole_failure, whole_text};
+ghost use Rattle.rb_check.specs.Reported.{AreChecked, IsChecked, IsCheckStatus, IsReport, Reports};
+ghost use Rattle.rb_check.specs.Results.{counts_of, counts_with, listed_of};
 ghost use Rattle.rb_check.specs.Reviews.{review_end};
-ghost use Rattle.rb_check.specs.Shown.{GoesOut, Prints, Tells, cleared, failure_lines, remark_text, shown_in, started};
-ghost use Rattle.rb_check.specs.ShownTexts.{Holds};
+ghost use Rattle.rb_check.specs.Shown.{GoesOut, Lists, Prints, last_text, lists, shown_in, started};
 
 use crate::check_request::CheckRequest;
-use crate::checking::{check_script, count_questions};
+use crate::checking::check_script;
 use crate::error_stream::ErrorStream;
 use crate::notes::Note;
 use crate::person::{Person, TerminalPerson};
 use crate::progress::ProgressClock;
-use crate::remark::Remark;
-use crate::report::Report;
 use crate::report_sink::{ReportSink, stream_over};
-use crate::report_state::ReportForm;
 use crate::review::{Review, Reviewer};
-use crate::running_check::{PathReport, RunningCheck};
-use crate::script_result::PathResult;
-use crate::shown_text::ShownText;
+use crate::running_check::RunningCheck;
 use crate::system::{RuntimeSystem, System};
 use rb_bench::{RunProgress, Runner};
 use rb_files::{FailedPath, Found, PathError, find};
-use rb_report::{Failure, Status};
+use rb_report::check::{Failure, Status};
 use rb_script::Through;
+use rb_script_report::Detail;
 use rb_text::FailFast;
 use std::io;
 use std::io::{ErrorKind, Write};
 use std::rt::Files;
-use std::time::{Clock, Duration};
+use std::time::Clock;
 
 /// Checks the scripts of the paths, and gives the program's status.
 ///
@@ -72,14 +68,16 @@ fn report_on<T: RunProgress, R: Files + Input + Clock + AllocGlobal, W: ReportSi
     let mut progress = ProgressClock::from_now(rt, asked.wants_progress);
     let mut check = RunningCheck::new(rt.alloc(), output, errors, asked);
     let found = find(rt, asked.targets, asked.filters);
-    write_lost(&found, &mut check);
+    check.report.begin();
+    tell_lost(&found, &mut check);
     let scripts = found.scripts.as_slice();
     check_each(rt, runner, asked, scripts, &mut progress, &mut check);
-    check.end(asked, scripts.len(), milliseconds(progress.elapsed(rt)));
+    let milliseconds = milliseconds(&progress, rt);
+    end(asked, scripts.len(), milliseconds, &mut check);
     check
 }
 
-// Checks the scripts one after another, until a review ends. If a review asks about them, the questions are counted before.
+// Checks the scripts one after another, until a review ends.
 fn check_each<T: RunProgress, R: Files + Input + Clock + AllocGlobal, W: ReportSink, E: ReportSink>(
     rt: &R,
     runner: &mut Runner<'_, T>,
@@ -88,49 +86,22 @@ fn check_each<T: RunProgress, R: Files + Input + Clock + AllocGlobal, W: ReportS
     progress: &mut ProgressClock,
     check: &mut RunningCheck<W, E>,
 )
-    ensures { AreReported W.held asked.now scripts.now check.old check.new }
+    ensures { Reports W.held check.old check.new (AreChecked asked.now check.old.report.state.form scripts.now check.new.results.counts) }
 {
-    let system = RuntimeSystem::new(rt);
-    let form = check.report.state.form;
-    let count = count_all(&system, runner, asked, form, scripts);
+    let system = RuntimeSystem(rt);
     let person = TerminalPerson::new(rt, asked.gives_keys);
-    let mut reviewer = Reviewer::new(rt.alloc(), person, count);
+    let mut reviewer = Reviewer::new(rt.alloc(), person);
     let mut done = 0;
-    'reports: while goes_on(reviewer.point.review, done, scripts.len()) {
-        write_progress(rt, progress, done, scripts.len(), &mut check.report.errors);
-        let begun = progress.elapsed(rt);
+    'reports: while goes_on(reviewer.review, done, scripts.len()) {
+        tell_progress(rt, progress, done, scripts.len(), &mut check.report.errors);
         let path = scripts[done].as_str();
-        let report = &mut check.report;
-        let checked = check_one(&system, runner, asked, path, &mut reviewer, report);
-        let took = progress.elapsed(rt).saturating_sub(begun);
-        check.add(path.as_bytes(), checked, milliseconds(took));
+        check_one(&system, runner, asked, path, &mut reviewer, check);
         done += 1;
     }
-    end_review(reviewer.point.review, scripts.len() - done, check);
+    end_review(reviewer.review, scripts.len() - done, check);
 }
 
-// How many questions a review asks about the scripts; none, if there is no review.
-fn count_all<T: RunProgress, S: System>(
-    system: &S,
-    runner: &mut Runner<'_, T>,
-    asked: &CheckRequest<'_>,
-    form: ReportForm,
-    scripts: &[String],
-) -> usize
-    ensures { asked.now.reviews ≡ true → AreCounted (S.has_read system.now) (S.tells_one system.now) asked.now form 0 scripts.now result }
-{
-    if !asked.reviews {
-        return 0;
-    }
-    let mut count = 0usize;
-    for i in 0..scripts.len() {
-        let one = count_questions(system, runner, asked, form, scripts[i].as_str());
-        count = count.saturating_add(one);
-    }
-    count
-}
-
-// Whether another script is to be checked: one is left, and no review was ended.
+// Whether a script is still to be checked, unless a review is over.
 fn goes_on(review: Review, done: usize, all: usize) -> bool
     ensures within { IsTrue result → done < all }
     ensures ongoing { IsTrue result → review ≢ Review.Over }
@@ -143,7 +114,7 @@ fn goes_on(review: Review, done: usize, all: usize) -> bool
 }
 
 // Shows how far the work is, if it is time to.
-fn write_progress<C: Clock, E: ReportSink>(
+fn tell_progress<C: Clock, E: ReportSink>(
     clock: &C,
     progress: &mut ProgressClock,
     done: usize,
@@ -151,7 +122,7 @@ fn write_progress<C: Clock, E: ReportSink>(
     errors: &mut ErrorStream<E>,
 ) {
     if progress.is_due(clock) {
-        errors.write_progress(done, all);
+        errors.show_progress(done, all);
     }
 }
 
@@ -166,7 +137,7 @@ fn end_review<W: ReportSink, E: ReportSink>(
 {
     if review == Review::Over {
         let note = Note::Quit(check.results.counts.accepted, left);
-        check.report.write(&note);
+        check.report.show(&note);
     }
 }
 
@@ -177,51 +148,56 @@ fn check_one<T: RunProgress, S: System, P: Person, W: ReportSink, E: ReportSink>
     asked: &CheckRequest<'_>,
     path: &str,
     reviewer: &mut Reviewer<P>,
-    report: &mut Report<W, E>,
-) -> PathReport
-    ensures checked { (asking shown : List ℕ)
-        × IsChecked (S.has_read system.now) (S.tells_one system.now) asked.now (P.is_known reviewer.old.person) (P.left reviewer.old.person) report.old.state.form path.now reviewer.old.point reviewer.new.point result.found asking shown
-        × Prints W.held report.old report.new asking × Holds result.shown shown }
-    ensures unasked { asked.now.reviews ≡ false → reviewer.new.point ≡ reviewer.old.point }
+    check: &mut RunningCheck<W, E>,
+)
+    ensures checked { (found : PathResult) × (text : List ℕ)
+        × IsChecked (S.has_read system.now) (S.tells_one system.now) asked.now (P.is_known reviewer.old.person) (P.left reviewer.old.person) check.old.report.state.form path.now reviewer.old.review reviewer.new.review found text
+        × (check.new.results.counts ≡ counts_with check.old.results.counts found)
+        × Lists check.new.report.state check.old.results.differing.items check.new.results.differing.items (listed_of path.now found)
+        × Prints W.held check.old.report check.new.report text }
+    ensures unasked { asked.now.reviews ≡ false → reviewer.new.review ≡ reviewer.old.review }
 {
-    match check_script(system, runner, asked, path, reviewer, report) {
-        Ok(checked) => checked,
-        Err(error) => failed(path.as_bytes(), error, report),
+    match check_script(system, runner, asked, path, reviewer, &mut check.report) {
+        Ok(found) => check.add(path, found),
+        Err(error) => check.fail(path.as_bytes(), error),
     }
 }
 
-// Reports why a path failed on the stream of errors. Programs get a notice too.
-fn failed<W: ReportSink, E: ReportSink>(
-    path: &[u8],
-    error: PathError,
-    report: &mut Report<W, E>,
-) -> PathReport
-    ensures found { result.found ≡ PathResult.Failed error.failure }
-    ensures shown { Holds result.shown (remark_text report.old.state.form path.now (remarks.Failed error.failure)) }
-    ensures told { (words : List ℕ) × Tells E.takes_all E.held report.old.errors report.new.errors (cleared report.old.errors.shows_progress ++ failure_lines path.now error words) }
-    ensures progress { report.new.errors.shows_progress ≡ false }
-    // If something of the path acts, a workflow command goes out by numbers.
-    ensures heeded { report.new.showing ≡ shown_in report.old.state.form.format path.now Showing.AsIs }
-    ensures state { report.new.state ≡ report.old.state }
-    ensures held { Keeps (W.held report.old.output) (W.held report.new.output) }
+// Ends the report of n scripts, if there is something to end.
+fn end<W: ReportSink, E: ReportSink>(
+    asked: &CheckRequest<'_>,
+    n: usize,
+    milliseconds: u64,
+    check: &mut RunningCheck<W, E>,
+)
+    ensures results { check.new.results ≡ check.old.results }
+    ensures shown { Prints W.held check.old.report check.new.report
+        (last_text asked.now n check.old.report.state.form check.old.results.differing.items (together check.old.results.counts check.old.report.state.own) milliseconds) }
 {
-    report.heed(path, None);
-    report.errors.write_failure(path, error);
-    let mut shown = ShownText::new(report.alloc, !report.state.is_closed);
-    shown.remark(report.state.form, path, Remark::Failed(error.failure));
-    PathReport {
-        found: PathResult::Failed(error.failure),
-        shown,
+    if n > 0 || check.report.is_for_programs() {
+        check.end(lists(asked.shown, n), milliseconds);
+    }
+}
+
+// Whether the scripts that differ are listed at the end, of n scripts.
+fn lists(shown: Detail, n: usize) -> bool
+    ensures { result ≡ lists shown n }
+{
+    match shown {
+        Detail::Brief => false,
+        Detail::First | Detail::Differing | Detail::All => n > 1,
     }
 }
 
 // Reports and counts the paths that could not be read.
-fn write_lost<W: ReportSink, E: ReportSink>(found: &Found, check: &mut RunningCheck<W, E>)
-    ensures { Reports W.held check.old check.new (lost_results check.old.report.state.form found.now) }
+fn tell_lost<W: ReportSink, E: ReportSink>(found: &Found, check: &mut RunningCheck<W, E>)
+    ensures counts { check.new.results.counts ≡ counts_of check.old.results.counts (lost_results found.now) }
+    ensures listed { check.new.results.differing.items ≡ check.old.results.differing.items }
+    ensures shown { Prints W.held check.old.report check.new.report (lost_text check.old.report.state.form found.now) }
 {
-    write_each_lost(found.lost.as_slice(), check);
-    write_failure_if(found.is_cut, Failure::OutOfMemory, check);
-    write_failure_if(
+    tell_each_lost(found.lost.as_slice(), check);
+    tell_if(found.is_cut, Failure::OutOfMemory, check);
+    tell_if(
         found.scripts.as_slice().is_empty(),
         Failure::NoScripts,
         check,
@@ -229,39 +205,42 @@ fn write_lost<W: ReportSink, E: ReportSink>(found: &Found, check: &mut RunningCh
 }
 
 // Reports and counts the paths that failed.
-fn write_each_lost<W: ReportSink, E: ReportSink>(
-    lost: &[FailedPath],
-    check: &mut RunningCheck<W, E>,
-)
-    ensures { Reports W.held check.old check.new (map (lost_path check.old.report.state.form) lost.now) }
+fn tell_each_lost<W: ReportSink, E: ReportSink>(lost: &[FailedPath], check: &mut RunningCheck<W, E>)
+    ensures counts { check.new.results.counts ≡ counts_of check.old.results.counts (map lost_path lost.now) }
+    ensures listed { check.new.results.differing.items ≡ check.old.results.differing.items }
+    ensures shown { Prints W.held check.old.report check.new.report (paths_text check.old.report.state.form lost.now) }
 {
     for i in 0..lost.len() {
-        let one = &lost[i];
-        lose(&one.path, one.error, check);
+        tell_one_lost(&lost[i], check);
     }
 }
 
+fn tell_one_lost<W: ReportSink, E: ReportSink>(lost: &FailedPath, check: &mut RunningCheck<W, E>)
+    ensures counts { check.new.results.counts ≡ counts_with check.old.results.counts (lost_path lost.now).found }
+    ensures listed { check.new.results.differing.items ≡ check.old.results.differing.items }
+    // If something of the path acts, a workflow command goes out by numbers.
+    ensures heeded { check.new.report.showing ≡ shown_in check.old.report.state.form.format lost.now.path.items Showing.AsIs }
+    ensures shown { Prints W.held check.old.report check.new.report (path_text check.old.report.state.form lost.now) }
+{
+    check.report.heed(&lost.path, None);
+    check.fail(&lost.path, lost.error);
+}
+
 // Reports and counts a failure of the check as a whole, if there is one.
-fn write_failure_if<W: ReportSink, E: ReportSink>(
+fn tell_if<W: ReportSink, E: ReportSink>(
     has_failed: bool,
     failure: Failure,
     check: &mut RunningCheck<W, E>,
 )
-    ensures { Reports W.held check.old check.new (whole_failure check.old.report.state.form has_failed failure) }
+    ensures counts { check.new.results.counts ≡ counts_of check.old.results.counts (whole_failure has_failed failure) }
+    ensures listed { check.new.results.differing.items ≡ check.old.results.differing.items }
+    ensures shown { Prints W.held check.old.report check.new.report (whole_text check.old.report.state.form has_failed failure) }
 {
     if has_failed {
-        lose(b"raftbench", PathError::alone(failure), check);
+        check.fail(b"raftbench", PathError::alone(failure));
     }
 }
 
-// Reports and counts a path that failed.
-fn lose<W: ReportSink, E: ReportSink>(path: &[u8], error: PathError, check: &mut RunningCheck<W, E>)
-    ensures { Reports W.held check.old check.new (failed_path check.old.report.state.form path.now error.failure ∷ []) }
-{
-    let checked = failed(path, error, &mut check.report);
-    check.add(path, checked, 0);
-}
-
-fn milliseconds(time: Duration) -> u64 {
-    u64::try_from(time.as_millis()).unwrap_or(u64::MAX)
+fn milliseconds<C: Clock>(progress: &ProgressClock, clock: &C) -> u64 {
+    u64::try_from(progress.elapsed(clock).as_millis()).unwrap_or(u64::MAX)
 }

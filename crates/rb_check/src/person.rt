@@ -1,4 +1,4 @@
-//! The person who answers a review, at a terminal or by lines.
+//! Who answers the questions of a review.
 
 ghost use Rattle.std.specs.Prelude.{◌≡◌, ◌++◌, ℕ, [], Bool, List, Option, ⊤, true, option_map, string_bytes};
 ghost use Rattle.rb_check.specs.Asking.{IsAsked, echo_of, help_text};
@@ -62,7 +62,7 @@ impl<'a, R> TerminalPerson<'a, R> {
 }
 
 impl<'a, R: KeyInput + Clock> TerminalPerson<'a, R> {
-    // Reads the keys that were pressed, at least one. A read that fails ends the review.
+    // Reads what is there, at least a byte. Such a terminal shows nothing of it. A read that fails ends the review.
     fn hear_key<W: ReportSink, E: ReportSink>(&mut self, report: &mut Report<W, E>) -> HeardAnswer
         ensures shown { (keys : Option (List ℕ)) × Prints W.held report.old report.new (echo_of keys) }
         ensures heard { (keys : Option (List ℕ)) × (is_soon : Bool) × R.gives self.old.rt.now keys × (result ≡ heard_by_read is_soon keys) }
@@ -77,7 +77,7 @@ impl<'a, R: KeyInput + Clock> TerminalPerson<'a, R> {
         heard
     }
 
-    // Whether a key that was no answer was read so shortly before that this one may belong to it: a pasted text comes in parts.
+    // Whether a key that was no answer came so shortly before that what comes now may belong to it: a text that is pasted comes in parts.
     fn is_soon(&self) -> bool {
         let Some(missed) = self.missed else {
             return false;
@@ -141,15 +141,15 @@ fn hear_line<I: LineInput>(input: &I) -> HeardAnswer
     heard_by_line(input.line().as_deref())
 }
 
-// Writes the key, and the end of its line.
+// Writes what was keyed, and the end of its line.
 fn echo<W: ReportSink, E: ReportSink>(keys: &[u8], report: &mut Report<W, E>)
     ensures { (keyed : Option (List ℕ)) × Prints W.held report.old report.new (echo_of keyed) }
 {
     if keys.is_empty() {
         return;
     }
-    report.say(visible_key(keys));
-    report.say(b"\n");
+    report.put(visible_key(keys));
+    report.put(b"\n");
 }
 
 // What comes from a terminal is not known.
@@ -163,8 +163,7 @@ impl<'a, R: Input + Clock + AllocGlobal> Person for TerminalPerson<'a, R> {
         question: &[u8],
         report: &mut Report<W, E>,
     ) -> HeardAnswer {
-        report.say(question);
-        if report.state.is_closed {
+        if !report.say(question) {
             return HeardAnswer::End;
         }
         if self.gives_keys {
@@ -175,7 +174,7 @@ impl<'a, R: Input + Clock + AllocGlobal> Person for TerminalPerson<'a, R> {
     }
 }
 
-/// Asks until a line or a key is an answer. The end of input ends the review.
+/// Asks until a line or a key is one of the answers. The end of the input ends the review.
 pub(crate) fn ask<P: Person, W: ReportSink, E: ReportSink>(
     person: &mut P,
     question: &[u8],
@@ -188,7 +187,7 @@ pub(crate) fn ask<P: Person, W: ReportSink, E: ReportSink>(
     while turns < u64::MAX {
         match person.ask(question, report) {
             HeardAnswer::Answer(answer) => return answer,
-            HeardAnswer::Else => report.say(help()),
+            HeardAnswer::Else => report.put(help()),
             HeardAnswer::End => return Answer::Quit,
         }
         turns += 1;

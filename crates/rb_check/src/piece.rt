@@ -1,4 +1,4 @@
-//! The pieces of a workflow command.
+//! The pieces that a workflow command is put together of.
 
 ghost use Rattle.std.specs.Prelude.{◌≡◌, IsOk};
 ghost use Rattle.rb_script.specs.Writes.{Writes};
@@ -6,7 +6,7 @@ ghost use Rattle.rb_check.specs.Commands.{line_property, piece_text, without_fro
 
 use crate::escape::CommandPart;
 use rb_script::{Sink, WriteFault};
-use rb_text::{Piece, WrittenPiece, write_escaped, write_pieces};
+use rb_text::{Piece, WrittenPiece, put_escaped, put_pieces};
 
 /// A piece of a workflow command.
 #[derive(Clone, Copy)]
@@ -26,15 +26,15 @@ pub(crate) enum CommandPiece<'a> {
 impl WrittenPiece for CommandPiece<'_> {
     ghost text = { piece_text };
 
-    fn write_to<S: Sink>(&self, sink: &mut S) -> Result<(), WriteFault> {
+    fn put<S: Sink>(&self, sink: &mut S) -> Result<(), WriteFault> {
         match *self {
-            CommandPiece::Bytes(bytes) => sink.write_all(bytes),
-            CommandPiece::Property(bytes) => write_escaped(sink, &CommandPart::Property, bytes),
+            CommandPiece::Bytes(bytes) => sink.put(bytes),
+            CommandPiece::Property(bytes) => put_escaped(sink, &CommandPart::Property, bytes),
             CommandPiece::File(path) => {
-                write_escaped(sink, &CommandPart::Property, without_front(b"./", path))
+                put_escaped(sink, &CommandPart::Property, without_front(b"./", path))
             }
-            CommandPiece::Message(bytes) => write_escaped(sink, &CommandPart::Message, bytes),
-            CommandPiece::Line(line) => write_line(sink, line),
+            CommandPiece::Message(bytes) => put_escaped(sink, &CommandPart::Message, bytes),
+            CommandPiece::Line(line) => put_line(sink, line),
         }
     }
 }
@@ -49,12 +49,12 @@ pub(crate) fn without_front<'a>(front: &[u8], path: &'a [u8]) -> &'a [u8]
     }
 }
 
-fn write_line<S: Sink>(sink: &mut S, line: Option<usize>) -> Result<(), WriteFault>
+fn put_line<S: Sink>(sink: &mut S, line: Option<usize>) -> Result<(), WriteFault>
     ensures wrote { Writes result (S.held sink.old) (S.held sink.new) (line_property line) }
     ensures all { S.takes_all sink.old → IsOk result × S.takes_all sink.new }
 {
     match line {
-        Some(line) => write_pieces(sink, &[Piece::Bytes(b",line="), Piece::Number(line as u64)]),
+        Some(line) => put_pieces(sink, &[Piece::Bytes(b",line="), Piece::Number(line as u64)]),
         None => Ok(()),
     }
 }

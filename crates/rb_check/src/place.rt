@@ -1,10 +1,10 @@
-//! Which directive of a script a line belongs to.
+//! Which directive of a script a line names.
 
 ghost use Rattle.std.specs.Prelude.{◌≡◌, ◌≤◌, ◌-◌, IfSome, Some, MatchOption, slice_get};
 ghost use Rattle.std.specs.List.Sorted.{IsNonDecreasing};
 ghost use Rattle.rb_check.specs.Place.{ArePartedAt};
 
-/// The last head at a line or above it: the number of its directive, from 1, and its line.
+/// The last of the heads at the line or above it: which directive it is, from 1 on, and its line.
 pub fn place_at(heads: &[usize], line: usize) -> Option<(usize, usize)>
     ensures head { IfSome result (λ found. (1 ≤ found.0) × (slice_get heads.now (found.0 - 1) ≡ Some found.1)) }
     // The heads up to it are at the line or above it, and all others below.

@@ -1,4 +1,4 @@
-//! The questions of a review.
+//! What is asked about in a review.
 
 ghost use Rattle.std.specs.Prelude.{◌≡◌, ◌++◌, IfOk};
 ghost use Rattle.rb_check.specs.Reviews.{question_of, question_text, questions_of};
@@ -7,9 +7,10 @@ ghost use Rattle.rb_check.specs.Subjects.{AreFindings, plain_of, plain_ran};
 use crate::check_request::CheckRequest;
 use crate::checked_script::CheckedScript;
 use crate::ran_directive::{RanDirective, directive_at};
+use rb_machine::Machine;
 use rb_script::Lines;
 use rb_script_report::{AcceptFilter, is_picked, is_same, is_unexpected};
-use rb_text::{Piece, push_pieces};
+use rb_text::{Piece, add_pieces};
 use std::alloc::{AllocError, Global};
 
 /// A directive whose output is not the expected one.
@@ -23,28 +24,27 @@ pub(crate) struct ReviewQuestion {
     pub(crate) is_taken: bool,
 }
 
-/// The questions of a script: the picked directives whose outputs differ.
-pub(crate) fn questions_of(
+/// The questions of a script: the directives that are picked, and whose output is not the expected one.
+pub(crate) fn questions_of<M: Machine>(
     alloc: Global,
     asked: &CheckRequest<'_>,
     picked: AcceptFilter<'_>,
-    subject: &CheckedScript<'_>,
+    subject: &CheckedScript<'_, M>,
 ) -> Result<Vec<ReviewQuestion>, AllocError>
     requires { AreFindings subject.now }
     ensures { IfOk result (λ made. made.items ≡ questions_of asked.now picked.entry (plain_of subject.now)) }
 {
     let mut questions = Vec::new(alloc);
-    let run = &subject.script.run;
-    let lines = &run.layout.text;
-    for i in 0..run.session.len() {
+    let lines = &subject.layout.text;
+    for i in 0..subject.session.len() {
         let ran = directive_at(subject, i);
-        push_question(&mut questions, asked.accepts_errors, picked, lines, ran)?;
+        add_question(&mut questions, asked.accepts_errors, picked, lines, ran)?;
     }
     Ok(questions)
 }
 
-// Appends the question about a directive, if it is picked and its output differs.
-fn push_question(
+// Adds the question about the directive; nothing, where its output is the expected one, or it isn't picked.
+fn add_question(
     questions: &mut Vec<ReviewQuestion>,
     accepts_errors: bool,
     picked: AcceptFilter<'_>,
@@ -74,7 +74,7 @@ pub(crate) fn question_text(
     ensures { IfOk result (λ made. made.items ≡ question_text number count) }
 {
     let mut text = Vec::new(alloc);
-    push_pieces(
+    add_pieces(
         &mut text,
         &[
             Piece::Number(number as u64),

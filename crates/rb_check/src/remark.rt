@@ -1,20 +1,20 @@
-//! What a report says of a script besides its run: a line to people, or a notice to programs.
+//! What a report says of a script beside its run: a line to people, or a notice to programs.
 
 ghost use Rattle.std.specs.Prelude.{◌≡◌, IfOk, codes};
 ghost use Rattle.rb_report.specs.Pieces.{noun};
 ghost use Rattle.rb_check.specs.Shown.{accepted_sentence, people_text, programs_text, remark_kind, remark_line, remark_sentence};
 
-use crate::format::LineFormat;
+use crate::format::Format;
 use crate::kind::{NoticeKind, ScriptNotice};
-use crate::notes::write_note;
+use crate::notes::put_note;
 use crate::notices::notice_of;
-use rb_report::{
-    Failure, Refusal, failure_sentence, refusal_line, refusal_sentence, warning_sentence,
-    write_accepted, write_refusal, write_unaccepted, write_warning,
+use rb_report::check::{
+    Failure, failure_sentence, fault_line, put_accepted, put_refusal, put_unaccepted, put_warning,
+    sentence, warning_sentence,
 };
-use rb_script::{Sink, WriteFault};
+use rb_script::{ScriptFault, Sink, WriteFault};
 use rb_script_report::Warning;
-use rb_text::{Piece, WrittenPiece, push_pieces};
+use rb_text::{Piece, WrittenPiece, add_pieces};
 use std::alloc::{AllocError, Global};
 
 const ECHOES: &[u8] =
@@ -25,8 +25,8 @@ const MATCHES: &[u8] = b"there is nothing to accept: the output is the expected 
 /// What a report says of a script.
 #[derive(Clone, Copy)]
 pub(crate) enum Remark {
-    /// It is not a script, or its outputs have too many bytes.
-    Refused(Refusal),
+    /// It is not a script.
+    Refused(ScriptFault),
     /// It failed.
     Failed(Failure),
     /// A line looks like a slip.
@@ -49,7 +49,7 @@ impl Remark {
         ensures { result ≡ remark_line self }
     {
         match self {
-            Remark::Refused(refusal) => refusal_line(refusal),
+            Remark::Refused(fault) => fault_line(fault),
             Remark::Warning(warning) => Some(warning.line),
             Remark::Left(line) => Some(line),
             Remark::Echoes(line) => Some(line),
@@ -60,7 +60,6 @@ impl Remark {
         }
     }
 
-    // Its kind, for programs.
     fn kind(self) -> NoticeKind
         ensures { result ≡ remark_kind self }
     {
@@ -82,7 +81,7 @@ fn accepted_sentence(alloc: Global, n: usize) -> Result<Vec<u8>, AllocError>
     ensures { IfOk result (λ made. made.items ≡ accepted_sentence n) }
 {
     let mut text = Vec::new(alloc);
-    push_pieces(
+    add_pieces(
         &mut text,
         &[
             Piece::Bytes(b"accepted "),
@@ -104,7 +103,7 @@ fn sentence_of(alloc: Global, remark: Remark) -> Result<Vec<u8>, AllocError>
     ensures { IfOk result (λ made. made.items ≡ remark_sentence remark) }
 {
     match remark {
-        Remark::Refused(refusal) => Vec::from_slice(alloc, refusal_sentence(refusal)),
+        Remark::Refused(fault) => Vec::from_slice(alloc, sentence(fault)),
         Remark::Failed(failure) => Vec::from_slice(alloc, failure_sentence(failure)),
         Remark::Warning(warning) => Vec::from_slice(alloc, warning_sentence(warning.doubt)),
         Remark::Accepted(n) => accepted_sentence(alloc, n),
@@ -128,7 +127,7 @@ fn sentence_of(alloc: Global, remark: Remark) -> Result<Vec<u8>, AllocError>
 /// If memory was refused.
 pub(crate) fn programs_text(
     alloc: Global,
-    format: LineFormat,
+    format: Format,
     is_strict: bool,
     path: &[u8],
     remark: Remark,
@@ -155,16 +154,16 @@ pub(crate) struct RemarkLine<'a> {
 impl WrittenPiece for RemarkLine<'_> {
     ghost text = { λ line. people_text line.path.now line.remark };
 
-    fn write_to<S: Sink>(&self, sink: &mut S) -> Result<(), WriteFault> {
+    fn put<S: Sink>(&self, sink: &mut S) -> Result<(), WriteFault> {
         match self.remark {
-            Remark::Refused(refusal) => write_refusal(sink, self.path, refusal),
-            Remark::Warning(warning) => write_warning(sink, self.path, warning.line, warning.doubt),
-            Remark::Accepted(n) => write_accepted(sink, self.path, n),
-            Remark::Unaccepted => write_unaccepted(sink, self.path),
-            Remark::Echoes(line) => write_note(sink, self.path, line, ECHOES),
-            Remark::Matches(line) => write_note(sink, self.path, line, MATCHES),
-            Remark::Failed(_) => sink.write_all(b""),
-            Remark::Left(_) => sink.write_all(b""),
+            Remark::Refused(fault) => put_refusal(sink, self.path, fault),
+            Remark::Warning(warning) => put_warning(sink, self.path, warning.line, warning.doubt),
+            Remark::Accepted(n) => put_accepted(sink, self.path, n),
+            Remark::Unaccepted => put_unaccepted(sink, self.path),
+            Remark::Echoes(line) => put_note(sink, self.path, line, ECHOES),
+            Remark::Matches(line) => put_note(sink, self.path, line, MATCHES),
+            Remark::Failed(_) => sink.put(b""),
+            Remark::Left(_) => sink.put(b""),
         }
     }
 }

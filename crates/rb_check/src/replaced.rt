@@ -1,4 +1,4 @@
-//! Bytes that a text can't contain, and what stands for them.
+//! Bytes that a text can't have as they are, and the texts that replace them.
 
 ghost use Rattle.std.specs.Prelude.{◌≡◌, IsOk};
 ghost use Rattle.rb_script.specs.Writes.{Writes};
@@ -27,7 +27,7 @@ fn text_of<'a>(table: &[Replaced<'a>], b: u8, own: &'a [u8]) -> &'a [u8]
 /// # Errors
 ///
 /// If the sink fails. A beginning of the text is written then.
-pub(crate) fn write_replaced<S: Sink>(
+pub(crate) fn put_replaced<S: Sink>(
     sink: &mut S,
     table: &[Replaced<'_>],
     b: u8,
@@ -36,5 +36,5 @@ pub(crate) fn write_replaced<S: Sink>(
     ensures wrote { Writes result (S.held sink.old) (S.held sink.new) (text_of table.now b own.now) }
     ensures all { S.takes_all sink.old → IsOk result × S.takes_all sink.new }
 {
-    sink.write_all(text_of(table, b, own))
+    sink.put(text_of(table, b, own))
 }

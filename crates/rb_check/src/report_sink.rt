@@ -24,13 +24,13 @@ pub(crate) trait ReportSink: Sink + Drop {
     ghost is_flushed: { Self → Type 0 };
 
     /// From here on bytes go out so.
-    fn set_showing(&mut self, showing: Showing)
+    fn show_as(&mut self, showing: Showing)
         ensures shown { shown_as self.new ≡ showing }
         ensures held { Keeps (Self.held self.old) (Self.held self.new) }
         ensures all { Self.takes_all self.old → Self.takes_all self.new };
 
     /// Writes bytes that act in a terminal.
-    fn write_acting(&mut self, bytes: &[u8]) -> Result<(), WriteFault>
+    fn put_acting(&mut self, bytes: &[u8]) -> Result<(), WriteFault>
         ensures wrote { Writes result (Self.held self.old) (Self.held self.new) bytes.now }
         ensures all { Self.takes_all self.old → IsOk result × Self.takes_all self.new };
 
@@ -46,12 +46,12 @@ impl<W: Write + Drop> ReportSink for VisibleSink<Through<BufWriter<W>>> {
 
     ghost is_flushed = { λ stream. writer_buffer stream.sink.0 ≡ [] };
 
-    fn set_showing(&mut self, showing: Showing) {
+    fn show_as(&mut self, showing: Showing) {
         self.showing = showing;
     }
 
-    fn write_acting(&mut self, bytes: &[u8]) -> Result<(), WriteFault> {
-        self.sink.write_all(bytes)
+    fn put_acting(&mut self, bytes: &[u8]) -> Result<(), WriteFault> {
+        self.sink.put(bytes)
     }
 
     fn flush(&mut self) -> io::Result<()> {

@@ -4,16 +4,14 @@ ghost use Rattle.std.specs.Prelude.{◌≡◌};
 ghost use Rattle.rb_check.specs.Shown.{closed, lacking, started};
 
 use crate::check_request::CheckRequest;
-use crate::format::{LineFormat, is_junit, line_format};
-use rb_report::{Failure, Outcome, Totals};
+use crate::format::Format;
+use rb_report::check::{Failure, Outcome, Totals};
 
 /// For whom a report is.
 #[derive(Clone, Copy)]
 pub(crate) struct ReportForm {
-    /// The format for programs, if one was chosen that has lines.
-    pub(crate) format: Option<LineFormat>,
-    /// Whether what people are shown of a path goes into a suite of JUnit's.
-    pub(crate) has_suites: bool,
+    /// The format for programs, if one was chosen.
+    pub(crate) format: Option<Format>,
     /// Whether new errors and warnings count as mismatches for the status.
     pub(crate) is_strict: bool,
 }
@@ -35,8 +33,7 @@ impl ReportState {
     {
         ReportState {
             form: ReportForm {
-                format: line_format(asked.format),
-                has_suites: is_junit(asked.format) && !asked.is_quiet,
+                format: asked.format,
                 is_strict: asked.is_strict,
             },
             is_closed: asked.is_quiet,

@@ -1,14 +1,12 @@
-//! The results of the paths so far: their counts, the list of the scripts that differ, and the suites of JUnit's, if they are wanted.
+//! The results of the paths so far: their counts, and the list of the scripts that differ.
 
 ghost use Rattle.std.specs.Prelude.{◌≡◌, ◌++◌, [], IfOk};
 ghost use Rattle.rb_report.specs.Counts.{nothing, together};
-ghost use Rattle.rb_check.specs.Junit.{no_suites, plain_suites};
 ghost use Rattle.rb_check.specs.Results.{listed_if, listed_of, listing};
 
 use crate::differing::Differing;
-use crate::junit::Suites;
 use crate::script_result::{PathResult, ScriptResult};
-use rb_report::Totals;
+use rb_report::check::Totals;
 use std::alloc::{AllocError, Global};
 
 /// The results of the paths so far.
@@ -17,7 +15,6 @@ pub(crate) struct Results {
     alloc: Global,
     pub(crate) counts: Totals,
     pub(crate) differing: Vec<Differing>,
-    pub(crate) suites: Suites,
 }
 
 impl Results {
@@ -25,13 +22,11 @@ impl Results {
     pub(crate) fn new(alloc: Global) -> Results
         ensures counts { result.counts ≡ nothing }
         ensures listed { result.differing.items ≡ [] }
-        ensures suites { plain_suites result.suites ≡ no_suites }
     {
         Results {
             alloc,
             counts: Totals::new(),
             differing: Vec::new(alloc),
-            suites: Suites::new(alloc),
         }
     }
 
@@ -40,9 +35,8 @@ impl Results {
     /// # Errors
     ///
     /// If memory was refused.
-    pub(crate) fn list(&mut self, path: &[u8], found: PathResult) -> Result<(), AllocError>
+    pub(crate) fn list(&mut self, path: &str, found: PathResult) -> Result<(), AllocError>
         ensures counts { self.new.counts ≡ self.old.counts }
-        ensures suites { self.new.suites ≡ self.old.suites }
         ensures listed { IfOk result (λ _. listing self.new.differing.items ≡ listing self.old.differing.items ++ listed_of path.now found) }
     {
         match found {
@@ -52,16 +46,15 @@ impl Results {
     }
 
     // Adds the script that ran, if an output of it differs.
-    fn list_script(&mut self, path: &[u8], ran: ScriptResult) -> Result<(), AllocError>
+    fn list_script(&mut self, path: &str, ran: ScriptResult) -> Result<(), AllocError>
         ensures counts { self.new.counts ≡ self.old.counts }
-        ensures suites { self.new.suites ≡ self.old.suites }
         ensures listed { IfOk result (λ _. listing self.new.differing.items ≡ listing self.old.differing.items ++ listed_if path.now ran ran.first) }
     {
         let Some(line) = ran.first else {
             return Ok(());
         };
         self.differing.push(Differing {
-            path: Vec::from_slice(self.alloc, path)?,
+            path: String::from_str(self.alloc, path)?,
             directives: ran.directives,
             mismatches: ran.left,
             line,

@@ -1,35 +1,25 @@
 //! A check, as far as it has come: its report, and the results of its paths.
 
-ghost use Rattle.std.specs.Prelude.{◌≡◌, ◌≢◌, ◌++◌, ℕ, [], List, true};
+ghost use Rattle.std.specs.Prelude.{◌≡◌, ◌≢◌, ◌++◌, [], IfOk, true};
 ghost use Rattle.rb_report.specs.Counts.{nothing, status_of, together, totals_text};
-ghost use Rattle.rb_check.specs.Junit.{document_text, no_suites, plain_suites};
-ghost use Rattle.rb_check.specs.Reported.{Lists, Suits};
-ghost use Rattle.rb_check.specs.Results.{checked_path, counts_with, listed_of, out_beside};
-ghost use Rattle.rb_check.specs.Shown.{Prints, end_text, ending, lacks_memory, last_text, lists, listed_text, started};
-ghost use Rattle.rb_check.specs.ShownTexts.{Holds};
+ghost use Rattle.rb_check.specs.declared.remark.Remark.TheVariants as remarks;
+ghost use Rattle.rb_check.specs.declared.script_result.PathResult.TheVariants as paths;
+ghost use Rattle.rb_check.specs.Results.{counts_with, listed_of};
+ghost use Rattle.rb_check.specs.Shown.{Lists, Prints, end_text, ending, lacks_memory, listed_text, remark_text, started};
 
 use crate::check_request::CheckRequest;
 use crate::differing::DifferingList;
 use crate::error_stream::ErrorStream;
-use crate::format::LineFormat;
-use crate::junit::SuitesDocument;
+use crate::format::Format;
 use crate::notes::Note;
 use crate::report::Report;
 use crate::report_sink::ReportSink;
 use crate::results::{Results, together};
 use crate::script_result::PathResult;
-use crate::shown_text::ShownText;
-use crate::totals_object::TotalsObject;
-use rb_report::{Status, Totals};
-use rb_script_report::Detail;
-use std::alloc::Global;
-
-/// What is known of a path once it is checked: its result, and what is shown of it.
-#[derive(Drop)]
-pub(crate) struct PathReport {
-    pub(crate) found: PathResult,
-    pub(crate) shown: ShownText,
-}
+use crate::totals_object::totals_object;
+use rb_files::PathError;
+use rb_report::check::{Status, Totals};
+use std::alloc::{AllocError, Global};
 
 /// A check, as far as it has come.
 #[derive(Drop)]
@@ -48,7 +38,6 @@ impl<W: ReportSink, E: ReportSink> RunningCheck<W, E> {
     ) -> RunningCheck<W, E>
         ensures counts { result.results.counts ≡ nothing }
         ensures listed { result.results.differing.items ≡ [] }
-        ensures suites { plain_suites result.results.suites ≡ no_suites }
         ensures state { result.report.state ≡ started asked.now }
         ensures output { result.report.output ≡ output }
     {
@@ -58,49 +47,28 @@ impl<W: ReportSink, E: ReportSink> RunningCheck<W, E> {
         }
     }
 
-    /// Adds a path: it is counted and listed, and what is shown of it goes out, or into its suite.
-    pub(crate) fn add(&mut self, path: &[u8], checked: PathReport, milliseconds: u64)
-        ensures counts { self.new.results.counts ≡ counts_with self.old.results.counts checked.found }
-        ensures listed { Lists self.old self.new (listed_of path.now checked.found) }
-        ensures suites { (text : List ℕ) → Holds checked.shown text → Suits self.old self.new (checked_path path.now checked.found [] text milliseconds) }
-        ensures shown { (text : List ℕ) → Holds checked.shown text → Prints W.held self.old.report self.new.report (out_beside self.old.report.state.form.has_suites text) }
-    {
-        checked.found.count_in(&mut self.results.counts);
-        self.list(path, checked.found);
-        self.write_shown(path, checked, milliseconds);
-    }
-
-    // Adds the path to the list, if it is a script that differs.
-    fn list(&mut self, path: &[u8], found: PathResult)
-        ensures counts { self.new.results.counts ≡ self.old.results.counts }
-        ensures suites { self.new.results.suites ≡ self.old.results.suites }
-        ensures listed { Lists self.old self.new (listed_of path.now found) }
+    /// Adds the result of a path.
+    pub(crate) fn add(&mut self, path: &str, found: PathResult)
+        ensures counts { self.new.results.counts ≡ counts_with self.old.results.counts found }
+        ensures listed { Lists self.new.report.state self.old.results.differing.items self.new.results.differing.items (listed_of path.now found) }
         ensures shown { Prints W.held self.old.report self.new.report [] }
     {
+        found.count_in(&mut self.results.counts);
         match self.results.list(path, found) {
             Ok(()) => {}
-            Err(_) => self.report.fail_for_memory(path),
+            Err(_) => self.report.fail_for_memory(path.as_bytes()),
         }
     }
 
-    // Puts what is shown of the path out, or into its suite.
-    fn write_shown(&mut self, path: &[u8], checked: PathReport, milliseconds: u64)
-        ensures counts { self.new.results.counts ≡ self.old.results.counts }
-        ensures listed { self.new.results.differing ≡ self.old.results.differing }
-        ensures suites { (text : List ℕ) → Holds checked.shown text → Suits self.old self.new (checked_path path.now checked.found [] text milliseconds) }
-        ensures shown { (text : List ℕ) → Holds checked.shown text → Prints W.held self.old.report self.new.report (out_beside self.old.report.state.form.has_suites text) }
+    /// Reports that a path failed, and counts it.
+    pub(crate) fn fail(&mut self, path: &[u8], error: PathError)
+        ensures counts { self.new.results.counts ≡ counts_with self.old.results.counts (paths.Failed error.failure) }
+        ensures listed { self.new.results.differing.items ≡ self.old.results.differing.items }
+        ensures showing { self.new.report.showing ≡ self.old.report.showing }
+        ensures shown { Prints W.held self.old.report self.new.report (remark_text self.old.report.state.form path.now (remarks.Failed error.failure)) }
     {
-        let PathReport { found, shown } = checked;
-        let form = self.report.state.form;
-        if form.has_suites {
-            let suites = &mut self.results.suites;
-            match suites.push(form.is_strict, path, found, &shown, milliseconds) {
-                Ok(()) => {}
-                Err(_) => self.report.fail_for_memory(path),
-            }
-        } else {
-            self.report.write_bytes(path, &shown);
-        }
+        self.report.fail(path, error);
+        PathResult::Failed(error.failure).count_in(&mut self.results.counts);
     }
 
     // The totals of all paths, and of the report's own failures.
@@ -121,51 +89,27 @@ impl<W: ReportSink, E: ReportSink> RunningCheck<W, E> {
         self.totals().status(is_strict)
     }
 
-    /// Writes the end of the report of n scripts: the suites; or, if there is something to end, the list of those that differ, and the totals.
-    pub(crate) fn end(&mut self, asked: &CheckRequest<'_>, n: usize, milliseconds: u64)
-        ensures results { self.new.results ≡ self.old.results }
-        ensures shown { Prints W.held self.old.report self.new.report (last_text asked.now n self.old.report.state.form self.old.results.differing.items (plain_suites self.old.results.suites) (together self.old.results.counts self.old.report.state.own) milliseconds) }
-    {
-        self.report.errors.clear();
-        if self.report.state.form.has_suites {
-            self.end_suites(milliseconds);
-        } else if n > 0 || self.report.state.form.format.is_some() {
-            self.end_lines(lists(asked.shown, n), milliseconds);
-        }
-    }
-
-    // Writes the suites.
-    fn end_suites(&mut self, milliseconds: u64)
-        ensures results { self.new.results ≡ self.old.results }
-        ensures shown { Prints W.held self.old.report self.new.report (document_text (plain_suites self.old.results.suites) milliseconds) }
-    {
-        self.report.heed(b"raftbench", None);
-        self.report.write(&SuitesDocument {
-            suites: &self.results.suites,
-            milliseconds,
-        });
-    }
-
-    // Writes the last lines.
-    fn end_lines(&mut self, lists_differing: bool, milliseconds: u64)
+    /// Writes the end of the report.
+    pub(crate) fn end(&mut self, lists_differing: bool, milliseconds: u64)
         ensures results { self.new.results ≡ self.old.results }
         ensures shown { Prints W.held self.old.report self.new.report (end_text lists_differing self.old.report.state.form self.old.results.differing.items (together self.old.results.counts self.old.report.state.own) milliseconds) }
     {
+        self.report.errors.clear();
         let totals = self.totals();
         match self.report.state.form.format {
-            Some(format) => self.end_for_programs(format, totals),
+            Some(format) => self.end_for_programs(format, &totals),
             None => self.end_for_people(lists_differing, totals, milliseconds),
         }
     }
 
-    // Writes the end for programs.
-    fn end_for_programs(&mut self, format: LineFormat, totals: Totals)
+    // Writes the end of a report in the format.
+    fn end_for_programs(&mut self, format: Format, totals: &Totals)
         ensures results { self.new.results ≡ self.old.results }
-        ensures shown { Prints W.held self.old.report self.new.report (ending totals format) }
+        ensures shown { Prints W.held self.old.report self.new.report (ending totals.now format) }
     {
-        match format {
-            LineFormat::Json => self.report.write(&TotalsObject(totals)),
-            LineFormat::Github => {}
+        match ending(self.report.alloc, format, totals) {
+            Ok(text) => self.report.put(&text),
+            Err(_) => self.report.fail_for_memory(b"raftbench"),
         }
     }
 
@@ -176,7 +120,7 @@ impl<W: ReportSink, E: ReportSink> RunningCheck<W, E> {
     {
         self.report.heed(b"raftbench", None);
         self.list_differing(lists_differing);
-        self.report.write(&Note::Totals(totals, milliseconds));
+        self.report.show(&Note::Totals(totals, milliseconds));
     }
 
     // Lists the scripts that differ, if they are to be listed.
@@ -185,17 +129,18 @@ impl<W: ReportSink, E: ReportSink> RunningCheck<W, E> {
         ensures shown { Prints W.held self.old.report self.new.report (listed_text lists_differing self.old.results.differing.items) }
     {
         if lists_differing {
-            self.report.write(&DifferingList(&self.results.differing));
+            self.report.show(&DifferingList(&self.results.differing));
         }
     }
 }
 
-// Whether the scripts that differ are listed at the end: there are several, and the detail asks for it.
-fn lists(shown: Detail, n: usize) -> bool
-    ensures { result ≡ lists shown n }
+// The end of a report for programs.
+fn ending(alloc: Global, format: Format, totals: &Totals) -> Result<Vec<u8>, AllocError>
+    ensures { IfOk result (λ made. made.items ≡ ending totals.now format) }
 {
-    match shown {
-        Detail::Brief => false,
-        Detail::First | Detail::Differing | Detail::All => n > 1,
+    match format {
+        Format::Json => totals_object(alloc, totals),
+        Format::Github => Ok(Vec::new(alloc)),
+        Format::Junit => Vec::from_slice(alloc, b"</testsuites>\n"),
     }
 }

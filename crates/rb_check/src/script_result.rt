@@ -3,7 +3,8 @@
 ghost use Rattle.std.specs.Prelude.{◌≡◌, Some};
 ghost use Rattle.rb_check.specs.Results.{after_accepting, counts_with, outcome_of};
 
-use rb_report::{Failure, Outcome, Refusal, Totals};
+use rb_report::check::{Failure, Outcome, Totals};
+use rb_script::ScriptFault;
 
 /// The result of a script that ran.
 #[derive(Clone, Copy)]
@@ -67,8 +68,8 @@ impl ScriptResult {
 pub(crate) enum PathResult {
     /// The script ran.
     Ran(ScriptResult),
-    /// The bytes are no script, or its outputs have too many bytes.
-    Refused(Refusal),
+    /// The bytes are no script.
+    Refused(ScriptFault),
     /// It could not be checked.
     Failed(Failure),
 }
@@ -85,7 +86,7 @@ impl PathResult {
                     totals.add(Outcome::Failed(failure));
                 }
             }
-            PathResult::Refused(refusal) => totals.add(Outcome::Refused(refusal)),
+            PathResult::Refused(fault) => totals.add(Outcome::Refused(fault)),
             PathResult::Failed(failure) => totals.add(Outcome::Failed(failure)),
         }
     }

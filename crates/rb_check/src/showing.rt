@@ -1,113 +1,64 @@
-//! What is shown of a script that ran: its warnings and its report, or the directives alone that are named.
+//! Showing a script that ran: its warnings and its report, or the directives that are named alone.
 
-ghost use Rattle.std.specs.Prelude.{◌≡◌, ◌+◌, ◌<◌, ◌≤◌, IfOk, Some, length, option_map, slice_get};
-ghost use Rattle.std.specs.List.{flat_map};
-ghost use Rattle.rb_check.specs.declared.picking.NamedDirectives.{NamedDirectives};
-ghost use Rattle.rb_check.specs.ScriptTexts.{ArePlaces, alone_text, matched_text, people_report, report_text, shown_alone, shown_of, shown_warnings, shows_warnings, warns, whole_text};
-ghost use Rattle.rb_check.specs.Shown.{warnings_text};
-ghost use Rattle.rb_check.specs.ShownTexts.{Extends};
+ghost use Rattle.std.specs.Prelude.{◌≡◌, ℕ, List, IfErr, IfOk, Some};
+ghost use Rattle.rb_report.specs.declared.check.failure.Failure.TheVariants.{OutOfMemory};
+ghost use Rattle.rb_check.specs.Formats.{script_text};
+ghost use Rattle.rb_check.specs.ScriptTexts.{IsTold, may_be_empty, people_report, report_text, shown_warnings, shows_warnings, warns};
+ghost use Rattle.rb_check.specs.Shown.{Prints, PrintsIf, PrintsPart};
 ghost use Rattle.rb_check.specs.Subjects.{AreFindings, plain_of};
+ghost use Rattle.rb_check.specs.Targets.{AreNamedLines, AreNotFound, no_directive_failure};
 
+use crate::alone::show_alone;
 use crate::check_request::CheckRequest;
 use crate::checked_script::CheckedScript;
+use crate::format::Format;
 use crate::formatted::formatted;
-use crate::picking::NamedDirectives;
-use crate::remark::Remark;
-use crate::shown_text::ShownText;
+use crate::picking::lines_alone;
+use crate::report::Report;
+use crate::report_sink::ReportSink;
+use crate::system::System;
+use rb_files::PathError;
 use rb_machine::Machine;
 use rb_replay::Session;
-use rb_script::Through;
-use rb_script_report::{
-    Detail, ShownScript, View, Warning, is_quiet, number_at, write_alone, write_checked,
-};
+use rb_script_report::{Detail, View, is_quiet, put_checked};
 use std::alloc::{AllocError, Global};
 
-/// Shows the directives that are named, if outputs aren't accepted, or the whole script. Of those that are to be accepted it names the ones that match.
-pub(crate) fn push_script(
+/// Shows what there is to show: the directives that are named alone, or the warnings and what differs.
+///
+/// # Errors
+///
+/// If a named line has no directive, or memory was refused.
+pub(crate) fn tell<M: Machine, S: System, W: ReportSink, E: ReportSink>(
+    system: &S,
     asked: &CheckRequest<'_>,
-    subject: &CheckedScript<'_>,
-    named: &Option<NamedDirectives>,
-    shown: &mut ShownText,
-)
-    requires findings { AreFindings subject.now }
-    requires places { (some : NamedDirectives) → named.now ≡ Some some → ArePlaces some.places.items (length (plain_of subject.now).script.blocks) }
-    ensures { Extends shown.old shown.new (shown_of asked.now (plain_of subject.now) (option_map (λ some. some.places.items) named.now)) }
+    subject: &CheckedScript<'_, M>,
+    report: &mut Report<W, E>,
+) -> Result<(), PathError>
+    requires { AreFindings subject.now }
+    ensures failed { IfErr result (λ error. AreNotFound (λ lines. AreNamedLines (S.tells_one system.now) subject.now.path.now asked.now.targets.now (Some lines)) subject.now.layout.now.heads.items (no_directive_failure asked.now.accepts) error) }
+    ensures shown { IfOk result (λ _. (text : List ℕ) × IsTold (S.tells_one system.now) asked.now report.old.state.form (plain_of subject.now) text
+        × Prints W.held report.old report.new text) }
+    ensures part { IfErr result (λ _. PrintsPart W.held report.old report.new) }
 {
-    match named {
-        Some(named) => push_named(asked, subject, &named.places, shown),
-        None => push_whole(asked, subject, shown),
+    let alloc = system.alloc();
+    if let Some(lines) = lines_alone(system, asked, subject.path)? {
+        return show_alone(alloc, subject, &lines, report);
     }
+    warn(asked, subject, report);
+    show(alloc, asked, subject, report)
 }
 
-// The same, where directives at these places are named.
-fn push_named(
+// Shows the warnings, if they are to be shown.
+fn warn<M: Machine, W: ReportSink, E: ReportSink>(
     asked: &CheckRequest<'_>,
-    subject: &CheckedScript<'_>,
-    places: &[usize],
-    shown: &mut ShownText,
+    subject: &CheckedScript<'_, M>,
+    report: &mut Report<W, E>,
 )
-    requires findings { AreFindings subject.now }
-    requires places { ArePlaces places.now (length (plain_of subject.now).script.blocks) }
-    ensures { Extends shown.old shown.new (shown_of asked.now (plain_of subject.now) (Some places.now)) }
-{
-    if asked.accepts {
-        push_whole(asked, subject, shown);
-        push_matched(subject, places, shown);
-    } else {
-        push_each(subject, places, shown);
-    }
-}
-
-// Shows each of the directives alone: what differs, or its output.
-fn push_each(subject: &CheckedScript<'_>, places: &[usize], shown: &mut ShownText)
-    requires findings { AreFindings subject.now }
-    requires places { ArePlaces places.now (length (plain_of subject.now).script.blocks) }
-    ensures { Extends shown.old shown.new (flat_map (alone_text (plain_of subject.now)) places.now) }
-{
-    for i in 0..places.len() {
-        let index = number_at(places, i) - 1;
-        shown.push_made(alone(shown.alloc, subject, index, Detail::All));
-    }
-}
-
-// Says of each of the directives that its output is the expected one, if it is.
-fn push_matched(subject: &CheckedScript<'_>, places: &[usize], shown: &mut ShownText)
-    requires { ArePlaces places.now (length (plain_of subject.now).layout.heads.items) }
-    ensures { Extends shown.old shown.new (flat_map (matched_text (plain_of subject.now)) places.now) }
-{
-    for i in 0..places.len() {
-        push_if_matched(subject, number_at(places, i), shown);
-    }
-}
-
-fn push_if_matched(subject: &CheckedScript<'_>, place: usize, shown: &mut ShownText)
-    requires from_1 { 1 ≤ place }
-    requires within { place ≤ length (plain_of subject.now).layout.heads.items }
-    ensures { Extends shown.old shown.new (matched_text (plain_of subject.now) place) }
-{
-    let run = &subject.script.run;
-    if !run.session.mismatches().contains(&place) {
-        let head = number_at(run.layout.heads.as_slice(), place - 1);
-        shown.remark(subject.form, subject.path.as_bytes(), Remark::Matches(head));
-    }
-}
-
-// Shows the warnings and the report of a script.
-fn push_whole(asked: &CheckRequest<'_>, subject: &CheckedScript<'_>, shown: &mut ShownText)
     requires { AreFindings subject.now }
-    ensures { Extends shown.old shown.new (whole_text asked.now (plain_of subject.now)) }
+    ensures { Prints W.held report.old report.new (shown_warnings asked.now report.old.state.form (plain_of subject.now)) }
 {
-    push_warnings(asked, subject, shown);
-    report(asked, subject, shown);
-}
-
-// Shows the warnings, if they are shown.
-fn push_warnings(asked: &CheckRequest<'_>, subject: &CheckedScript<'_>, shown: &mut ShownText)
-    requires { AreFindings subject.now }
-    ensures { Extends shown.old shown.new (shown_warnings asked.now (plain_of subject.now)) }
-{
-    if warns(asked, &subject.script.run.session) {
-        warn(subject, shown);
+    if warns(asked, subject.session) {
+        report.warn(subject.path.as_bytes(), subject.warnings);
     }
 }
 
@@ -119,7 +70,7 @@ fn warns<M: Machine>(asked: &CheckRequest<'_>, session: &Session<M>) -> bool
     may_accept || asked.is_strict || shows_warnings(asked.shown)
 }
 
-// Whether a report of this detail has warnings: not if it has less than the mismatches.
+// With less detail than the mismatches only that is shown.
 fn shows_warnings(shown: Detail) -> bool
     ensures { result ≡ shows_warnings shown }
 {
@@ -129,91 +80,82 @@ fn shows_warnings(shown: Detail) -> bool
     }
 }
 
-// Says of each line that looks like a slip that it does.
-fn warn(subject: &CheckedScript<'_>, shown: &mut ShownText)
-    ensures { Extends shown.old shown.new (warnings_text subject.now.form subject.now.path.now subject.now.script.now.warnings.items) }
-{
-    let warnings = subject.script.warnings.as_slice();
-    for i in 0..warnings.len() {
-        let remark = Remark::Warning(warning_at(warnings, i));
-        shown.remark(subject.form, subject.path.as_bytes(), remark);
-    }
-}
-
-// The warning at an index, which counts from 0.
-fn warning_at(warnings: &[Warning], index: usize) -> Warning
-    requires { index < length warnings.now }
-    ensures { slice_get warnings.now index ≡ Some result }
-{
-    warnings[index]
-}
-
-// Adds the script's report, to people or in the format for programs.
-fn report(asked: &CheckRequest<'_>, subject: &CheckedScript<'_>, shown: &mut ShownText)
-    requires { AreFindings subject.now }
-    ensures { Extends shown.old shown.new (report_text asked.now (plain_of subject.now)) }
-{
-    // If the report is not wanted, or empty, nothing is computed.
-    if !shown.is_whole {
-        return;
-    }
-    if is_quiet(&subject.script.run.session, asked.shown) {
-        return;
-    }
-    let alloc = shown.alloc;
-    match subject.form.format {
-        Some(format) => shown.push_made(formatted(alloc, format, subject)),
-        None => shown.push_made(people_report(alloc, subject, asked.shown)),
-    }
-}
-
-// The script's report for people.
-fn people_report(
+// Shows the script's report to people or programs. If it is empty, nothing is computed.
+fn show<M: Machine, W: ReportSink, E: ReportSink>(
     alloc: Global,
-    subject: &CheckedScript<'_>,
-    shown: Detail,
-) -> Result<Vec<u8>, AllocError>
+    asked: &CheckRequest<'_>,
+    subject: &CheckedScript<'_, M>,
+    report: &mut Report<W, E>,
+) -> Result<(), PathError>
     requires { AreFindings subject.now }
-    ensures { IfOk result (λ made. made.items ≡ people_report shown (plain_of subject.now)) }
+    ensures memory { IfErr result (λ error. error.failure ≡ OutOfMemory) }
+    ensures shown { PrintsIf result W.held report.old report.new (report_text asked.now (plain_of subject.now)) }
 {
-    let mut sink = Through(Vec::new(alloc));
-    let run = &subject.script.run;
+    if may_be_empty(asked.format) && is_quiet(subject.session, asked.shown) {
+        return Ok(());
+    }
+    match asked.format {
+        Some(format) => show_programs(alloc, format, asked.is_strict, subject, report),
+        None => show_people(alloc, asked.shown, subject, report),
+    }
+}
+
+// Whether the report of a script may be empty.
+fn may_be_empty(format: Option<Format>) -> bool
+    ensures { result ≡ may_be_empty format }
+{
+    match format {
+        Some(Format::Junit) => false,
+        Some(Format::Json) => true,
+        Some(Format::Github) => true,
+        None => true,
+    }
+}
+
+// Shows the script's report to people.
+fn show_people<M: Machine, W: ReportSink, E: ReportSink>(
+    alloc: Global,
+    shown: Detail,
+    subject: &CheckedScript<'_, M>,
+    report: &mut Report<W, E>,
+) -> Result<(), PathError>
+    requires { AreFindings subject.now }
+    ensures memory { IfErr result (λ error. error.failure ≡ OutOfMemory) }
+    ensures shown { PrintsIf result W.held report.old report.new (people_report shown (plain_of subject.now)) }
+{
+    if !report.is_open() {
+        return Ok(());
+    }
     let view = View {
         path: subject.path.as_bytes(),
         colors: subject.colors,
         shown,
     };
-    match write_checked(alloc, &mut sink, &run.session, &run.layout, view, &run.whys) {
-        Ok(()) => Ok(sink.0),
-        Err(_) => Err(AllocError),
-    }
+    let sink = &mut report.output;
+    let written = put_checked(
+        alloc,
+        sink,
+        subject.session,
+        subject.layout,
+        view,
+        subject.whys,
+    );
+    report.showed(written)
 }
 
-/// A directive alone: what differs, or else, if all are to be shown, its output.
-pub(crate) fn alone(
+// Shows the script's report to programs.
+fn show_programs<M: Machine, W: ReportSink, E: ReportSink>(
     alloc: Global,
-    subject: &CheckedScript<'_>,
-    index: usize,
-    shown: Detail,
-) -> Result<Vec<u8>, AllocError>
-    requires findings { AreFindings subject.now }
-    requires within { index < length (plain_of subject.now).script.blocks }
-    ensures { IfOk result (λ made. made.items ≡ shown_alone shown (plain_of subject.now) (index + 1)) }
+    format: Format,
+    is_strict: bool,
+    subject: &CheckedScript<'_, M>,
+    report: &mut Report<W, E>,
+) -> Result<(), PathError>
+    requires { AreFindings subject.now }
+    ensures memory { IfErr result (λ error. error.failure ≡ OutOfMemory) }
+    ensures shown { PrintsIf result W.held report.old report.new (script_text format is_strict (plain_of subject.now)) }
 {
-    let mut sink = Through(Vec::new(alloc));
-    let run = &subject.script.run;
-    let shown_script = ShownScript {
-        session: &run.session,
-        layout: &run.layout,
-        whys: &run.whys,
-    };
-    let view = View {
-        path: subject.path.as_bytes(),
-        colors: subject.colors,
-        shown,
-    };
-    match write_alone(alloc, &mut sink, &shown_script, view, index) {
-        Ok(()) => Ok(sink.0),
-        Err(_) => Err(AllocError),
-    }
+    let text = formatted(alloc, format, is_strict, subject)?;
+    report.put(&text);
+    Ok(())
 }

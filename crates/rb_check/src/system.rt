@@ -1,27 +1,27 @@
 //! The system calls of a check.
 
-ghost use Rattle.std.specs.Prelude.{◌≡◌, ◌≢◌, ◌+◌, ◌++◌, ℕ, ⊤, Bool, false, true, Err, IfErr, IfOk, IfSome, IsErr, IsOk, MatchOption, MatchResult, List, length, string_bytes, take};
+ghost use Rattle.std.specs.Prelude.{◌≡◌, ◌≢◌, ◌+◌, ◌++◌, ℕ, ⊤, Bool, false, Err, IfErr, IfOk, IfSome, IsErr, IsOk, MatchOption, MatchResult, List, [], length, string_bytes, take};
 ghost use Rattle.rb_script.specs.Reads.{Reads};
 ghost use Rattle.rb_script_report.specs.Accepting.{accepted};
 ghost use Rattle.rb_check.specs.AcceptTexts.{left_in};
 ghost use Rattle.rb_check.specs.Reported.{IsUnread};
-ghost use Rattle.rb_check.specs.Shown.{Tells, cleared, left_file_text, taken_name_text};
+ghost use Rattle.rb_check.specs.Shown.{Prints, Tells, cleared, left_file_text};
 ghost use Rattle.rb_check.specs.Subjects.{plain_of};
-ghost use Rattle.rb_report.specs.declared.failure.Failure.TheVariants.{NotRead, OutOfMemory};
+ghost use Rattle.rb_report.specs.declared.check.failure.Failure.TheVariants.{NotRead, OutOfMemory};
 ghost use Rattle.rb_files.specs.PathErrors.{without_cause};
 ghost use Rattle.rb_files.specs.Places.{WasPut};
 
 use crate::checked_script::CheckedScript;
-use crate::error_stream::ErrorStream;
 use crate::notes::Note;
+use crate::report::Report;
 use crate::report_sink::ReportSink;
 use rb_files::{AtomicReplace, FilePlace, PathError, Unreplaced, file_at, opened, replace};
-use rb_report::Failure;
+use rb_machine::Machine;
+use rb_report::check::Failure;
 use rb_script::MAX_SCRIPT;
 use rb_script_report::AcceptOptions;
 use rb_text::{ReadFault, ReadSource, read_up_to};
 use std::alloc::Global;
-use std::cell::Cell;
 use std::fs::Metadata;
 use std::io::Read;
 use std::rt::Files;
@@ -57,16 +57,17 @@ pub(crate) trait System {
         ensures failed { IfErr result IsUnread };
 
     /// Puts the text in the place of the script's file: it is the script with the outputs that are wanted.
-    fn write<E: ReportSink>(
+    fn write<M: Machine, W: ReportSink, E: ReportSink>(
         &self,
-        subject: &CheckedScript<'_>,
+        subject: &CheckedScript<'_, M>,
         wanted: AcceptOptions<'_>,
         text: &[u8],
-        errors: &mut ErrorStream<E>,
+        report: &mut Report<W, E>,
     ) -> Result<(), PathError>
-        requires reads { Reads text.now (accepted wanted (plain_of subject.now).layout.text (plain_of subject.now).layout.heads.items (plain_of subject.now).script) }
+        requires reads { Reads text.now (accepted wanted subject.now.layout.now.text subject.now.layout.now.heads.items subject.now.session.now.script) }
         // Some output is accepted.
         requires changes { length (left_in wanted (plain_of subject.now)) ≢ subject.now.ran.left }
+        ensures shown { Prints W.held report.old report.new [] }
         ensures written { IfOk result (λ _. has_written self.now subject.now.path.now text.now × WasPut Self.Place.contents Self.Place.is_unchanged Self.Place.is_settled text.now) };
 
     /// Whether both paths lead to one script.
@@ -76,21 +77,7 @@ pub(crate) trait System {
 
 /// The calls of a runtime.
 #[derive(Drop)]
-pub(crate) struct RuntimeSystem<'a, R> {
-    rt: &'a R,
-    // a file that has the name of a new one was named: once is enough
-    has_told: Cell<bool>,
-}
-
-impl<'a, R> RuntimeSystem<'a, R> {
-    /// Nothing was told yet.
-    pub(crate) fn new(rt: &'a R) -> RuntimeSystem<'a, R> {
-        RuntimeSystem {
-            rt,
-            has_told: Cell::new(false),
-        }
-    }
-}
+pub(crate) struct RuntimeSystem<'a, R>(pub(crate) &'a R);
 
 // What files hold, and where paths lead, is not known.
 impl<'a, R: Files + AllocGlobal> System for RuntimeSystem<'a, R> {
@@ -103,32 +90,30 @@ impl<'a, R: Files + AllocGlobal> System for RuntimeSystem<'a, R> {
     type Place = AtomicReplace<'a, R>;
 
     fn alloc(&self) -> Global {
-        self.rt.alloc()
+        self.0.alloc()
     }
 
     fn read(&self, path: &str) -> Result<Text, PathError> {
-        let (file, seen) = opened(self.rt, path)?;
-        text_of(self.rt.alloc(), file, seen)
+        let (file, seen) = opened(self.0, path)?;
+        text_of(self.0.alloc(), file, seen)
     }
 
-    fn write<E: ReportSink>(
+    fn write<M: Machine, W: ReportSink, E: ReportSink>(
         &self,
-        subject: &CheckedScript<'_>,
+        subject: &CheckedScript<'_, M>,
         _wanted: AcceptOptions<'_>,
         text: &[u8],
-        errors: &mut ErrorStream<E>,
+        report: &mut Report<W, E>,
     ) -> Result<(), PathError> {
-        let seen = subject.script.text.seen.clone()?;
-        let mut place = AtomicReplace::new(self.rt, subject.path, seen)?;
+        let seen = subject.text.seen.clone()?;
+        let mut place = AtomicReplace::new(self.0, subject.path, seen)?;
         let outcome = replace(&mut place, text);
-        let tells = place.taken().is_some() && !self.has_told.get();
-        self.has_told.set(self.has_told.get() || tells);
-        told(outcome, &place, tells, errors)
+        told(outcome, &place, report)
     }
 
     fn is_one_script(&self, path: &str, other: &str) -> bool {
-        let one = file_at(self.rt, path).ok().flatten();
-        let another = file_at(self.rt, other).ok().flatten();
+        let one = file_at(self.0, path).ok().flatten();
+        let another = file_at(self.0, other).ok().flatten();
         are_one(&one, &another)
     }
 }
@@ -143,7 +128,7 @@ fn text_of<F: Read + Drop>(alloc: Global, file: F, seen: Metadata) -> Result<Tex
     Ok(Text { bytes, seen })
 }
 
-// Reads all bytes of a file; of one that is longer than a script may be, one byte more than that.
+// Reads all bytes of a file. Of a file longer than a script may be it reads one byte more than that.
 fn first_bytes<F: Read + Drop>(alloc: Global, file: F) -> Result<Vec<u8>, PathError>
     ensures bytes { IfOk result (λ bytes. IfSome (F.remaining file) (λ all. bytes.items ≡ take (MAX_SCRIPT + 1) all)) }
     ensures failed { IfErr result IsUnread }
@@ -176,28 +161,21 @@ fn are_one<T: PartialEq>(one: &Option<T>, another: &Option<T>) -> bool
     }
 }
 
-// Gives the error of a text that was not put in its place. A new file that could be neither used nor removed is named, and so, if it is to be, is a
-// file that had the new one's name.
-fn told<R: Files + AllocGlobal, E: ReportSink>(
+// Gives the error of a text that was not put in its place. A new file that could be neither used nor removed is named.
+fn told<R: Files + AllocGlobal, W: ReportSink, E: ReportSink>(
     outcome: Result<(), Unreplaced>,
     place: &AtomicReplace<'_, R>,
-    tells: bool,
-    errors: &mut ErrorStream<E>,
+    report: &mut Report<W, E>,
 ) -> Result<(), PathError>
+    ensures shown { Prints W.held report.old report.new [] }
     ensures outcome { MatchResult outcome (λ _. IsOk result) (λ why. result ≡ Err why.error) }
-    ensures taken { IsOk outcome → tells ≡ true → IfSome place.now.taken (λ path. Tells E.takes_all E.held errors.old errors.new (cleared errors.old.shows_progress ++ taken_name_text (string_bytes path))) }
-    ensures left { IsErr outcome → IfSome place.now.new (λ new. Tells E.takes_all E.held errors.old errors.new (cleared errors.old.shows_progress ++ left_file_text (string_bytes new.path))) }
+    ensures left { IsErr outcome → IfSome place.now.new (λ new. Tells E.takes_all E.held report.old report.new (cleared report.old.errors.shows_progress ++ left_file_text (string_bytes new.path))) }
 {
     match outcome {
-        Ok(()) => {
-            if tells && let Some(taken) = place.taken() {
-                errors.write(&Note::TakenName(taken.as_bytes()));
-            }
-            Ok(())
-        }
+        Ok(()) => Ok(()),
         Err(why) => {
             if let Some(left) = place.left() {
-                errors.write(&Note::LeftFile(left.as_bytes()));
+                report.errors.tell(&Note::LeftFile(left.as_bytes()));
             }
             Err(why.error)
         }

@@ -1,10 +1,12 @@
 //! The totals of a check as an object of JSON.
 
+ghost use Rattle.std.specs.Prelude.{◌≡◌, IfOk};
 ghost use Rattle.rb_check.specs.Objects.{totals_object, totals_piece};
 
-use rb_report::Totals;
+use rb_report::check::Totals;
 use rb_script::{Sink, WriteFault};
-use rb_text::{Piece, WrittenPiece, write_pieces};
+use rb_text::{Piece, WrittenPiece, add_pieces, put_pieces};
+use std::alloc::{AllocError, Global};
 
 /// A piece of the object.
 #[derive(Clone, Copy)]
@@ -18,10 +20,10 @@ pub(crate) enum TotalsPiece<'a> {
 impl WrittenPiece for TotalsPiece<'_> {
     ghost text = { totals_piece };
 
-    fn write_to<S: Sink>(&self, sink: &mut S) -> Result<(), WriteFault> {
+    fn put<S: Sink>(&self, sink: &mut S) -> Result<(), WriteFault> {
         match *self {
-            TotalsPiece::Bytes(bytes) => sink.write_all(bytes),
-            TotalsPiece::Count(name, count) => write_pieces(
+            TotalsPiece::Bytes(bytes) => sink.put(bytes),
+            TotalsPiece::Count(name, count) => put_pieces(
                 sink,
                 &[
                     Piece::Bytes(b",\""),
@@ -35,28 +37,28 @@ impl WrittenPiece for TotalsPiece<'_> {
 }
 
 /// The totals of all paths, as an object.
-#[derive(Clone, Copy)]
-pub(crate) struct TotalsObject(pub(crate) Totals);
-
-impl WrittenPiece for TotalsObject {
-    ghost text = { λ object. totals_object object.0 };
-
-    fn write_to<S: Sink>(&self, sink: &mut S) -> Result<(), WriteFault> {
-        let totals = self.0;
-        write_pieces(
-            sink,
-            &[
-                TotalsPiece::Bytes(b"{\"status\":\"totals\""),
-                TotalsPiece::Count(b"scripts", totals.scripts),
-                TotalsPiece::Count(b"directives", totals.directives),
-                TotalsPiece::Count(b"mismatches", totals.mismatches),
-                TotalsPiece::Count(b"refused", totals.refused),
-                TotalsPiece::Count(b"errors", totals.errors),
-                TotalsPiece::Count(b"warnings", totals.warnings),
-                TotalsPiece::Count(b"accepted", totals.accepted),
-                TotalsPiece::Count(b"failed", totals.failed),
-                TotalsPiece::Bytes(b"}\n"),
-            ],
-        )
-    }
+///
+/// # Errors
+///
+/// If memory was refused.
+pub(crate) fn totals_object(alloc: Global, totals: &Totals) -> Result<Vec<u8>, AllocError>
+    ensures { IfOk result (λ made. made.items ≡ totals_object totals.now) }
+{
+    let mut text = Vec::new(alloc);
+    add_pieces(
+        &mut text,
+        &[
+            TotalsPiece::Bytes(b"{\"status\":\"totals\""),
+            TotalsPiece::Count(b"scripts", totals.scripts),
+            TotalsPiece::Count(b"directives", totals.directives),
+            TotalsPiece::Count(b"mismatches", totals.mismatches),
+            TotalsPiece::Count(b"refused", totals.refused),
+            TotalsPiece::Count(b"errors", totals.errors),
+            TotalsPiece::Count(b"warnings", totals.warnings),
+            TotalsPiece::Count(b"accepted", totals.accepted),
+            TotalsPiece::Count(b"failed", totals.failed),
+            TotalsPiece::Bytes(b"}\n"),
+        ],
+    )?;
+    Ok(text)
 }

@@ -11,9 +11,9 @@ ghost use Rattle.rb_report.specs.Names.{by_number};
 ghost use Rattle.rb_check.specs.Visible.{acts, stays, visible_byte, json_byte, byte_shown, is_harmful, showing_of_lines, text_shown};
 
 use rb_bench::Outlet;
-use rb_report::{by_number, has_acting_char};
+use rb_report::check::{by_number, has_acting_char};
 use rb_script::{Lines, Sink, Through, WriteFault};
-use rb_text::{Escape, write_escaped};
+use rb_text::{Escape, put_escaped};
 use std::alloc::{AllocError, Global};
 
 /// How bytes go out.
@@ -21,7 +21,7 @@ use std::alloc::{AllocError, Global};
 pub enum Showing {
     /// As they are.
     AsIs,
-    /// All but printable ASCII, tabs and ends of lines by their numbers. What has such numbers already, as names and outputs do, stays as it is.
+    /// All but printable ASCII, tabs and ends of lines by their numbers, and backslashes too, so that no two bytes look alike.
     Visible,
     /// As they are in JSON, with DEL by its number.
     Json,
@@ -30,20 +30,19 @@ pub enum Showing {
 impl Escape for Showing {
     ghost text = { byte_shown };
 
-    fn write_byte<S: Sink>(&self, sink: &mut S, b: u8) -> Result<(), WriteFault> {
+    fn put<S: Sink>(&self, sink: &mut S, b: u8) -> Result<(), WriteFault> {
         match *self {
-            Showing::AsIs => sink.write_all(&[b]),
-            Showing::Visible => write_visible_byte(sink, b),
-            Showing::Json => write_json_byte(sink, b),
+            Showing::AsIs => sink.put(&[b]),
+            Showing::Visible => put_visible_byte(sink, b),
+            Showing::Json => put_json_byte(sink, b),
         }
     }
 }
 
-// Whether a byte is written as it is: printable ASCII, a tab, or a line end.
 fn stays(b: u8) -> bool
     ensures { result ≡ stays b }
 {
-    b == b'\n' || b == b'\t' || (b' ' <= b && b <= b'~')
+    b == b'\n' || b == b'\t' || (b' ' <= b && b <= b'~' && b != b'\\')
 }
 
 /// The byte itself, or its number if it isn't printable.
@@ -53,31 +52,31 @@ pub(crate) fn visible_text<'a>(b: u8, itself: &'a [u8], number: &'a [u8]) -> &'a
     if stays(b) { itself } else { number }
 }
 
-fn write_visible_byte<S: Sink>(sink: &mut S, b: u8) -> Result<(), WriteFault>
+fn put_visible_byte<S: Sink>(sink: &mut S, b: u8) -> Result<(), WriteFault>
     ensures wrote { Writes result (S.held sink.old) (S.held sink.new) (visible_byte b) }
     ensures all { S.takes_all sink.old → IsOk result × S.takes_all sink.new }
 {
-    sink.write_all(visible_text(b, &[b], &by_number(b)))
+    sink.put(visible_text(b, &[b], &by_number(b)))
 }
 
-fn write_json_byte<S: Sink>(sink: &mut S, b: u8) -> Result<(), WriteFault>
+fn put_json_byte<S: Sink>(sink: &mut S, b: u8) -> Result<(), WriteFault>
     ensures wrote { Writes result (S.held sink.old) (S.held sink.new) (json_byte b) }
     ensures all { S.takes_all sink.old → IsOk result × S.takes_all sink.new }
 {
     if b == 127 {
-        sink.write_all(b"\\u007f")
+        sink.put(b"\\u007f")
     } else {
-        sink.write_all(&[b])
+        sink.put(&[b])
     }
 }
 
-fn write_showing<S: Sink>(sink: &mut S, showing: Showing, bytes: &[u8]) -> Result<(), WriteFault>
+fn put_shown<S: Sink>(sink: &mut S, showing: Showing, bytes: &[u8]) -> Result<(), WriteFault>
     ensures wrote { Writes result (S.held sink.old) (S.held sink.new) (text_shown showing bytes.now) }
     ensures all { S.takes_all sink.old → IsOk result × S.takes_all sink.new }
 {
     match showing {
-        Showing::AsIs => sink.write_all(bytes),
-        Showing::Visible | Showing::Json => write_escaped(sink, &showing, bytes),
+        Showing::AsIs => sink.put(bytes),
+        Showing::Visible | Showing::Json => put_escaped(sink, &showing, bytes),
     }
 }
 
@@ -92,7 +91,7 @@ impl<S> VisibleSink<S> {
     ghost use Rattle.std.specs.Prelude.{◌≡◌};
     ghost use Rattle.rb_check.specs.Visible.{showing_of_lines};
 
-    /// A sink for texts about a script with these lines: by numbers if a line is harmful.
+    /// A screen for what is shown of a script with these lines. If a byte of them acts, bytes are put by their numbers.
     pub fn of_script(sink: S, lines: &Lines) -> VisibleSink<S>
         ensures { result.showing ≡ showing_of_lines lines.now }
     {
@@ -107,8 +106,8 @@ impl<S: Sink> Sink for VisibleSink<S> {
 
     ghost takes_all = { λ _. ⊥ };
 
-    fn write_all(&mut self, bytes: &[u8]) -> Result<(), WriteFault> {
-        write_showing(&mut self.sink, self.showing, bytes)
+    fn put(&mut self, bytes: &[u8]) -> Result<(), WriteFault> {
+        put_shown(&mut self.sink, self.showing, bytes)
     }
 }
 
@@ -127,21 +126,21 @@ fn acts(b: u8) -> bool
     (b < b' ' && b != b'\t') || b == 127
 }
 
-// Whether a byte of a line acts in a terminal.
+// Whether a byte of the line does.
 fn has_control(line: &[u8]) -> bool
     ensures { result ≡ list_any acts line.now }
 {
     line.iter().any(|b| acts(*b))
 }
 
-// Whether a line has something that acts in a terminal, or isn't UTF-8.
+// Whether a line has something that would act, or is no text.
 fn is_harmful(line: &[u8]) -> bool
     ensures { result ≡ is_harmful line.now }
 {
     has_control(line) || has_acting_char(line)
 }
 
-// Whether one of these lines is harmful.
+// Whether one of the lines has.
 fn are_harmful(lines: &Lines) -> bool
     ensures { result ≡ list_any is_harmful lines.now }
 {
@@ -153,7 +152,7 @@ fn are_harmful(lines: &Lines) -> bool
     false
 }
 
-/// How texts about a script with these lines are written: as they are, or by numbers if a line is harmful.
+/// How what is shown of a script goes out, which has these lines.
 pub(crate) fn showing_of_lines(lines: &Lines) -> Showing
     ensures { result ≡ showing_of_lines lines.now }
 {
@@ -164,12 +163,12 @@ pub(crate) fn showing_of_lines(lines: &Lines) -> Showing
     }
 }
 
-/// Copies a text about a script with these lines: by numbers if a line is harmful.
+/// Copies what is shown of a script with these lines. If a byte of them acts, bytes are there by their numbers.
 pub fn shown_of_script(alloc: Global, lines: &Lines, bytes: &[u8]) -> Result<Vec<u8>, AllocError>
     ensures { IfOk result (λ shown. shown.items ≡ text_shown (showing_of_lines lines.now) bytes.now) }
 {
     let mut sink = Through(Vec::new(alloc));
-    match write_showing(&mut sink, showing_of_lines(lines), bytes) {
+    match put_shown(&mut sink, showing_of_lines(lines), bytes) {
         Ok(()) => Ok(sink.0),
         Err(_) => Err(AllocError),
     }

@@ -1,15 +1,15 @@
-//! Bytes in XML.
+//! Bytes as they are in XML.
 
 ghost use Rattle.std.specs.Prelude.{IsOk};
 ghost use Rattle.rb_script.specs.Writes.{Writes};
-ghost use Rattle.rb_check.specs.Xml.{byte_text, in_text, in_value, line_end, piece_text, seconds_text};
+ghost use Rattle.rb_check.specs.Xml.{byte_text, in_text, in_value, line_end, piece_text};
 
 use crate::piece::without_front;
-use crate::replaced::{Replaced, write_replaced};
+use crate::replaced::{Replaced, put_replaced};
 use crate::visible::visible_text;
-use rb_report::by_number;
+use rb_report::check::{by_number, put_name};
 use rb_script::{Sink, WriteFault};
-use rb_text::{Escape, Piece, WrittenPiece, write_escaped, write_number, write_pieces};
+use rb_text::{Escape, Piece, WrittenPiece, put_escaped, put_number, put_pieces};
 
 /// Where bytes are in XML.
 #[derive(Clone, Copy)]
@@ -23,15 +23,15 @@ pub(crate) enum XmlPart {
 impl Escape for XmlPart {
     ghost text = { byte_text };
 
-    fn write_byte<S: Sink>(&self, sink: &mut S, b: u8) -> Result<(), WriteFault> {
+    fn put<S: Sink>(&self, sink: &mut S, b: u8) -> Result<(), WriteFault> {
         match *self {
-            XmlPart::Text => write_text_byte(sink, b),
-            XmlPart::Value => write_value_byte(sink, b),
+            XmlPart::Text => put_text_byte(sink, b),
+            XmlPart::Value => put_value_byte(sink, b),
         }
     }
 }
 
-fn write_text_byte<S: Sink>(sink: &mut S, b: u8) -> Result<(), WriteFault>
+fn put_text_byte<S: Sink>(sink: &mut S, b: u8) -> Result<(), WriteFault>
     ensures wrote { Writes result (S.held sink.old) (S.held sink.new) (in_text b) }
     ensures all { S.takes_all sink.old → IsOk result × S.takes_all sink.new }
 {
@@ -41,10 +41,10 @@ fn write_text_byte<S: Sink>(sink: &mut S, b: u8) -> Result<(), WriteFault>
         Replaced(b'>', b"&gt;"),
         Replaced(b'"', b"&quot;"),
     ];
-    write_replaced(sink, &table, b, visible_text(b, &[b], &by_number(b)))
+    put_replaced(sink, &table, b, visible_text(b, &[b], &by_number(b)))
 }
 
-fn write_value_byte<S: Sink>(sink: &mut S, b: u8) -> Result<(), WriteFault>
+fn put_value_byte<S: Sink>(sink: &mut S, b: u8) -> Result<(), WriteFault>
     ensures wrote { Writes result (S.held sink.old) (S.held sink.new) (in_value b) }
     ensures all { S.takes_all sink.old → IsOk result × S.takes_all sink.new }
 {
@@ -56,7 +56,7 @@ fn write_value_byte<S: Sink>(sink: &mut S, b: u8) -> Result<(), WriteFault>
         Replaced(b'>', b"&gt;"),
         Replaced(b'"', b"&quot;"),
     ];
-    write_replaced(sink, &table, b, visible_text(b, &[b], &by_number(b)))
+    put_replaced(sink, &table, b, visible_text(b, &[b], &by_number(b)))
 }
 
 /// A piece of XML.
@@ -64,10 +64,10 @@ fn write_value_byte<S: Sink>(sink: &mut S, b: u8) -> Result<(), WriteFault>
 pub(crate) enum XmlPiece<'a> {
     /// The bytes as they are.
     Bytes(&'a [u8]),
+    /// A name as it is shown.
+    Name(&'a [u8]),
     /// A number in decimal digits.
     Number(u64),
-    /// Milliseconds, in seconds.
-    Seconds(u64),
     /// The bytes as they are in the text of an element.
     Text(&'a [u8]),
     /// The bytes as they are in the value of an attribute.
@@ -81,43 +81,27 @@ pub(crate) enum XmlPiece<'a> {
 impl WrittenPiece for XmlPiece<'_> {
     ghost text = { piece_text };
 
-    fn write_to<S: Sink>(&self, sink: &mut S) -> Result<(), WriteFault> {
+    fn put<S: Sink>(&self, sink: &mut S) -> Result<(), WriteFault> {
         match *self {
-            XmlPiece::Bytes(bytes) => sink.write_all(bytes),
-            XmlPiece::Number(number) => write_number(sink, number),
-            XmlPiece::Seconds(milliseconds) => write_seconds(sink, milliseconds),
-            XmlPiece::Text(bytes) => write_escaped(sink, &XmlPart::Text, bytes),
-            XmlPiece::Value(bytes) => write_escaped(sink, &XmlPart::Value, bytes),
+            XmlPiece::Bytes(bytes) => sink.put(bytes),
+            XmlPiece::Name(name) => put_name(sink, name),
+            XmlPiece::Number(number) => put_number(sink, number),
+            XmlPiece::Text(bytes) => put_escaped(sink, &XmlPart::Text, bytes),
+            XmlPiece::Value(bytes) => put_escaped(sink, &XmlPart::Value, bytes),
             XmlPiece::File(path) => {
-                write_escaped(sink, &XmlPart::Value, without_front(b"./", path))
+                put_escaped(sink, &XmlPart::Value, without_front(b"./", path))
             }
-            XmlPiece::LineEnd(line) => write_line_end(sink, line),
+            XmlPiece::LineEnd(line) => put_line_end(sink, line),
         }
     }
 }
 
-fn write_seconds<S: Sink>(sink: &mut S, milliseconds: u64) -> Result<(), WriteFault>
-    ensures wrote { Writes result (S.held sink.old) (S.held sink.new) (seconds_text milliseconds) }
-    ensures all { S.takes_all sink.old → IsOk result × S.takes_all sink.new }
-{
-    write_pieces(
-        sink,
-        &[
-            Piece::Number(milliseconds / 1000),
-            Piece::Bytes(b"."),
-            Piece::Number(milliseconds / 100 % 10),
-            Piece::Number(milliseconds / 10 % 10),
-            Piece::Number(milliseconds % 10),
-        ],
-    )
-}
-
-fn write_line_end<S: Sink>(sink: &mut S, line: Option<usize>) -> Result<(), WriteFault>
+fn put_line_end<S: Sink>(sink: &mut S, line: Option<usize>) -> Result<(), WriteFault>
     ensures wrote { Writes result (S.held sink.old) (S.held sink.new) (line_end line) }
     ensures all { S.takes_all sink.old → IsOk result × S.takes_all sink.new }
 {
     match line {
-        Some(line) => write_pieces(
+        Some(line) => put_pieces(
             sink,
             &[
                 Piece::Bytes(b"\" line=\""),
@@ -125,6 +109,6 @@ fn write_line_end<S: Sink>(sink: &mut S, line: Option<usize>) -> Result<(), Writ
                 Piece::Bytes(b"\">"),
             ],
         ),
-        None => sink.write_all(b"\">"),
+        None => sink.put(b"\">"),
     }
 }

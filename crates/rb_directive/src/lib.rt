@@ -33,10 +33,10 @@ pub use laws::{
     counts_are_first_words, names_are_apart, names_say_what_is_asked_for, numbers_are_read,
     options_are_those_of_the_table, requests_are_within, voters_and_learners_are_apart,
 };
-pub use limits::{MAX_ID, MAX_NODES, limits_are};
+pub use limits::{MAX_ID, MAX_MESSAGES, MAX_NODES, limits_are};
 pub use name::Name;
 pub use node_command::NodeCommand;
 pub use node_command_with_arg::NodeCommandWithArg;
 pub use requests::{AddNodes, DeliverMsgs, MailChoice, ProposeConfChange, Request};
-pub use table::{argument_of, is_name};
+pub use table::{OptionRow, Row, argument_of, is_name};
 pub use type_set::TypeSet;

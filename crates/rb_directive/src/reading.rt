@@ -68,7 +68,7 @@ fn take<'d>(given: &mut Arguments<'d>, argument: Argument, said: &ArgumentRef<'d
 }
 
 // Adds an option, if the directive has it.
-fn insert_option<'d>(
+fn add_option<'d>(
     row: &Row,
     said: &ArgumentRef<'d>,
     given: &mut Arguments<'d>,
@@ -86,7 +86,7 @@ fn insert_option<'d>(
 }
 
 // Adds a word, if the directive has one at this position.
-fn insert_word<'d>(
+fn add_word<'d>(
     row: &Row,
     said: &ArgumentRef<'d>,
     given: &mut Arguments<'d>,
@@ -104,7 +104,7 @@ fn insert_word<'d>(
 }
 
 // Adds an argument.
-fn insert_argument<'d>(
+fn add<'d>(
     row: &Row,
     said: &ArgumentRef<'d>,
     given: &mut Arguments<'d>,
@@ -112,9 +112,9 @@ fn insert_argument<'d>(
     ensures { MatchResult result (λ _. with_argument row.now said.now given.old ≡ Ok given.new) (λ e. with_argument row.now said.now given.old ≡ Err e) }
 {
     if said.has_equals() {
-        insert_option(row, said, given)
+        add_option(row, said, given)
     } else {
-        insert_word(row, said, given)
+        add_word(row, said, given)
     }
 }
 
@@ -128,7 +128,7 @@ pub(crate) fn read<'d>(
 {
     let mut given = Arguments::nothing();
     for place in 0..directive.args() {
-        insert_argument(row, &ArgumentRef::at(directive, place), &mut given)?;
+        add(row, &ArgumentRef::at(directive, place), &mut given)?;
     }
     Ok(given)
 }

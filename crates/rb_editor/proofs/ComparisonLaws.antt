@@ -3,8 +3,8 @@ use Rattle.std.proofs.Common.{◌≡◌, ◌∙◌, ℕ, ◌+◌, ◌-◌, ◌<�
 use Rattle.std.specs.Prelude.{◌&&◌, nat_le, if◌then◌else◌}
 use Rattle.std.proofs.lemmas.Bool.Decides.{nat_tests}
 use Rattle.rb_script.specs.Lines.{Line}
-use Rattle.rb_report.specs.declared.colors.Colors.TheVariants.{Off}
-use Rattle.rb_report.specs.declared.table.TheConstants.{MAX_CELLS}
+use Rattle.rb_report.specs.declared.check.colors.Colors.TheVariants.{Off}
+use Rattle.rb_report.specs.declared.check.table.TheConstants.{MAX_CELLS}
 use Rattle.rb_report.specs.Diffs.{Stretch, work, stretches, fits, middle, middle_cells, plain, without_last, last, parts_between, parts_within, cells_within, left_after}
 use Rattle.rb_report.specs.Folds.{folded_text}
 use Rattle.rb_report.proofs.CellLaws.{most-of_all}

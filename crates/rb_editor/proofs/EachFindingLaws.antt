@@ -7,7 +7,7 @@ use Rattle.rb_script.specs.Lines.{Line}
 use Rattle.rb_script.specs.Script.{PlainBlock, PlainScript}
 use Rattle.rb_replay.specs.Run.{outputs}
 use Rattle.rb_replay.specs.Report.{same_lines}
-use Rattle.rb_report.specs.declared.table.TheConstants.{MAX_SCRIPT_CELLS}
+use Rattle.rb_report.specs.declared.check.table.TheConstants.{MAX_SCRIPT_CELLS}
 use Rattle.rb_report.specs.Diffs.{cells_within}
 use Rattle.rb_report.proofs.CellLaws.{most-of_all}
 use Rattle.rb_text.proofs.SentLaws.{drop-get}

@@ -12,7 +12,7 @@ use Rattle.rb_script.specs.HeadLines.{AreHeadLines}
 use Rattle.rb_script.proofs.ScriptLaws.{read_complete}
 use Rattle.rb_replay.specs.Run.{outputs}
 use Rattle.rb_replay.specs.Report.{mismatches}
-use Rattle.rb_report.specs.declared.table.TheConstants.{MAX_SCRIPT_CELLS}
+use Rattle.rb_report.specs.declared.check.table.TheConstants.{MAX_SCRIPT_CELLS}
 use Rattle.rb_script_report.specs.declared.warning.Warning.{Warning}
 use Rattle.rb_editor.specs.BlockLines.{StandsIn}
 use Rattle.rb_editor.proofs.BlockLaws.{all_stand}

@@ -21,8 +21,6 @@ pub mod RunLaws
 pub mod WorkLaws
 pub mod StopLaws
 pub mod ServedLaws
-pub mod UnclosedLaws
-pub mod ReadBlockLaws
 pub mod SomeRowLaws
 pub mod FixLaws
 pub mod FrontLaws
@@ -33,7 +31,6 @@ pub mod BlockLaws
 pub mod ListLaws
 pub mod OfferLaws
 pub mod FormatLaws
-pub mod FoundLaws
 pub mod AboveLaws
 pub mod StartLaws
 pub mod WhyLaws
@@ -44,4 +41,3 @@ pub mod WantedLaws
 pub mod WordLaws
 pub mod IdLaws
 pub mod PieceLaws
-pub mod IdPlaceLaws

@@ -8,9 +8,9 @@ use Rattle.rb_directive.specs.declared.table.Row.{Row}
 use Rattle.rb_directive.specs.declared.table.OptionRow.{OptionRow}
 use Rattle.rb_directive.specs.Names.{argument_text, name_text}
 use Rattle.rb_directive.specs.Table.{directives, options as table_options}
-use Rattle.rb_help.specs.Manual.{Key, Page, keys, pages}
-use Rattle.rb_help.specs.Choices.{choices_of}
-use Rattle.rb_help.specs.Nearest.{keys_of}
+use Rattle.rb_report.specs.Manual.{Key, Page, keys, pages}
+use Rattle.rb_report.specs.Choices.{choices_of}
+use Rattle.rb_report.specs.Nearest.{keys_of}
 use Rattle.rb_editor.specs.OfferLaws.{words}
 use Rattle.rb_editor.specs.declared.offers.offer.OfferKind.{OfferKind}
 use Rattle.rb_editor.specs.Offers.{PlainOffer, begins_with, chosen, fits, if_kept, key_offer, keyed, named, options, takes, values}

@@ -12,7 +12,7 @@ use Rattle.rb_replay.specs.Run.{outputs}
 use Rattle.rb_replay.specs.Report.{same_lines, differing, mismatches}
 use Rattle.rb_script_report.specs.Errors.{is_error, is_unexpected, says_error}
 use Rattle.rb_script_report.specs.Checked.{left_next}
-use Rattle.rb_report.specs.declared.table.TheConstants.{MAX_SCRIPT_CELLS}
+use Rattle.rb_report.specs.declared.check.table.TheConstants.{MAX_SCRIPT_CELLS}
 use Rattle.rb_lsp.proofs.PlaceLaws.{test_cases}
 use Rattle.rb_editor.specs.Diagnostics.{PlainDiagnostic}
 use Rattle.rb_editor.specs.Heads.{heads_of}

@@ -6,8 +6,7 @@ use Rattle.rb_lsp.specs.declared.document.position.Encoding.{Encoding}
 use Rattle.rb_editor.specs.declared.actions.piece.PieceKind.{PieceKind}
 use Rattle.rb_editor.specs.declared.actions.piece.OffsetSpan.{OffsetSpan}
 use Rattle.rb_editor.specs.declared.offers.block_lines.BlockLines.{BlockLines}
-use Rattle.rb_editor.specs.BlockLines.{block_with, has_line}
-use Rattle.rb_editor.specs.Selections.{closings, ends, fronts, inside_after, inside_of, last_after, nested, piece_end, piece_start, span_text, taken}
+use Rattle.rb_editor.specs.Selections.{block_with, closings, ends, fronts, has_line, inside_after, inside_of, last_after, nested, piece_end, piece_start, span_text, taken}
 
 -- ---- pieces
 

@@ -7,7 +7,7 @@ use Rattle.rb_script.specs.Reading.{read_of}
 use Rattle.rb_script.proofs.ScriptLaws.{read_complete}
 use Rattle.rb_lsp.specs.declared.server.stop.Stop.{Stop}
 use Rattle.rb_lsp.specs.declared.server.query.Query.{Query}
-use Rattle.rb_lsp.specs.declared.server.query.Query.TheVariants.{CodeAction, CodeLens, Completion, Definition, DocumentHighlight, DocumentSymbol, FoldingRange, Formatting, Hover, InlayHint, PrepareRename, RangeFormatting, References, Rename, Rows, SelectionRange}
+use Rattle.rb_lsp.specs.declared.server.query.Query.TheVariants.{CodeAction, CodeLens, Completion, Definition, DocumentHighlight, DocumentSymbol, FoldingRange, Formatting, Hover, InlayHint, RangeFormatting, References, Rows, SelectionRange}
 use Rattle.rb_editor.specs.Diagnostics.{PlainDiagnostic}
 use Rattle.rb_editor.specs.Findings.{diagnosed}
 use Rattle.rb_editor.specs.Served.{above_fault, fault_in, fault_of, marks, served, shown, text_for}
@@ -63,8 +63,6 @@ needed_text (Definition position) text stop is may = absurd cc
 needed_text (References position includes) text stop is may = absurd cc
 needed_text (DocumentHighlight position) text stop is may = absurd cc
 needed_text (SelectionRange position) text stop is may = absurd cc
-needed_text (PrepareRename position) text stop is may = absurd cc
-needed_text (Rename position new) text stop is may = absurd cc
 
 pub stop_above : (asked : Query) (text front : List ℕ) (stop : Stop) → needs_run asked ≡ true → front ≡ text_for asked text → may_stop front stop ≡ true → may_stop (served text) stop ≡ true
 stop_above asked text front stop is above may =

@@ -9,8 +9,8 @@ use Rattle.rb_script.specs.Script.{PlainBlock, PlainScript}
 use Rattle.rb_script.specs.Reading.{read_of}
 use Rattle.rb_replay.specs.Run.{outputs}
 use Rattle.rb_replay.specs.Report.{same_lines}
-use Rattle.rb_report.specs.declared.warning_kind.WarningKind.{WarningKind}
-use Rattle.rb_report.specs.declared.warning_kind.WarningKind.TheVariants.{InExpectation, InInput, Unread}
+use Rattle.rb_report.specs.declared.check.warning_kind.WarningKind.{WarningKind}
+use Rattle.rb_report.specs.declared.check.warning_kind.WarningKind.TheVariants.{InExpectation, InInput, Unread}
 use Rattle.rb_script_report.specs.declared.warning.Warning.{Warning}
 use Rattle.rb_script_report.specs.declared.accept_options.AcceptFilter.{AcceptFilter}
 use Rattle.rb_script_report.specs.declared.accept_options.AcceptFilter.TheVariants as picks

@@ -1,5 +1,5 @@
 -- The lines of a script's blocks. (docs/SCRIPTS.md, "A block". Lines count from 0.)
-use Rattle.std.specs.Prelude.{ℕ, ◌+◌, ◌-◌, ◌≤◌, ◌<◌, Bool, ◌&&◌, nat_le, nat_lt, if◌then◌else◌, List, [], ◌∷◌, length, drop, Option, Some, None, Result, Ok, Err}
+use Rattle.std.specs.Prelude.{ℕ, ◌+◌, ◌-◌, ◌≤◌, ◌<◌, if◌then◌else◌, List, [], ◌∷◌, length, drop, Option, Some, None, Result, Ok, Err}
 use Rattle.rb_script.specs.declared.fault.ScriptFault.{ScriptFault}
 use Rattle.rb_script.specs.Lines.{Line, lines}
 use Rattle.rb_script.specs.Script.{PlainBlock, PlainScript}
@@ -59,14 +59,6 @@ of_script bytes (Some s) = all_lines (lines bytes) (heads_of bytes s) s.blocks
 -- the lines of each block of a text; none if it isn't a script
 unfoldable pub blocks_of : List ℕ → List BlockLines
 blocks_of bytes = of_script bytes (script_of bytes)
-
-abbrev pub has_line : ℕ → BlockLines → Bool
-has_line n b = nat_le b.from n && nat_lt n b.end
-
--- the block that has a line
-abbrev pub block_with : ℕ → List BlockLines → Option BlockLines
-block_with n [] = None
-block_with n (b ∷ bs) = if has_line n b then Some b else block_with n bs
 
 -- Each of the blocks begins at line k or later, after the one before; each has a head, a separator below it, and perhaps more, and all end up
 -- to line n.

@@ -1,5 +1,5 @@
 -- What a text can continue with at a place. (LSP 3.17, "CompletionItem": kind 3 is a function, 10 a property, 12 a value.)
-use Rattle.std.specs.Prelude.{ℕ, ◌-◌, Bool, ◌&&◌, if◌then◌else◌, List, [], ◌++◌, codes, decimal, drop, length, slice_index_or, Option, Some, None}
+use Rattle.std.specs.Prelude.{ℕ, ◌-◌, Bool, true, ◌&&◌, List, [], ◌++◌, codes, decimal, drop, length, slice_index_or, Option, Some, None}
 use Rattle.std.specs.List.{flat_map}
 use Rattle.rb_script.specs.Lines.{lines}
 use Rattle.rb_script.specs.Marks.{is_blank}
@@ -7,8 +7,6 @@ use Rattle.rb_text.specs.Json.{escaped}
 use Rattle.rb_lsp.specs.Places.{position_of}
 use Rattle.rb_lsp.specs.declared.server.client.Client.{Client}
 use Rattle.rb_editor.specs.declared.offers.completion.ItemPlace.{ItemPlace}
-use Rattle.rb_editor.specs.declared.offers.completion.NameEnd.{NameEnd}
-use Rattle.rb_editor.specs.declared.offers.completion.NameEnd.TheVariants as ends
 use Rattle.rb_editor.specs.declared.offers.offer.OfferKind.{OfferKind}
 use Rattle.rb_editor.specs.declared.offers.offer.OfferKind.TheVariants as kinds
 use Rattle.rb_editor.specs.Unfinished.{wanted_of}
@@ -34,37 +32,31 @@ front_text o =
     codes "{\"label\":\"" ++ (flat_map escaped o.word ++ (mark o.kind ++ (codes "\",\"kind\":" ++ (decimal (kind_number o.kind)
     ++ (codes ",\"documentation\":\"" ++ (flat_map escaped o.documentation ++ codes "\",\"textEdit\":{\"range\":"))))))
 
--- A name may come with the line `----` and an empty line below it. In a snippet the cursor is behind the name, and then in the empty line. (LSP 3.17,
--- "InsertTextFormat" 2 and "Snippet Syntax".)
-abbrev pub name_end : NameEnd → List ℕ
-name_end ends.Alone = codes "\"}}"
-name_end ends.Lines = codes "\\n----\\n\"}}"
-name_end ends.Snippet = codes "$1\\n----\\n$0\"},\"insertTextFormat\":2}"
+-- A name may come with the line `----` and an empty line below it, as a snippet: the cursor is behind the name, and then in the empty line.
+-- (LSP 3.17, "InsertTextFormat" 2 and "Snippet Syntax".)
+abbrev pub end_text : Bool → OfferKind → List ℕ
+end_text true kinds.Directive = codes "$1\\n----\\n$0\"},\"insertTextFormat\":2}"
+end_text has_block kind = codes "\"}}"
 
-abbrev pub end_text : NameEnd → OfferKind → List ℕ
-end_text end kinds.Directive = name_end end
-end_text end kinds.Key = codes "\"}}"
-end_text end kinds.Value = codes "\"}}"
+unfoldable pub back_text : Bool → PlainOffer → List ℕ
+back_text has_block o = codes ",\"newText\":\"" ++ (flat_map escaped o.word ++ (mark o.kind ++ end_text has_block o.kind))
 
-unfoldable pub back_text : NameEnd → PlainOffer → List ℕ
-back_text end o = codes ",\"newText\":\"" ++ (flat_map escaped o.word ++ (mark o.kind ++ end_text end o.kind))
-
--- a word, in place of the text there
+-- a word, in place of the text there; a name has its block if that is wanted
 unfoldable pub item_text : ItemPlace → PlainOffer → List ℕ
-item_text p o = front_text o ++ (range_text p.start p.end ++ back_text p.name_end o)
+item_text p o = front_text o ++ (range_text p.start p.end ++ back_text p.has_block o)
 
 -- the line at an index is blank, or there is none
 abbrev pub is_blank_at : ℕ → List ℕ → Bool
 is_blank_at n text = is_blank (slice_index_or (lines text) n [])
 
--- A name at an offset comes with lines if nothing is behind it, nor on the line below: as a snippet if the client takes these.
-abbrev pub name_end_at : Client → List ℕ → ℕ → NameEnd
-name_end_at client text at = if is_blank_at 0 (drop at text) && is_blank_at 1 (drop at text) then (if client.takes_snippets then ends.Snippet else ends.Lines) else ends.Alone
+-- a name at an offset has its block if the client takes snippets, and nothing is behind it, nor on the line below
+abbrev pub has_block : Client → List ℕ → ℕ → Bool
+has_block client text at = client.takes_snippets && (is_blank_at 0 (drop at text) && is_blank_at 1 (drop at text))
 
 -- in place of a prefix that ends at an offset
 abbrev pub items_place : Client → List ℕ → ℕ → List ℕ → ItemPlace
 items_place client text at prefix =
-    record { start = position_of client.encoding (at - length prefix) text; end = position_of client.encoding at text; name_end = name_end_at client text at }
+    record { start = position_of client.encoding (at - length prefix) text; end = position_of client.encoding at text; has_block = has_block client text at }
 
 -- words, each in that place
 abbrev pub items_text : Client → List ℕ → ℕ → List ℕ → List PlainOffer → List ℕ

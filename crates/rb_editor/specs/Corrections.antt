@@ -8,7 +8,7 @@ use Rattle.rb_script.specs.Directive.{PlainDirective}
 use Rattle.rb_script.specs.Script.{PlainBlock}
 use Rattle.rb_script.specs.Reading.{directive_of}
 use Rattle.rb_text.specs.Json.{escaped}
-use Rattle.rb_help.specs.Suggestions.{suggested_word, wrong_word}
+use Rattle.rb_report.specs.Suggestions.{suggested_word, wrong_word}
 use Rattle.rb_lsp.specs.declared.document.position.Encoding.{Encoding}
 use Rattle.rb_lsp.specs.declared.document.position.Position.{Position}
 use Rattle.rb_lsp.specs.Places.{offset, position_of}

@@ -9,12 +9,12 @@ use Rattle.rb_script.specs.Reads.{begins_rule}
 use Rattle.rb_script.specs.Reading.{directive_of, read_of}
 use Rattle.rb_replay.specs.Run.{outputs}
 use Rattle.rb_replay.specs.Report.{mismatches, same_lines}
-use Rattle.rb_report.specs.declared.colors.Colors.TheVariants.{Off}
-use Rattle.rb_help.specs.Suggestions.{suggested}
+use Rattle.rb_report.specs.declared.check.colors.Colors.TheVariants.{Off}
+use Rattle.rb_report.specs.Suggestions.{suggested}
 use Rattle.rb_report.specs.Hints.{PlainHint, meant, sentence, unknown}
 use Rattle.rb_report.specs.Notices.{warning_sentence}
 use Rattle.rb_report.specs.Refusals.{sentence as fault_sentence, fault_line}
-use Rattle.rb_report.specs.declared.table.TheConstants.{MAX_SCRIPT_CELLS}
+use Rattle.rb_report.specs.declared.check.table.TheConstants.{MAX_SCRIPT_CELLS}
 use Rattle.rb_report.specs.Diffs.{cells_within, parts_within}
 use Rattle.rb_report.specs.Folds.{folded_text}
 use Rattle.rb_script_report.specs.Checked.{left_next}
@@ -153,7 +153,7 @@ above line bytes = take (feed_start (line - 1) bytes) bytes
 -- the diagnostic that the run stopped at the directive on a line
 unfoldable pub stopped : ℕ → PlainDiagnostic
 stopped line =
-    record { line = line; kind = Stopped; message = codes "the script is not run from here on: an editor waits for 16,000,000 steps; raftbench run runs it all"; came = None }
+    record { line = line; kind = Stopped; message = codes "the script is not run from here on: an editor waits for 16,000,000 steps; raftbench check runs it all"; came = None }
 
 -- The diagnostics of a text. If its run stopped, those of the text above the stop, and one that says where it stopped.
 abbrev pub diagnosed : Option Stop → List ℕ → List PlainDiagnostic

@@ -4,6 +4,7 @@ use Rattle.rb_lsp.specs.declared.document.position.Encoding.TheVariants.{Utf8}
 use Rattle.rb_lsp.specs.declared.document.position.Position.{Position}
 use Rattle.rb_lsp.specs.Tables.{start_of}
 use Rattle.rb_editor.specs.declared.offers.block_lines.BlockLines.{BlockLines}
+use Rattle.rb_editor.specs.BlockLines.{blocks_of}
 use Rattle.rb_editor.specs.Texts.{list_text}
 
 -- the editor's line that ends at a position: the one before it, if it begins a line
@@ -26,6 +27,5 @@ expectation_fold text b = if nat_le (b.end - b.below) 1 then [] else codes "," +
 unfoldable pub block_folds : List ℕ → BlockLines → List ℕ
 block_folds text b = fold_text text b.from b.end ++ expectation_fold text b
 
--- those of some blocks
-unfoldable pub folds : List ℕ → List BlockLines → List ℕ
-folds text bs = list_text (block_folds text) bs
+unfoldable pub folds : List ℕ → List ℕ
+folds text = list_text (block_folds text) (blocks_of text)

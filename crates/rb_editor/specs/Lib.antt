@@ -12,19 +12,15 @@ pub mod Served
 pub mod Layouts
 pub mod Extents
 pub mod Hovers
-pub mod ReadBlocks
 pub mod Messages
 pub mod MessagePlaces
 pub mod RangeFormatting
 pub mod Corrections
 pub mod Actions
-pub mod Unclosed
 pub mod Lenses
 pub mod Hints
 pub mod Selections
 pub mod Completing
-pub mod IdPlaces
-pub mod Renames
 pub mod SomeRows
 pub mod Meanings
 pub mod Edits
@@ -34,7 +30,6 @@ pub mod Texts
 pub mod BlockLines
 pub mod Folds
 pub mod Symbols
-pub mod Found
 pub mod Formatting
 pub mod Above
 pub mod Unfinished

@@ -7,9 +7,9 @@ use Rattle.rb_directive.specs.declared.table.Row.{Row}
 use Rattle.rb_directive.specs.declared.table.OptionRow.{OptionRow}
 use Rattle.rb_directive.specs.Names.{argument_text, name_text}
 use Rattle.rb_directive.specs.Table.{directives, options as table_options}
-use Rattle.rb_help.specs.Manual.{pages}
-use Rattle.rb_help.specs.Choices.{choices_of}
-use Rattle.rb_help.specs.Nearest.{keys_of}
+use Rattle.rb_report.specs.Manual.{pages}
+use Rattle.rb_report.specs.Choices.{choices_of}
+use Rattle.rb_report.specs.Nearest.{keys_of}
 use Rattle.rb_lsp.specs.declared.document.position.Encoding.{Encoding}
 use Rattle.rb_lsp.specs.declared.document.position.Range.{Range}
 use Rattle.rb_lsp.specs.Places.{begins}

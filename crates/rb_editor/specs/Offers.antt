@@ -3,9 +3,9 @@
 use Rattle.std.specs.Prelude.{ℕ, Bool, ◌==◌, ◌&&◌, ◌||◌, not, if◌then◌else◌, List, [], ◌∷◌, ◌++◌, codes, filter, length, map, take, Option, Some, None}
 use Rattle.std.specs.List.{list_any}
 use Rattle.std.specs.Str.{bytes_eq}
-use Rattle.rb_help.specs.Manual.{Key, Page, keys, pages}
-use Rattle.rb_help.specs.Choices.{choices_of, levels}
-use Rattle.rb_help.specs.HelpLines.{option_line, value_line}
+use Rattle.rb_report.specs.Manual.{Key, Page, keys, pages}
+use Rattle.rb_report.specs.Choices.{choices_of, levels}
+use Rattle.rb_report.specs.HelpLines.{option_line, value_line}
 use Rattle.rb_script.specs.declared.limits.TheConstants.{MAX_ARGUMENTS}
 use Rattle.rb_editor.specs.declared.offers.offer.OfferKind.{OfferKind}
 use Rattle.rb_editor.specs.declared.offers.offer.OfferKind.TheVariants as kinds

@@ -11,9 +11,9 @@ use Rattle.rb_editor.specs.declared.actions.piece.PieceKind.{PieceKind}
 use Rattle.rb_editor.specs.declared.actions.piece.PieceKind.TheVariants.{Word, Argument}
 use Rattle.rb_editor.specs.declared.actions.piece.OffsetSpan.{OffsetSpan}
 use Rattle.rb_editor.specs.declared.offers.block_lines.BlockLines.{BlockLines}
-use Rattle.rb_editor.specs.BlockLines.{block_with}
+use Rattle.rb_editor.specs.BlockLines.{blocks_of}
 use Rattle.rb_editor.specs.Corrections.{ends_word}
-use Rattle.rb_editor.specs.ReadBlocks.{read_blocks}
+use Rattle.rb_editor.specs.Served.{served}
 use Rattle.rb_editor.specs.Texts.{range_member}
 
 -- ---- a piece of a line
@@ -55,6 +55,14 @@ piece_span kind begin column line =
 abbrev pub lines_span : List ℕ → ℕ → ℕ → OffsetSpan
 lines_span text first behind = span (feed_start first text) (feed_start behind text)
 
+abbrev pub has_line : ℕ → BlockLines → Bool
+has_line n b = nat_le b.from n && nat_lt n b.end
+
+-- the block that has a line
+abbrev pub block_with : ℕ → List BlockLines → Option BlockLines
+block_with n [] = None
+block_with n (b ∷ bs) = if has_line n b then Some b else block_with n bs
+
 -- its head, what is between the head and its output, or its output
 abbrev pub part_span : List ℕ → ℕ → BlockLines → OffsetSpan
 part_span text n b = if nat_lt n b.body then lines_span text b.from b.body else (if nat_lt n b.below then lines_span text b.body b.below else lines_span text b.below b.end)
@@ -72,7 +80,7 @@ line_spans at begin line =
 
 abbrev pub spans_on : List ℕ → ℕ → ℕ → List OffsetSpan
 spans_on text at n =
-    line_spans at (feed_start n text) (slice_index_or (lines text) n []) ++ (block_spans text n (block_with n (read_blocks text)) ++ span 0 (length text) ∷ [])
+    line_spans at (feed_start n text) (slice_index_or (lines text) n []) ++ (block_spans text n (block_with n (blocks_of (served text))) ++ span 0 (length text) ∷ [])
 
 -- how many lines end before an offset
 abbrev pub lines_above : ℕ → List ℕ → ℕ

@@ -7,7 +7,7 @@ use Rattle.rb_script.specs.Reading.{read_of}
 use Rattle.rb_report.specs.Refusals.{fault_line}
 use Rattle.rb_lsp.specs.declared.server.stop.Stop.{Stop}
 use Rattle.rb_lsp.specs.declared.server.query.Query.{Query}
-use Rattle.rb_lsp.specs.declared.server.query.Query.TheVariants.{Completion, Definition, DocumentHighlight, DocumentSymbol, FoldingRange, Formatting, PrepareRename, RangeFormatting, References, Rename, SelectionRange, Rows}
+use Rattle.rb_lsp.specs.declared.server.query.Query.TheVariants.{Completion, Definition, DocumentHighlight, Formatting, RangeFormatting, References, SelectionRange, Rows}
 use Rattle.rb_editor.specs.declared.offers.part.Part.TheVariants.{Lead}
 use Rattle.rb_editor.specs.Above.{begun_lines}
 use Rattle.rb_editor.specs.Diagnostics.{PlainDiagnostic}
@@ -35,8 +35,8 @@ above_fault text (Some fault) = above (block_line (or_first (fault_line fault)) 
 unfoldable pub served : List ℕ → List ℕ
 served text = above_fault text (fault_of text)
 
--- The text by which a request is answered. A text that isn't a script isn't formatted, has no rows and no ids to rename, and can be completed anywhere; messages
--- are found in all of it, pieces of all lines are selected, and folds and symbols are those of all blocks that read.
+-- The text by which a request is answered. A text that isn't a script isn't formatted, has no rows, and can be completed anywhere; messages are found in all
+-- of it, and pieces of all lines are selected.
 abbrev pub text_for : Query → List ℕ → List ℕ
 text_for Formatting text = text
 text_for (RangeFormatting range) text = text
@@ -44,11 +44,7 @@ text_for (Completion position) text = text
 text_for (Definition position) text = text
 text_for (References position includes) text = text
 text_for (DocumentHighlight position) text = text
-text_for FoldingRange text = text
-text_for DocumentSymbol text = text
 text_for (SelectionRange position) text = text
-text_for (PrepareRename position) text = text
-text_for (Rename position new) text = text
 text_for (Rows span) text = text
 text_for asked text = served text
 

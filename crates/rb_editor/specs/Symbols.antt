@@ -11,6 +11,7 @@ use Rattle.rb_lsp.specs.Places.{is_within}
 use Rattle.rb_lsp.specs.Tables.{start_of}
 use Rattle.rb_editor.specs.declared.offers.block_lines.BlockLines.{BlockLines}
 use Rattle.rb_editor.specs.declared.offers.symbols.TheConstants.{MAX_NAME}
+use Rattle.rb_editor.specs.BlockLines.{blocks_of}
 use Rattle.rb_editor.specs.Texts.{list_text, range_text}
 
 -- the first n characters of bytes in UTF-8, whole
@@ -35,6 +36,5 @@ symbol_at ls from start behind_head end = name_text ls from ++ (range_text start
 abbrev pub symbol_text : Encoding → List ℕ → BlockLines → List ℕ
 symbol_text encoding text b = symbol_at (lines text) b.from (start_of encoding b.from text) (start_of encoding b.body text) (start_of encoding b.end text)
 
--- those of some blocks
-unfoldable pub symbols : Encoding → List ℕ → List BlockLines → List ℕ
-symbols encoding text bs = list_text (symbol_text encoding text) bs
+unfoldable pub symbols : Encoding → List ℕ → List ℕ
+symbols encoding text = list_text (symbol_text encoding text) (blocks_of text)

@@ -1,4 +1,4 @@
-//! Completion, folds, outline and formatting of a script's text; diagnostics, hovers, lenses, hints and fixes from its run.
+//! What an editor is offered for a script: what can be at a place, and what can be seen and changed there.
 #![tactic(auto)]
 
 pub mod actions;

@@ -10,8 +10,8 @@ use Rattle.std.proofs.lemmas.List.{append-nil, map-append, take_all, take_more}
 use Rattle.std.proofs.lemmas.List.Elements.{filter_map-append}
 use Rattle.std.specs.IoError.{error_kind}
 use Rattle.std.specs.declared.io.Error.{Error}
-use Rattle.rb_report.specs.declared.failure.Failure.{Failure}
-use Rattle.rb_report.specs.declared.failure.Failure.TheVariants as failures
+use Rattle.rb_report.specs.declared.check.failure.Failure.{Failure}
+use Rattle.rb_report.specs.declared.check.failure.Failure.TheVariants as failures
 use Rattle.rb_files.specs.Ignored.{named_by}
 use Rattle.rb_files.specs.PathErrors.{IsOfOpening, IsOfReading, reading_failure}
 use Rattle.rb_files.specs.declared.path_error.PathError.{PathError}

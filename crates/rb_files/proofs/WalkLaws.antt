@@ -6,7 +6,7 @@ use Rattle.std.specs.declared.alloc.Global.{Global}
 use Rattle.std.specs.declared.cmp.Ordering.{Ordering}
 use Rattle.std.proofs.lemmas.List.{drop_more}
 use Rattle.std.proofs.lemmas.Option.{slice_get_within, get_or_from_slice_get}
-use Rattle.rb_report.specs.declared.failure.Failure.{Failure}
+use Rattle.rb_report.specs.declared.check.failure.Failure.{Failure}
 use Rattle.rb_files.specs.Finds.{Heeds, IsKept, Loses, Waits, WaitsFor, losses, names_of, undecodable, waiting_of}
 use Rattle.rb_files.specs.PathErrors.{without_cause}
 use Rattle.rb_files.specs.Walks.{Enters, Follows, IsBegun, Lists, LooksAt, Takes, Visits, Walks, asked}

@@ -1,8 +1,8 @@
 -- What is at a path. (This project's; the bits of a mode are C's `S_IFMT` and its values.)
 use Rattle.std.specs.Prelude.{◌≡◌, ◌≤◌, ℕ, zero, suc, ◌==◌, if◌then◌else◌, List, Option, None, Some, bit_and, string_bytes}
 use Rattle.std.specs.Path.{path_join}
-use Rattle.rb_report.specs.declared.failure.Failure.{Failure}
-use Rattle.rb_report.specs.declared.failure.Failure.TheVariants as failures
+use Rattle.rb_report.specs.declared.check.failure.Failure.{Failure}
+use Rattle.rb_report.specs.declared.check.failure.Failure.TheVariants as failures
 use Rattle.rb_files.specs.Names.{folder_of}
 use Rattle.rb_files.specs.declared.entry.FileId.{FileId}
 use Rattle.rb_files.specs.declared.entry.PathEntry.{PathEntry}

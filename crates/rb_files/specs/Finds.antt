@@ -5,7 +5,7 @@ use Rattle.std.specs.Path.{path_join}
 use Rattle.std.specs.Str.{bytes_eq}
 use Rattle.std.specs.Str.Iter.{HasSubslice}
 use Rattle.std.specs.declared.alloc.Global.{Global}
-use Rattle.rb_report.specs.declared.failure.Failure.TheVariants as failures
+use Rattle.rb_report.specs.declared.check.failure.Failure.TheVariants as failures
 use Rattle.rb_files.specs.Ignored.{ignored_by, slash}
 use Rattle.rb_files.specs.Names.{is_script_name}
 use Rattle.rb_files.specs.PathErrors.{IsOfReading, is_missing, without_cause}

@@ -1,11 +1,11 @@
 -- Names of files and folders, and looks at them. (This project's; the parts of a path are the standard library's.)
-use Rattle.std.specs.Prelude.{◌≡◌, ◌↔◌, ℕ, ◌-◌, ◌==◌, ◌&&◌, Bool, true, not, if◌then◌else◌, List, [], ◌∷◌, ◌++◌, Option, Some, None, IfSome, String, Vec, codes, decimal, drop, length, map, string_bytes, unwrap_or}
+use Rattle.std.specs.Prelude.{◌≡◌, ◌↔◌, ℕ, ◌-◌, ◌==◌, ◌&&◌, Bool, true, not, if◌then◌else◌, List, [], ◌∷◌, ◌++◌, Option, Some, None, String, Vec, codes, decimal, drop, length, map, string_bytes, unwrap_or}
 use Rattle.std.specs.Io.KnownBytes.{Consumes}
 use Rattle.std.specs.List.{Any, Contains, filter, slice_split}
 use Rattle.std.specs.List.Sorted.{IsStrictlySortedBy}
 use Rattle.std.specs.String.{string_cmp}
 use Rattle.std.specs.declared.alloc.Global.{Global}
-use Rattle.std.specs.Path.{path_file_name, path_join, path_parent}
+use Rattle.std.specs.Path.{path_file_name, path_parent}
 use Rattle.std.specs.Str.{bytes_eq, is_utf8}
 use Rattle.rb_files.specs.declared.atomic_replace.Owner.{Owner}
 use Rattle.rb_files.specs.declared.entry.FolderId.{FolderId}
@@ -75,10 +75,6 @@ owner_to_give now wanted = if (now.user == wanted.user) && (now.group == wanted.
 -- the name of a new file, next to the one that it is to replace
 abbrev pub new_name : ℕ → List ℕ
 new_name number = codes ".raftbench-" ++ (decimal number ++ codes ".new")
-
--- what is in the way of a new file next to this one has the first name
-abbrev pub IsOfFirstName : List ℕ → Option (String Global) → Type 0
-IsOfFirstName target taken = IfSome taken (λ path. string_bytes path ≡ path_join (folder_of target) (new_name 0))
 
 -- what a reader gave is after the bytes
 abbrev pub IsAdded : Option (List ℕ) → Option (List ℕ) → List ℕ → List ℕ → Type 0

@@ -4,7 +4,7 @@ ghost use Rattle.std.specs.Prelude.{◌≡◌, ◌↔◌, Err, None, Some, IfErr
 ghost use Rattle.std.specs.Io.KnownBytes.{Appends};
 ghost use Rattle.std.specs.Fs.{metadata_len, metadata_mode, new_options, permissions_mode, with_create_new, with_write};
 ghost use Rattle.std.specs.Path.{path_join};
-ghost use Rattle.rb_files.specs.Names.{IsOfFirstName, folder_of, new_name, owner_to_give};
+ghost use Rattle.rb_files.specs.Names.{folder_of, new_name, owner_to_give};
 ghost use Rattle.rb_files.specs.PathErrors.{IsOfReading, of_writing};
 ghost use Rattle.rb_files.specs.Places.{Removes, Turns, created, renamed};
 
@@ -35,8 +35,6 @@ pub struct AtomicReplace<'a, R: Files> {
     read: FileLook,
     last: Option<FileLook>,
     new: Option<NewFile<R::File>>,
-    // the first name's path, if there was a file when the new one was made
-    taken: Option<String>,
 }
 
 // A file that is open, its path, and what it was given.
@@ -81,8 +79,8 @@ impl Owner {
 impl<'a, R: Files + AllocGlobal> AtomicReplace<'a, R> {
     /// The place of the file at the path, its links followed, which was `seen` when it was read.
     pub fn new(rt: &'a R, path: &str, seen: Metadata) -> Result<AtomicReplace<'a, R>, PathError>
-        // There is no new file yet, no look, and no file in its way; the file counts as unchanged if it is as it was seen.
-        ensures { MatchResult result (λ place. (place.new ≡ None) × (place.last ≡ None) × (place.taken ≡ None) × (place.seen ≡ seen) × (place.read.len ≡ metadata_len seen)) IsOfReading }
+        // There is no new file yet, and no look; the file counts as unchanged if it is as it was seen.
+        ensures { MatchResult result (λ place. (place.new ≡ None) × (place.last ≡ None) × (place.seen ≡ seen) × (place.read.len ≡ metadata_len seen)) IsOfReading }
     {
         let target = followed(rt, path)?;
         Ok(AtomicReplace {
@@ -92,7 +90,6 @@ impl<'a, R: Files + AllocGlobal> AtomicReplace<'a, R> {
             seen,
             last: None,
             new: None,
-            taken: None,
         })
     }
 
@@ -106,46 +103,20 @@ impl<'a, R: Files + AllocGlobal> AtomicReplace<'a, R> {
         }
     }
 
-    /// The path of the file that had the new one's first name, if there was one: a call that was killed left it, or another is writing it.
-    pub fn taken(&self) -> Option<&str>
-        ensures { option_map (λ path. path.now) result ≡ option_map (λ path. string_bytes path) self.now.taken }
-    {
-        match &self.taken {
-            Some(path) => Some(path.as_str()),
-            None => None,
-        }
-    }
-
     // A file that nobody else has, in the folder of the script's file. Its name begins with a dot and doesn't end in `.txt`.
-    fn new_file(&mut self) -> io::Result<NewFile<R::File>>
-        ensures taken { IsOfFirstName (string_bytes self.exit.now.target) self.exit.now.taken }
-        ensures kept { self.exit.now ≡ record self.entry.now { taken = self.exit.now.taken } }
-    {
-        self.taken = None;
+    fn new_file(&self) -> io::Result<NewFile<R::File>> {
         for number in 0..MOST_NAMES {
             let path = self.new_path(number)?;
             let opened = new_file_options().mode(0o600).open(self.rt, path.as_str());
             match opened {
                 Ok(file) => return Ok(NewFile::new(path, file)),
-                Err(error) if error.kind() == ErrorKind::AlreadyExists => self.pass(number, path),
+                Err(error) if error.kind() == ErrorKind::AlreadyExists => {}
                 Err(error) => return Err(error),
             }
         }
         Err(io::Error::other(
             "its folder has all of .raftbench-0.new to .raftbench-999.new; remove them",
         ))
-    }
-
-    // There is a file at the path of the name with this number.
-    fn pass(&mut self, number: usize, path: String)
-        requires path { string_bytes path ≡ path_join (folder_of (string_bytes self.old.target)) (new_name number) }
-        requires taken { IsOfFirstName (string_bytes self.old.target) self.old.taken }
-        ensures taken { IsOfFirstName (string_bytes self.exit.now.target) self.exit.now.taken }
-        ensures kept { self.exit.now ≡ record self.entry.now { taken = self.exit.now.taken } }
-    {
-        if number == 0 {
-            self.taken = Some(path);
-        }
     }
 
     fn new_path(&self, number: usize) -> io::Result<String>
@@ -217,7 +188,7 @@ impl<F: Write + OpenFile + Drop> NewFile<F> {
     }
 
     // Appends the text, which is not stored then.
-    fn write_all(&mut self, text: &[u8]) -> io::Result<()>
+    fn put(&mut self, text: &[u8]) -> io::Result<()>
         ensures bytes { OnOk result (Appends (F.contents self.old.file) (F.contents self.new.file) text.now) }
         ensures left { self.new.is_stored ≡ false }
     {
@@ -272,14 +243,14 @@ fn without<F: Drop>(file: &mut Option<NewFile<F>>, outcome: io::Result<()>) -> R
     if outcome.is_ok() {
         *file = None;
     }
-    to_path_result(outcome)
+    answered(outcome)
 }
 
 fn missing() -> io::Error {
     io::Error::from(ErrorKind::NotFound)
 }
 
-fn to_path_result(outcome: io::Result<()>) -> Result<(), PathError>
+fn answered(outcome: io::Result<()>) -> Result<(), PathError>
     ensures { MatchResult outcome (λ _. IsOk result) (λ error. result ≡ Err (of_writing error)) }
 {
     match outcome {
@@ -302,10 +273,8 @@ impl<'a, R: Files + AllocGlobal> FilePlace for AtomicReplace<'a, R> {
         ensures told { Turns created result None None }
         // It is made only if there is a new file.
         ensures made { IfOk result (λ _. IsSome self.exit.now.new) }
-        // What is in its way has its first name.
-        ensures taken { IfOk result (λ _. IsOfFirstName (string_bytes self.exit.now.target) self.exit.now.taken) }
     {
-        to_path_result(self.check_rights())?;
+        answered(self.check_rights())?;
         match self.new_file() {
             Ok(new) => {
                 self.new = Some(new);
@@ -315,17 +284,17 @@ impl<'a, R: Files + AllocGlobal> FilePlace for AtomicReplace<'a, R> {
         }
     }
 
-    fn write_all(&mut self, text: &[u8]) -> Result<(), PathError> {
+    fn put(&mut self, text: &[u8]) -> Result<(), PathError> {
         match &mut self.new {
-            Some(new) => to_path_result(new.write_all(text)),
-            None => to_path_result(Err(missing())),
+            Some(new) => answered(new.put(text)),
+            None => answered(Err(missing())),
         }
     }
 
     fn settle(&mut self) -> Result<(), PathError> {
         match &mut self.new {
-            Some(new) => to_path_result(new.settle(self.rt, &self.seen)),
-            None => to_path_result(Err(missing())),
+            Some(new) => answered(new.settle(self.rt, &self.seen)),
+            None => answered(Err(missing())),
         }
     }
 

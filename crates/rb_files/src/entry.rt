@@ -5,8 +5,8 @@
 
 ghost use Rattle.std.specs.Prelude.{◌≡◌, ◌≢◌, ◌+◌, ℕ, IfErr, IfOk, IfSome, IsSome, List, Ok, Some, string_bytes};
 ghost use Rattle.std.specs.Path.{path_join};
-ghost use Rattle.rb_report.specs.declared.failure.Failure.TheVariants as failures;
-ghost use Rattle.rb_report.specs.declared.failure.Failure.TheVariants.{LinkLoop};
+ghost use Rattle.rb_report.specs.declared.check.failure.Failure.TheVariants as failures;
+ghost use Rattle.rb_report.specs.declared.check.failure.Failure.TheVariants.{LinkLoop};
 ghost use Rattle.rb_files.specs.declared.kind.Kind.{Kind};
 ghost use Rattle.rb_files.specs.Entries.{IsFileNamed, IsLinked, LeadsBy, LeadsTo, file_of, special};
 ghost use Rattle.rb_files.specs.Names.{folder_id, folder_of, name_of};
@@ -15,7 +15,7 @@ ghost use Rattle.rb_files.specs.PathErrors.{IsOfReading, without_cause};
 use crate::file_look::FileLook;
 use crate::kind::Kind;
 use crate::path_error::PathError;
-use rb_report::Failure;
+use rb_report::check::Failure;
 use std::alloc::{AllocError, Global};
 use std::fs;
 use std::fs::Metadata;

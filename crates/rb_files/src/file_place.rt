@@ -31,7 +31,7 @@ pub trait FilePlace {
         ensures { Turns created result (stands self.old) (stands self.new) };
 
     /// Appends to the new file's text.
-    fn write_all(&mut self, bytes: &[u8]) -> Result<(), PathError>
+    fn put(&mut self, bytes: &[u8]) -> Result<(), PathError>
         ensures told { Puts bytes.now result (stands self.old) (stands self.new) }
         ensures bytes { OnOk result (Appends (contents self.old) (contents self.new) bytes.now) };
 
@@ -110,7 +110,7 @@ fn prepare<P: FilePlace>(place: &mut P, text: &[u8]) -> Result<(), PathError>
     ensures same { OnOk result (P.is_unchanged place.new) }
     ensures settled { OnOk result (P.is_settled place.new) }
 {
-    place.write_all(text)?;
+    place.put(text)?;
     place.settle()?;
     place.look()
 }

@@ -6,7 +6,7 @@
 
 ghost use Rattle.std.specs.Prelude.{◌≡◌, ◌<◌, ◌++◌, ◌∷◌, [], ⊤, false, true, IfErr, IfOk, Ok, Err, Some, length, map, slice_get, string_bytes};
 ghost use Rattle.std.specs.BTreeSet.{IsUnchanged, contains, insert_key};
-ghost use Rattle.rb_report.specs.declared.failure.Failure.TheVariants as failures;
+ghost use Rattle.rb_report.specs.declared.check.failure.Failure.TheVariants as failures;
 ghost use Rattle.rb_files.specs.Finds.{AreTold, Heeds, IsFound, IsKept, Loses, Misses, Waits, WaitsFor, ignore_file, is_ignored, unless_ignored, waiting_of};
 ghost use Rattle.rb_files.specs.Ignored.{ignored_by, slash};
 ghost use Rattle.rb_files.specs.Names.{AreInOrder, is_script_name};
@@ -19,7 +19,7 @@ use crate::ignored::{IGNORED, ignored_by};
 use crate::listing::Listing;
 use crate::path_error::PathError;
 use crate::tree::{SystemTree, Tree};
-use rb_report::Failure;
+use rb_report::check::Failure;
 use std::alloc::{AllocError, Global};
 use std::collections::BTreeSet;
 use std::convert::AsStr;

@@ -8,7 +8,7 @@ ghost use Rattle.rb_files.specs.PathErrors.{IsOfReading, is_missing};
 
 use crate::opening::opened;
 use crate::path_error::PathError;
-use rb_report::Failure;
+use rb_report::check::Failure;
 use std::alloc::{AllocError, Global};
 use std::io::{ErrorKind, Read};
 use std::path::Path;

@@ -4,7 +4,7 @@ ghost use Rattle.std.specs.Prelude.{◌≡◌};
 ghost use Rattle.std.specs.Fs.{metadata_mode};
 ghost use Rattle.rb_files.specs.Entries.{kind_of, kind_of_bits, special};
 
-use rb_report::Failure;
+use rb_report::check::Failure;
 use std::fs::Metadata;
 use std::os::unix::fs::MetadataExt;
 

@@ -7,7 +7,7 @@ ghost use Rattle.rb_files.specs.Names.{AreInOrder, HasName, IsAdded, IsListing, 
 ghost use Rattle.rb_files.specs.PathErrors.{IsOfReading};
 
 use crate::path_error::PathError;
-use rb_report::Failure;
+use rb_report::check::Failure;
 use std::alloc::{AllocError, Global};
 use std::io::Read;
 use std::rt::Files;
@@ -63,7 +63,7 @@ fn listing_of(alloc: Global, bytes: &[u8]) -> Result<Listing, AllocError>
 {
     let parts = parts_of(alloc, bytes)?;
     let mut listing = gathered(alloc, parts.as_slice())?;
-    sort_names(&mut listing.names);
+    put_in_order(&mut listing.names);
     Ok(listing)
 }
 
@@ -84,13 +84,13 @@ fn gathered(alloc: Global, parts: &[&[u8]]) -> Result<Listing, AllocError>
         strange: Vec::new(alloc),
     };
     for part in parts {
-        listing.push(alloc, part)?;
+        listing.add(alloc, part)?;
     }
     Ok(listing)
 }
 
 // Sorts the names by their bytes, and removes those that are there twice.
-fn sort_names(names: &mut Vec<String>)
+fn put_in_order(names: &mut Vec<String>)
     ensures order { AreInOrder names.new.items }
     ensures same { (name : List ℕ) → HasName names.old.items name ↔ HasName names.new.items name }
 {
@@ -100,7 +100,7 @@ fn sort_names(names: &mut Vec<String>)
 
 impl Listing {
     // Adds a name that isn't hidden. The empty name comes after the last one.
-    fn push(&mut self, alloc: Global, name: &[u8]) -> Result<(), AllocError>
+    fn add(&mut self, alloc: Global, name: &[u8]) -> Result<(), AllocError>
         ensures names { IfOk result (λ _. map string_bytes self.new.names.items ≡ map string_bytes self.old.names.items ++ text_names (name.now ∷ [])) }
         ensures strange { IfOk result (λ _. strange_bytes self.new.strange.items ≡ strange_bytes self.old.strange.items ++ strange_names (name.now ∷ [])) }
     {

@@ -5,7 +5,7 @@ ghost use Rattle.std.specs.Fs.{IsFile, file_type};
 ghost use Rattle.rb_files.specs.PathErrors.{IsOfOpening};
 
 use crate::path_error::PathError;
-use rb_report::Failure;
+use rb_report::check::Failure;
 use std::fs;
 use std::fs::{File, Metadata, OpenFile};
 use std::os::unix::fs::MetadataExt;

@@ -2,10 +2,10 @@
 
 ghost use Rattle.std.specs.Prelude.{◌≡◌, Some, None};
 ghost use Rattle.std.specs.IoError.{error_kind};
-ghost use Rattle.rb_report.specs.declared.failure.Failure.TheVariants.{OutOfMemory};
+ghost use Rattle.rb_report.specs.declared.check.failure.Failure.TheVariants.{OutOfMemory};
 ghost use Rattle.rb_files.specs.PathErrors.{reading_failure, writing_failure};
 
-use rb_report::Failure;
+use rb_report::check::Failure;
 use std::alloc::AllocError;
 use std::io;
 use std::io::ErrorKind;

@@ -17,6 +17,5 @@ pub mod OneLaws
 pub mod NoticeLaws
 pub mod NamedLaws
 pub mod SelectionLaws
-pub mod SymbolLaws
 pub mod RefusalLaws
 pub mod DocumentLaws

@@ -9,7 +9,7 @@ use Rattle.rb_lsp.specs.Inquiries.{PlainInquiry, one, report, selections}
 use Rattle.rb_lsp.specs.declared.server.client.Client.{Client}
 use Rattle.rb_lsp.specs.declared.server.method.Question.{Question}
 use Rattle.rb_lsp.specs.declared.server.method.Method.{Method}
-use Rattle.rb_lsp.specs.declared.server.method.Method.TheVariants.{Exit, Asks, FindsSymbols}
+use Rattle.rb_lsp.specs.declared.server.method.Method.TheVariants.{Exit, Asks}
 use Rattle.rb_lsp.specs.declared.server.phase.Phase.{Phase}
 use Rattle.rb_lsp.specs.declared.server.phase.Phase.TheVariants.{Running}
 use Rattle.rb_lsp.specs.Methods.{method_of}
@@ -18,7 +18,7 @@ use Rattle.rb_lsp.specs.declared.server.reach.Reach.{Reach}
 use Rattle.rb_lsp.specs.declared.server.reach.Reach.TheVariants.{Whole, Stopped, Cancelled, NoMemory}
 use Rattle.rb_lsp.specs.Meanings.{Meaning}
 use Rattle.rb_lsp.specs.Notices.{Notice, framed, is_crowded, list_by, list_publication, notice_body, notice_of, notice_text, publication, stale_versions, told_version}
-use Rattle.rb_lsp.specs.Questions.{asked_of, of_text, question_body, stopped_text, uri_of, wanted_of, with_asked, with_wanted}
+use Rattle.rb_lsp.specs.Questions.{asked_of, of_text, question_body, stopped_text, uri_of, with_asked}
 use Rattle.rb_lsp.specs.Replies.{PlainServer, body_in, published, sent, told_of, with_notice}
 use Rattle.rb_lsp.specs.Laws.{TellsRefusal, of_document, of_request, stops_document, stops_report, stops_request, cancels}
 
@@ -85,18 +85,9 @@ question_told : (meaning : Meaning) (reach : Reach) (id : Data) (method : List �
 question_told meaning reach id method client ds question None = inl refl
 question_told meaning reach id method client ds question (Some d) = asked_told meaning reach id method (Some d) client ds (uri_of d) (asked_of question d)
 
-symbols_told : (meaning : Meaning) (reach : Reach) (id : Data) (method : List ℕ) (params : Option Data) (client : Client) (ds : List PlainDocument) (wanted : Option (List ℕ))
-    → IsTold meaning reach id method params (with_wanted meaning reach client ds id wanted) (with_wanted meaning Whole client ds id wanted)
-symbols_told meaning reach id method params client ds None = inl refl
-symbols_told meaning NoMemory id method params client ds (Some wanted) = inr (of_request id method params)
-symbols_told meaning Cancelled id method params client ds (Some wanted) = inr (cancels id method params)
-symbols_told meaning Whole id method params client ds (Some wanted) = inl refl
-symbols_told meaning (Stopped stop) id method params client ds (Some wanted) = inl refl
-
 answer_body_told : (meaning : Meaning) (reach : Reach) (id : Data) (name : List ℕ) (ds : List PlainDocument) (phase : Phase) (method : Method) (params : Option Data)
     → IsTold meaning reach id name params (body_in meaning reach ds phase method params id) (body_in meaning Whole ds phase method params id)
 answer_body_told meaning reach id name ds (Running client) (Asks question) params = question_told meaning reach id name client ds question params
-answer_body_told meaning reach id name ds (Running client) FindsSymbols params = symbols_told meaning reach id name params client ds (wanted_of params)
 answer_body_told meaning reach id name ds phase method params = inl refl
 
 pub refusal_told : (meaning : Meaning) (reach : Reach) (server : PlainServer) (what : Said)

@@ -3,7 +3,6 @@ use Rattle.std.proofs.Common.{◌≡◌, List, ℕ, Option, Some, None, refl, ap
 use Rattle.std.specs.Prelude.{codes, option_and_then}
 use Rattle.serde_json.specs.Data.{Data, null}
 use Rattle.rb_lsp.specs.declared.rpc.answer.ErrorCode.TheVariants.{InvalidRequest, MethodNotFound, InvalidParams, InternalError, ServerNotInitialized, RequestCancelled, RequestFailed}
-use Rattle.rb_lsp.specs.declared.server.query.Query.{Query}
 use Rattle.rb_lsp.specs.declared.server.stop.Stop.{Stop}
 use Rattle.rb_lsp.specs.Inquiries.{PlainInquiry, one, report, selections}
 use Rattle.rb_lsp.specs.declared.server.client.Client.{Client}
@@ -11,15 +10,15 @@ use Rattle.rb_lsp.specs.declared.server.phase.Phase.{Phase}
 use Rattle.rb_lsp.specs.declared.server.phase.Phase.TheVariants.{Fresh, Running, Stopped}
 use Rattle.rb_lsp.specs.declared.server.method.Question.{Question}
 use Rattle.rb_lsp.specs.declared.server.method.Method.{Method}
-use Rattle.rb_lsp.specs.declared.server.method.Method.TheVariants.{Initialize, Shutdown, Asks, FindsSymbols}
+use Rattle.rb_lsp.specs.declared.server.method.Method.TheVariants.{Initialize, Shutdown, Asks}
 use Rattle.rb_lsp.specs.Beginnings.{client_of, initialized}
 use Rattle.rb_lsp.specs.Documents.{PlainDocument, text_of}
 use Rattle.rb_lsp.specs.declared.server.reach.Reach.{Reach}
 use Rattle.rb_lsp.specs.declared.server.reach.Reach.TheVariants.{Whole, Stopped, Cancelled, NoMemory}
 use Rattle.rb_lsp.specs.Meanings.{Meaning}
-use Rattle.rb_lsp.specs.Questions.{IsSameTo, asked_of, body_text, cancelled_for, named_text, no_memory_for, not_open, of_text, queried_text, question_body, stopped_for, stopped_text, unfit, uri_of, wanted_of, whole_text, with_asked, with_wanted}
+use Rattle.rb_lsp.specs.Questions.{asked_of, body_text, cancelled_for, named_text, no_memory_for, not_open, of_text, question_body, stopped_for, stopped_text, unfit, uri_of, whole_text, with_asked}
 use Rattle.rb_lsp.specs.Replies.{PlainServer, answer_body, body_in, initialize_answer}
-use Rattle.rb_lsp.specs.Laws.{Answers, done, refused, answered, reported, selected, found}
+use Rattle.rb_lsp.specs.Laws.{Answers, done, refused, answered, reported, selected}
 
 -- ---- the id
 
@@ -43,16 +42,10 @@ cancelled_answers : (meaning : Meaning) (server : PlainServer) (method : Method)
 unfolding cancelled_for
 cancelled_answers meaning server method params id = refused id RequestCancelled (codes "the request was cancelled")
 
-queried_answers : (meaning : Meaning) (server : PlainServer) (client : Client) (question : Question) (query : Query) (given : Data) (uri : List ℕ) (id : Data) (text : List ℕ) (refused_by : Option (List ℕ))
-    → server.phase ≡ Running client → uri_of given ≡ Some uri → asked_of question given ≡ Some (one query) → text_of uri server.documents ≡ Some text
-    → Answers meaning server (Asks question) (Some given) id (queried_text meaning client query uri id text refused_by)
-queried_answers meaning server client question query given uri id text None running named asks is = answered id given client question query uri text running refl refl named asks is
-queried_answers meaning server client question query given uri id text (Some sentence) running named asks is = refused id RequestFailed sentence
-
 whole_answers : (meaning : Meaning) (server : PlainServer) (client : Client) (question : Question) (asked : PlainInquiry) (given : Data) (uri : List ℕ) (id : Data) (text : List ℕ)
     → server.phase ≡ Running client → uri_of given ≡ Some uri → asked_of question given ≡ Some asked → text_of uri server.documents ≡ Some text
     → Answers meaning server (Asks question) (Some given) id (whole_text meaning client asked uri id text)
-whole_answers meaning server client question (one query) given uri id text running named asks is = queried_answers meaning server client question query given uri id text (meaning.refuse client query text) running named asks is
+whole_answers meaning server client question (one query) given uri id text running named asks is = answered id given client question query uri text running refl refl named asks is
 whole_answers meaning server client question (report known) given uri id text running named asks is = reported id given client question known None uri text running refl refl named asks is
 whole_answers meaning server client question (selections ps) given uri id text running named asks is = selected id given client question ps uri text running refl refl named asks is
 
@@ -86,15 +79,6 @@ question_answers : (meaning : Meaning) (reach : Reach) (server : PlainServer) (c
 question_answers meaning reach server client question None id running = unfit_answers meaning server (Asks question) None id
 question_answers meaning reach server client question (Some d) id running = asked_answers meaning reach server client question d id (uri_of d) (asked_of question d) running refl refl
 
--- symbols of all open documents
-symbols_answers : (meaning : Meaning) (reach : Reach) (server : PlainServer) (client : Client) (params : Option Data) (id : Data) (wanted : Option (List ℕ)) → server.phase ≡ Running client → wanted_of params ≡ wanted
-    → Answers meaning server FindsSymbols params id (with_wanted meaning reach client server.documents id wanted)
-symbols_answers meaning reach server client params id None running is = unfit_answers meaning server FindsSymbols params id
-symbols_answers meaning NoMemory server client params id (Some wanted) running is = no_memory_answers meaning server FindsSymbols params id
-symbols_answers meaning Cancelled server client params id (Some wanted) running is = cancelled_answers meaning server FindsSymbols params id
-symbols_answers meaning Whole server client params id (Some wanted) running is = found id client wanted running refl is
-symbols_answers meaning (Stopped stop) server client params id (Some wanted) running is = found id client wanted running refl is
-
 body_has_id : (meaning : Meaning) (reach : Reach) (server : PlainServer) (phase : Phase) (method : Method) (params : Option Data) (id : Data) → server.phase ≡ phase
     → Answers meaning server method params id (body_in meaning reach server.documents phase method params id)
 body_has_id meaning reach server Fresh Initialize params id is = beginning_answers meaning server Initialize params (client_of params) id
@@ -102,7 +86,6 @@ body_has_id meaning reach server Fresh method params id is = refused id ServerNo
 body_has_id meaning reach server (Running client) Initialize params id is = refused id InvalidRequest (codes "initialize came before")
 body_has_id meaning reach server (Running client) Shutdown params id is = done id null
 body_has_id meaning reach server (Running client) (Asks question) params id is = question_answers meaning reach server client question params id is
-body_has_id meaning reach server (Running client) FindsSymbols params id is = symbols_answers meaning reach server client params id (wanted_of params) is refl
 body_has_id meaning reach server (Running client) method params id is = refused id MethodNotFound (codes "there is no such method")
 body_has_id meaning reach server Stopped method params id is = refused id InvalidRequest (codes "shutdown came before")
 
@@ -122,12 +105,11 @@ same_question meaning reach client ds es question None id same = refl
 same_question meaning reach client ds es question (Some d) id same = same_asked meaning reach client ds es id (uri_of d) (asked_of question d) same
 
 same_body : (meaning : Meaning) (reach : Reach) (ds es : List PlainDocument) (phase : Phase) (method : Method) (params : Option Data) (id : Data)
-    → IsSameTo method params ds es → body_in meaning reach ds phase method params id ≡ body_in meaning reach es phase method params id
+    → named_text params ds ≡ named_text params es → body_in meaning reach ds phase method params id ≡ body_in meaning reach es phase method params id
 same_body meaning reach ds es (Running client) (Asks question) params id same = same_question meaning reach client ds es question params id same
-same_body meaning reach ds es (Running client) FindsSymbols params id same = ap (λ (xs : List PlainDocument). with_wanted meaning reach client xs id (wanted_of params)) same
 same_body meaning reach ds es phase method params id same = refl
 
 pub same_answer : (meaning : Meaning) (reach : Reach) (server other : PlainServer) (method : Method) (params : Option Data) (id : Data) → server.phase ≡ other.phase
-    → IsSameTo method params server.documents other.documents → answer_body meaning reach server method params id ≡ answer_body meaning reach other method params id
+    → named_text params server.documents ≡ named_text params other.documents → answer_body meaning reach server method params id ≡ answer_body meaning reach other method params id
 same_answer meaning reach server other method params id phase same =
     ap (λ (p : Phase). body_in meaning reach server.documents p method params id) phase ∙ same_body meaning reach server.documents other.documents other.phase method params id same

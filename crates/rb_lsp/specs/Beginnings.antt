@@ -114,10 +114,6 @@ synchronizes = object (member (codes "change") (number (unsigned 2)) (member (co
 unfoldable pub completes : Data
 completes = object (member (codes "triggerCharacters") (array (item (string (codes "=")) (item (string (codes "(")) (item (string (codes ",")) no_items)))) no_members)
 
--- a client may ask first whether something can be renamed ("RenameOptions")
-unfoldable pub renames : Data
-renames = object (member (codes "prepareProvider") (boolean true) no_members)
-
 -- what a client that asks for diagnostics gets: each document's are of its own text alone ("DiagnosticOptions")
 unfoldable pub reports : Data
 reports =
@@ -135,9 +131,7 @@ last_capabilities encoding =
     (member (codes "inlayHintProvider") (boolean true)
     (member (codes "positionEncoding") (string (encoding_name encoding))
     (member (codes "referencesProvider") (boolean true)
-    (member (codes "renameProvider") renames
-    (member (codes "selectionRangeProvider") (boolean true)
-    (member (codes "textDocumentSync") synchronizes (member (codes "workspaceSymbolProvider") (boolean true) no_members)))))))
+    (member (codes "selectionRangeProvider") (boolean true) (member (codes "textDocumentSync") synchronizes no_members)))))
 
 -- from `documentFormattingProvider` on
 unfoldable pub document_capabilities : Encoding → Members

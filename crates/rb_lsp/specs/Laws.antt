@@ -10,7 +10,7 @@ use Rattle.rb_lsp.specs.declared.server.phase.Phase.TheVariants.{Running}
 use Rattle.rb_lsp.specs.declared.server.phase.ExitStatus.{ExitStatus}
 use Rattle.rb_lsp.specs.declared.server.phase.ExitStatus.TheVariants.{CutOff, NoMessage}
 use Rattle.rb_lsp.specs.declared.server.method.Method.{Method}
-use Rattle.rb_lsp.specs.declared.server.method.Method.TheVariants.{Asks, FindsSymbols}
+use Rattle.rb_lsp.specs.declared.server.method.Method.TheVariants.{Asks}
 use Rattle.rb_lsp.specs.declared.server.method.Question.{Question}
 use Rattle.rb_lsp.specs.declared.document.position.Position.{Position}
 use Rattle.rb_lsp.specs.declared.server.query.Query.{Query}
@@ -22,13 +22,13 @@ use Rattle.rb_lsp.specs.declared.server.reach.Reach.TheVariants.{Whole, Stopped,
 use Rattle.rb_lsp.specs.Meanings.{Meaning}
 use Rattle.rb_lsp.specs.Methods.{method_of}
 use Rattle.rb_lsp.specs.Inquiries.{one, report, selections}
-use Rattle.rb_lsp.specs.Questions.{IsSameTo, answer_text, asked_of, body_text, cancelled_for, each_selection, found_text, no_memory_for, report_answer, stopped_for, uri_of, wanted_of}
+use Rattle.rb_lsp.specs.Questions.{answer_text, asked_of, body_text, cancelled_for, each_selection, named_text, no_memory_for, report_answer, stopped_for, uri_of}
 use Rattle.rb_lsp.specs.Notices.{Notice, framed, is_crowded, list_publication, list_text, no_memory_list, notice_of, stale_text, stale_versions, told_version}
 use Rattle.rb_lsp.specs.Replies.{PlainServer, On, reply, told_of, turned_by}
 use Rattle.rb_lsp.specs.Talk.{Talks}
 
 -- An answer to the request of this method with this id: a result, an error, or the result about the current text of the document that the request
--- names, the report of its diagnostics as far as it was run, a list of results, one a position, or the symbols of all open documents.
+-- names, the report of its diagnostics as far as it was run, or a list of results, one a position.
 pub data Answers (meaning : Meaning) (server : PlainServer) (method : Method) (params : Option Data) : Data → List ℕ → Type 0 where
   done : (id result : Data) → Answers meaning server method params id (body_text (success id result))
   refused : (id : Data) (code : ErrorCode) (message : List ℕ) → Answers meaning server method params id (body_text (failure id code message))
@@ -41,8 +41,6 @@ pub data Answers (meaning : Meaning) (server : PlainServer) (method : Method) (p
   selected : (id given : Data) (client : Client) (question : Question) (ps : List Position) (uri text : List ℕ) → server.phase ≡ Running client → method ≡ Asks question → params ≡ Some given
       → uri_of given ≡ Some uri → asked_of question given ≡ Some (selections ps) → text_of uri server.documents ≡ Some text
       → Answers meaning server method params id (answer_text id (codes "[" ++ each_selection meaning client uri text [] ps))
-  found : (id : Data) (client : Client) (wanted : List ℕ) → server.phase ≡ Running client → method ≡ FindsSymbols → wanted_of params ≡ Some wanted
-      → Answers meaning server method params id (answer_text id (found_text meaning client wanted server.documents))
 
 -- each request has one answer
 abbrev pub RequestsHaveOneAnswer : Type 0
@@ -55,10 +53,10 @@ NotificationsHaveNoAnswer = (meaning : Meaning) (reach : Reach) (server : PlainS
     → ((method : List ℕ) (params : Option Data) → reply meaning reach server (notification method params) ≡ None) × (reply meaning reach server response ≡ None)
 
 -- whatever was sent before, and whatever else is open: an answer depends on the server's phase, and on the current text of the document that the
--- request names; if it asks for symbols of all open documents, on these
+-- request names
 abbrev pub TextsAreAnswered : Type 0
 TextsAreAnswered = (meaning : Meaning) (reach : Reach) (server other : PlainServer) (id : Data) (method : List ℕ) (params : Option Data)
-    → server.phase ≡ other.phase → IsSameTo (method_of method) params server.documents other.documents
+    → server.phase ≡ other.phase → named_text params server.documents ≡ named_text params other.documents
     → told_of meaning reach server (request id method params) ≡ told_of meaning reach other (request id method params)
 
 -- an answer whose result is the text of a value is the answer with that value

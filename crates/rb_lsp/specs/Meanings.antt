@@ -14,14 +14,6 @@ Diagnose = Option Stop → Client → List ℕ → List ℕ → List ℕ
 abbrev pub Answer : Type 0
 Answer = Client → Query → List ℕ → List ℕ → List ℕ
 
--- the symbols of a text whose names match some text, in JSON, each after a comma, by the client, the wanted text, the document's URI and its text
-abbrev pub Find : Type 0
-Find = Client → List ℕ → List ℕ → List ℕ → List ℕ
-
--- why a request is refused, in a sentence, if it is, by the client, the request and its document's text
-abbrev pub Refuse : Type 0
-Refuse = Client → Query → List ℕ → Option (List ℕ)
-
 -- whether a request needs the run of its document's text
 abbrev pub NeedsRun : Type 0
 NeedsRun = Query → Bool
@@ -33,8 +25,6 @@ MayStop = List ℕ → Stop → Bool
 pub record Meaning : Type 0 where
   pub diagnose : Diagnose
   pub answer : Answer
-  pub find : Find
-  pub refuse : Refuse
   pub needs_run : NeedsRun
   pub may_stop : MayStop
 

@@ -2,8 +2,8 @@
 use Rattle.std.specs.Prelude.{ℕ, Bool, true, false, List, codes, if◌then◌else◌}
 use Rattle.std.specs.Str.{bytes_eq}
 use Rattle.rb_lsp.specs.declared.server.method.Method.{Method}
-use Rattle.rb_lsp.specs.declared.server.method.Method.TheVariants.{Initialize, Shutdown, Exit, DidOpen, DidChange, DidClose, Asks, FindsSymbols, Unknown}
-use Rattle.rb_lsp.specs.declared.server.method.Question.TheVariants.{CodeAction, Formatting, RangeFormatting, Hover, Completion, FoldingRange, DocumentSymbol, Definition, References, DocumentHighlight, CodeLens, InlayHint, Diagnostic, SelectionRange, PrepareRename, Rename, Rows}
+use Rattle.rb_lsp.specs.declared.server.method.Method.TheVariants.{Initialize, Shutdown, Exit, DidOpen, DidChange, DidClose, Asks, Unknown}
+use Rattle.rb_lsp.specs.declared.server.method.Question.TheVariants.{CodeAction, Formatting, RangeFormatting, Hover, Completion, FoldingRange, DocumentSymbol, Definition, References, DocumentHighlight, CodeLens, InlayHint, Diagnostic, SelectionRange, Rows}
 
 -- that asks something of a whole document
 unfoldable pub whole_method : List ℕ → Method
@@ -22,9 +22,7 @@ message_method name =
     else (if bytes_eq name (codes "textDocument/documentHighlight") then Asks DocumentHighlight
     else (if bytes_eq name (codes "textDocument/rangeFormatting") then Asks RangeFormatting
     else (if bytes_eq name (codes "textDocument/inlayHint") then Asks InlayHint
-    else (if bytes_eq name (codes "textDocument/selectionRange") then Asks SelectionRange
-    else (if bytes_eq name (codes "textDocument/prepareRename") then Asks PrepareRename
-    else (if bytes_eq name (codes "textDocument/rename") then Asks Rename else whole_method name)))))))
+    else (if bytes_eq name (codes "textDocument/selectionRange") then Asks SelectionRange else whole_method name)))))
 
 -- that asks something of a part of it, or of it all
 unfoldable pub question_method : List ℕ → Method
@@ -41,8 +39,7 @@ document_method name =
 unfoldable pub method_of : List ℕ → Method
 method_of name =
     if bytes_eq name (codes "initialize") then Initialize
-    else (if bytes_eq name (codes "shutdown") then Shutdown
-    else (if bytes_eq name (codes "exit") then Exit else (if bytes_eq name (codes "workspace/symbol") then FindsSymbols else document_method name)))
+    else (if bytes_eq name (codes "shutdown") then Shutdown else (if bytes_eq name (codes "exit") then Exit else document_method name))
 
 -- whether it is about a document
 abbrev pub is_of_documents : Method → Bool

@@ -1,11 +1,10 @@
 -- What is asked of a document, and what is answered. (LSP 3.17, "Language Features"; JSON-RPC 2.0, section 5. The sentences are this
 -- project's.)
-use Rattle.std.specs.Prelude.{◌≡◌, ℕ, Bool, true, if◌then◌else◌, List, [], ◌∷◌, ◌++◌, Option, Some, None, codes, drop, option_map, option_and_then, unwrap_or}
+use Rattle.std.specs.Prelude.{ℕ, Bool, true, if◌then◌else◌, List, [], ◌∷◌, ◌++◌, Option, Some, None, codes, option_map, option_and_then, unwrap_or}
 use Rattle.std.specs.List.{list_any}
 use Rattle.serde_json.specs.Data.{Data}
 use Rattle.serde_json.specs.Find.{get, as_array, as_bool}
 use Rattle.serde_json.specs.Written.{compact_text}
-use Rattle.rb_text.specs.Numbers.{number_of}
 use Rattle.rb_lsp.specs.declared.server.client.Client.{Client}
 use Rattle.rb_lsp.specs.Answers.{failure}
 use Rattle.rb_lsp.specs.declared.document.position.Position.{Position}
@@ -13,10 +12,8 @@ use Rattle.rb_lsp.specs.Params.{position_at, positions_in, range_at, text_at, te
 use Rattle.rb_lsp.specs.declared.rpc.answer.ErrorCode.TheVariants.{InvalidParams, InternalError, RequestCancelled, RequestFailed}
 use Rattle.rb_lsp.specs.declared.server.query.Query.{Query}
 use Rattle.rb_lsp.specs.declared.server.query.Query.TheVariants as asks
-use Rattle.rb_lsp.specs.declared.server.method.Method.{Method}
-use Rattle.rb_lsp.specs.declared.server.method.Method.TheVariants.{FindsSymbols}
 use Rattle.rb_lsp.specs.declared.server.method.Question.{Question}
-use Rattle.rb_lsp.specs.declared.server.method.Question.TheVariants.{CodeAction, Formatting, RangeFormatting, Hover, Completion, FoldingRange, DocumentSymbol, Definition, References, DocumentHighlight, CodeLens, InlayHint, Diagnostic, SelectionRange, PrepareRename, Rename, Rows}
+use Rattle.rb_lsp.specs.declared.server.method.Question.TheVariants.{CodeAction, Formatting, RangeFormatting, Hover, Completion, FoldingRange, DocumentSymbol, Definition, References, DocumentHighlight, CodeLens, InlayHint, Diagnostic, SelectionRange, Rows}
 use Rattle.rb_lsp.specs.ItemSpans.{span_of}
 use Rattle.rb_lsp.specs.Documents.{PlainDocument, text_of}
 use Rattle.rb_lsp.specs.declared.server.reach.Reach.{Reach}
@@ -33,11 +30,6 @@ says_includes context = option_and_then as_bool (get (codes "includeDeclaration"
 abbrev pub includes_definition : Data → Bool
 includes_definition d = unwrap_or (option_and_then says_includes (get (codes "context") d)) true
 
--- a rename: names are numbers here (this project's)
-abbrev pub rename_of : Option Position → Option (List ℕ) → Option Query
-rename_of (Some position) (Some name) = Some (asks.Rename position (number_of name))
-rename_of position name = None
-
 -- the query of a service, if it is one, and the method's parameters give it
 abbrev pub query_of : Question → Data → Option Query
 query_of CodeAction d = option_map (λ range. asks.CodeAction range) (range_at (codes "range") d)
@@ -50,8 +42,6 @@ query_of DocumentSymbol d = Some asks.DocumentSymbol
 query_of Definition d = option_map (λ position. asks.Definition position) (position_at (codes "position") d)
 query_of References d = option_map (λ position. asks.References position (includes_definition d)) (position_at (codes "position") d)
 query_of DocumentHighlight d = option_map (λ position. asks.DocumentHighlight position) (position_at (codes "position") d)
-query_of PrepareRename d = option_map (λ position. asks.PrepareRename position) (position_at (codes "position") d)
-query_of Rename d = rename_of (position_at (codes "position") d) (text_at (codes "newName") d)
 query_of Rows d = option_map (λ span. asks.Rows span) (span_of d)
 query_of CodeLens d = Some asks.CodeLens
 query_of InlayHint d = option_map (λ range. asks.InlayHint range) (range_at (codes "range") d)
@@ -111,14 +101,9 @@ abbrev pub each_selection : Meaning → Client → List ℕ → List ℕ → Lis
 each_selection meaning client uri text lead [] = codes "]"
 each_selection meaning client uri text lead (p ∷ ps) = lead ++ (meaning.answer client (asks.SelectionRange p) uri text ++ each_selection meaning client uri text (codes ",") ps)
 
--- the answer with the service's result, unless it refuses the query ("RequestFailed")
-abbrev pub queried_text : Meaning → Client → Query → List ℕ → Data → List ℕ → Option (List ℕ) → List ℕ
-queried_text meaning client query uri id text None = answer_text id (meaning.answer client query uri text)
-queried_text meaning client query uri id text (Some sentence) = body_text (failure id RequestFailed sentence)
-
 -- the answer about a text that was run whole, as far as it needs that
 abbrev pub whole_text : Meaning → Client → PlainInquiry → List ℕ → Data → List ℕ → List ℕ
-whole_text meaning client (one query) uri id text = queried_text meaning client query uri id text (meaning.refuse client query text)
+whole_text meaning client (one query) uri id text = answer_text id (meaning.answer client query uri text)
 whole_text meaning client (report known) uri id text = report_answer meaning None client known uri id text
 whole_text meaning client (selections ps) uri id text = answer_text id (codes "[" ++ each_selection meaning client uri text [] ps)
 
@@ -151,37 +136,6 @@ abbrev pub question_body : Meaning → Reach → Client → List PlainDocument �
 question_body meaning reach client ds question None id = body_text (unfit id)
 question_body meaning reach client ds question (Some d) id = with_asked meaning reach client ds id (uri_of d) (asked_of question d)
 
--- ---- symbols of all open documents (LSP 3.17, "Workspace Symbols Request")
-
--- those of each document whose names match, each after a comma
-abbrev pub each_found : Meaning → Client → List ℕ → List PlainDocument → List ℕ
-each_found meaning client wanted [] = []
-each_found meaning client wanted (d ∷ ds) = meaning.find client wanted d.uri d.text ++ each_found meaning client wanted ds
-
--- the list of them
-abbrev pub found_text : Meaning → Client → List ℕ → List PlainDocument → List ℕ
-found_text meaning client wanted ds = codes "[" ++ (drop 1 (each_found meaning client wanted ds) ++ codes "]")
-
--- the answer, unless memory was refused, or the request was cancelled
-abbrev pub found_by : Meaning → Reach → Client → List PlainDocument → Data → List ℕ → List ℕ
-found_by meaning NoMemory client ds id wanted = body_text (no_memory_for id)
-found_by meaning Cancelled client ds id wanted = body_text (cancelled_for id)
-found_by meaning Whole client ds id wanted = answer_text id (found_text meaning client wanted ds)
-found_by meaning (Stopped stop) client ds id wanted = answer_text id (found_text meaning client wanted ds)
-
-abbrev pub with_wanted : Meaning → Reach → Client → List PlainDocument → Data → Option (List ℕ) → List ℕ
-with_wanted meaning reach client ds id None = body_text (unfit id)
-with_wanted meaning reach client ds id (Some wanted) = found_by meaning reach client ds id wanted
-
--- the wanted text, by the method's parameters
-abbrev pub wanted_of : Option Data → Option (List ℕ)
-wanted_of params = option_and_then (text_at (codes "query")) params
-
-abbrev pub symbols_body : Meaning → Reach → Client → List PlainDocument → Option Data → Data → List ℕ
-symbols_body meaning reach client ds params id = with_wanted meaning reach client ds id (wanted_of params)
-
--- ---- what is run
-
 -- the text that is run for an inquiry about a document with this text: none for a report that the client has
 abbrev pub inquiry_run : Meaning → PlainInquiry → Option (List ℕ) → Option (List ℕ)
 inquiry_run meaning (one query) text = run_by meaning query text
@@ -203,8 +157,3 @@ question_run meaning ds question (Some d) = asked_run meaning ds (uri_of d) (ask
 abbrev pub named_text : Option Data → List PlainDocument → Option (List ℕ)
 named_text None ds = None
 named_text (Some d) ds = option_and_then (λ uri. text_of uri ds) (uri_of d)
-
--- the same answers are given about two lists of open documents: the named text is the same in both or, if all are asked about, all are the same
-abbrev pub IsSameTo : Method → Option Data → List PlainDocument → List PlainDocument → Type 0
-IsSameTo FindsSymbols params ds es = ds ≡ es
-IsSameTo method params ds es = named_text params ds ≡ named_text params es

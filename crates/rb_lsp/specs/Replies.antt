@@ -10,7 +10,7 @@ use Rattle.rb_lsp.specs.Methods.{method_of}
 use Rattle.rb_lsp.specs.Beginnings.{client_of, initialized}
 use Rattle.rb_lsp.specs.declared.server.client.Client.{Client}
 use Rattle.rb_lsp.specs.declared.server.method.Method.{Method}
-use Rattle.rb_lsp.specs.declared.server.method.Method.TheVariants.{Initialize, Shutdown, Exit, Asks, FindsSymbols}
+use Rattle.rb_lsp.specs.declared.server.method.Method.TheVariants.{Initialize, Shutdown, Exit, Asks}
 use Rattle.rb_lsp.specs.declared.server.phase.Phase.{Phase}
 use Rattle.rb_lsp.specs.declared.server.phase.Phase.TheVariants.{Fresh, Running, Stopped}
 use Rattle.rb_lsp.specs.declared.server.phase.ExitStatus.{ExitStatus}
@@ -18,7 +18,7 @@ use Rattle.rb_lsp.specs.declared.server.phase.ExitStatus.TheVariants.{Done, Exit
 use Rattle.rb_lsp.specs.Documents.{PlainDocument}
 use Rattle.rb_lsp.specs.declared.server.reach.Reach.{Reach}
 use Rattle.rb_lsp.specs.Meanings.{Meaning}
-use Rattle.rb_lsp.specs.Questions.{body_text, question_body, question_run, symbols_body}
+use Rattle.rb_lsp.specs.Questions.{body_text, question_body, question_run}
 use Rattle.rb_lsp.specs.Notices.{documents_after, notice_of, notice_run, notice_text}
 
 -- the state of a server
@@ -58,10 +58,9 @@ no_message = failure null InvalidRequest (codes "this is no message")
 unfoldable pub no_json : Data
 no_json = failure null ParseError (codes "this is no JSON")
 
--- to a request: of a document or of all open ones, between `initialize` and `shutdown`, or of none
+-- to a request: of a document, between `initialize` and `shutdown`, or of none
 abbrev pub body_in : Meaning → Reach → List PlainDocument → Phase → Method → Option Data → Data → List ℕ
 body_in meaning reach ds (Running client) (Asks question) params id = question_body meaning reach client ds question params id
-body_in meaning reach ds (Running client) FindsSymbols params id = symbols_body meaning reach client ds params id
 body_in meaning reach ds phase method params id = body_text (answer_to phase method params id)
 
 abbrev pub answer_body : Meaning → Reach → PlainServer → Method → Option Data → Data → List ℕ

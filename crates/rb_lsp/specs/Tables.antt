@@ -2,7 +2,7 @@
 use Rattle.std.specs.Prelude.{◌≡◌, ◌≢◌, ℕ, zero, suc, ◌==◌, ◌<◌, nat_lt, if◌then◌else◌, List, [], ◌∷◌, length, get_or, slice_index}
 use Rattle.rb_lsp.specs.declared.document.position.Encoding.{Encoding}
 use Rattle.rb_lsp.specs.declared.document.position.Position.{Position}
-use Rattle.rb_lsp.specs.declared.document.position_table.PositionTable.{PositionTable}
+use Rattle.rb_lsp.specs.declared.document.line_table.LineTable.{LineTable}
 use Rattle.rb_lsp.specs.Places.{position_of}
 
 -- the bytes before line n of a script; all bytes if there are fewer lines
@@ -25,9 +25,9 @@ feed_count [] = 0
 feed_count (b ∷ bytes) = if b == 10 then suc (feed_count bytes) else feed_count bytes
 
 -- where line n begins by the table
-abbrev pub given : PositionTable → ℕ → Position
+abbrev pub given : LineTable → ℕ → Position
 given table n = if nat_lt n table.plain then record { line = n; character = 0 } else get_or table.starts.items n table.end
 
 -- the table gives each line's beginning
-abbrev pub IsTable : Encoding → List ℕ → PositionTable → Type 0
+abbrev pub IsTable : Encoding → List ℕ → LineTable → Type 0
 IsTable encoding text table = (n : ℕ) → given table n ≡ start_of encoding n text

@@ -1,4 +1,4 @@
-//! A language server without a language: documents, positions, messages, lifecycle. A [`Service`](server::Service) has the language.
+//! A language server, whatever it serves: documents and their positions, messages, and the server's life.
 #![tactic(auto)]
 
 pub mod document;

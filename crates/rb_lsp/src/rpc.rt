@@ -19,13 +19,15 @@ mod message_reader;
 mod params;
 mod reading;
 
-pub(crate) use answer::{ErrorCode, failure, success, text_of};
+pub use answer::{ErrorCode, error_code, failure, success, text_of};
 pub use fault::ServeFault;
-pub(crate) use incoming::{Incoming, incoming_of};
+pub use framing::framed;
+pub use head::{Framed, message_at};
+pub use incoming::{Incoming, incoming_of};
 pub use laws::{framed_bodies_are_messages, messages_are_one};
-pub(crate) use limits::MAX_CALLS;
-pub(crate) use message_reader::{MessageReader, NextMessage};
-pub(crate) use params::{
+pub use limits::{MAX_BODY, MAX_CALLS, MAX_FIELDS, MAX_HEAD, MAX_WAITING};
+pub use message_reader::{MessageReader, NextMessage};
+pub use params::{
     as_position, number_at, number_below, position_at, range_at, text_at, text_below,
 };
-pub(crate) use reading::{ReadError, read};
+pub use reading::{ReadError, read};

@@ -35,7 +35,6 @@ mod service;
 mod serving;
 mod stale;
 mod stop;
-mod symbols;
 
 pub use crate::rpc::ServeFault;
 pub use client::Client;
@@ -44,9 +43,10 @@ pub use laws::{
     conversations_are_one, notifications_have_no_answer, refusals_are_told,
     requests_have_one_answer, results_stand_in_answers, texts_are_answered, texts_are_diagnosed,
 };
-pub use limits::{MAX_WORK, limits_are};
+pub use limits::{MAX_DOCUMENTS, MAX_WORK, limits_are};
 pub use phase::ExitStatus;
 pub use query::Query;
+pub use reach::Reach;
 pub use service::{DocumentQuery, Service};
 pub use serving::serve;
 pub use stop::Stop;

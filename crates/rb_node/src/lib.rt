@@ -37,7 +37,7 @@ pub use limits::{ELECTION_TICKS, HEARTBEAT_TICKS, MAX_TICKS, limits_are};
 pub use node::Node;
 pub use options::Options;
 pub use ready::ReadyView;
-pub use sends::SendReason;
+pub use sends::{SendReason, Sending};
 pub use state::State;
 
 // The messages and events of a node, from rb_message.

@@ -1,6 +1,6 @@
 -- What a run's answer is as the program's.
 use Rattle.std.proofs.Common.{ℕ, List, Option, Result, Ok, Err, inl, refl}
-use Rattle.rb_report.specs.declared.status.Status.{Status}
+use Rattle.rb_report.specs.declared.check.status.Status.{Status}
 use Rattle.rb_bench.specs.declared.fault.BenchFault.{BenchFault}
 use Rattle.rb_program.specs.Refusals.{EndsAs, of_run}
 

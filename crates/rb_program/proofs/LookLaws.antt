@@ -15,8 +15,8 @@ use Rattle.rb_script.proofs.HeadLineLaws.{heads_ascend}
 use Rattle.rb_bench.specs.declared.fault.BenchFault.{BenchFault}
 use Rattle.rb_bench.specs.declared.fault.BenchFault.TheVariants as faults
 use Rattle.rb_bench.specs.Faults.{TellsFault}
-use Rattle.rb_report.specs.declared.status.Status.{Status}
-use Rattle.rb_report.specs.declared.status.Status.TheVariants as statuses
+use Rattle.rb_report.specs.declared.check.status.Status.{Status}
+use Rattle.rb_report.specs.declared.check.status.Status.TheVariants as statuses
 use Rattle.rb_program.specs.declared.look.LookedAt.{LookedAt}
 use Rattle.rb_program.specs.declared.program_error.ProgramError.{ProgramError}
 use Rattle.rb_program.specs.declared.program_error.ProgramError.TheVariants as refusals
@@ -54,7 +54,6 @@ none_there bytes word line (refusals.Script fault) below h = inl (io_kinds.OutOf
 none_there bytes word line (refusals.Unopened path error) below h = inl (io_kinds.OutOfMemory, h)
 none_there bytes word line refusals.ChartTooLarge below h = inl (io_kinds.OutOfMemory, h)
 none_there bytes word line refusals.PageTooLarge below h = inl (io_kinds.OutOfMemory, h)
-none_there bytes word line refusals.TraceTooLarge below h = inl (io_kinds.OutOfMemory, h)
 none_there bytes word line (refusals.Folder path) below h = inl (io_kinds.OutOfMemory, h)
 none_there bytes word line refusals.Io below h = inl (io_kinds.OutOfMemory, h)
 none_there bytes word line refusals.OutOfMemory below h = inl (io_kinds.OutOfMemory, h)

@@ -1,6 +1,7 @@
 -- What goes out if the program ends early.
-use Rattle.std.proofs.Common.{◌≡◌, ◌∙◌, ℕ, Bool, true, false, List, [], Option, Some, None, Result, Ok, Err, IfOk, ◌⊎◌, inl, inr}
+use Rattle.std.proofs.Common.{◌≡◌, ◌∙◌, ℕ, Bool, true, false, List, [], Option, Some, None, Result, Ok, Err, String, IfOk, ◌⊎◌, inl, inr, string_bytes}
 use Rattle.std.specs.Prelude.{IfSome, MatchResult}
+use Rattle.std.specs.declared.alloc.Global.{Global}
 use Rattle.std.specs.Fmt.{◌++?◌}
 use Rattle.std.specs.Io.KnownBytes.{Appends}
 use Rattle.std.proofs.KnownBytes.{Appends-trans}
@@ -9,7 +10,8 @@ use Rattle.rb_program.specs.Sentences.{IsShown, first_line, refused_word, second
 use Rattle.rb_program.specs.Told.{TellsWhy}
 
 -- the word is shown for a terminal, unless memory was refused
-pub shown_or_none : {E : Type 0} (shown : Result (List ℕ) E) (word text : List ℕ) → IfOk shown (λ s. IsShown word s) → MatchResult shown (λ s. text ≡ s) (λ _. text ≡ []) → IsShown word text ⊎ (text ≡ [])
+pub shown_or_none : {E : Type 0} (shown : Result (String Global) E) (word text : List ℕ) → IfOk shown (λ s. IsShown word (string_bytes s))
+    → MatchResult shown (λ s. text ≡ string_bytes s) (λ _. text ≡ []) → IsShown word text ⊎ (text ≡ [])
 shown_or_none (Ok s) word text is e = inl (e ∙ is)
 shown_or_none (Err x) word text is e = inr e
 

@@ -10,8 +10,8 @@ use Rattle.rb_script.specs.Writes.{AppendsFront}
 use Rattle.rb_script.proofs.ScriptLaws.{reads_once}
 use Rattle.rb_script.proofs.HeadLineLaws.{heads_once}
 use Rattle.rb_replay.specs.Report.{mismatches}
-use Rattle.rb_report.specs.declared.status.Status.{Status}
-use Rattle.rb_report.specs.declared.status.Status.TheVariants as statuses
+use Rattle.rb_report.specs.declared.check.status.Status.{Status}
+use Rattle.rb_report.specs.declared.check.status.Status.TheVariants as statuses
 use Rattle.rb_bench.specs.declared.fault.BenchFault.TheVariants as faults
 use Rattle.rb_bench.specs.Runs.{IsNoScript, status_of}
 use Rattle.rb_view.specs.Steps.{steps_texts}

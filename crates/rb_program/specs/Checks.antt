@@ -1,8 +1,8 @@
 -- What a check does, by its options and what the system tells. (This project's.)
 use Rattle.std.specs.Prelude.{◌≡◌, ℕ, ◌&&◌, not, Bool, List, Option, Some, None, codes, option_map, string_bytes}
 use Rattle.rb_args.specs.declared.choice.CheckChoice.{CheckChoice}
-use Rattle.rb_report.specs.declared.colors.Colors.{Colors}
-use Rattle.rb_report.specs.declared.status.Status.{Status}
+use Rattle.rb_report.specs.declared.check.colors.Colors.{Colors}
+use Rattle.rb_report.specs.declared.check.status.Status.{Status}
 use Rattle.rb_check.specs.declared.check_request.CheckRequest.{CheckRequest}
 use Rattle.rb_check.specs.Reported.{IsCheckStatus}
 use Rattle.rb_program.specs.declared.checking.Terminals.{Terminals}

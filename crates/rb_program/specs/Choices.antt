@@ -4,16 +4,14 @@ use Rattle.std.specs.Path.{path_file_name, rsplit_once}
 use Rattle.std.specs.Str.{bytes_eq}
 use Rattle.rb_text.specs.Numbers.{number_of}
 use Rattle.rb_args.specs.declared.choice.CheckChoice.{CheckChoice}
-use Rattle.rb_report.specs.declared.colors.Colors.{Colors}
-use Rattle.rb_report.specs.declared.colors.Colors.TheVariants as shades
+use Rattle.rb_report.specs.declared.check.colors.Colors.{Colors}
+use Rattle.rb_report.specs.declared.check.colors.Colors.TheVariants as shades
 use Rattle.rb_script_report.specs.declared.view.Detail.{Detail}
 use Rattle.rb_script_report.specs.declared.view.Detail.TheVariants as shown
 use Rattle.rb_check.specs.declared.format.Format.{Format}
 use Rattle.rb_check.specs.declared.format.Format.TheVariants as formats
-use Rattle.rb_help.specs.Manual.{page_in, pages}
-use Rattle.rb_help.specs.Nearest.{names_of, nearest}
-use Rattle.rb_program.specs.declared.chart_format.ChartFormat.{ChartFormat}
-use Rattle.rb_program.specs.declared.chart_format.ChartFormat.TheVariants as pictures
+use Rattle.rb_report.specs.Manual.{page_in, pages}
+use Rattle.rb_report.specs.Nearest.{names_of, nearest}
 use Rattle.rb_program.specs.declared.checking.Terminals.{Terminals}
 use Rattle.rb_program.specs.declared.program_error.ProgramError.{ProgramError}
 use Rattle.rb_program.specs.declared.program_error.ProgramError.TheVariants as refusals
@@ -150,17 +148,3 @@ IsUntil until misuse = ⊥
 abbrev pub IsWrongUntil : Option (List ℕ) → ProgramError → Type 0
 IsWrongUntil until (refusals.OwnUsage misuse) = (line_asked until ≡ None) × IsUntil until misuse
 IsWrongUntil until refusal = (line_asked until ≡ None) × (refusal ≡ refusals.OutOfMemory)
-
--- what `--format` of a picture asks for
-abbrev pub chart_format_of : Option (List ℕ) → Option ChartFormat
-chart_format_of None = Some pictures.Svg
-chart_format_of (Some word) = if bytes_eq word (codes "svg") then Some pictures.Svg else (if bytes_eq word (codes "mermaid") then Some pictures.Mermaid else None)
-
--- the usage error quotes the text after it, which is no format
-abbrev pub IsFormat : Option (List ℕ) → UsageError → Type 0
-IsFormat format (misuses.ChartFormat text) = format ≡ Some (string_bytes text)
-IsFormat format misuse = ⊥
-
-abbrev pub IsWrongFormat : Option (List ℕ) → ProgramError → Type 0
-IsWrongFormat format (refusals.OwnUsage misuse) = (chart_format_of format ≡ None) × IsFormat format misuse
-IsWrongFormat format refusal = (chart_format_of format ≡ None) × (refusal ≡ refusals.OutOfMemory)

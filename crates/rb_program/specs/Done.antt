@@ -1,17 +1,15 @@
 -- What each subcommand for one script does. (This project's.)
-use Rattle.std.specs.Prelude.{◌≡◌, ℕ, ◌⊎◌, Bool, true, false, List, Option, Some, Result, Ok, Err, IsErrAnd, codes, option_map, string_bytes}
+use Rattle.std.specs.Prelude.{◌≡◌, ℕ, ◌⊎◌, true, false, List, Option, Some, Result, Ok, Err, IsErrAnd, codes, option_map, string_bytes}
 use Rattle.std.specs.Str.{bytes_eq}
 use Rattle.rb_args.specs.declared.choice.CommandChoice.{CommandChoice}
 use Rattle.rb_replay.specs.Start.{is_checkpoint_interval}
-use Rattle.std.specs.Borrow.{Bor}
-use Rattle.rb_report.specs.declared.status.Status.{Status}
-use Rattle.rb_report.specs.declared.status.Status.TheVariants as statuses
+use Rattle.rb_report.specs.declared.check.status.Status.{Status}
+use Rattle.rb_report.specs.declared.check.status.Status.TheVariants as statuses
 use Rattle.rb_bench.specs.declared.running.Mode.{Mode}
 use Rattle.rb_bench.specs.declared.running.Mode.TheVariants as modes
 use Rattle.rb_bench.specs.Runs.{Answers, RunsOver}
 use Rattle.rb_bench.specs.Serves.{ServesOut}
 use Rattle.rb_view.specs.declared.chart.part.ChartPart.{ChartPart}
-use Rattle.rb_program.specs.declared.chart_format.ChartFormat.{ChartFormat}
 use Rattle.rb_program.specs.declared.document.DocumentKind.{DocumentKind}
 use Rattle.rb_program.specs.declared.document.DocumentKind.TheVariants as kinds
 use Rattle.rb_program.specs.declared.program_error.ProgramError.{ProgramError}
@@ -19,8 +17,8 @@ use Rattle.rb_program.specs.declared.program_error.ProgramError.TheVariants as r
 use Rattle.rb_program.specs.declared.usage_error.UsageError.{UsageError}
 use Rattle.rb_program.specs.declared.work.Work.{Work}
 use Rattle.rb_program.specs.declared.work.Work.TheVariants as works
-use Rattle.rb_program.specs.Choices.{IsWrongFormat, IsWrongFrom, IsWrongUntil, chart_format_of, line_asked, shown_name}
-use Rattle.rb_program.specs.Documents.{DocumentsOver, part_text}
+use Rattle.rb_program.specs.Choices.{IsWrongFrom, IsWrongUntil, line_asked, shown_name}
+use Rattle.rb_program.specs.Documents.{DocumentsOver}
 use Rattle.rb_program.specs.Looks.{IsLookAt}
 use Rattle.rb_program.specs.Refusals.{EndsAs}
 use Rattle.rb_program.specs.Scripts.{IsOf, IsOfBytes, IsOfInput, IsOfScript, Sources}
@@ -50,34 +48,26 @@ abbrev pub unless_refused : ProgramError → Result Status ProgramError → Resu
 unless_refused refusal (Ok statuses.Refused) = Err refusal
 unless_refused refusal ended = ended
 
--- the page of the part between two lines, where these are lines
-abbrev pub IsPaged : Sources → List ℕ → Option (List ℕ) → Option (List ℕ) → Result Status ProgramError → Type 0
-IsPaged sources file from until result =
-    (IsErrAnd result (λ refusal. IsWrongFrom from refusal) ⊎ (IsErrAnd result (λ refusal. IsWrongUntil until refusal) ⊎ (result ≡ Err refusals.OutOfMemory)))
-    ⊎ ((part : ChartPart) × (text : Bor (List ℕ)) × (line_asked from ≡ Some part.from) × (line_asked until ≡ Some part.until) × (text.now ≡ part_text part)
-    × ((ended : Result Status ProgramError) × IsDocumented sources file (kinds.Page text) ended × (result ≡ unless_refused refusals.PageTooLarge ended)))
+abbrev pub IsPaged : Sources → List ℕ → Result Status ProgramError → Type 0
+IsPaged sources file result = (ended : Result Status ProgramError) × IsDocumented sources file kinds.Page ended × (result ≡ unless_refused refusals.PageTooLarge ended)
 
-abbrev pub IsTraced : Sources → List ℕ → Result Status ProgramError → Type 0
-IsTraced sources file result = (ended : Result Status ProgramError) × IsDocumented sources file kinds.Trace ended × (result ≡ unless_refused refusals.TraceTooLarge ended)
+-- the picture of the part between two lines, where these are lines
+abbrev pub IsCharted : Sources → List ℕ → Option (List ℕ) → Option (List ℕ) → Result Status ProgramError → Type 0
+IsCharted sources file from until result =
+    (IsErrAnd result (λ refusal. IsWrongFrom from refusal) ⊎ IsErrAnd result (λ refusal. IsWrongUntil until refusal))
+    ⊎ ((part : ChartPart) × (line_asked from ≡ Some part.from) × (line_asked until ≡ Some part.until)
+    × ((ended : Result Status ProgramError) × IsDocumented sources file (kinds.Chart part) ended × (result ≡ unless_refused refusals.ChartTooLarge ended)))
 
--- the picture of the part between two lines, in a format, with a table of logs or without, where these are lines, and this is a format
-abbrev pub IsCharted : Sources → List ℕ → Option (List ℕ) → Option (List ℕ) → Option (List ℕ) → Bool → Result Status ProgramError → Type 0
-IsCharted sources file from until format has_logs result =
-    (IsErrAnd result (λ refusal. IsWrongFrom from refusal) ⊎ (IsErrAnd result (λ refusal. IsWrongUntil until refusal) ⊎ IsErrAnd result (λ refusal. IsWrongFormat format refusal)))
-    ⊎ ((part : ChartPart) × (asked : ChartFormat) × (line_asked from ≡ Some part.from) × (line_asked until ≡ Some part.until) × (chart_format_of format ≡ Some asked)
-    × ((ended : Result Status ProgramError) × IsDocumented sources file (kinds.Chart part asked has_logs) ended × (result ≡ unless_refused refusals.ChartTooLarge ended)))
-
--- what comes of a work on the file, by the options
-unfoldable pub IsDone : Sources → List ℕ → CommandChoice → Work → Result Status ProgramError → Type 0
-IsDone sources file choice (works.Report n) result = IsRun sources file modes.Run n result
-IsDone sources file choice (works.Rewriting n) result = IsRun sources file modes.Rewrite n result
-IsDone sources file choice works.Noting result = IsNoted sources file result
-IsDone sources file choice (works.Session n) result = IsServed sources file n result
-IsDone sources file choice works.Look result = IsLookAt sources.File sources.files file result
-IsDone sources file choice works.Page result = IsPaged sources file (option_map string_bytes choice.from) (option_map string_bytes choice.until) result
-IsDone sources file choice works.Chart result =
-    IsCharted sources file (option_map string_bytes choice.from) (option_map string_bytes choice.until) (option_map string_bytes choice.check.format) choice.has_logs result
-IsDone sources file choice works.Trace result = IsTraced sources file result
+-- what comes of a work on the file
+unfoldable pub IsDone : Sources → List ℕ → Option (List ℕ) → Option (List ℕ) → Work → Result Status ProgramError → Type 0
+IsDone sources file from until (works.Report n) result = IsRun sources file modes.Run n result
+IsDone sources file from until (works.Rewriting n) result = IsRun sources file modes.Rewrite n result
+IsDone sources file from until works.Noting result = IsNoted sources file result
+IsDone sources file from until (works.Session n) result = IsServed sources file n result
+IsDone sources file from until works.Look result = IsLookAt sources.File sources.files file result
+IsDone sources file from until works.Page result = IsPaged sources file result
+IsDone sources file from until works.Chart result = IsCharted sources file from until result
+IsDone sources file from until works.Trace result = IsDocumented sources file kinds.Trace result
 
 -- the same result, with the text after `--every` if that is what is wrong
 abbrev pub IsWithEvery : Option (List ℕ) → Result Status ProgramError → Result Status ProgramError → Type 0
@@ -87,7 +77,8 @@ IsWithEvery every (Err refusal) result = IsErrAnd result (λ told. NamesEvery ev
 -- what comes of a work on the file, as the options ask for it
 abbrev pub IsWorked : Sources → CommandChoice → List ℕ → Work → Result Status ProgramError → Type 0
 IsWorked sources choice file work result =
-    (ended : Result Status ProgramError) × IsDone sources file choice work ended × IsWithEvery (option_map string_bytes choice.every) ended result
+    (ended : Result Status ProgramError) × IsDone sources file (option_map string_bytes choice.from) (option_map string_bytes choice.until) work ended
+    × IsWithEvery (option_map string_bytes choice.every) ended result
 
 -- what comes of a task on the file: what can't be done is refused
 abbrev pub IsCarriedOut : Sources → CommandChoice → List ℕ → Result Work UsageError → Result Status ProgramError → Type 0

@@ -6,8 +6,8 @@ use Rattle.rb_script.specs.Script.{PlainScript}
 use Rattle.rb_script.specs.Reads.{Reads}
 use Rattle.rb_script.specs.Reading.{read_of, Refuses}
 use Rattle.rb_script.specs.HeadLines.{AreHeadLines}
-use Rattle.rb_report.specs.declared.status.Status.{Status}
-use Rattle.rb_report.specs.declared.status.Status.TheVariants as statuses
+use Rattle.rb_report.specs.declared.check.status.Status.{Status}
+use Rattle.rb_report.specs.declared.check.status.Status.TheVariants as statuses
 use Rattle.rb_check.specs.Place.{ArePartedAt}
 use Rattle.rb_view.specs.Looks.{looked}
 use Rattle.rb_program.specs.declared.look.LookedAt.{LookedAt}

@@ -5,11 +5,11 @@ use Rattle.rb_script.specs.Lines.{Line}
 use Rattle.rb_script.specs.Script.{PlainBlock, PlainScript}
 use Rattle.rb_script.specs.Reading.{directive_of}
 use Rattle.rb_bench.specs.declared.fault.BenchFault.{BenchFault}
-use Rattle.rb_report.specs.declared.status.Status.{Status}
+use Rattle.rb_report.specs.declared.check.status.Status.{Status}
 use Rattle.rb_report.specs.Headings.{note_text}
 use Rattle.rb_report.specs.Hints.{hint_text}
 use Rattle.rb_report.specs.Notices.{warning_text}
-use Rattle.rb_help.specs.Suggestions.{suggested}
+use Rattle.rb_report.specs.Suggestions.{suggested}
 use Rattle.rb_check.specs.Visible.{showing_of_lines, text_shown}
 use Rattle.rb_program.specs.declared.rewriting.Rewritten.{Rewritten}
 use Rattle.rb_replay.specs.Run.{outputs}

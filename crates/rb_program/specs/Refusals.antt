@@ -14,8 +14,8 @@ use Rattle.rb_args.specs.declared.choice.ChoiceFault.{ChoiceFault}
 use Rattle.rb_args.specs.declared.choice.ChoiceFault.TheVariants as choices
 use Rattle.rb_bench.specs.declared.fault.BenchFault.{BenchFault}
 use Rattle.rb_bench.specs.declared.fault.BenchFault.TheVariants as faults
-use Rattle.rb_report.specs.declared.status.Status.{Status}
-use Rattle.rb_report.specs.declared.status.Status.TheVariants as statuses
+use Rattle.rb_report.specs.declared.check.status.Status.{Status}
+use Rattle.rb_report.specs.declared.check.status.Status.TheVariants as statuses
 use Rattle.rb_program.specs.declared.program_error.ProgramError.{ProgramError}
 use Rattle.rb_program.specs.declared.program_error.ProgramError.TheVariants as refusals
 use Rattle.rb_program.specs.declared.usage_error.UsageError.TheVariants as misuses
@@ -102,6 +102,5 @@ EndsWith (refusals.Unopened path error) status = status ≡ statuses.Failed
 EndsWith (refusals.Folder path) status = status ≡ statuses.Failed
 EndsWith refusals.ChartTooLarge status = status ≡ statuses.Refused
 EndsWith refusals.PageTooLarge status = status ≡ statuses.Refused
-EndsWith refusals.TraceTooLarge status = status ≡ statuses.Refused
 EndsWith refusals.Io status = status ≡ statuses.Failed
 EndsWith refusals.OutOfMemory status = status ≡ statuses.OutOfMemory

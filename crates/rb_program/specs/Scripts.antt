@@ -2,7 +2,7 @@
 use Rattle.std.specs.Prelude.{◌≡◌, ℕ, ◌⊎◌, true, false, List, Option, Result, Ok, Err, IfSome, IsErrAnd, codes}
 use Rattle.std.specs.Str.{bytes_eq}
 use Rattle.rb_text.specs.declared.reading.ReadFault.{ReadFault}
-use Rattle.rb_report.specs.declared.status.Status.{Status}
+use Rattle.rb_report.specs.declared.check.status.Status.{Status}
 use Rattle.rb_bench.specs.Runs.{read_part}
 use Rattle.rb_program.specs.declared.program_error.ProgramError.{ProgramError}
 use Rattle.rb_program.specs.Refusals.{Explains, IsUnopened, of_reading}

@@ -3,10 +3,9 @@ use Rattle.std.specs.Prelude.{◌≡◌, ℕ, ◌==◌, false, List, [], ◌++�
 use Rattle.std.specs.List.{AllZip, list_any}
 use Rattle.rb_script.specs.Bytes.{line_feed}
 use Rattle.rb_script.specs.Lines.{Line, text_of}
-use Rattle.rb_report.specs.Refusals.{fault_line, sentence}
+use Rattle.rb_report.specs.Refusals.{fault_line}
 use Rattle.rb_view.specs.declared.chart.draw.TheConstants.{MAX_EVENTS}
 use Rattle.rb_view.specs.declared.steps.room.TheConstants.{MAX_PAGE}
-use Rattle.rb_view.specs.declared.trace.directive_trace.TheConstants.{MAX_TRACE}
 use Rattle.rb_bench.specs.Names.{script_name}
 use Rattle.rb_report.specs.Names.{shown_name}
 use Rattle.rb_program.specs.declared.program_error.ProgramError.{ProgramError}
@@ -46,21 +45,19 @@ misused_word (misuses.Format text) = string_bytes text
 misused_word misuses.NoTerminal = []
 misused_word misuses.Unseen = []
 misused_word (misuses.From text) = string_bytes text
-misused_word (misuses.ChartFormat text) = string_bytes text
 misused_word (misuses.Until text) = string_bytes text
 misused_word (misuses.Place text) = string_bytes text
 misused_word (misuses.Directive name meant) = string_bytes name
 
--- the word that a refusal is about: that of the usage error, the path, or what is wrong with the script
+-- the word that a refusal is about: that of the usage error, or the path
 abbrev pub refused_word : ProgramError → List ℕ
 refused_word (refusals.Clap error) = []
 refused_word (refusals.Usage misuse) = misused_word misuse
 refused_word (refusals.OwnUsage misuse) = misused_word misuse
-refused_word (refusals.Script fault) = sentence fault
+refused_word (refusals.Script fault) = []
 refused_word (refusals.Unopened path error) = string_bytes path
 refused_word refusals.ChartTooLarge = []
 refused_word refusals.PageTooLarge = []
-refused_word refusals.TraceTooLarge = []
 refused_word (refusals.Folder path) = string_bytes path
 refused_word refusals.Io = []
 refused_word refusals.OutOfMemory = []
@@ -84,7 +81,6 @@ usage_line misuses.NoTerminal word = Some (codes "--review: it asks on a termina
 usage_line misuses.Unseen word = Some (codes "--review: it shows what it asks about, so it goes with neither --quiet nor --format\n")
 usage_line (misuses.From text) word = Some (codes "--from " ++ (word ++ codes ": the line of a directive\n"))
 usage_line (misuses.Until text) word = Some (codes "--until " ++ (word ++ codes ": the line of a directive\n"))
-usage_line (misuses.ChartFormat text) word = Some (codes "--format " ++ (word ++ codes ": svg or mermaid\n"))
 usage_line (misuses.Place text) word = Some (word ++ codes ": FILE:LINE, where a directive stands at the line or above it\n")
 usage_line (misuses.Directive name meant) word = Some (unknown_line word (option_map (λ m. m.now) meant))
 
@@ -104,8 +100,6 @@ first_line refusals.ChartTooLarge word =
     Some (codes "raftbench: a picture has room for " ++ (decimal MAX_EVENTS ++ codes " events: choose a part by --from and --until\n"))
 first_line refusals.PageTooLarge word =
     Some (codes "raftbench: a page has room for " ++ (decimal MAX_PAGE ++ codes " bytes of rows: divide the script, or see a part of it by chart\n"))
-first_line refusals.TraceTooLarge word =
-    Some (codes "raftbench: a trace has room for " ++ (decimal MAX_TRACE ++ codes " bytes: it ends before the directive that has more\n"))
 first_line (refusals.Folder path) word = Some (codes "raftbench: input or output failed\n")
 first_line refusals.Io word = Some (codes "raftbench: input or output failed\n")
 first_line refusals.OutOfMemory word = Some (codes "raftbench: out of memory\n")
@@ -115,11 +109,10 @@ abbrev pub second_line : ProgramError → List ℕ → Option (List ℕ)
 second_line (refusals.Clap error) word = Some []
 second_line (refusals.Usage misuse) word = usage_line misuse word
 second_line (refusals.OwnUsage misuse) word = Some []
-second_line (refusals.Script fault) word = Some (word ++ codes "\n")
+second_line (refusals.Script fault) word = Some []
 second_line (refusals.Unopened path error) word = None
 second_line refusals.ChartTooLarge word = Some []
 second_line refusals.PageTooLarge word = Some []
-second_line refusals.TraceTooLarge word = Some []
 second_line (refusals.Folder path) word = Some (word ++ codes ": it is a folder, and not a script; raftbench check takes folders\n")
 second_line refusals.Io word = Some []
 second_line refusals.OutOfMemory word = Some []

@@ -5,7 +5,7 @@ use Rattle.std.specs.Io.KnownBytes.{Appends}
 use Rattle.clap.specs.Values.{kind_of}
 use Rattle.clap.specs.declared.error.kind.ErrorKind.{ErrorKind}
 use Rattle.clap.specs.declared.error.kind.ErrorKind.TheVariants as kinds
-use Rattle.rb_report.specs.declared.status.Status.{Status}
+use Rattle.rb_report.specs.declared.check.status.Status.{Status}
 use Rattle.rb_program.specs.declared.program_error.ProgramError.{ProgramError}
 use Rattle.rb_program.specs.declared.program_error.ProgramError.TheVariants as refusals
 use Rattle.rb_program.specs.Choices.{IsSetting}

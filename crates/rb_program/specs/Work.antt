@@ -6,7 +6,7 @@ use Rattle.rb_args.specs.declared.choice.ScriptCommand.TheVariants as commands
 use Rattle.rb_bench.specs.declared.limits.TheConstants.{DEFAULT_CHECKPOINT_INTERVAL}
 use Rattle.rb_replay.specs.Start.{is_checkpoint_interval}
 use Rattle.rb_text.specs.Numbers.{number_of}
-use Rattle.rb_report.specs.declared.status.Status.{Status}
+use Rattle.rb_report.specs.declared.check.status.Status.{Status}
 use Rattle.rb_program.specs.declared.program_error.ProgramError.{ProgramError}
 use Rattle.rb_program.specs.declared.program_error.ProgramError.TheVariants as refusals
 use Rattle.rb_program.specs.declared.usage_error.UsageError.{UsageError}

@@ -8,9 +8,9 @@ ghost use Rattle.rb_report.specs.Names.{shown_name};
 ghost use Rattle.rb_program.specs.Arguments.{IsRefusedAs};
 
 use crate::program_error::ProgramError;
+use crate::shown::shown_word;
 use crate::usage_error::UsageError;
 use rb_args::{ChoiceFault, CommandChoice, chosen};
-use rb_report::ShownName;
 use std::alloc::{AllocError, Global};
 
 /// What the arguments choose, the program's name first.
@@ -48,7 +48,7 @@ fn shown_words(alloc: Global, words: &[String]) -> Result<Vec<String>, AllocErro
 {
     let mut shown = Vec::new(alloc);
     for word in words {
-        shown.push(ShownName::of(alloc, word.as_bytes())?.into_string())?;
+        shown.push(shown_word(alloc, word.as_str())?)?;
     }
     Ok(shown)
 }

@@ -1,15 +1,14 @@
-//! `raftbench chart FILE [--from LINE] [--until LINE] [--format FORMAT] [--logs]`: the picture of a script.
+//! `raftbench chart FILE [--from LINE] [--until LINE]`: the picture of a script.
 
 ghost use Rattle.std.specs.Prelude.{◌≡◌, IfErr, IfOk, Some, option_map};
-ghost use Rattle.rb_program.specs.Choices.{IsWrongFormat, IsWrongFrom, IsWrongUntil, chart_format_of, line_asked};
+ghost use Rattle.rb_program.specs.Choices.{IsWrongFrom, IsWrongUntil, line_asked};
 ghost use Rattle.rb_program.specs.Done.{IsCharted};
 ghost use Rattle.rb_program.specs.Scripts.{sources_of};
 
-use crate::chart_format::{ChartFormat, chart_format_of};
 use crate::document::{DocumentKind, unless_refused, write_document};
 use crate::program_error::ProgramError;
 use crate::usage_error::{UsageError, misused};
-use rb_report::Status;
+use rb_report::check::Status;
 use rb_text::number_of;
 use rb_view::chart::ChartPart;
 use std::alloc::Global;
@@ -21,10 +20,8 @@ pub(crate) fn chart<R: Files + Input + Print + AllocGlobal>(
     file: &str,
     from: Option<&str>,
     until: Option<&str>,
-    format: Option<&str>,
-    has_logs: bool,
 ) -> Result<Status, ProgramError>
-    ensures { IsCharted (sources_of R.Reader R.File R.Reader.remaining R.File.remaining) file.now (option_map (λ word. word.now) from.entry) (option_map (λ word. word.now) until.entry) (option_map (λ word. word.now) format.entry) has_logs result }
+    ensures { IsCharted (sources_of R.Reader R.File R.Reader.remaining R.File.remaining) file.now (option_map (λ word. word.now) from.entry) (option_map (λ word. word.now) until.entry) result }
 {
     let first = first_line(rt.alloc(), from)?;
     let last = last_line(rt.alloc(), until)?;
@@ -32,13 +29,12 @@ pub(crate) fn chart<R: Files + Input + Print + AllocGlobal>(
         from: first,
         until: last,
     };
-    let format = asked_format(rt.alloc(), format)?;
-    let drawn = write_document(rt, file, DocumentKind::Chart(part, format, has_logs));
+    let drawn = write_document(rt, file, DocumentKind::Chart(part));
     unless_refused(drawn, ProgramError::ChartTooLarge)
 }
 
-/// The line after `--from`, if it is given.
-pub(crate) fn first_line(alloc: Global, from: Option<&str>) -> Result<Option<u64>, ProgramError>
+// The line after `--from`, if it is given.
+fn first_line(alloc: Global, from: Option<&str>) -> Result<Option<u64>, ProgramError>
     ensures asked { IfOk result (λ line. line_asked (option_map (λ word. word.now) from.entry) ≡ Some line) }
     ensures wrong { IfErr result (λ refusal. IsWrongFrom (option_map (λ word. word.now) from.entry) refusal) }
 {
@@ -54,8 +50,8 @@ pub(crate) fn first_line(alloc: Global, from: Option<&str>) -> Result<Option<u64
     }
 }
 
-/// The line after `--until`, if it is given.
-pub(crate) fn last_line(alloc: Global, until: Option<&str>) -> Result<Option<u64>, ProgramError>
+// The line after `--until`, if it is given.
+fn last_line(alloc: Global, until: Option<&str>) -> Result<Option<u64>, ProgramError>
     ensures asked { IfOk result (λ line. line_asked (option_map (λ word. word.now) until.entry) ≡ Some line) }
     ensures wrong { IfErr result (λ refusal. IsWrongUntil (option_map (λ word. word.now) until.entry) refusal) }
 {
@@ -66,20 +62,6 @@ pub(crate) fn last_line(alloc: Global, until: Option<&str>) -> Result<Option<u64
         Some(line) => Ok(Some(line)),
         None => Err(match misused(alloc, until) {
             Some(text) => ProgramError::OwnUsage(UsageError::Until(text)),
-            None => ProgramError::OutOfMemory,
-        }),
-    }
-}
-
-// The format after `--format`: SVG, if none is given.
-fn asked_format(alloc: Global, format: Option<&str>) -> Result<ChartFormat, ProgramError>
-    ensures asked { IfOk result (λ asked. chart_format_of (option_map (λ word. word.now) format.entry) ≡ Some asked) }
-    ensures wrong { IfErr result (λ refusal. IsWrongFormat (option_map (λ word. word.now) format.entry) refusal) }
-{
-    match chart_format_of(format) {
-        Some(asked) => Ok(asked),
-        None => Err(match misused(alloc, format) {
-            Some(text) => ProgramError::OwnUsage(UsageError::ChartFormat(text)),
             None => ProgramError::OutOfMemory,
         }),
     }

@@ -15,7 +15,7 @@ use crate::usage_error::{UsageError, misused};
 use rb_args::CheckChoice;
 use rb_bench::Runner;
 use rb_check::{CheckRequest, Target, check};
-use rb_report::{Colors, Status};
+use rb_report::check::{Colors, Status};
 use rb_script_report::Detail;
 use std::alloc::Global;
 use std::io::Write;
@@ -83,7 +83,7 @@ fn request<'a>(
         is_quiet: choice.is_quiet,
         explains: choice.explains && !choice.is_quiet,
         is_strict: choice.is_strict,
-        shown: detail_of(choice, style),
+        shown: shown(choice, style),
         format: style.format(),
         colors,
         wants_progress,
@@ -162,7 +162,7 @@ fn check_review(
 
 // How much of each script is shown; the least of what is asked for. Programs are told what differs, and no less;
 // where each mismatch is shown to be asked about, a line is before those of a script.
-fn detail_of(choice: &CheckChoice, style: Style) -> Detail
+fn shown(choice: &CheckChoice, style: Style) -> Detail
     ensures { result ≡ shown_of choice.now style }
 {
     if !style.is_text() {

@@ -4,7 +4,7 @@ ghost use Rattle.std.specs.Prelude.{◌≡◌, option_map};
 ghost use Rattle.rb_program.specs.Choices.{AreColors, color_choice_of, colors_of};
 
 use crate::environment::{Environment, is_set};
-use rb_report::Colors;
+use rb_report::check::Colors;
 
 /// The values of `--color`.
 #[derive(Clone, Copy)]

@@ -20,7 +20,7 @@ pub trait Console {
     ghost takes_all: { Self → Type 0 };
 
     /// Writes on standard error. If that fails, it can't be told.
-    fn eprint<D: Display + Drop>(&mut self, text: D)
+    fn tell<D: Display + Drop>(&mut self, text: D)
         ensures told { takes_all self.old → takes_all self.new × IfSome (D.output text) (Appends (told self.old) (told self.new)) }
         ensures printed { Keeps (printed self.old) (printed self.new) }
         ensures lost { has_lost self.new ≡ has_lost self.old };
@@ -61,7 +61,7 @@ impl<'a, R: Print + Eprint> Console for RuntimeConsole<'a, R> {
 
     ghost takes_all = { λ _. ⊥ };
 
-    fn eprint<D: Display + Drop>(&mut self, text: D) {
+    fn tell<D: Display + Drop>(&mut self, text: D) {
         let _ = self.rt.eprint(text);
     }
 

@@ -2,8 +2,8 @@
 
 ghost use Rattle.std.specs.Prelude.{◌≡◌, ◌≢◌, Err, IfErr, IfOk, IsOk, Ok, OnOk, Some, option_map};
 ghost use Rattle.std.specs.Io.KnownBytes.{Keeps};
-ghost use Rattle.rb_help.specs.Manual.{page_in, pages};
-ghost use Rattle.rb_help.specs.Nearest.{names_of, nearest};
+ghost use Rattle.rb_report.specs.Manual.{page_in, pages};
+ghost use Rattle.rb_report.specs.Nearest.{names_of, nearest};
 ghost use Rattle.rb_script.specs.Writes.{Writes};
 ghost use Rattle.rb_bench.specs.Handed.{IsHandedOn};
 ghost use Rattle.rb_program.specs.Choices.{IsMeant, IsUnknown};
@@ -13,8 +13,8 @@ ghost use Rattle.rb_program.specs.Refusals.{of_writing};
 use crate::program_error::ProgramError;
 use crate::usage_error::UsageError;
 use rb_bench::Outlet;
-use rb_help::{nearest_name, page_of, write_manual};
-use rb_report::Status;
+use rb_report::check::Status;
+use rb_report::help::{nearest_name, page_of, put_manual};
 use rb_script::{Through, WriteFault};
 use rb_text::FailFast;
 use std::alloc::Global;
@@ -26,7 +26,7 @@ use std::{io, str};
 /// # Errors
 ///
 /// Why it was not done: no directive has the name, it could not be written, or memory was refused.
-pub fn write_directive_help<R: Print + AllocGlobal>(
+pub fn show_directives<R: Print + AllocGlobal>(
     rt: &R,
     name: Option<&str>,
 ) -> Result<Status, ProgramError>
@@ -51,18 +51,18 @@ fn write_directives<W: Outlet>(
         Some(name) => Some(page_named(alloc, name)?),
         None => None,
     };
-    status_of(write_pages(writer, page))
+    status_of(put_pages(writer, page))
 }
 
 // Writes the page, or the overview if there is none.
-fn write_pages<W: Outlet>(writer: &mut W, page: Option<&[u8]>) -> Result<(), WriteFault>
+fn put_pages<W: Outlet>(writer: &mut W, page: Option<&[u8]>) -> Result<(), WriteFault>
     ensures wrote { Writes result (W.held writer.old) (W.held writer.new) (shown_pages (option_map (λ page. page.now) page.entry)) }
     ensures handed { OnOk result (IsHandedOn (W.handed writer.new) (W.held writer.new)) }
     ensures all { W.takes_all writer.old → IsOk result × W.takes_all writer.new }
 {
     let written = match page {
-        Some(page) => writer.write_all(page),
-        None => write_manual(writer),
+        Some(page) => writer.put(page),
+        None => put_manual(writer),
     };
     handed_on(writer, written)
 }

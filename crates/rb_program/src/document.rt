@@ -1,21 +1,18 @@
-//! `raftbench page FILE [--from LINE] [--until LINE]`, `raftbench trace FILE`, and the picture of `raftbench chart`: a document of a script, under the script's name.
+//! `raftbench page|trace FILE`, and the picture of `raftbench chart`: a document of a script, under the script's name.
 
-ghost use Rattle.std.specs.Prelude.{◌≡◌, option_map, true};
+ghost use Rattle.std.specs.Prelude.{◌≡◌, true};
 ghost use Rattle.rb_program.specs.Choices.{shown_name};
 ghost use Rattle.rb_program.specs.Documents.{DocumentsOver};
-ghost use Rattle.rb_program.specs.Done.{IsDocumented, IsPaged, IsTraced, unless_refused};
+ghost use Rattle.rb_program.specs.Done.{IsDocumented, IsPaged, unless_refused};
 ghost use Rattle.rb_program.specs.Scripts.{sources_of};
 
-use crate::chart::{first_line, last_line};
-use crate::chart_format::ChartFormat;
-use crate::chart_over::{ChartAsked, chart_over};
+use crate::chart_over::chart_over;
 use crate::job::{Job, run_job};
 use crate::page_over::page_over;
-use crate::page_part::part_text;
 use crate::program_error::ProgramError;
 use crate::trace_over::trace_over;
 use rb_bench::{BenchFault, Outlet};
-use rb_report::Status;
+use rb_report::check::Status;
 use rb_text::Source;
 use rb_view::chart::ChartPart;
 use rb_view::frame::{back, front};
@@ -26,45 +23,22 @@ use std::rt::Files;
 
 /// What a document of a script shows.
 #[derive(Clone, Copy)]
-pub(crate) enum DocumentKind<'a> {
-    /// The page, with this text of the lines between which it shows directives.
-    Page(&'a [u8]),
+pub(crate) enum DocumentKind {
+    Page,
     Trace,
-    /// The picture of a part of it, in a format, with a table of logs or without.
-    Chart(ChartPart, ChartFormat, bool),
+    /// The picture of a part of it.
+    Chart(ChartPart),
 }
 
-/// Writes the page of the script in the file, or on standard input, or of its directives from a line on and up to a line.
+/// Writes the page of the script in the file, or on standard input.
 pub(crate) fn page<R: Files + Input + Print + AllocGlobal>(
     rt: &R,
     file: &str,
-    from: Option<&str>,
-    until: Option<&str>,
 ) -> Result<Status, ProgramError>
-    ensures { IsPaged (sources_of R.Reader R.File R.Reader.remaining R.File.remaining) file.now (option_map (λ word. word.now) from.entry) (option_map (λ word. word.now) until.entry) result }
+    ensures { IsPaged (sources_of R.Reader R.File R.Reader.remaining R.File.remaining) file.now result }
 {
-    let first = first_line(rt.alloc(), from)?;
-    let last = last_line(rt.alloc(), until)?;
-    let part = ChartPart {
-        from: first,
-        until: last,
-    };
-    let Ok(text) = part_text(rt.alloc(), part) else {
-        return Err(ProgramError::OutOfMemory);
-    };
-    let page = write_document(rt, file, DocumentKind::Page(&text));
+    let page = write_document(rt, file, DocumentKind::Page);
     unless_refused(page, ProgramError::PageTooLarge)
-}
-
-/// Writes the trace of the script in the file, or on standard input.
-pub(crate) fn trace<R: Files + Input + Print + AllocGlobal>(
-    rt: &R,
-    file: &str,
-) -> Result<Status, ProgramError>
-    ensures { IsTraced (sources_of R.Reader R.File R.Reader.remaining R.File.remaining) file.now result }
-{
-    let trace = write_document(rt, file, DocumentKind::Trace);
-    unless_refused(trace, ProgramError::TraceTooLarge)
 }
 
 /// Returns the refusal if the document has too little room, and the result as it is if not.
@@ -84,9 +58,9 @@ pub(crate) fn unless_refused(
 pub(crate) fn write_document<R: Files + Input + Print + AllocGlobal>(
     rt: &R,
     file: &str,
-    kind: DocumentKind<'_>,
+    kind: DocumentKind,
 ) -> Result<Status, ProgramError>
-    ensures { IsDocumented (sources_of R.Reader R.File R.Reader.remaining R.File.remaining) file.now kind.entry result }
+    ensures { IsDocumented (sources_of R.Reader R.File R.Reader.remaining R.File.remaining) file.now kind result }
 {
     let text = name_of(file);
     let name = text.as_bytes();
@@ -97,7 +71,7 @@ pub(crate) fn write_document<R: Files + Input + Print + AllocGlobal>(
 #[derive(Drop)]
 struct Documenting<'a> {
     name: &'a [u8],
-    kind: DocumentKind<'a>,
+    kind: DocumentKind,
 }
 
 impl<'a> Job for Documenting<'a> {
@@ -112,8 +86,8 @@ impl<'a> Job for Documenting<'a> {
         writer: &mut W,
     ) -> Result<Status, BenchFault> {
         match self.kind {
-            DocumentKind::Page(part) => {
-                let (front, back) = (front(part), back());
+            DocumentKind::Page => {
+                let (front, back) = (front(), back());
                 let frame = Frame {
                     front: &front,
                     back: &back,
@@ -121,15 +95,7 @@ impl<'a> Job for Documenting<'a> {
                 page_over(alloc, source, writer, frame, self.name)
             }
             DocumentKind::Trace => trace_over(alloc, source, writer, self.name),
-            DocumentKind::Chart(part, format, has_logs) => {
-                let picture = ChartAsked {
-                    name: self.name,
-                    part,
-                    format,
-                    has_logs,
-                };
-                chart_over(alloc, source, writer, picture)
-            }
+            DocumentKind::Chart(part) => chart_over(alloc, source, writer, self.name, part),
         }
     }
 }

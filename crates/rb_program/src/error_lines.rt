@@ -11,11 +11,10 @@ use crate::console::Console;
 use crate::program_error::ProgramError;
 use crate::usage_error::UsageLine;
 use rb_bench::script_fault_name;
-use rb_report::{ShownName, fault_line};
+use rb_report::check::fault_line;
 use rb_script::ScriptFault;
 use rb_view::chart::MAX_EVENTS;
 use rb_view::steps::MAX_PAGE;
-use rb_view::trace::MAX_TRACE;
 use std::fmt;
 use std::fmt::Display;
 
@@ -23,7 +22,7 @@ use std::fmt::Display;
 #[derive(Clone, Copy)]
 pub(crate) struct FirstLine<'a> {
     pub(crate) refusal: &'a ProgramError,
-    pub(crate) word: &'a ShownName,
+    pub(crate) word: &'a str,
 }
 
 impl Display for FirstLine<'_> {
@@ -49,10 +48,6 @@ impl Display for FirstLine<'_> {
                 f,
                 "raftbench: a page has room for {MAX_PAGE} bytes of rows: divide the script, or see a part of it by chart\n"
             ),
-            ProgramError::TraceTooLarge => write!(
-                f,
-                "raftbench: a trace has room for {MAX_TRACE} bytes: it ends before the directive that has more\n"
-            ),
             ProgramError::Unopened(_, _) | ProgramError::Folder(_) | ProgramError::Io =>
                 f.write_str("raftbench: input or output failed\n"),
             ProgramError::OutOfMemory => f.write_str("raftbench: out of memory\n"),
@@ -72,32 +67,29 @@ fn write_fault<W: fmt::Write>(f: &mut fmt::Formatter<W>, fault: ScriptFault) -> 
 }
 
 /// Writes the line with the reason, in which the word is shown so.
-pub(crate) fn say<C: Console>(console: &mut C, refusal: &ProgramError, word: &ShownName)
+pub(crate) fn say<C: Console>(console: &mut C, refusal: &ProgramError, word: &str)
     ensures told { C.takes_all console.old → C.takes_all console.new × IfSome (first_line refusal.now word.now) (Appends (C.told console.old) (C.told console.new)) }
     ensures printed { Keeps (C.printed console.old) (C.printed console.new) }
     ensures lost { C.has_lost console.new ≡ C.has_lost console.old }
 {
-    console.eprint(FirstLine { refusal, word });
+    console.tell(FirstLine { refusal, word });
 }
 
-/// The line that says more to a person, or nothing; a usage error's word, a path, or what is wrong with a script is shown so.
+/// The line that says more to a person, or nothing; a usage error's word, or a path, is shown so.
 #[derive(Clone, Copy)]
 pub(crate) struct SecondLine<'a> {
     pub(crate) refusal: &'a ProgramError,
-    pub(crate) word: &'a ShownName,
+    pub(crate) word: &'a str,
 }
 
 impl Display for SecondLine<'_> {
     ghost output = { λ line. second_line line.refusal.now line.word.now };
 
     fn fmt<W: fmt::Write>(&self, f: &mut fmt::Formatter<W>) -> fmt::Result {
-        let word = self.word.as_str();
+        let word = self.word;
         match self.refusal {
             ProgramError::Usage(misuse) => {
-                let line = UsageLine {
-                    misuse,
-                    word: self.word,
-                };
+                let line = UsageLine { misuse, word };
                 write!(f, "{line}")
             }
             ProgramError::Unopened(_, error) => write!(f, "{word}: {error}\n"),
@@ -105,12 +97,11 @@ impl Display for SecondLine<'_> {
                 f,
                 "{word}: it is a folder, and not a script; raftbench check takes folders\n"
             ),
-            ProgramError::Script(_) => write!(f, "{word}\n"),
             ProgramError::Clap(_)
             | ProgramError::OwnUsage(_)
+            | ProgramError::Script(_)
             | ProgramError::ChartTooLarge
             | ProgramError::PageTooLarge
-            | ProgramError::TraceTooLarge
             | ProgramError::Io
             | ProgramError::OutOfMemory => Ok(()),
         }

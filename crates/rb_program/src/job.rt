@@ -1,15 +1,15 @@
 //! One script, from reading it to writing the result.
 
 ghost use Rattle.std.specs.Prelude.{◌≡◌, ℕ, Bool, true, List, Option, Result, Err, IfOk, IfSome};
-ghost use Rattle.rb_report.specs.declared.status.Status.{Status};
+ghost use Rattle.rb_report.specs.declared.check.status.Status.{Status};
 ghost use Rattle.rb_bench.specs.declared.fault.BenchFault.{BenchFault};
 ghost use Rattle.rb_program.specs.Refusals.{EndsAs};
 ghost use Rattle.rb_program.specs.Scripts.{IsOfFile, IsOfScript, sources_of};
 
 use crate::program_error::ProgramError;
-use crate::running::{explained, opened, to_program_result};
+use crate::running::{ended, explained, opened};
 use rb_bench::{BenchFault, Outlet};
-use rb_report::Status;
+use rb_report::check::Status;
 use rb_script::Through;
 use rb_text::{FailFast, ReadSource, Source};
 use std::alloc::Global;
@@ -80,5 +80,5 @@ pub(crate) fn run_from<R: Print + AllocGlobal, S: Source, J: Job>(
 {
     let alloc = rt.alloc();
     let mut writer = Through(BufWriter::new(alloc, FailFast(Through(io::writer(rt))))?);
-    to_program_result(job.run(alloc, source, &mut writer))
+    ended(job.run(alloc, source, &mut writer))
 }

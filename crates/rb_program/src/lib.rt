@@ -1,6 +1,6 @@
 //! The program's subcommands except `lsp`, over the files, the streams, the environment and the clock of a runtime.
 //!
-//! [`check_all`] checks scripts, [`write_directive_help`] shows the directives, and [`carry_out`] runs a subcommand for one script.
+//! [`check_all`] checks scripts, [`show_directives`] shows the directives, and [`carry_out`] runs a subcommand for one script.
 //! Each returns its status, or a [`ProgramError`], which reports itself on standard error.
 //!
 //! `page_over` reads a script, runs it and writes its page, `chart_over` the picture of its run, and `trace_over` its trace: what rb_bench's `run_over` is for a report,
@@ -9,7 +9,6 @@
 
 mod arguments;
 mod chart;
-mod chart_format;
 mod chart_over;
 mod checking;
 mod clap_text;
@@ -25,7 +24,6 @@ mod limits;
 mod look;
 mod noting;
 mod page_over;
-mod page_part;
 mod path_kind;
 mod program_error;
 mod progress;
@@ -46,7 +44,7 @@ mod work;
 pub use arguments::choice_by;
 pub use checking::{Terminals, check_all};
 pub use console::{Console, RuntimeConsole};
-pub use directives::write_directive_help;
+pub use directives::show_directives;
 pub use environment::Environment;
 pub use laws::pages_are_one;
 pub use limits::limits_are;

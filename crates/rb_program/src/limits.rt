@@ -3,11 +3,9 @@
 ghost use Rattle.std.specs.Prelude.{◌≡◌};
 ghost use Rattle.rb_view.specs.declared.chart.draw.TheConstants.{MAX_EVENTS};
 ghost use Rattle.rb_view.specs.declared.steps.room.TheConstants.{MAX_PAGE};
-ghost use Rattle.rb_view.specs.declared.trace.directive_trace.TheConstants.{MAX_TRACE};
 
-/// The numbers that definitions name: how many bytes the rows of a page and the objects of a trace may have, and how many items a picture.
+/// The numbers that definitions name: how many bytes the rows of a page may have, and how many items a picture.
 pub fn limits_are()
     ensures page { MAX_PAGE ≡ 60000000 }
-    ensures trace { MAX_TRACE ≡ 100000000 }
     ensures events { MAX_EVENTS ≡ 500000 }
 {}

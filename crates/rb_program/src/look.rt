@@ -21,9 +21,9 @@ use crate::target::path_and_line;
 use crate::usage_error::UsageError;
 use rb_bench::Outlet;
 use rb_check::{VisibleSink, place_at};
-use rb_cluster::Meter;
+use rb_cluster::{Cluster, Meter};
 use rb_raftlog::SplitLog;
-use rb_report::{FileLine, Hint, Status, write_directive};
+use rb_report::check::{FileLine, Hint, Status, put_directive};
 use rb_script::{DirectiveRef, Lines, ScriptWithLines, Through, WriteFault};
 use rb_text::FailFast;
 use rb_view::look::look;
@@ -59,7 +59,7 @@ pub(crate) fn look_at<R: Files + Print + AllocGlobal>(
         line,
     };
     let text = bytes.as_slice();
-    write_look(rt, word, at, text)
+    show(rt, word, at, text)
 }
 
 fn no_place(alloc: Global, word: &str) -> ProgramError
@@ -72,7 +72,7 @@ fn no_place(alloc: Global, word: &str) -> ProgramError
 }
 
 // Shows the cluster after the last directive at the line, or above it, of the script that the bytes are.
-fn write_look<R: Print + AllocGlobal>(
+fn show<R: Print + AllocGlobal>(
     rt: &R,
     word: &str,
     at: FileLine<'_>,
@@ -83,7 +83,7 @@ fn write_look<R: Print + AllocGlobal>(
     let read = read_script(rt.alloc(), bytes)?;
     let found = seen(rt.alloc(), &read, at.line)?;
     match found {
-        Some(seen) => write_visible(rt, at.path, &read, &seen),
+        Some(seen) => put(rt, at.path, &read, &seen),
         None => Err(no_place(rt.alloc(), word)),
     }
 }
@@ -99,12 +99,12 @@ fn seen(alloc: Global, read: &ScriptWithLines, line: usize) -> Result<Option<Loo
         return Ok(None);
     };
     let mut meter = Meter::new();
-    let lines = look::<SplitLog>(alloc, &read.script, place, &mut meter)?;
+    let lines = look::<Cluster<SplitLog>>(alloc, &read.script, place, &mut meter)?;
     Ok(Some(LookedAt { place, head, lines }))
 }
 
 // Writes what is seen. Bytes that act in a terminal go out by their numbers.
-fn write_visible<R: Print + AllocGlobal>(
+fn put<R: Print + AllocGlobal>(
     rt: &R,
     path: &[u8],
     read: &ScriptWithLines,
@@ -119,7 +119,7 @@ fn write_visible<R: Print + AllocGlobal>(
     let sink = Through(BufWriter::new(rt.alloc(), FailFast(Through(io::writer(rt))))?);
     let mut screen = screen_for(sink, read);
     let at = head_at(path, seen);
-    status_of(write_seen(&mut screen, at, &block.directive(), &seen.lines))
+    status_of(put_seen(&mut screen, at, &block.directive(), &seen.lines))
 }
 
 // The place of the directive's head.
@@ -140,7 +140,7 @@ fn screen_for<S>(sink: S, read: &ScriptWithLines) -> VisibleSink<S>
 }
 
 // Writes the lines under the directive's head.
-fn write_seen<W: Outlet>(
+fn put_seen<W: Outlet>(
     writer: &mut W,
     at: FileLine<'_>,
     directive: &DirectiveRef<'_>,
@@ -150,6 +150,6 @@ fn write_seen<W: Outlet>(
     ensures handed { OnOk result (IsHandedOn (W.handed writer.new) (W.held writer.new)) }
     ensures all { W.takes_all writer.old → IsOk result × W.takes_all writer.new }
 {
-    let written = write_directive(writer, at, directive, lines, Hint::Unknown);
+    let written = put_directive(writer, at, directive, lines, Hint::Unknown);
     handed_on(writer, written)
 }

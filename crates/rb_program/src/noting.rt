@@ -8,10 +8,10 @@ ghost use Rattle.rb_program.specs.Notes.{error_noted, errors_noted, notes_shown,
 
 use rb_bench::ScriptRun;
 use rb_check::shown_of_script;
-use rb_help::suggested;
 use rb_machine::Machine;
 use rb_replay::Session;
-use rb_report::{FileLine, write_note, write_warning};
+use rb_report::check::{FileLine, put_note, put_warning};
+use rb_report::help::suggested;
 use rb_script::{Block, Lines, Sink, Through, WriteFault};
 use rb_script_report::{
     Layout, Warning, block_at, first_line, is_unexpected, number_at, output_at, warnings,
@@ -27,8 +27,8 @@ pub(crate) fn notes_of(alloc: Global, path: &[u8], bytes: &[u8], run: &ScriptRun
         return None;
     };
     let mut sink = Through(Vec::new(alloc));
-    let is_whole = write_warnings(&mut sink, path, &doubts).is_ok()
-        && write_errors(&mut sink, path, bytes, &run.session, &run.layout).is_ok();
+    let is_whole = put_warnings(&mut sink, path, &doubts).is_ok()
+        && put_errors(&mut sink, path, bytes, &run.session, &run.layout).is_ok();
     if !is_whole {
         return None;
     }
@@ -36,18 +36,18 @@ pub(crate) fn notes_of(alloc: Global, path: &[u8], bytes: &[u8], run: &ScriptRun
 }
 
 // Writes the lines that look like a slip.
-fn write_warnings<S: Sink>(sink: &mut S, path: &[u8], doubts: &[Warning]) -> Result<(), WriteFault>
+fn put_warnings<S: Sink>(sink: &mut S, path: &[u8], doubts: &[Warning]) -> Result<(), WriteFault>
     ensures wrote { Writes result (S.held sink.old) (S.held sink.new) (warnings_noted path.now doubts.now) }
     ensures all { S.takes_all sink.old → IsOk result × S.takes_all sink.new }
 {
     for warning in doubts {
-        write_warning(sink, path, warning.line, warning.doubt)?;
+        put_warning(sink, path, warning.line, warning.doubt)?;
     }
     Ok(())
 }
 
 // Writes the outputs that are new errors, of the script that these bytes are.
-fn write_errors<M: Machine, S: Sink>(
+fn put_errors<M: Machine, S: Sink>(
     sink: &mut S,
     path: &[u8],
     _bytes: &[u8],
@@ -63,13 +63,13 @@ fn write_errors<M: Machine, S: Sink>(
         let line = number_at(heads, i);
         let block = block_at(session, i);
         let output = output_at(session, i);
-        write_error(sink, &layout.text, FileLine { path, line }, block, output)?;
+        put_error(sink, &layout.text, FileLine { path, line }, block, output)?;
     }
     Ok(())
 }
 
 // Writes the output of a directive, if it is a new error.
-fn write_error<S: Sink>(
+fn put_error<S: Sink>(
     sink: &mut S,
     text: &Lines,
     place: FileLine<'_>,
@@ -82,7 +82,7 @@ fn write_error<S: Sink>(
     if !is_unexpected(text, place.line, output) {
         return Ok(());
     }
-    write_note(
+    put_note(
         sink,
         place,
         &block.directive(),

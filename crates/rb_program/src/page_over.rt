@@ -12,10 +12,10 @@ ghost use Rattle.rb_program.specs.Written.{Tells, TellsOver};
 
 use crate::script_steps::read_steps;
 use rb_bench::{BenchFault, Outlet};
-use rb_report::Status;
+use rb_report::check::Status;
 use rb_script::{Lines, MAX_SCRIPT, WriteFault};
 use rb_text::{Source, read_up_to};
-use rb_view::steps::{Frame, write_page};
+use rb_view::steps::{Frame, put_page};
 use std::alloc::Global;
 
 /// Reads a script, runs it and writes its page, under this name. The answer is the program's status: `Matched`, or `Mismatched` where there are
@@ -86,7 +86,7 @@ fn write_out<W: Outlet>(
     ensures handed { OnOk result (IsHandedOn (W.handed writer.new) (W.held writer.new)) }
     ensures all { W.takes_all writer.old → IsOk result × W.takes_all writer.new }
 {
-    match write_page(writer, frame, name, texts) {
+    match put_page(writer, frame, name, texts) {
         Ok(()) => writer.flush(),
         Err(fault) => Err(fault),
     }

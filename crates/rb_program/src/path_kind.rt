@@ -13,7 +13,7 @@ pub enum PathKind {
     File,
     /// Something else, such as a folder.
     Other,
-    /// Nothing that the system reports.
+    /// Nothing that the system tells of.
     Nothing,
 }
 

@@ -8,15 +8,15 @@ ghost use Rattle.rb_program.specs.Refusals.{EndsWith, of_bench, of_choice, of_ki
 ghost use Rattle.rb_program.specs.Sentences.{first_line, refused_word, second_line};
 ghost use Rattle.rb_program.specs.Told.{EndsByOutput, IsExplained, TellsWhy};
 
-use crate::clap_text::write_clap_text;
+use crate::clap_text::tell_clap;
 use crate::console::Console;
 use crate::environment::{Environment, asks_for_explanations};
 use crate::error_lines::{SecondLine, say};
-use crate::shown::or_nothing;
-use crate::usage_error::{UsageError, write_help};
+use crate::shown::{shown_word, text_of};
+use crate::usage_error::{UsageError, tell_help};
 use rb_args::ChoiceFault;
 use rb_bench::BenchFault;
-use rb_report::{ShownName, Status, sentence};
+use rb_report::check::Status;
 use rb_script::ScriptFault;
 use rb_text::ReadFault;
 use std::alloc::{AllocError, Global};
@@ -36,8 +36,6 @@ pub enum ProgramError {
     ChartTooLarge,
     /// A page has no room for the rows of what happens.
     PageTooLarge,
-    /// A trace has no room for all that happens.
-    TraceTooLarge,
     /// The file of this path is a folder, so it couldn't be read.
     Folder(String),
     Io,
@@ -56,7 +54,6 @@ impl Drop for ProgramError {
             | ProgramError::Script(_)
             | ProgramError::ChartTooLarge
             | ProgramError::PageTooLarge
-            | ProgramError::TraceTooLarge
             | ProgramError::Io
             | ProgramError::OutOfMemory => {}
         }
@@ -66,7 +63,7 @@ impl Drop for ProgramError {
 impl ProgramError {
     /// Writes the one line with the reason, and returns the status. If a person reads standard error, or the environment asks for it, a second
     /// line says more.
-    pub fn write_to<C: Console, S: Environment>(
+    pub fn tell<C: Console, S: Environment>(
         &self,
         alloc: Global,
         console: &mut C,
@@ -79,51 +76,47 @@ impl ProgramError {
         ensures lost { C.has_lost console.old ≡ false → EndsByOutput self.now (C.has_lost console.new) result }
     {
         let explained = is_explained(system, is_read);
-        let shown = ShownName::of(alloc, self.word());
-        let word = or_nothing(alloc, shown);
-        let status = self.write_reason(alloc, console, &word);
+        let shown = shown_word(alloc, self.word());
+        let word = text_of(&shown);
+        let status = self.tell_why(alloc, console, word);
         if !explained {
             return status;
         }
-        self.explain(alloc, console, &word);
+        self.explain(alloc, console, word);
         status
     }
 
-    // The word that it is about, or what is wrong with the script; empty, if there is none.
-    fn word(&self) -> &[u8]
+    // The word that it is about; empty, if there is none.
+    fn word(&self) -> &str
         ensures { result.now ≡ refused_word self.now }
     {
         match self {
-            ProgramError::Usage(misuse) => misuse.word().as_bytes(),
-            ProgramError::OwnUsage(misuse) => misuse.word().as_bytes(),
-            ProgramError::Unopened(path, _) => path.as_bytes(),
-            ProgramError::Folder(path) => path.as_bytes(),
-            ProgramError::Script(fault) => sentence(*fault),
+            ProgramError::Usage(misuse) => misuse.word(),
+            ProgramError::OwnUsage(misuse) => misuse.word(),
+            ProgramError::Unopened(path, _) => path.as_str(),
+            ProgramError::Folder(path) => path.as_str(),
             ProgramError::Clap(_)
+            | ProgramError::Script(_)
             | ProgramError::ChartTooLarge
             | ProgramError::PageTooLarge
-            | ProgramError::TraceTooLarge
             | ProgramError::Io
-            | ProgramError::OutOfMemory => b"",
+            | ProgramError::OutOfMemory => "",
         }
     }
 
     // Writes the line with the reason.
-    fn write_reason<C: Console>(&self, alloc: Global, console: &mut C, word: &ShownName) -> Status
+    fn tell_why<C: Console>(&self, alloc: Global, console: &mut C, word: &str) -> Status
         ensures ends { EndsWith self.now result }
         ensures told { C.takes_all console.old → C.takes_all console.new × IfSome (first_line self.now word.now) (Appends (C.told console.old) (C.told console.new)) }
         ensures lost { C.has_lost console.old ≡ false → EndsByOutput self.now (C.has_lost console.new) result }
     {
         match self {
-            ProgramError::Clap(error) => write_clap_text(alloc, console, error),
+            ProgramError::Clap(error) => tell_clap(alloc, console, error),
             ProgramError::Usage(_) | ProgramError::OwnUsage(_) => {
                 say(console, self, word);
                 Status::BadUsage
             }
-            ProgramError::Script(_)
-            | ProgramError::ChartTooLarge
-            | ProgramError::PageTooLarge
-            | ProgramError::TraceTooLarge => {
+            ProgramError::Script(_) | ProgramError::ChartTooLarge | ProgramError::PageTooLarge => {
                 say(console, self, word);
                 Status::Refused
             }
@@ -139,15 +132,15 @@ impl ProgramError {
     }
 
     // Writes the second line, if the first doesn't say enough to a person.
-    fn explain<C: Console>(&self, alloc: Global, console: &mut C, word: &ShownName)
+    fn explain<C: Console>(&self, alloc: Global, console: &mut C, word: &str)
         ensures told { C.takes_all console.old → IfSome (second_line self.now word.now) (Appends (C.told console.old) (C.told console.new)) }
         ensures lost { C.has_lost console.new ≡ C.has_lost console.old }
     {
         if let ProgramError::Usage(UsageError::NoCommand) = self {
-            return write_help(alloc, console);
+            return tell_help(alloc, console);
         }
         let refusal = self;
-        console.eprint(SecondLine { refusal, word });
+        console.tell(SecondLine { refusal, word });
     }
 }
 

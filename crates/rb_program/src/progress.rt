@@ -4,7 +4,7 @@ ghost use Rattle.std.specs.Prelude.{◌≡◌, true};
 
 use rb_bench::RunProgress;
 use rb_check::ProgressClock;
-use rb_report::{shown_name, write_head};
+use rb_report::check::{put_head, shown_name};
 use rb_script::{DirectiveRef, Through};
 use std::alloc::{AllocError, Global};
 use std::cell::Cell;
@@ -67,7 +67,7 @@ impl<'r, R: Eprint + Clock + AllocGlobal> TerminalProgress<'r, R> {
     }
 
     // Shows the directive. Without memory for its head there is no line.
-    fn write_line(&self, directive: &DirectiveRef<'_>)
+    fn show(&self, directive: &DirectiveRef<'_>)
         requires { self.now.is_wanted ≡ true }
     {
         let Ok(head) = shown_head(self.rt.alloc(), directive) else {
@@ -94,7 +94,7 @@ impl<'r, R: Eprint + Clock + AllocGlobal> TerminalProgress<'r, R> {
 // Copies the first bytes of a directive's head, as they are shown on a terminal.
 fn shown_head(alloc: Global, directive: &DirectiveRef<'_>) -> Result<Vec<u8>, AllocError> {
     let mut sink = Through(Vec::new(alloc));
-    let Ok(()) = write_head(&mut sink, directive) else {
+    let Ok(()) = put_head(&mut sink, directive) else {
         return Err(AllocError);
     };
     let head = sink.0;
@@ -118,7 +118,7 @@ impl<'r, R: Eprint + Clock + AllocGlobal> RunProgress for TerminalProgress<'r, R
         self.place.set(self.place.get().saturating_add(1));
     }
 
-    fn update(&self, directive: &DirectiveRef<'_>) {
+    fn tell(&self, directive: &DirectiveRef<'_>) {
         let left = self.calls_left.get();
         if left > 0 {
             self.calls_left.set(left - 1);
@@ -126,7 +126,7 @@ impl<'r, R: Eprint + Clock + AllocGlobal> RunProgress for TerminalProgress<'r, R
         }
         self.calls_left.set(CALLS_APART);
         if self.is_wanted && self.is_due() {
-            self.write_line(directive);
+            self.show(directive);
         }
     }
 

@@ -12,9 +12,9 @@ ghost use Rattle.rb_program.specs.Scripts.{AreRead, IsOfBytes, IsOfInput, source
 
 use crate::noting::notes_of;
 use crate::program_error::ProgramError;
-use crate::running::{script, to_program_result};
+use crate::running::{ended, script};
 use rb_bench::{BenchFault, Mode, Outlet, RunProgress, Runner, write_run};
-use rb_report::Status;
+use rb_report::check::Status;
 use rb_script::{MAX_SCRIPT, Through};
 use rb_text::{FailFast, ReadSource, read_up_to};
 use std::alloc::Global;
@@ -77,11 +77,11 @@ fn rewrite_noted<R: Print + AllocGlobal, E: Write + Drop, P: RunProgress>(
     let alloc = rt.alloc();
     let mut writer = Through(BufWriter::new(alloc, FailFast(Through(io::writer(rt))))?);
     let rewritten = rewrite_bytes(alloc, name.as_bytes(), bytes, &mut writer, progress);
-    to_program_result(write_notes(rewritten, errors))
+    ended(put_notes(rewritten, errors))
 }
 
 // Writes the notes, if there are any, and gives the status.
-fn write_notes<E: Write + Drop>(
+fn put_notes<E: Write + Drop>(
     rewritten: Result<Rewritten, BenchFault>,
     errors: E,
 ) -> Result<Status, BenchFault>

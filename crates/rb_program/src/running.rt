@@ -11,7 +11,7 @@ ghost use Rattle.rb_program.specs.Scripts.{AreRead, IsUnreadFile, sources_of};
 use crate::job::{Job, run_from, run_job};
 use crate::program_error::ProgramError;
 use rb_bench::{BenchFault, Mode, Outlet, RunProgress, run_over, serve};
-use rb_report::Status;
+use rb_report::check::Status;
 use rb_script::MAX_SCRIPT;
 use rb_text::{ReadSource, Source, read_up_to};
 use std::alloc::Global;
@@ -65,7 +65,7 @@ impl<'p, P: RunProgress> Job for Running<'p, P> {
 }
 
 /// What it came to, or why it came to nothing. It stands by itself so that what was opened is closed on one way out.
-pub(crate) fn to_program_result(status: Result<Status, BenchFault>) -> Result<Status, ProgramError>
+pub(crate) fn ended(status: Result<Status, BenchFault>) -> Result<Status, ProgramError>
     ensures { result ≡ of_run status }
 {
     Ok(status?)

@@ -3,16 +3,18 @@
 ghost use Rattle.std.specs.Prelude.{◌≡◌, ◌≤◌, IfOk, MatchOption, length};
 ghost use Rattle.rb_script.specs.declared.limits.TheConstants.{MAX_DIRECTIVES};
 ghost use Rattle.rb_script.specs.HeadLines.{AreHeadLines};
+ghost use Rattle.rb_script.specs.Lines.{lines};
+ghost use Rattle.rb_script.specs.Reads.{Reads};
 ghost use Rattle.rb_replay.specs.Report.{mismatches};
 ghost use Rattle.rb_replay.specs.Run.{outputs};
 ghost use Rattle.rb_bench.specs.Runs.{status_of};
-ghost use Rattle.rb_program.specs.Drawn.{HasNoRoomFor, IsPictureOf};
+ghost use Rattle.rb_program.specs.Drawn.{HasNoRoomFor, IsPicture, IsPictureOf, IsTooLarge};
 
 use crate::script_steps::status;
 use rb_cluster::{Cluster, Meter};
 use rb_raftlog::SplitLog;
 use rb_replay::{Outputs, Session};
-use rb_report::Status;
+use rb_report::check::Status;
 use rb_script::{Script, ScriptWithLines};
 use rb_view::chart::{Chart, ChartFault, ChartPart, ChartScript, DrawnRun, chart_of};
 use std::alloc::{AllocError, Global};
@@ -40,42 +42,41 @@ fn drawn(
     name: &[u8],
     source: ChartScript<'_>,
     part: ChartPart,
-    has_logs: bool,
 ) -> Result<Option<DrawnRun>, AllocError>
-    requires few { length source.script.now.blocks ≤ MAX_DIRECTIVES }
-    requires heads { AreHeadLines 1 source.lines.now source.script.now.blocks source.heads.now }
-    ensures { IfOk result (λ picture. MatchOption picture (HasNoRoomFor source.entry.lines.now part source.entry.script.now) (λ run. IsPictureOf name.now source.entry.lines.now part has_logs source.entry.script.now run.chart × (run.printed ≡ outputs source.entry.script.now))) }
+    requires reads { Reads source.bytes.now source.script.now }
+    requires heads { AreHeadLines 1 (lines source.bytes.now) source.script.now.blocks source.heads.now }
+    ensures { IfOk result (λ picture. MatchOption picture (HasNoRoomFor source.entry.bytes.now part source.entry.script.now) (λ run. IsPictureOf source.entry.bytes.now part source.entry.script.now run.chart × (run.printed ≡ outputs source.entry.script.now))) }
 {
-    match chart_of::<SplitLog>(alloc, name, source, part, has_logs, &mut Meter::new()) {
+    match chart_of::<SplitLog>(alloc, name, source, part, &mut Meter::new()) {
         Ok(run) => Ok(Some(run)),
         Err(ChartFault::TooLarge) => Ok(None),
         Err(ChartFault::OutOfMemory) => Err(AllocError),
     }
 }
 
-/// Runs a script, each directive once, and gives its picture, or that of a part of it; none only if it has too little room.
+/// Runs the script, which the bytes are, each directive once, and gives its picture, or that of a part of it; none only if it has too little room.
 pub(crate) fn picture_of(
     alloc: Global,
     name: &[u8],
+    bytes: &[u8],
     read: ScriptWithLines,
     part: ChartPart,
-    has_logs: bool,
 ) -> Result<Option<ScriptChart>, AllocError>
-    requires few { length read.script.blocks ≤ MAX_DIRECTIVES }
-    requires heads { AreHeadLines 1 read.lines read.script.blocks read.heads.items }
-    ensures { IfOk result (λ picture. MatchOption picture (HasNoRoomFor read.lines part read.script) (λ p. IsPictureOf name.now read.lines part has_logs read.script p.chart × (p.status ≡ status_of (mismatches read.script)))) }
+    requires reads { Reads bytes.now read.script }
+    requires heads { AreHeadLines 1 (lines bytes.now) read.script.blocks read.heads.items }
+    ensures { IfOk result (λ picture. MatchOption picture (IsTooLarge bytes.now part) (λ p. IsPicture bytes.now part p.chart p.status)) }
 {
     let ScriptWithLines {
         script,
-        lines,
+        lines: _,
         heads,
     } = read;
     let source = ChartScript {
-        lines: &lines,
+        bytes,
         script: &script,
         heads: heads.as_slice(),
     };
-    let Some(run) = drawn(alloc, name, source, part, has_logs)? else {
+    let Some(run) = drawn(alloc, name, source, part)? else {
         return Ok(None);
     };
     let DrawnRun { chart, printed } = run;

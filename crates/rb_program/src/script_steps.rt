@@ -17,7 +17,7 @@ use rb_cluster::{Cluster, Meter};
 use rb_machine::Machine;
 use rb_raftlog::SplitLog;
 use rb_replay::Session;
-use rb_report::Status;
+use rb_report::check::Status;
 use rb_script::{Lines, ScriptWithLines};
 use rb_view::steps::{StepMachine, steps_of};
 use std::alloc::{AllocError, Global};

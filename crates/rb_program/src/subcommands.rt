@@ -7,7 +7,7 @@ ghost use Rattle.rb_program.specs.Scripts.{sources_of};
 
 use crate::chart::chart;
 use crate::checking::Terminals;
-use crate::document::{page, trace};
+use crate::document::{DocumentKind, page, write_document};
 use crate::look::look_at;
 use crate::program_error::ProgramError;
 use crate::progress::TerminalProgress;
@@ -17,7 +17,7 @@ use crate::usage_error::{UsageError, usage_error_of_every};
 use crate::work::{Work, task_of};
 use rb_args::{CommandChoice, ScriptCommand};
 use rb_bench::{Mode, RunProgress};
-use rb_report::Status;
+use rb_report::check::Status;
 use std::alloc::Global;
 use std::io::Write;
 use std::rt::Files;
@@ -50,7 +50,7 @@ pub fn carry_out<R: Files + Input + Print + Eprint + Clock + AllocGlobal, E: Wri
     carried(rt, task, file, choice, errors, &progress)
 }
 
-// Whether to write notes: on a terminal, or with `--warn`.
+// Whether a person is to read notes: on a terminal, or asked for.
 fn wants_notes(choice: &CommandChoice, is_read: bool) -> bool
     ensures { result ≡ is_read || choice.now.warns }
 {
@@ -92,7 +92,7 @@ fn worked<R: Files + Input + Print + AllocGlobal, E: Write + Drop, P: RunProgres
     ensures done { IsWorked (sources_of R.Reader R.File R.Reader.remaining R.File.remaining) choice.now file.now work result }
     ensures taken { IfOk result (λ _. has_interval work ≡ true) }
 {
-    let ended = run_subcommand(rt, work, file, choice, errors, progress);
+    let ended = done(rt, work, file, choice, errors, progress);
     let every = choice.every.as_deref();
     ended_with_every(rt.alloc(), every, ended)
 }
@@ -123,7 +123,7 @@ fn with_every(alloc: Global, every: Option<&str>, refusal: ProgramError) -> Prog
 }
 
 #[tactic(auto, unfolding(crate::specs::Done::IsDone))]
-fn run_subcommand<R: Files + Input + Print + AllocGlobal, E: Write + Drop, P: RunProgress>(
+fn done<R: Files + Input + Print + AllocGlobal, E: Write + Drop, P: RunProgress>(
     rt: &R,
     work: Work,
     file: &str,
@@ -132,7 +132,7 @@ fn run_subcommand<R: Files + Input + Print + AllocGlobal, E: Write + Drop, P: Ru
     progress: &P,
 ) -> Result<Status, ProgramError>
     ensures right { IfOk result (λ _. has_interval work ≡ true) }
-    ensures done { IsDone (sources_of R.Reader R.File R.Reader.remaining R.File.remaining) file.now choice.now work result }
+    ensures done { IsDone (sources_of R.Reader R.File R.Reader.remaining R.File.remaining) file.now (option_map string_bytes choice.now.from) (option_map string_bytes choice.now.until) work result }
 {
     match work {
         Work::Report(every) => run(rt, file, Mode::Run, every, progress),
@@ -140,18 +140,8 @@ fn run_subcommand<R: Files + Input + Print + AllocGlobal, E: Write + Drop, P: Ru
         Work::Noting => rewrite(rt, file, errors, progress),
         Work::Session(every) => session(rt, file, every),
         Work::Look => look_at(rt, file),
-        Work::Page => page(rt, file, choice.from.as_deref(), choice.until.as_deref()),
-        Work::Chart => {
-            let format = choice.check.format.as_deref();
-            chart(
-                rt,
-                file,
-                choice.from.as_deref(),
-                choice.until.as_deref(),
-                format,
-                choice.has_logs,
-            )
-        }
-        Work::Trace => trace(rt, file),
+        Work::Page => page(rt, file),
+        Work::Chart => chart(rt, file, choice.from.as_deref(), choice.until.as_deref()),
+        Work::Trace => write_document(rt, file, DocumentKind::Trace),
     }
 }

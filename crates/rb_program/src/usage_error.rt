@@ -7,7 +7,6 @@ ghost use Rattle.rb_program.specs.Work.{IsOfEvery};
 
 use crate::console::Console;
 use rb_args::{ChoiceFault, chosen};
-use rb_report::ShownName;
 use std::alloc::Global;
 use std::fmt;
 use std::fmt::Display;
@@ -38,8 +37,6 @@ pub enum UsageError {
     From(String),
     /// The value of `--until` is not a line.
     Until(String),
-    /// The value of a picture's `--format` is not one of its values.
-    ChartFormat(String),
     /// The argument of `look` doesn't name a directive of a file.
     Place(String),
     /// No directive has the name; and the one that is near it.
@@ -62,7 +59,6 @@ impl Drop for UsageError {
             | UsageError::Format(_)
             | UsageError::From(_)
             | UsageError::Until(_)
-            | UsageError::ChartFormat(_)
             | UsageError::Place(_)
             | UsageError::Directive(_, _) => {}
         }
@@ -87,7 +83,6 @@ impl UsageError {
             UsageError::Format(text) => text.as_str(),
             UsageError::From(text) => text.as_str(),
             UsageError::Until(text) => text.as_str(),
-            UsageError::ChartFormat(text) => text.as_str(),
             UsageError::Place(text) => text.as_str(),
             UsageError::Directive(name, _) => name.as_str(),
         }
@@ -98,14 +93,14 @@ impl UsageError {
 #[derive(Clone, Copy)]
 pub(crate) struct UsageLine<'a> {
     pub(crate) misuse: &'a UsageError,
-    pub(crate) word: &'a ShownName,
+    pub(crate) word: &'a str,
 }
 
 impl Display for UsageLine<'_> {
     ghost output = { λ line. usage_line line.misuse.now line.word.now };
 
     fn fmt<W: fmt::Write>(&self, f: &mut fmt::Formatter<W>) -> fmt::Result {
-        let word = self.word.as_str();
+        let word = self.word;
         match self.misuse {
             UsageError::NoText => f.write_str("the words are to be UTF-8\n"),
             UsageError::NoCommand => Ok(()),
@@ -125,7 +120,6 @@ impl Display for UsageLine<'_> {
             ),
             UsageError::From(_) => write!(f, "--from {word}: the line of a directive\n"),
             UsageError::Until(_) => write!(f, "--until {word}: the line of a directive\n"),
-            UsageError::ChartFormat(_) => write!(f, "--format {word}: svg or mermaid\n"),
             UsageError::Place(_) => write!(
                 f,
                 "{word}: FILE:LINE, where a directive stands at the line or above it\n"
@@ -173,12 +167,12 @@ pub(crate) fn misused(alloc: Global, word: Option<&str>) -> Option<String>
 }
 
 /// Writes the help of the whole program on standard error.
-pub(crate) fn write_help<C: Console>(alloc: Global, console: &mut C)
+pub(crate) fn tell_help<C: Console>(alloc: Global, console: &mut C)
     ensures takes { C.takes_all console.old → C.takes_all console.new }
     ensures lost { C.has_lost console.new ≡ C.has_lost console.old }
 {
     if let Some(help) = help(alloc) {
-        console.eprint(help);
+        console.tell(help);
     }
 }
 

@@ -22,7 +22,7 @@ pub struct Entries {
     list: Option<Rc<Pages<Entry>>>,
 }
 
-// By hand instead of derived: so dropping is one call, proved once.
+// Written by hand, so that an owner drops one by a call, which is proved only here.
 impl Drop for Entries {
     fn drop(self) {
         let Entries { list: _ } = self;

@@ -26,6 +26,7 @@ mod try_copy;
 pub use content::Content;
 pub use entries::Entries;
 pub use entry::{Body, Entry};
+pub use entry_list::EntryList;
 pub use laws::{
     answers_say_what_is_held, appended_entries_match, appending_again_changes_nothing, bases_move,
     committed_entries_stay, compacting_keeps_terms, conflicting_entries_go,

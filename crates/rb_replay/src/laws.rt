@@ -82,8 +82,8 @@ pub fn cost_is_bounded()
     ensures { (c : Change) (n : ℕ) → IsChange c → IsCost c n → n + c.front + 1 ≤ length c.new.blocks + c.checkpoint_interval }
 {}
 
-/// If the clusters are equal where the rest begins, an edit executes fewer directives than twice the checkpoint interval.
-/// Otherwise add the number of directives between front and rest.
+/// If the clusters are equal where the rest begins, an edit executes fewer directives than twice the checkpoint interval. For
+/// others add the directives between front and rest.
 pub fn cost_is_small()
     ensures one { (c : Change) (n : ℕ) → IsChange c → IsOneBlock c → IsCost c n → state c.new c.new_rest ≡ state c.old c.old_rest → n + 1 ≤ 2 * c.checkpoint_interval }
     ensures any { (c : Change) (n : ℕ) → IsChange c → IsCost c n → state c.new c.new_rest ≡ state c.old c.old_rest → n + c.front + 2 ≤ 2 * c.checkpoint_interval + c.new_rest }

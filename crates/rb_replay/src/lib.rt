@@ -26,7 +26,9 @@ mod splice;
 mod start;
 
 pub use blocks::block_at;
-pub use checkpoint_interval::{checkpoint_interval_limit_is, is_checkpoint_interval};
+pub use checkpoint_interval::{
+    MAX_CHECKPOINT_INTERVAL, checkpoint_interval_limit_is, is_checkpoint_interval,
+};
 pub use fault::StartFault;
 pub use laws::{
     cost_is_bounded, cost_is_one, cost_is_small, edits_answer_as_one_run, edits_are_changes,

@@ -9,26 +9,22 @@ use crate::blocks::block_at;
 use crate::session::Session;
 use rb_machine::Machine;
 use rb_script::{Lines, Sink, WriteFault};
-use rb_text::{Piece, write_pieces};
+use rb_text::{Piece, put_pieces};
 
 /// Writes each line after a mark.
-fn write_marked<'p, S: Sink>(
-    sink: &mut S,
-    mark: &'p [u8],
-    lines: &'p Lines,
-) -> Result<(), WriteFault>
+fn put_marked<'p, S: Sink>(sink: &mut S, mark: &'p [u8], lines: &'p Lines) -> Result<(), WriteFault>
     ensures wrote { Writes result (S.held sink.old) (S.held sink.new) (text_of (marked mark.now lines.now)) }
     ensures all { S.takes_all sink.old → IsOk result × S.takes_all sink.new }
 {
     for i in 0..lines.len() {
         let line: [&[u8]; 3] = [mark, lines.line(i), b"\n"];
-        write_pieces(sink, &line)?;
+        put_pieces(sink, &line)?;
     }
     Ok(())
 }
 
 /// Writes the place of a mismatch.
-fn write_place<S: Sink>(sink: &mut S, place: usize) -> Result<(), WriteFault>
+fn put_place<S: Sink>(sink: &mut S, place: usize) -> Result<(), WriteFault>
     ensures wrote { Writes result (S.held sink.old) (S.held sink.new) (line_text (mismatch_line place)) }
     ensures all { S.takes_all sink.old → IsOk result × S.takes_all sink.new }
 {
@@ -37,11 +33,11 @@ fn write_place<S: Sink>(sink: &mut S, place: usize) -> Result<(), WriteFault>
         Piece::Number(place as u64),
         Piece::Bytes(b"\n"),
     ];
-    write_pieces(sink, &line)
+    put_pieces(sink, &line)
 }
 
 /// Writes a mismatch: its place, the expected lines, and the output.
-fn write_mismatch<S: Sink>(
+fn put_mismatch<S: Sink>(
     sink: &mut S,
     place: usize,
     expected: &Lines,
@@ -50,21 +46,17 @@ fn write_mismatch<S: Sink>(
     ensures wrote { Writes result (S.held sink.old) (S.held sink.new) (text_of (mismatch_line place ∷ (marked (codes "- ") expected.now ++ marked (codes "+ ") output.now))) }
     ensures all { S.takes_all sink.old → IsOk result × S.takes_all sink.new }
 {
-    write_place(sink, place)?;
-    write_marked(sink, b"- ", expected)?;
-    write_marked(sink, b"+ ", output)
+    put_place(sink, place)?;
+    put_marked(sink, b"- ", expected)?;
+    put_marked(sink, b"+ ", output)
 }
 
 /// Writes the numbers of directives and mismatches.
-fn write_total<S: Sink>(
-    sink: &mut S,
-    directives: usize,
-    mismatches: usize,
-) -> Result<(), WriteFault>
+fn put_total<S: Sink>(sink: &mut S, directives: usize, mismatches: usize) -> Result<(), WriteFault>
     ensures wrote { Writes result (S.held sink.old) (S.held sink.new) (line_text (total_line directives mismatches)) }
     ensures all { S.takes_all sink.old → IsOk result × S.takes_all sink.new }
 {
-    write_pieces(
+    put_pieces(
         sink,
         &[
             Piece::Number(directives as u64),
@@ -91,9 +83,9 @@ impl<M: Machine> Session<M> {
         ensures all { S.takes_all sink.old → IsOk result × S.takes_all sink.new }
     {
         for place in &self.mismatches {
-            self.write_mismatch_at(sink, *place)?;
+            self.put_mismatch_at(sink, *place)?;
         }
-        write_total(sink, self.script.len(), self.mismatches.len())
+        put_total(sink, self.script.len(), self.mismatches.len())
     }
 
     /// Writes the script. Allocates nothing. After a failure a beginning of the text is written.
@@ -113,13 +105,13 @@ impl<M: Machine> Session<M> {
     }
 
     /// Writes the mismatch at a place.
-    fn write_mismatch_at<S: Sink>(&self, sink: &mut S, place: usize) -> Result<(), WriteFault>
+    fn put_mismatch_at<S: Sink>(&self, sink: &mut S, place: usize) -> Result<(), WriteFault>
         requires first { 1 ≤ place }
         requires within { place ≤ length self.now.script.blocks }
         ensures wrote { Writes result (S.held sink.old) (S.held sink.new) (text_of (mismatch_lines self.now.script place)) }
         ensures all { S.takes_all sink.old → IsOk result × S.takes_all sink.new }
     {
         let block = block_at(&self.script, place - 1);
-        write_mismatch(sink, place, block.expected(), self.outputs.at(place - 1))
+        put_mismatch(sink, place, block.expected(), self.outputs.at(place - 1))
     }
 }

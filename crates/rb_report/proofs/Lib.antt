@@ -18,4 +18,7 @@ pub mod SentenceLaws
 pub mod CountLaws
 pub mod ToldLaws
 pub mod AddedLaws
+pub mod DistanceLaws
+pub mod NearLaws
+pub mod FormLaws
 pub mod NameLaws

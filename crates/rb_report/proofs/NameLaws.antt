@@ -1,16 +1,12 @@
 -- Which bytes a name has when it is shown.
-use Rattle.std.proofs.Common.{◌≡◌, ◌∙◌, ℕ, ◌+◌, ◌/◌, ◌%◌, ◌<◌, ◌≤◌, Bool, true, false, List, [], ◌∷◌, IsUtf8, refl, ap, arith, inl, inr}
-use Rattle.std.specs.Prelude.{◌==◌, ◌&&◌, ◌||◌, not, nat_le, nat_lt, if◌then◌else◌, chars}
-use Rattle.std.specs.List.{All, flat_map, list_all, list_any}
-use Rattle.std.specs.Str.{is_utf8}
+use Rattle.std.proofs.Common.{◌≡◌, ◌∙◌, ℕ, ◌+◌, ◌/◌, ◌%◌, ◌<◌, ◌≤◌, Bool, true, false, List, [], ◌∷◌, refl, arith, inl, inr}
+use Rattle.std.specs.Prelude.{◌==◌, ◌&&◌, ◌||◌, not, nat_le, nat_lt, if◌then◌else◌}
+use Rattle.std.specs.List.{flat_map, list_all, list_any}
 use Rattle.std.proofs.lemmas.Bool.{and_from, and_parts, leb-true, le-leb, le-ltb, ltb-true}
-use Rattle.std.proofs.lemmas.Bool.Decides.{eqb_tells, nat_tests}
-use Rattle.std.proofs.lemmas.List.Elements.{All-cons}
-use Rattle.std.proofs.lemmas.Str.{IsUtf8-from_ascii, IsUtf8-from_is_utf8, chars-IsAscii, is_utf8-from_IsUtf8}
-use Rattle.std.proofs.lemmas.Str.Ascii.{IsAscii-from_all}
+use Rattle.std.proofs.lemmas.Bool.Decides.{eqb_tells}
 use Rattle.rb_text.specs.Json.{hex_digit}
 use Rattle.rb_text.proofs.JsonLaws.{flat_of}
-use Rattle.rb_report.specs.Names.{acts_in_line, acts_past_ascii, by_number, has_acting_char, is_control, is_printable, is_visible, name_byte, shown_name}
+use Rattle.rb_report.specs.Names.{acts_in_line, by_number, has_acting_char, is_control, is_printable, is_visible, name_byte, shown_name}
 
 visible : (b : ℕ) → 32 ≤ b → b ≤ 126 → is_visible b ≡ true
 visible b low high = and_from (nat_le 32 b) (nat_le b 126) (le-leb 32 b low) (le-leb b 126 high)
@@ -42,15 +38,15 @@ visible_if false name is = absurd cc
 pub shown_visible : (name : List ℕ) → acts_in_line name ≡ true → list_all is_visible (shown_name name) ≡ true
 shown_visible name is = visible_if (acts_in_line name) name is
 
-neither : (l d : Bool) → l ≡ false → d ≡ false → (l || d) ≡ false
-neither false false p q = refl
-neither true d p q = absurd cc
-neither false true p q = absurd cc
-
 -- what is printable is no control character
 uncontrolled : (b : ℕ) → 32 ≤ b → b ≤ 126 → is_control b ≡ false
 uncontrolled b low high = neither (nat_lt b 32) (b == 127) (le-ltb b 32 low) (other b high)
   where
+    neither : (l d : Bool) → l ≡ false → d ≡ false → (l || d) ≡ false
+    neither false false p q = refl
+    neither true d p q = absurd cc
+    neither false true p q = absurd cc
+
     other : (b : ℕ) → b ≤ 126 → (b == 127) ≡ false
     other b high = elim (eqb_tells b 127) [
       | inl y ↦ absurd (omega (arith, high, y.1))
@@ -94,71 +90,3 @@ shown_quiet name = quiet_if (acts_in_line name) name (left (list_any is_control 
     left : (c d : Bool) → (c || d) ≡ false → c ≡ false
     left false d p = refl
     left true d p = absurd cc
-
--- ---- what is shown acts in nothing
-
--- a visible byte is below 127
-below : (b : ℕ) → is_visible b ≡ true → b ≤ 126
-below b is = leb-true b 126 (and_parts (nat_le 32 b) (nat_le b 126) is).1
-
-each_below : (bytes : List ℕ) → list_all is_visible bytes ≡ true → All (λ (b : ℕ). b < 128) bytes
-each_below [] h = λ k d lt. absurd (omega (arith, lt))
-each_below (b ∷ bytes) h =
-    let parts = and_parts (is_visible b) (list_all is_visible bytes) h in
-    let low : b < 128 = omega (arith, below b parts.0) in
-    All-cons (λ (b : ℕ). b < 128) b bytes low (each_below bytes parts.1)
-
-unacting : (b : ℕ) → b < 128 → acts_past_ascii b ≡ false
-unacting b low = grind (arith, nat_tests)
-
-none_past : (bytes : List ℕ) → list_all is_visible bytes ≡ true → list_any acts_past_ascii bytes ≡ false
-none_past [] h = refl
-none_past (b ∷ bytes) h =
-    let parts = and_parts (is_visible b) (list_all is_visible bytes) h in
-    neither (acts_past_ascii b) (list_any acts_past_ascii bytes) (unacting b (omega (arith, below b parts.0))) (none_past bytes parts.1)
-
-none_control : (bytes : List ℕ) → list_all is_visible bytes ≡ true → list_any is_control bytes ≡ false
-none_control [] h = refl
-none_control (b ∷ bytes) h =
-    let parts = and_parts (is_visible b) (list_all is_visible bytes) h in
-    neither (is_control b) (list_any is_control bytes) (uncontrolled b (leb-true 32 b (and_parts (nat_le 32 b) (nat_le b 126) parts.0).0) (below b parts.0)) (none_control bytes parts.1)
-
--- visible bytes are text, in which nothing acts
-visible_inert : (bytes : List ℕ) → list_all is_visible bytes ≡ true → acts_in_line bytes ≡ false
-visible_inert bytes h =
-    let ascii = IsAscii-from_all bytes (each_below bytes h) in
-    let text : not (is_utf8 bytes) ≡ false = ap not (is_utf8-from_IsUtf8 bytes (IsUtf8-from_ascii bytes ascii)) in
-    let past : list_any acts_past_ascii (chars bytes) ≡ false = ap (list_any acts_past_ascii) (chars-IsAscii bytes ascii) ∙ none_past bytes h in
-    neither (list_any is_control bytes) (has_acting_char bytes) (none_control bytes h) (neither (not (is_utf8 bytes)) (list_any acts_past_ascii (chars bytes)) text past)
-
-inert_if : (t : Bool) (name : List ℕ) → acts_in_line name ≡ t → acts_in_line (if t then flat_map name_byte name else name) ≡ false
-inert_if true name is = visible_inert (flat_map name_byte name) (all_visible name)
-inert_if false name is = is
-
--- nothing of a shown name acts
-pub shown_inert : (name : List ℕ) → acts_in_line (shown_name name) ≡ false
-shown_inert name = inert_if (acts_in_line name) name refl
-
-stays_if : (t : Bool) (name : List ℕ) → t ≡ false → (if t then flat_map name_byte name else name) ≡ name
-stays_if true name is = absurd cc
-stays_if false name is = refl
-
--- so it is shown as it is
-pub shown_once : (name : List ℕ) → shown_name (shown_name name) ≡ shown_name name
-shown_once name = stays_if (acts_in_line (shown_name name)) (shown_name name) (shown_inert name)
-
--- what doesn't act is text
-text_by : (u a : Bool) → (not u || a) ≡ false → u ≡ true
-text_by true a h = refl
-text_by false a h = absurd cc
-
-second : (a b : Bool) → (a || b) ≡ false → b ≡ false
-second true b h = absurd cc
-second false b h = h
-
-pub inert_text : (bytes : List ℕ) → acts_in_line bytes ≡ false → IsUtf8 bytes
-inert_text bytes h =
-    IsUtf8-from_is_utf8 bytes (text_by (is_utf8 bytes) (list_any acts_past_ascii (chars bytes)) (second (list_any is_control bytes) (has_acting_char bytes) h))
-
-pub nothing_inert : acts_in_line [] ≡ false
-nothing_inert = visible_inert [] refl

@@ -5,9 +5,9 @@ use Rattle.std.proofs.lemmas.List.{append_cancel_right}
 use Rattle.rb_script.specs.Bytes.{space}
 use Rattle.rb_script.specs.Lines.{Line}
 use Rattle.rb_script.specs.Marks.{is_space}
-use Rattle.rb_report.specs.declared.colors.Colors.{Colors}
-use Rattle.rb_report.specs.declared.position.DiffPosition.{DiffPosition}
-use Rattle.rb_report.specs.declared.side.Side.{Side}
+use Rattle.rb_report.specs.declared.check.colors.Colors.{Colors}
+use Rattle.rb_report.specs.declared.check.position.DiffPosition.{DiffPosition}
+use Rattle.rb_report.specs.declared.check.side.Side.{Side}
 use Rattle.rb_report.specs.Shown.{last_or, begins_fold, needs_mark, marked, dollar_sign}
 use Rattle.rb_report.specs.Steps.{after_line}
 use Rattle.rb_report.specs.Whys.{told_line, told_lines}

@@ -1,15 +1,14 @@
 -- What came of all paths, by numbers. (This project's.)
 use Rattle.std.specs.Prelude.{ℕ, ◌+◌, ◌-◌, ◌/◌, ◌%◌, ◌^◌, ◌==◌, ◌&&◌, ◌||◌, min, max, Bool, not, if◌then◌else◌, List, [], ◌∷◌, ◌++◌, sum_by, codes, decimal}
+use Rattle.rb_script.specs.declared.fault.ScriptFault.{ScriptFault}
 use Rattle.rb_script.specs.declared.fault.ScriptFault.TheVariants as faults
-use Rattle.rb_report.specs.declared.failure.Failure.{Failure}
-use Rattle.rb_report.specs.declared.failure.Failure.TheVariants as failures
-use Rattle.rb_report.specs.declared.outcome.Outcome.{Outcome}
-use Rattle.rb_report.specs.declared.outcome.Outcome.TheVariants as outcomes
-use Rattle.rb_report.specs.declared.refusal.Refusal.{Refusal}
-use Rattle.rb_report.specs.declared.refusal.Refusal.TheVariants as refusals
-use Rattle.rb_report.specs.declared.status.Status.{Status}
-use Rattle.rb_report.specs.declared.status.Status.TheVariants as statuses
-use Rattle.rb_report.specs.declared.totals.Totals.{Totals}
+use Rattle.rb_report.specs.declared.check.failure.Failure.{Failure}
+use Rattle.rb_report.specs.declared.check.failure.Failure.TheVariants as failures
+use Rattle.rb_report.specs.declared.check.outcome.Outcome.{Outcome}
+use Rattle.rb_report.specs.declared.check.outcome.Outcome.TheVariants as outcomes
+use Rattle.rb_report.specs.declared.check.status.Status.{Status}
+use Rattle.rb_report.specs.declared.check.status.Status.TheVariants as statuses
+use Rattle.rb_report.specs.declared.check.totals.Totals.{Totals}
 use Rattle.rb_report.specs.Names.{shown_name}
 use Rattle.rb_report.specs.Pieces.{count_text, noun}
 use Rattle.rb_report.specs.Statuses.{code_of}
@@ -29,9 +28,9 @@ one_refusal = record { scripts = 1; directives = 0; mismatches = 0; accepted = 0
 abbrev pub one_failure : ℕ → Totals
 one_failure without_memory = record { scripts = 0; directives = 0; mismatches = 0; accepted = 0; errors = 0; warnings = 0; refused = 0; failed = 1; without_memory = without_memory }
 
-abbrev pub of_refused : Refusal → Totals
-of_refused (refusals.Script faults.OutOfMemory) = one_failure 1
-of_refused refusal = one_refusal
+abbrev pub of_refused : ScriptFault → Totals
+of_refused faults.OutOfMemory = one_failure 1
+of_refused fault = one_refusal
 
 abbrev pub of_failed : Failure → Totals
 of_failed failures.OutOfMemory = one_failure 1
@@ -40,7 +39,7 @@ of_failed other = one_failure 0
 -- the outcome of one path
 abbrev pub of_outcome : Outcome → Totals
 of_outcome (outcomes.Ran directives mismatches accepted errors warnings) = one_run directives mismatches accepted errors warnings
-of_outcome (outcomes.Refused refusal) = of_refused refusal
+of_outcome (outcomes.Refused fault) = of_refused fault
 of_outcome (outcomes.Failed failure) = of_failed failure
 
 -- numbers stay at the greatest that fits
@@ -84,8 +83,8 @@ sum_of count os = min (sum_by (λ o. count (of_outcome o)) os) (2 ^ 64 - 1)
 abbrev pub status_met : Bool → Outcome → Status
 status_met strict (outcomes.Ran directives mismatches accepted errors warnings) =
     if mismatches == 0 && (not strict || (errors == 0 && warnings == 0)) then statuses.Matched else statuses.Mismatched
-status_met strict (outcomes.Refused (refusals.Script faults.OutOfMemory)) = statuses.OutOfMemory
-status_met strict (outcomes.Refused refusal) = statuses.Refused
+status_met strict (outcomes.Refused faults.OutOfMemory) = statuses.OutOfMemory
+status_met strict (outcomes.Refused fault) = statuses.Refused
 status_met strict (outcomes.Failed failures.OutOfMemory) = statuses.OutOfMemory
 status_met strict (outcomes.Failed failure) = statuses.Failed
 

@@ -1,8 +1,8 @@
 -- The place of a directive in a file, and what is shown of it. (This project's.)
 use Rattle.std.specs.Prelude.{ℕ, List, ◌++◌, codes, decimal}
 use Rattle.rb_script.specs.Lines.{Line}
-use Rattle.rb_report.specs.declared.colors.Colors.TheVariants.{Off}
-use Rattle.rb_report.specs.declared.side.Side.TheVariants.{Both}
+use Rattle.rb_report.specs.declared.check.colors.Colors.TheVariants.{Off}
+use Rattle.rb_report.specs.declared.check.side.Side.TheVariants.{Both}
 use Rattle.rb_report.specs.Diffs.{on_side, diff_text}
 use Rattle.rb_report.specs.Names.{shown_name}
 

@@ -1,7 +1,7 @@
 -- What was probably meant, below an error. (This project's.)
 use Rattle.std.specs.Prelude.{ℕ, List, [], ◌++◌, codes, Option, Some, None}
-use Rattle.rb_report.specs.declared.hint.Hint.{Hint}
-use Rattle.rb_report.specs.declared.hint.Hint.TheVariants as hints
+use Rattle.rb_report.specs.declared.check.hint.Hint.{Hint}
+use Rattle.rb_report.specs.declared.check.hint.Hint.TheVariants as hints
 
 -- nothing, a word or a form that was meant, or a sentence that says what is missing
 pub data PlainHint : Type 0 where

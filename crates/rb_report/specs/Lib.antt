@@ -19,3 +19,10 @@ pub mod Failures
 pub mod Statuses
 pub mod Counts
 pub mod Whys
+pub mod Choices
+pub mod HelpLines
+pub mod Distance
+pub mod Manual
+pub mod Nearest
+pub mod Suggestions
+pub mod Forms

@@ -1,7 +1,7 @@
 -- Notes besides mismatches: outputs that were not accepted, and lines that are probably mistakes. (This project's.)
 use Rattle.std.specs.Prelude.{ℕ, List, ◌++◌, codes, decimal}
-use Rattle.rb_report.specs.declared.warning_kind.WarningKind.{WarningKind}
-use Rattle.rb_report.specs.declared.warning_kind.WarningKind.TheVariants as doubts
+use Rattle.rb_report.specs.declared.check.warning_kind.WarningKind.{WarningKind}
+use Rattle.rb_report.specs.declared.check.warning_kind.WarningKind.TheVariants as doubts
 use Rattle.rb_report.specs.Headings.{heading_text}
 use Rattle.rb_report.specs.Names.{shown_name}
 

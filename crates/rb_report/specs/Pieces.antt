@@ -1,8 +1,8 @@
 -- The pieces of a text. (This project's.)
 use Rattle.std.specs.Prelude.{ℕ, ◌==◌, if◌then◌else◌, List, [], ◌++◌, codes, decimal}
 use Rattle.rb_report.specs.Names.{shown_name}
-use Rattle.rb_report.specs.declared.piece.ReportPiece.{ReportPiece}
-use Rattle.rb_report.specs.declared.piece.ReportPiece.TheVariants as pieces
+use Rattle.rb_report.specs.declared.check.piece.ReportPiece.{ReportPiece}
+use Rattle.rb_report.specs.declared.check.piece.ReportPiece.TheVariants as pieces
 
 -- a count of something, after a comma; nothing if it is 0
 abbrev pub count_text : ℕ → List ℕ → List ℕ

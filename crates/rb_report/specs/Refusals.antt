@@ -2,8 +2,6 @@
 use Rattle.std.specs.Prelude.{ℕ, List, [], ◌++◌, Option, Some, None, codes, decimal}
 use Rattle.rb_script.specs.declared.fault.ScriptFault.{ScriptFault}
 use Rattle.rb_script.specs.declared.fault.ScriptFault.TheVariants as faults
-use Rattle.rb_report.specs.declared.refusal.Refusal.{Refusal}
-use Rattle.rb_report.specs.declared.refusal.Refusal.TheVariants as refusals
 use Rattle.rb_report.specs.Names.{shown_name}
 
 abbrev pub sentence : ScriptFault → List ℕ
@@ -38,16 +36,5 @@ abbrev pub at_line : Option ℕ → List ℕ
 at_line None = []
 at_line (Some line) = codes ":" ++ decimal line
 
--- bytes that are not a script, or more outputs than a check holds
-abbrev pub refusal_sentence : Refusal → List ℕ
-refusal_sentence (refusals.Script fault) = sentence fault
-refusal_sentence (refusals.Outputs line) =
-    codes "the outputs up to this directive have more than 33,554,432 bytes; raftbench run writes them all"
-
-abbrev pub refusal_line : Refusal → Option ℕ
-refusal_line (refusals.Script fault) = fault_line fault
-refusal_line (refusals.Outputs line) = Some line
-
-abbrev pub refusal_text : List ℕ → Refusal → List ℕ
-refusal_text path refusal =
-    shown_name path ++ (at_line (refusal_line refusal) ++ (codes ": " ++ (refusal_sentence refusal ++ codes "\n")))
+abbrev pub refusal_text : List ℕ → ScriptFault → List ℕ
+refusal_text path fault = shown_name path ++ (at_line (fault_line fault) ++ (codes ": " ++ (sentence fault ++ codes "\n")))

@@ -4,10 +4,10 @@ use Rattle.std.specs.Str.{bytes_eq}
 use Rattle.rb_script.specs.Bytes.{space}
 use Rattle.rb_script.specs.Lines.{Line}
 use Rattle.rb_script.specs.Marks.{is_space}
-use Rattle.rb_report.specs.declared.colors.Colors.{Colors}
-use Rattle.rb_report.specs.declared.colors.Colors.TheVariants.{Off, On}
-use Rattle.rb_report.specs.declared.side.Side.{Side}
-use Rattle.rb_report.specs.declared.side.Side.TheVariants.{Both, Expected, Output}
+use Rattle.rb_report.specs.declared.check.colors.Colors.{Colors}
+use Rattle.rb_report.specs.declared.check.colors.Colors.TheVariants.{Off, On}
+use Rattle.rb_report.specs.declared.check.side.Side.{Side}
+use Rattle.rb_report.specs.declared.check.side.Side.TheVariants.{Both, Expected, Output}
 
 abbrev pub dollar_sign : ℕ
 dollar_sign = 36

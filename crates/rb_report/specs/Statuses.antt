@@ -1,7 +1,7 @@
 -- The statuses by which the program ends. (This project's.)
 use Rattle.std.specs.Prelude.{ℕ}
-use Rattle.rb_report.specs.declared.status.Status.{Status}
-use Rattle.rb_report.specs.declared.status.Status.TheVariants.{Matched, Mismatched, BadUsage, Refused, Failed, OutOfMemory}
+use Rattle.rb_report.specs.declared.check.status.Status.{Status}
+use Rattle.rb_report.specs.declared.check.status.Status.TheVariants.{Matched, Mismatched, BadUsage, Refused, Failed, OutOfMemory}
 
 -- the number of each
 abbrev pub code_of : Status → ℕ

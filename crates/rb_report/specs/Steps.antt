@@ -3,11 +3,11 @@
 use Rattle.std.specs.Prelude.{ℕ, ◌+◌, ◌==◌, Bool, false, ◌&&◌, ◌||◌, nat_le, if◌then◌else◌, List, [], ◌∷◌, ◌++◌, length, take, codes}
 use Rattle.std.specs.Str.{bytes_eq}
 use Rattle.rb_script.specs.Lines.{Line}
-use Rattle.rb_report.specs.declared.colors.Colors.{Colors}
-use Rattle.rb_report.specs.declared.colors.Colors.TheVariants.{On}
-use Rattle.rb_report.specs.declared.position.DiffPosition.{DiffPosition}
-use Rattle.rb_report.specs.declared.side.Side.{Side}
-use Rattle.rb_report.specs.declared.side.Side.TheVariants.{Both, Expected, Output}
+use Rattle.rb_report.specs.declared.check.colors.Colors.{Colors}
+use Rattle.rb_report.specs.declared.check.colors.Colors.TheVariants.{On}
+use Rattle.rb_report.specs.declared.check.position.DiffPosition.{DiffPosition}
+use Rattle.rb_report.specs.declared.check.side.Side.{Side}
+use Rattle.rb_report.specs.declared.check.side.Side.TheVariants.{Both, Expected, Output}
 use Rattle.rb_report.specs.Shown.{before, after, end_mark}
 use Rattle.rb_report.specs.Highlights.{parts_beside, highlighted_text}
 

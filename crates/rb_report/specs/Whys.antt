@@ -3,14 +3,14 @@
 use Rattle.std.specs.Prelude.{◌≡◌, ℕ, ◌-◌, ◌==◌, nat_le, Bool, true, false, if◌then◌else◌, List, [], ◌∷◌, ◌++◌, length, take, drop, codes, Option, Some, None, slice_get}
 use Rattle.std.specs.List.{flat_map}
 use Rattle.rb_script.specs.Lines.{Line}
-use Rattle.rb_report.specs.declared.colors.Colors.{Colors}
-use Rattle.rb_report.specs.declared.colors.Colors.TheVariants.{Off}
-use Rattle.rb_report.specs.declared.end.End.TheVariants.{Front, Back}
-use Rattle.rb_report.specs.declared.position.DiffPosition.{DiffPosition}
-use Rattle.rb_report.specs.declared.side.Side.{Side}
-use Rattle.rb_report.specs.declared.side.Side.TheVariants.{Both, Expected, Output}
-use Rattle.rb_report.specs.declared.why.Why.{Why}
-use Rattle.rb_report.specs.declared.why.Why.TheVariants as whys
+use Rattle.rb_report.specs.declared.check.colors.Colors.{Colors}
+use Rattle.rb_report.specs.declared.check.colors.Colors.TheVariants.{Off}
+use Rattle.rb_report.specs.declared.check.end.End.TheVariants.{Front, Back}
+use Rattle.rb_report.specs.declared.check.position.DiffPosition.{DiffPosition}
+use Rattle.rb_report.specs.declared.check.side.Side.{Side}
+use Rattle.rb_report.specs.declared.check.side.Side.TheVariants.{Both, Expected, Output}
+use Rattle.rb_report.specs.declared.check.why.Why.{Why}
+use Rattle.rb_report.specs.declared.check.why.Why.TheVariants as whys
 use Rattle.rb_report.specs.Diffs.{Stretch, common, middle, without_last, last}
 use Rattle.rb_report.specs.Folds.{fold_text}
 use Rattle.rb_report.specs.Headings.{heading_text}

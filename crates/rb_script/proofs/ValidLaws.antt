@@ -18,11 +18,11 @@ use Rattle.rb_script.proofs.SharedLaws.{lines_valid}
 use Rattle.rb_script.proofs.ScriptLaws.{long_sound, no_long_is, ReadsParts, parts_sound, script_parts, parts_script}
 
 -- no LF
-abbrev pub no_feed : Line → Bool
+abbrev no_feed : Line → Bool
 no_feed line = list_all (λ b. not (eqb b 10)) line
 
 -- a line of bytes that were cut at each LF
-abbrev pub IsCut : Line → Type 0
+abbrev IsCut : Line → Type 0
 IsCut line = no_feed line ≡ true
 
 -- a byte in the first line is no LF
@@ -50,14 +50,6 @@ trimmed_clean : (line : Line) → no_feed line ≡ true → no_feed (without_ret
 unfolding without_returns
 trimmed_clean [] h = refl
 trimmed_clean (b ∷ line) h = let p = and_parts (not (eqb b 10)) (no_feed line) h in put_clean b (without_returns line) p.0 (trimmed_clean line p.1)
-
-trimmed_all_clean : (ls : List Line) → AllByRecursion IsCut ls → AllByRecursion IsCut (map without_returns ls)
-trimmed_all_clean [] h = tt
-trimmed_all_clean (line ∷ ls) h = (trimmed_clean line h.0, trimmed_all_clean ls h.1)
-
-pub lines_clean : (bytes : List ℕ) → AllByRecursion IsCut (lines bytes)
-unfolding lines
-lines_clean bytes = trimmed_all_clean (cut bytes) (cut_clean bytes)
 
 -- a byte before a line without returns at its end
 put_twice : (b : ℕ) (line : Line) → without_returns line ≡ line → without_returns (put_before b line) ≡ put_before b line

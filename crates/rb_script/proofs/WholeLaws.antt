@@ -1,14 +1,14 @@
 -- Bytes that are the text of their lines.
-use Rattle.std.proofs.Common.{◌≡◌, ◌≢◌, ℕ, ◌+◌, ◌-◌, ◌<◌, true, false, cond, eqb, not, List, [], ◌∷◌, ◌++◌, length, get_or, map, zero, suc, refl, ap, sym, subst, ◌∙◌, append_assoc, length-append, arith}
+use Rattle.std.proofs.Common.{◌≡◌, ◌≢◌, ℕ, ◌+◌, ◌-◌, ◌<◌, ◌≤◌, true, false, cond, eqb, List, [], ◌∷◌, ◌++◌, length, take, drop, get_or, map, zero, suc, refl, ap, sym, ◌∙◌, inl, inr, append_assoc, length-append, append-nil, arith}
 use Rattle.std.specs.Prelude.{slice_get, Some, None}
-use Rattle.std.specs.List.{AllByRecursion}
-use Rattle.std.proofs.Math.Seq.{get_or-append_seam}
-use Rattle.std.proofs.lemmas.Bool.{ne_eqb, eqb-true, and_parts, not-true}
+use Rattle.std.proofs.Math.Seq.{get_or-append_seam, drop-append-add}
+use Rattle.std.proofs.lemmas.Bool.{ne_eqb, eqb-true, cases_lt}
+use Rattle.std.proofs.lemmas.List.{length-take, take_rest}
 use Rattle.std.proofs.lemmas.Option.{slice_get_within, slice_get-get_or, none-some}
-use Rattle.memchr.specs.Find.{is_byte, places_from, places}
 use Rattle.rb_script.specs.Lines.{Line, put_before, without_returns, in_first, cut, lines, line_text, text_of}
 use Rattle.rb_script.specs.Flat.{ends_of}
-use Rattle.rb_script.proofs.ValidLaws.{no_feed, IsCut, lines_clean}
+use Rattle.rb_script.proofs.LineLaws.{lines_at, cut_none}
+use Rattle.rb_script.proofs.ShortLaws.{returns_shorter}
 
 -- ---- their text
 
@@ -53,69 +53,62 @@ text_none (b ∷ bytes) e =
 
 -- ---- where they end
 
--- the places behind those of the next n bytes that are line feeds
-abbrev pub behind_feeds : List ℕ → ℕ → ℕ → List ℕ
-behind_feeds bytes from n = map (λ (k : ℕ). k + 1) (places_from (is_byte 10) bytes from n)
+-- the first line stands before the first line feed, and what is behind it is the text of the other lines
+pub record NextLine (bytes : List ℕ) (feed : ℕ) (rest : List ℕ) : Type 0 where
+  pub line : Line
+  pub parts : lines bytes ≡ line ∷ lines rest
+  pub len : length line ≡ feed
+  pub clean : text_of (lines rest) ≡ rest
 
--- the first is the one behind the line
-feed_behind : (before line rest : List ℕ) → no_feed line ≡ true → behind_feeds (before ++ (line ++ 10 ∷ rest)) (length before) (length (line ++ 10 ∷ rest))
-    ≡ (length before + length line + 1) ∷ behind_feeds (before ++ (line ++ 10 ∷ rest)) (length before + length line + 1) (length rest)
-unfolding places_from
-feed_behind before [] rest h =
-    let i = length before in
-    let all = before ++ 10 ∷ rest in
-    let later = places_from (is_byte 10) all (i + 1) (length rest) in
-    let next : i + 1 ≡ i + 0 + 1 = omega arith in
-    ap (λ (b : ℕ). map (λ (k : ℕ). k + 1) (cond (eqb b 10) (i ∷ later) later)) (get_or-append_seam before 10 rest 0)
-    ∙ ap (λ (k : ℕ). k ∷ behind_feeds all k (length rest)) next
-feed_behind before (b ∷ line) rest h =
-    let i = length before in
-    let part = line ++ 10 ∷ rest in
-    let all = before ++ b ∷ part in
-    let n = length part in
-    let p = and_parts (not (eqb b 10)) (no_feed line) h in
-    let no : eqb b 10 ≡ false = not-true (eqb b 10) p.0 in
-    let later = places_from (is_byte 10) all (i + 1) n in
-    let skip : behind_feeds all i (suc n) ≡ behind_feeds all (i + 1) n =
-    ap (λ (x : ℕ). map (λ (k : ℕ). k + 1) (cond (eqb x 10) (i ∷ later) later)) (get_or-append_seam before b part 0)
-    ∙ ap (λ t. map (λ (k : ℕ). k + 1) (cond t (i ∷ later) later)) no in
-    let same : (before ++ b ∷ []) ++ part ≡ all = append_assoc before (b ∷ []) part in
-    let len : length (before ++ b ∷ []) ≡ i + 1 = length-append before (b ∷ []) in
-    let next : behind_feeds all (i + 1) n ≡ (i + 1 + length line + 1) ∷ behind_feeds all (i + 1 + length line + 1) (length rest) =
-    subst (λ (t : List ℕ). behind_feeds t (i + 1) n ≡ (i + 1 + length line + 1) ∷ behind_feeds t (i + 1 + length line + 1) (length rest)) same
-    (subst (λ (j : ℕ). behind_feeds ((before ++ b ∷ []) ++ part) j n ≡ (j + length line + 1) ∷ behind_feeds ((before ++ b ∷ []) ++ part) (j + length line + 1) (length rest)) len (feed_behind (before ++ b ∷ []) line rest p.1)) in
-    let end : i + 1 + length line + 1 ≡ i + length (b ∷ line) + 1 = omega arith in
-    skip ∙ next ∙ ap (λ (k : ℕ). k ∷ behind_feeds all k (length rest)) end
+pub next_line : (bytes : List ℕ) (feed : ℕ) (rest : List ℕ) → rest ≡ drop (feed + 1) bytes → text_of (lines bytes) ≡ bytes → feed < length bytes → get_or bytes feed 0 ≡ 10 → ((k : ℕ) → k < feed → get_or bytes k 0 ≢ 10) → NextLine bytes feed rest
+next_line bytes feed rest is clean lt at first =
+    let line = without_returns (take feed bytes) in
+    let whole_rest : take (length bytes - (feed + 1)) (drop (feed + 1) bytes) ≡ rest = take_rest bytes (feed + 1) ∙ sym is in
+    let parts : lines bytes ≡ line ∷ lines rest = lines_at bytes line feed refl lt at first ∙ ap (λ (r : List ℕ). line ∷ lines r) whole_rest in
+    let text : line ++ 10 ∷ text_of (lines rest) ≡ bytes = sym (append_assoc line (10 ∷ []) (text_of (lines rest))) ∙ ap text_of (sym parts) ∙ clean in
+    let told : get_or bytes (length line) 0 ≡ 10 = ap (λ (t : List ℕ). get_or t (length line) 0) (sym text) ∙ get_or-append_seam line 10 (text_of (lines rest)) 0 in
+    let short : length line ≤ feed = omega (arith, returns_shorter (take feed bytes), length-take feed bytes) in
+    let len : length line ≡ feed = elim (cases_lt (length line) feed) [
+      | inl before ↦ absurd (first (length line) before told)
+      | inr le ↦ omega (arith, short, le)
+    ] in
+    record {
+      line = line;
+      parts = parts;
+      len = len;
+      clean = sym (drop-append-add line (10 ∷ text_of (lines rest)) 1) ∙ ap (drop (length line + 1)) text ∙ ap (λ (n : ℕ). drop (n + 1) bytes) len ∙ sym is;
+    }
 
--- lines end behind the line feeds of their text
-ends_behind : (before : List ℕ) (ls : List Line) → AllByRecursion IsCut ls → behind_feeds (before ++ text_of ls) (length before) (length (text_of ls)) ≡ ends_of (length before) ls
-unfolding places_from ends_of
-ends_behind before [] h = refl
-ends_behind before (line ∷ ls) h =
-    let i = length before in
-    let rest = text_of ls in
-    let next = i + length line + 1 in
-    let whole : line_text line ++ rest ≡ line ++ 10 ∷ rest = append_assoc line (10 ∷ []) rest in
-    let all = before ++ (line ++ 10 ∷ rest) in
-    let same : (before ++ line_text line) ++ rest ≡ all = append_assoc before (line_text line) rest ∙ ap (λ (t : List ℕ). before ++ t) whole in
-    let len : length (before ++ line_text line) ≡ next = length-append before (line_text line) ∙ ap (λ (n : ℕ). i + n) (length-append line (10 ∷ [])) ∙ omega arith in
-    let later : behind_feeds all next (length rest) ≡ ends_of next ls =
-    subst (λ (t : List ℕ). behind_feeds t next (length rest) ≡ ends_of next ls) same
-    (subst (λ (j : ℕ). behind_feeds ((before ++ line_text line) ++ rest) j (length rest) ≡ ends_of j ls) len (ends_behind (before ++ line_text line) ls h.1)) in
-    ap (λ (t : List ℕ). behind_feeds (before ++ t) i (length t)) whole ∙ feed_behind before line rest h.0 ∙ ap (λ (l : List ℕ). next ∷ l) later
+-- with no line feed no line is left
+pub none_left : (bytes : List ℕ) → text_of (lines bytes) ≡ bytes → ((k : ℕ) → k < length bytes → get_or bytes k 0 ≢ 10) → bytes ≡ []
+unfolding lines cut
+none_left [] clean none = refl
+none_left (b ∷ bytes) clean none =
+    let line = without_returns (b ∷ bytes) in
+    let text : line ++ 10 ∷ [] ≡ b ∷ bytes = sym (append-nil (line ++ 10 ∷ [])) ∙ ap text_of (sym (ap (map without_returns) (cut_none b bytes none))) ∙ clean in
+    let told : get_or (b ∷ bytes) (length line) 0 ≡ 10 = ap (λ (t : List ℕ). get_or t (length line) 0) (sym text) ∙ get_or-append_seam line 10 [] 0 in
+    absurd (none (length line) (omega (arith, ap length text, length-append line (10 ∷ []))) told)
 
--- so the lines of these bytes end behind their line feeds
-pub ends_are : (bytes : List ℕ) → text_of (lines bytes) ≡ bytes → map (λ (k : ℕ). k + 1) (places (is_byte 10) bytes) ≡ ends_of 0 (lines bytes)
-ends_are bytes clean =
-    let ls = lines bytes in
-    let count : length bytes - 0 ≡ length bytes = omega arith in
-    ap (λ (n : ℕ). behind_feeds bytes 0 n) count ∙ sym (ap (λ (t : List ℕ). behind_feeds t 0 (length t)) clean) ∙ ends_behind [] ls (lines_clean bytes)
+-- a line more, and where it ends
+pub ends_more : (so_far next : List ℕ) (end feed : ℕ) (ls : List Line) {rest : List Line} {line : Line} → ls ≡ line ∷ rest → length line ≡ feed → (all : List ℕ) → next ≡ so_far ++ (end + (feed + 1)) ∷ [] → so_far ++ ends_of end ls ≡ all → next ++ ends_of (end + (feed + 1)) rest ≡ all
+unfolding ends_of
+ends_more so_far next end feed ls {rest} {line} parts len all e is =
+    let there = end + (feed + 1) in
+    let same : there ≡ end + length line + 1 = omega (arith, len) in
+    ap (λ (l : List ℕ). l ++ ends_of there rest) e
+    ∙ append_assoc so_far (there ∷ []) (ends_of there rest)
+    ∙ ap (λ (n : ℕ). so_far ++ (n ∷ ends_of n rest)) same
+    ∙ ap (λ (l : List Line). so_far ++ ends_of end l) (sym parts)
+    ∙ is
 
--- one more place
-pub one_more_end : (so_far next feeds later all : List ℕ) (feed : ℕ) → next ≡ so_far ++ (feed + 1) ∷ [] → feeds ≡ feed ∷ later
-    → so_far ++ map (λ (k : ℕ). k + 1) feeds ≡ all → next ++ map (λ (k : ℕ). k + 1) later ≡ all
-one_more_end so_far next feeds later all feed pushed taken so =
-    ap (λ (l : List ℕ). l ++ map (λ (k : ℕ). k + 1) later) pushed
-    ∙ append_assoc so_far ((feed + 1) ∷ []) (map (λ (k : ℕ). k + 1) later)
-    ∙ sym (ap (λ (l : List ℕ). so_far ++ map (λ (k : ℕ). k + 1) l) taken)
-    ∙ so
+-- the text that is left is shorter by the line
+pub left_less : (ls : List Line) {rest : List Line} {line : Line} {feed : ℕ} → ls ≡ line ∷ rest → length line ≡ feed → (end total : ℕ) → end + length (text_of ls) ≡ total → end + (feed + 1) + length (text_of rest) ≡ total
+left_less ls {rest} {line} {feed} parts len end total e =
+    let all : length (text_of ls) ≡ length line + 1 + length (text_of rest) =
+    ap (λ (l : List Line). length (text_of l)) parts ∙ length-append (line_text line) (text_of rest) ∙ ap (λ (n : ℕ). n + length (text_of rest)) (length-append line (10 ∷ [])) in
+    omega (arith, e, all, len)
+
+-- no line is left
+pub ends_done : (so_far all : List ℕ) (end : ℕ) (rest : List ℕ) → rest ≡ [] → so_far ++ ends_of end (lines rest) ≡ all → so_far ≡ all
+unfolding ends_of lines cut
+ends_done so_far all end rest e is = sym (append-nil so_far) ∙ ap (λ (r : List ℕ). so_far ++ ends_of end (lines r)) (sym e) ∙ is

@@ -26,11 +26,6 @@ pub record IsFlat (ends text : List ℕ) : Type 0 where
   pub text_is : text ≡ text_of (parted 0 ends text)
   pub ends_are : ends ≡ ends_of 0 (parted 0 ends text)
 
--- the buffer is the text of these lines, and the ends are theirs
-pub record IsTable (ends text : List ℕ) (all : List Line) : Type 0 where
-  pub flat : IsFlat ends text
-  pub lines : parted 0 ends text ≡ all
-
 -- the lines from one position up to another
 abbrev pub between : ℕ → ℕ → List Line → List Line
 between from to ls = take (to - from) (drop from ls)

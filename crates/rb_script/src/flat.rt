@@ -2,12 +2,12 @@
 
 ghost use Rattle.std.specs.Prelude.{◌≡◌, ◌≢◌, ◌<◌, ◌≤◌, ℕ, [], ◌∷◌, ◌++◌, length, slice_get, slice_index, OnOk, IfOk, OnErr, IsTrue, Some};
 ghost use Rattle.rb_script.specs.Lines.{lines, text_of, line_text};
-ghost use Rattle.rb_script.specs.Flat.{ends_of, parted, line_start, between, IsFlat, IsTable};
+ghost use Rattle.rb_script.specs.Flat.{ends_of, parted, line_start, between, IsFlat};
 
 use crate::line_text::LineText;
-use crate::lines::next_line;
+use crate::lines::{line_feed, next_line};
 use crate::written_line::WrittenLine;
-use memchr::{memchr, memchr_iter};
+use memchr::memchr;
 use smallvec::SmallVec;
 use std::alloc::{AllocError, Global};
 use std::marker::Model;
@@ -137,13 +137,6 @@ impl FlatLines {
         self.text.as_slice()
     }
 
-    /// The lines as one text, and where each line ends in it.
-    pub(crate) fn text_and_ends(&self) -> (&[u8], &[usize])
-        ensures { IsTable result.1.now result.0.now self.now }
-    {
-        (self.text.as_slice(), self.ends.as_slice())
-    }
-
     /// Where the lines end in their text, and where the first one begins.
     pub(crate) fn ends(&self) -> (&[usize], usize)
         ensures { result.0.now ≡ ends_of result.1 self.now }
@@ -221,8 +214,12 @@ fn line_ends(alloc: Global, bytes: &[u8]) -> Result<Vec<usize>, AllocError>
     ensures { IfOk result (λ ends. ends.items ≡ ends_of 0 (lines bytes.now)) }
 {
     let mut ends = Vec::new(alloc);
-    for feed in memchr_iter(b'\n', bytes) {
-        ends.push(feed + 1)?;
+    let mut rest = bytes;
+    let mut end = 0;
+    while let Some(feed) = line_feed(rest) {
+        end += feed + 1;
+        ends.push(end)?;
+        rest = &rest[feed + 1..];
     }
     Ok(ends)
 }
@@ -252,7 +249,7 @@ fn write_line<W: WrittenLine>(
     ensures text { OnOk result (text.new ≡ text.old ++ line_text (W.bytes line.now)) }
     ensures ends { OnOk result (ends.new.items ≡ ends.old.items ++ length text.new ∷ []) }
 {
-    line.push_to(text)?;
+    line.add_to(text)?;
     text.push(b'\n')?;
     ends.push(text.len())?;
     Ok(())
@@ -287,7 +284,7 @@ fn start_of(ends: &[usize], i: usize) -> usize
 }
 
 // Line `i` of the text, without its LF.
-pub(crate) fn line_of<'a>(text: &'a [u8], ends: &[usize], i: usize) -> &'a [u8]
+fn line_of<'a>(text: &'a [u8], ends: &[usize], i: usize) -> &'a [u8]
     requires flat { IsFlat ends.now text.now }
     requires line { i < length ends.now }
     ensures { slice_get (parted 0 ends.now text.now) i ≡ Some result.now }

@@ -1,7 +1,6 @@
 //! The lines of a block above its expectation.
 
 use crate::argument::ArgumentSpans;
-use crate::line_table::LineTable;
 use crate::marks::RULE_LINE;
 use crate::shared_lines::SharedLines;
 use crate::span::Span;
@@ -62,7 +61,7 @@ impl Front {
 
     /// Borrows lead, head and input, which begin at these positions of the lines, without copying.
     pub(crate) fn new(
-        all: &LineTable<'_>,
+        all: &SharedLines,
         lead: usize,
         head: usize,
         input: usize,
@@ -77,7 +76,7 @@ impl Front {
         ensures { IfOk result (λ front. front ≡ front_of all.now lead head input end tokens.name tokens.args.items) }
     {
         Ok(Front {
-            all: all.share()?,
+            all: all.try_copy()?,
             lead: lead as u32,
             head: head as u32,
             input: input as u32,

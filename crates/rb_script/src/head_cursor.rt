@@ -7,7 +7,7 @@ ghost use Rattle.rb_script.specs.Runs.{while_of, after_while};
 ghost use Rattle.rb_script.specs.Tokens.{line_at, token, IsPart};
 ghost use Rattle.rb_script.specs.ByteClasses.{is_of};
 
-use crate::head_lines::HeadLines;
+use crate::line_part::LinePart;
 use crate::marks::{before_backslash, is_space};
 use crate::span::Span;
 use std::marker::Model;
@@ -74,7 +74,7 @@ impl ByteClass {
 }
 
 /// The piece of the joined head that a line contributes, and whether the next line continues it.
-fn piece_of<'a>(head: &'a HeadLines<'_>, line: usize) -> (&'a [u8], bool)
+fn piece_of(head: &LinePart, line: usize) -> (&[u8], bool)
     requires { line < length head.now }
     ensures joined { joined (drop line head.now) ≡ result.0.now ++ behind_piece result.1 (drop (line + 1) head.now) }
     ensures part { result.0.now ≡ take (length result.0.now) (line_at head.now line) }
@@ -90,7 +90,7 @@ fn piece_of<'a>(head: &'a HeadLines<'_>, line: usize) -> (&'a [u8], bool)
 /// A position in a joined head: the rest of one line's piece, and the lines after it.
 #[derive(Drop)]
 pub(crate) struct HeadCursor<'a> {
-    head: &'a HeadLines<'a>,
+    head: &'a LinePart,
     line: usize,
     piece: &'a [u8],
     at: usize,
@@ -119,7 +119,7 @@ impl<'a> HeadCursor<'a> {
     ghost use Rattle.rb_script.specs.ByteClasses.{is_of, IsWithinLine};
 
     /// Starts at the beginning of the joined head.
-    pub(crate) fn new(head: &'a HeadLines<'a>) -> HeadCursor<'a>
+    pub(crate) fn new(head: &'a LinePart) -> HeadCursor<'a>
         requires there { 0 < length head.now }
         requires few { length head.now < 2 ^ 32 }
         requires lines { AllByRecursion IsLine head.now }

@@ -20,11 +20,9 @@ mod fault;
 mod flat;
 mod front;
 mod head_cursor;
-mod head_lines;
 mod laws;
 mod limits;
 mod line_part;
-mod line_table;
 mod line_text;
 mod lines;
 mod marks;
@@ -50,7 +48,7 @@ pub use laws::{
     head_lines_are, heads_are_joined, lead_lines_are, plain_expectations_end, read_is_valid,
     reads_once, refusals_are, separators_are, solid_lines_can_be_expected, text_reads_back,
 };
-pub use limits::{MAX_ARGUMENTS, MAX_DIRECTIVES, MAX_LINE, MAX_SCRIPT, limits_are};
+pub use limits::{MAX_ARGUMENTS, MAX_DIRECTIVES, MAX_LINE, MAX_SCRIPT, MAX_VALUES, limits_are};
 pub use line_text::LineText;
 pub use lines::{Lines, lines_of, next_line, without_returns};
 pub use marks::{
@@ -58,6 +56,7 @@ pub use marks::{
 };
 pub use script::Script;
 pub use sink::{Sink, Through, WriteFault, Writer};
+pub use span::Span;
 pub use with_lines::ScriptWithLines;
 pub use writing::needs_double;
 pub use written_line::WrittenLine;

@@ -219,7 +219,7 @@ impl TextBytes {
                 }
                 Ok(())
             }
-            TextBytes::Long(long) => push_line(long, line),
+            TextBytes::Long(long) => add_line(long, line),
         }
     }
 }
@@ -245,7 +245,7 @@ fn longer_line(alloc: Global, short: &ShortText, line: &[u8]) -> Result<Vec<u8>,
 }
 
 // Appends the line with its LF. Reserves first, so that a failure changes nothing.
-fn push_line(long: &mut Vec<u8>, line: &[u8]) -> Result<(), AllocError>
+fn add_line(long: &mut Vec<u8>, line: &[u8]) -> Result<(), AllocError>
     ensures ok { OnOk result (long.new.items ≡ long.old.items ++ line_text line.now) }
     ensures err { OnErr result (long.new.items ≡ long.old.items) }
 {

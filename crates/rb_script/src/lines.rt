@@ -7,7 +7,6 @@ ghost use Rattle.rb_script.specs.LineStorage.{stored_lines};
 
 use crate::flat::FlatLines;
 use crate::line_part::LinePart;
-use crate::line_table::LineTable;
 use crate::shared_lines::SharedLines;
 use crate::written_line::WrittenLine;
 use memchr::memchr_iter;
@@ -71,14 +70,14 @@ impl Lines {
         }
     }
 
-    /// Shares the lines from one position to another, without copying.
-    pub(crate) fn part(all: &LineTable<'_>, from: usize, to: usize) -> Result<Self, AllocError>
+    /// Borrows the lines from one position to another, without copying.
+    pub(crate) fn part(all: &SharedLines, from: usize, to: usize) -> Result<Self, AllocError>
         requires order { from ≤ to }
         requires within { to ≤ length all.now }
         ensures { IfOk result (λ part. part ≡ between from to all.now) }
     {
         Ok(Lines {
-            kept: LineStorage::Part(all.part(from, to)?),
+            kept: LineStorage::Part(LinePart::new(all, from, to)?),
         })
     }
 

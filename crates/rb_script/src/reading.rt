@@ -25,7 +25,6 @@ use crate::flat::FlatLines;
 use crate::front::Front;
 use crate::limits::{MAX_DIRECTIVES, MAX_LINE, MAX_SCRIPT};
 use crate::line_part::LinePart;
-use crate::line_table::LineTable;
 use crate::lines::{Lines, next_line};
 use crate::marks::{LineKind, is_blank, is_rule};
 use crate::script::Script;
@@ -40,7 +39,7 @@ use std::rc::Rc;
 
 /// Finds where the run of lines ends. Inlined, so that each kind has its own code.
 #[inline(always)]
-fn run(all: &LineTable<'_>, start: usize, kind: LineKind) -> usize
+fn run(all: &SharedLines, start: usize, kind: LineKind) -> usize
     requires { start ≤ length all.now }
     ensures { RunsTo (in_run kind) all.now start result }
 {
@@ -53,7 +52,7 @@ fn run(all: &LineTable<'_>, start: usize, kind: LineKind) -> usize
 }
 
 /// Finds where the first line and its continuation lines end.
-fn head(all: &LineTable<'_>, start: usize) -> usize
+fn head(all: &SharedLines, start: usize) -> usize
     requires { start ≤ length all.now }
     ensures order { (start ≤ result) × (result ≤ length all.now) }
     ensures run { between start result all.now ≡ head_of (drop start all.now) }
@@ -67,7 +66,7 @@ fn head(all: &LineTable<'_>, start: usize) -> usize
 }
 
 /// The position after a line ----, if there is one.
-fn after_rule(all: &LineTable<'_>, at: usize) -> Option<usize>
+fn after_rule(all: &SharedLines, at: usize) -> Option<usize>
     requires { at ≤ length all.now }
     ensures none { IfNone result (begins_rule (drop at all.now) ≡ false) }
     ensures found { IfSome result (λ after. (begins_rule (drop at all.now) ≡ true) × (after ≡ at + 1)) }
@@ -81,7 +80,7 @@ fn after_rule(all: &LineTable<'_>, at: usize) -> Option<usize>
 }
 
 /// The position after a blank line, if there is one.
-fn after_blank(all: &LineTable<'_>, at: usize) -> usize
+fn after_blank(all: &SharedLines, at: usize) -> usize
     requires { at ≤ length all.now }
     ensures rest { drop result all.now ≡ after_blank (drop at all.now) }
     ensures within { result ≤ length all.now }
@@ -109,7 +108,7 @@ pub(crate) fn is_readable(lines: &Lines) -> bool
 }
 
 /// Finds where the run of lines that aren't blank ends, and whether a line ---- is among them, so that only the double form can show them.
-fn plain_run(all: &LineTable<'_>, start: usize) -> (usize, bool)
+fn plain_run(all: &SharedLines, start: usize) -> (usize, bool)
     requires { start ≤ length all.now }
     ensures run { RunsTo is_plain all.now start result.0 }
     ensures form { result.1 ≡ needs_double (between start result.0 all.now) }
@@ -126,7 +125,7 @@ fn plain_run(all: &LineTable<'_>, start: usize) -> (usize, bool)
 }
 
 /// Reads a plain expectation, and returns the position after it.
-fn plain(all: &LineTable<'_>, start: usize) -> Result<Option<(Expected, usize)>, AllocError>
+fn plain(all: &SharedLines, start: usize) -> Result<Option<(Expected, usize)>, AllocError>
     requires { start ≤ length all.now }
     ensures found { IfOk result (λ found. seen all.now found ≡ plain_at (drop start all.now)) }
     ensures within { IfOk result (λ found. IfSome found (λ p. p.1 ≤ length all.now)) }
@@ -142,7 +141,7 @@ fn plain(all: &LineTable<'_>, start: usize) -> Result<Option<(Expected, usize)>,
 }
 
 /// Finds the first two neighbouring lines ----: the position of the first, and the position after both.
-fn pair(all: &LineTable<'_>, start: usize) -> Option<(usize, usize)>
+fn pair(all: &SharedLines, start: usize) -> Option<(usize, usize)>
     requires { start ≤ length all.now }
     ensures found { pair_seen all.now start result ≡ to_pair (drop start all.now) }
     ensures order { IfSome result (λ p. start ≤ p.0) }
@@ -159,7 +158,7 @@ fn pair(all: &LineTable<'_>, start: usize) -> Option<(usize, usize)>
 }
 
 /// Reads an expectation in the double form, after its first line ----, and returns the position after it.
-fn double(all: &LineTable<'_>, start: usize) -> Result<Option<(Expected, usize)>, AllocError>
+fn double(all: &SharedLines, start: usize) -> Result<Option<(Expected, usize)>, AllocError>
     requires { start ≤ length all.now }
     ensures found { IfOk result (λ found. seen all.now found ≡ then_blank (to_pair (drop start all.now))) }
     ensures within { IfOk result (λ found. IfSome found (λ p. p.1 ≤ length all.now)) }
@@ -174,7 +173,7 @@ fn double(all: &LineTable<'_>, start: usize) -> Result<Option<(Expected, usize)>
 
 /// Reads the expectation at this position, and returns the position after it. If it isn't closed, the fault has the line before it.
 #[tactic(auto, unfolding(crate::specs::Expectations::expectation_at))]
-fn expectation(all: &LineTable<'_>, start: usize) -> Result<(Expected, usize), ScriptFault>
+fn expectation(all: &SharedLines, start: usize) -> Result<(Expected, usize), ScriptFault>
     requires { start ≤ length all.now }
     ensures found { Gives (λ p. (p.0, drop p.1 all.now)) result (closed_or (ScriptFault.NotClosed start) (expectation_at (drop start all.now))) }
     ensures within { IfOk result (λ p. p.1 ≤ length all.now) }
@@ -189,7 +188,7 @@ fn expectation(all: &LineTable<'_>, start: usize) -> Result<(Expected, usize), S
 /// Reads a block, whose lead begins at `from` and whose head begins at `start`, and returns the position after it.
 fn block(
     alloc: Global,
-    all: &LineTable<'_>,
+    all: &SharedLines,
     from: usize,
     start: usize,
     number: usize,
@@ -227,7 +226,7 @@ struct Parts {
 }
 
 /// Reads the blocks and the tail.
-fn blocks(alloc: Global, all: &LineTable<'_>) -> Result<Parts, ScriptFault>
+fn blocks(alloc: Global, all: &SharedLines) -> Result<Parts, ScriptFault>
     requires lines { AllByRecursion IsLine all.now }
     requires few { length all.now < 2 ^ 32 }
     ensures gives { Gives parts_view result (blocks_at MAX_DIRECTIVES (1 + length all.now) all.now) }
@@ -241,7 +240,7 @@ fn blocks(alloc: Global, all: &LineTable<'_>) -> Result<Parts, ScriptFault>
     loop {
         let start = run(all, at, LineKind::Lead);
         if start == all.len() {
-            let tail = all.part(at, start)?;
+            let tail = LinePart::new(all, at, start)?;
             return Ok(Parts {
                 text_len: text_len.saturating_add(tail.text().len()),
                 blocks: found,
@@ -356,8 +355,7 @@ pub(crate) fn with_lines(alloc: Global, bytes: &[u8]) -> Result<ScriptWithLines,
     ensures early { IfSome (early_fault bytes.now) (λ fault. result ≡ Err fault) }
 {
     let all = short_lines(alloc, bytes)?;
-    let table = LineTable::new(&all);
-    let parts = blocks(alloc, &table)?;
+    let parts = blocks(alloc, &all)?;
     if parts.text_len > MAX_SCRIPT {
         return Err(ScriptFault::TooLong);
     }
@@ -422,8 +420,7 @@ pub(crate) fn one_block(alloc: Global, bytes: &[u8]) -> Result<Block, ScriptFaul
     ensures early { IfSome (early_fault bytes.now) (λ fault. result ≡ Err fault) }
 {
     let all = short_lines(alloc, bytes)?;
-    let table = LineTable::new(&all);
-    let parts = blocks(alloc, &table)?;
+    let parts = blocks(alloc, &all)?;
     check_alone(&parts)?;
     last(parts.blocks)
 }

@@ -2,7 +2,7 @@
 
 ghost use Rattle.std.specs.Prelude.{◌≡◌, ◌<◌, ◌≤◌, length, slice_get, IfOk, Some};
 ghost use Rattle.rb_script.specs.Lines.{text_of};
-ghost use Rattle.rb_script.specs.Flat.{between, ends_of, IsTable};
+ghost use Rattle.rb_script.specs.Flat.{between, ends_of};
 
 use crate::flat::FlatLines;
 use std::alloc::{AllocError, Global};
@@ -57,13 +57,6 @@ impl SharedLines {
         ensures { slice_get self.now i ≡ Some result.now }
     {
         self.lines.line(i)
-    }
-
-    /// The lines as one text, and where each line ends in it.
-    pub(crate) fn text_and_ends(&self) -> (&[u8], &[usize])
-        ensures { IsTable result.1.now result.0.now self.now }
-    {
-        self.lines.text_and_ends()
     }
 
     /// Where the lines from one position to another end in the whole text, and where the first one begins.

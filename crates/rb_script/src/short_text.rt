@@ -60,7 +60,7 @@ impl ShortText {
         ensures { self.new ≡ self.old ++ bytes.now }
     {
         let start = self.len as usize;
-        copy_at(&mut self.bytes, start, bytes);
+        put_at(&mut self.bytes, start, bytes);
         self.len = (start + bytes.len()) as u8;
     }
 
@@ -77,7 +77,7 @@ impl ShortText {
 
 // Copies the bytes to this position.
 #[inline(always)]
-fn copy_at(all: &mut [u8], start: usize, bytes: &[u8])
+fn put_at(all: &mut [u8], start: usize, bytes: &[u8])
     requires { start + length bytes.now ≤ length all.old }
     ensures len { length all.new ≡ length all.old }
     ensures put { take (start + length bytes.now) all.new ≡ take start all.old ++ bytes.now }

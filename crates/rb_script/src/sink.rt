@@ -24,7 +24,7 @@ pub trait Sink {
     ghost takes_all: { Self → Type 0 };
 
     /// Writes the bytes. After a failure a beginning of them is written.
-    fn write_all(&mut self, bytes: &[u8]) -> Result<(), WriteFault>
+    fn put(&mut self, bytes: &[u8]) -> Result<(), WriteFault>
         ensures wrote { Writes result (held self.old) (held self.new) bytes.now }
         ensures all { takes_all self.old → IsOk result × takes_all self.new };
 }
@@ -74,13 +74,13 @@ impl<W: Write> Sink for Through<W> {
 
     ghost takes_all = { λ _. ⊥ };
 
-    fn write_all(&mut self, bytes: &[u8]) -> Result<(), WriteFault> {
-        write_whole(self, bytes)
+    fn put(&mut self, bytes: &[u8]) -> Result<(), WriteFault> {
+        put_whole(self, bytes)
     }
 }
 
 /// Writes all the bytes. No call is made after one that failed.
-fn write_whole<W: Writer>(writer: &mut W, bytes: &[u8]) -> Result<(), WriteFault>
+fn put_whole<W: Writer>(writer: &mut W, bytes: &[u8]) -> Result<(), WriteFault>
     ensures wrote { Writes result (W.contents writer.old) (W.contents writer.new) bytes.now }
     ensures ends { EndAtFailure result (W.calls writer.old) (W.calls writer.new) }
 {

@@ -1,6 +1,6 @@
 //! Parsing a head: its name and arguments.
 
-ghost use Rattle.std.specs.Prelude.{◌≡◌, ◌<◌, ◌≤◌, ◌^◌, ◌++◌, ◌∷◌, ℕ, List, [], length, IfOk, OnOk, option_map};
+ghost use Rattle.std.specs.Prelude.{◌≡◌, ◌<◌, ◌≤◌, ◌^◌, ◌++◌, ◌∷◌, ℕ, List, [], length, IfOk, option_map};
 ghost use Rattle.std.specs.List.{AllByRecursion};
 ghost use Rattle.rb_script.specs.Lines.{Line};
 ghost use Rattle.rb_script.specs.Flat.{between};
@@ -14,10 +14,10 @@ ghost use Rattle.rb_script.specs.declared.tokens.HeadFault.TheVariants.{OutOfMem
 use crate::argument::ArgumentSpans;
 use crate::fault::ScriptFault;
 use crate::head_cursor::{ByteClass, HeadCursor};
-use crate::head_lines::HeadLines;
 use crate::limits::{MAX_ARGUMENTS, MAX_VALUES};
-use crate::line_table::LineTable;
+use crate::line_part::LinePart;
 use crate::marks::is_space;
+use crate::shared_lines::SharedLines;
 use crate::span::Span;
 use smallvec::SmallVec;
 use std::alloc::{AllocError, AllocFailed, Global};
@@ -145,36 +145,33 @@ fn argument(alloc: Global, at: &mut HeadCursor<'_>) -> Result<Option<ArgumentSpa
     }
 }
 
-// Appends an argument in place, or leaves `None` if there are too many. The first one needs no allocation.
-fn push_one_more(
-    found: &mut Option<SmallVec<ArgumentSpans, 1>>,
+// Appends an argument, or returns `None` if there are too many. The first one needs no allocation.
+fn with_one_more(
+    found: Option<SmallVec<ArgumentSpans, 1>>,
     argument: ArgumentSpans,
-) -> Result<(), AllocError>
-    ensures { OnOk result (option_map (λ v. v.items) found.new ≡ with_one MAX_ARGUMENTS (option_map (λ v. v.items) found.old) argument) }
+) -> Result<Option<SmallVec<ArgumentSpans, 1>>, AllocError>
+    ensures { IfOk result (λ r. option_map (λ v. v.items) r ≡ with_one MAX_ARGUMENTS (option_map (λ v. v.items) found) argument) }
 {
     match found {
-        Some(items) if items.len() < MAX_ARGUMENTS => {
+        Some(mut items) if items.len() < MAX_ARGUMENTS => {
             items.push(argument)?;
+            Ok(Some(items))
         }
-        _ => *found = None,
+        _ => Ok(None),
     }
-    Ok(())
 }
 
 // Does the same, also with `None` for an argument with too many values.
-fn push_argument(
-    found: &mut Option<SmallVec<ArgumentSpans, 1>>,
+fn with_argument(
+    found: Option<SmallVec<ArgumentSpans, 1>>,
     argument: Option<ArgumentSpans>,
-) -> Result<(), AllocError>
-    ensures { OnOk result ((head : List Line) (so_far : List PlainArgument) (a : PlainArgument) →
-        KeepsArguments head found.old so_far → KeepsArgument head argument a → KeepsArguments head found.new (so_far ++ a ∷ [])) }
+) -> Result<Option<SmallVec<ArgumentSpans, 1>>, AllocError>
+    ensures { IfOk result (λ r. (head : List Line) (so_far : List PlainArgument) (a : PlainArgument) →
+        KeepsArguments head found so_far → KeepsArgument head argument a → KeepsArguments head r (so_far ++ a ∷ [])) }
 {
     match argument {
-        Some(argument) => push_one_more(found, argument),
-        None => {
-            *found = None;
-            Ok(())
-        }
+        Some(argument) => with_one_more(found, argument),
+        None => Ok(None),
     }
 }
 
@@ -195,7 +192,7 @@ fn arguments(
         match first {
             Some(b) if is_space(b) => {
                 let argument = argument(alloc, at)?;
-                push_argument(&mut found, argument)?;
+                found = with_argument(found, argument)?;
             }
             _ => return Err(HeadFault::Bad),
         }
@@ -206,7 +203,7 @@ fn arguments(
 #[tactic(auto, unfolding(crate::specs::Heads::head_at, crate::specs::Heads::word_head))]
 pub(crate) fn tokens_of(
     alloc: Global,
-    all: &LineTable<'_>,
+    all: &SharedLines,
     start: usize,
     end: usize,
     number: usize,
@@ -217,7 +214,7 @@ pub(crate) fn tokens_of(
     requires lines { AllByRecursion IsLine (between start end all.now) }
     ensures gives { ParsesHead (between start end all.now) result (few_or number (head_at (joined (between start end all.now)))) }
 {
-    let head = HeadLines::new(all, start, end);
+    let head = LinePart::new(all, start, end)?;
     let mut at = HeadCursor::new(&head);
     at.skip(ByteClass::Space);
     let name = at.take(ByteClass::Word);

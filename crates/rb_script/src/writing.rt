@@ -67,15 +67,15 @@ fn closing(is_double: bool) -> &'static [u8]
 }
 
 // Writes a block with other expected lines.
-fn write_block<S: Sink>(sink: &mut S, block: &Block, expected: &Lines) -> Result<(), WriteFault>
+fn put_block<S: Sink>(sink: &mut S, block: &Block, expected: &Lines) -> Result<(), WriteFault>
     ensures wrote { Writes result (S.held sink.old) (S.held sink.new) (block_text (expecting block.now expected.now)) }
     ensures all { S.takes_all sink.old → IsOk result × S.takes_all sink.new }
 {
     let is_double = needs_double(expected);
-    sink.write_all(block.front().text())?;
-    sink.write_all(opening(is_double))?;
-    sink.write_all(expected.text())?;
-    sink.write_all(closing(is_double))
+    sink.put(block.front().text())?;
+    sink.put(opening(is_double))?;
+    sink.put(expected.text())?;
+    sink.put(closing(is_double))
 }
 
 impl Script {
@@ -90,9 +90,9 @@ impl Script {
     {
         for i in 0..self.blocks.len() {
             let block = self.blocks.at(i);
-            write_block(sink, block, block.expected())?;
+            put_block(sink, block, block.expected())?;
         }
-        sink.write_all(self.tail.text())
+        sink.put(self.tail.text())
     }
 
     /// The canonical text, as a list of bytes.
@@ -121,8 +121,8 @@ impl Script {
         for i in 0..self.blocks.len() {
             let block = self.blocks.at(i);
             let output = outputs.at(i);
-            write_block(sink, block, output)?;
+            put_block(sink, block, output)?;
         }
-        sink.write_all(self.tail.text())
+        sink.put(self.tail.text())
     }
 }

@@ -10,6 +10,6 @@ pub trait WrittenLine {
     ghost bytes: { Self → List ℕ };
 
     /// Appends the bytes of the line to a text. If memory runs out, the text is unspecified.
-    fn push_to(&self, text: &mut LineText) -> Result<(), AllocError>
+    fn add_to(&self, text: &mut LineText) -> Result<(), AllocError>
         ensures { OnOk result (text.new ≡ text.old ++ bytes self.now) };
 }

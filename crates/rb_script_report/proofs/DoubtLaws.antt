@@ -12,7 +12,7 @@ use Rattle.rb_script.specs.Heads.{HeadThere, head_at, with_inputs}
 use Rattle.rb_script.specs.Joined.{joined}
 use Rattle.rb_script.specs.Reading.{directive_of}
 use Rattle.rb_replay.specs.Report.{same_lines}
-use Rattle.rb_report.specs.declared.warning_kind.WarningKind.TheVariants.{InExpectation, InInput, Unread}
+use Rattle.rb_report.specs.declared.check.warning_kind.WarningKind.TheVariants.{InExpectation, InInput, Unread}
 use Rattle.rb_text.proofs.SentLaws.{drop-get}
 use Rattle.rb_script_report.specs.declared.part.BlockPart.{BlockPart}
 use Rattle.rb_script_report.specs.declared.part.BlockPart.TheVariants.{Head, Input, Expected}

@@ -8,8 +8,8 @@ use Rattle.rb_replay.specs.Points.{IsRising}
 use Rattle.rb_replay.specs.Run.{outputs}
 use Rattle.rb_replay.specs.Report.{same_lines, differing, mismatches}
 use Rattle.rb_replay.proofs.DifferingLaws.{differing-rising}
-use Rattle.rb_report.specs.declared.colors.Colors.{Colors}
-use Rattle.rb_report.specs.declared.table.TheConstants.{MAX_SCRIPT_CELLS}
+use Rattle.rb_report.specs.declared.check.colors.Colors.{Colors}
+use Rattle.rb_report.specs.declared.check.table.TheConstants.{MAX_SCRIPT_CELLS}
 use Rattle.rb_report.specs.Diffs.{left_after}
 use Rattle.rb_script_report.specs.declared.summary.ScriptSummary.{ScriptSummary}
 use Rattle.rb_script_report.specs.declared.view.Detail.{Detail}

@@ -8,8 +8,8 @@ use Rattle.rb_script.specs.Script.{PlainBlock, PlainScript}
 use Rattle.rb_script.specs.Edits.{block_at_place}
 use Rattle.rb_replay.specs.Run.{outputs}
 use Rattle.rb_replay.specs.Report.{same_lines, mismatches}
-use Rattle.rb_report.specs.declared.colors.Colors.{Colors}
-use Rattle.rb_report.specs.declared.table.TheConstants.{MAX_SCRIPT_CELLS}
+use Rattle.rb_report.specs.declared.check.colors.Colors.{Colors}
+use Rattle.rb_report.specs.declared.check.table.TheConstants.{MAX_SCRIPT_CELLS}
 use Rattle.rb_report.specs.Diffs.{left_after}
 use Rattle.rb_text.proofs.SentLaws.{drop-get}
 use Rattle.rb_report.proofs.AddedLaws.{Adds, as_it_is, both_add, either_adds, adds_where, mismatch-adds, run-adds}

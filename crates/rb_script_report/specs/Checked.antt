@@ -6,15 +6,15 @@ use Rattle.rb_script.specs.Reading.{directive_of}
 use Rattle.rb_script.specs.Edits.{block_at_place}
 use Rattle.rb_replay.specs.Run.{outputs}
 use Rattle.rb_replay.specs.Report.{same_lines, mismatches}
-use Rattle.rb_report.specs.declared.colors.Colors.{Colors}
-use Rattle.rb_report.specs.declared.table.TheConstants.{MAX_SCRIPT_CELLS}
+use Rattle.rb_report.specs.declared.check.colors.Colors.{Colors}
+use Rattle.rb_report.specs.declared.check.table.TheConstants.{MAX_SCRIPT_CELLS}
 use Rattle.rb_report.specs.Diffs.{left_after}
 use Rattle.rb_report.specs.Heads.{head_text}
 use Rattle.rb_report.specs.Headings.{note_text}
 use Rattle.rb_report.specs.Whys.{mismatch_text, run_text}
 use Rattle.rb_report.specs.Briefs.{brief_text}
 use Rattle.rb_report.specs.Hints.{PlainHint, hint_text, unknown}
-use Rattle.rb_help.specs.Suggestions.{suggested}
+use Rattle.rb_report.specs.Suggestions.{suggested}
 use Rattle.rb_script_report.specs.declared.view.Detail.{Detail}
 use Rattle.rb_script_report.specs.declared.view.Detail.TheVariants as shown
 use Rattle.rb_script_report.specs.Errors.{first_line, is_error, is_unexpected}

@@ -13,8 +13,8 @@ use Rattle.rb_directive.specs.declared.name.Name.TheVariants.{ProposeConfChange}
 use Rattle.rb_directive.specs.Names.{name_text}
 use Rattle.rb_directive.specs.Table.{is_name}
 use Rattle.rb_replay.specs.Report.{same_lines}
-use Rattle.rb_report.specs.declared.warning_kind.WarningKind.{WarningKind}
-use Rattle.rb_report.specs.declared.warning_kind.WarningKind.TheVariants.{InExpectation, InInput, Unread}
+use Rattle.rb_report.specs.declared.check.warning_kind.WarningKind.{WarningKind}
+use Rattle.rb_report.specs.declared.check.warning_kind.WarningKind.TheVariants.{InExpectation, InInput, Unread}
 use Rattle.rb_script_report.specs.declared.part.BlockPart.{BlockPart}
 use Rattle.rb_script_report.specs.declared.part.BlockPart.TheVariants.{Head, Input, Expected}
 use Rattle.rb_script_report.specs.declared.warning.Warning.{Warning}

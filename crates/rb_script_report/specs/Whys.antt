@@ -16,8 +16,8 @@ use Rattle.rb_machine.specs.Cluster.{Cluster, empty}
 use Rattle.rb_machine.specs.Outcome.{Execution, execution, shown_items, outcome}
 use Rattle.rb_replay.specs.Run.{directives, outputs}
 use Rattle.rb_replay.specs.Report.{same_lines, mismatches}
-use Rattle.rb_report.specs.declared.colors.Colors.{Colors}
-use Rattle.rb_report.specs.declared.table.TheConstants.{MAX_SCRIPT_CELLS}
+use Rattle.rb_report.specs.declared.check.colors.Colors.{Colors}
+use Rattle.rb_report.specs.declared.check.table.TheConstants.{MAX_SCRIPT_CELLS}
 use Rattle.rb_report.specs.Whys.{told_mismatch, told_run}
 use Rattle.rb_script_report.specs.declared.reasons.LineReasons.{LineReasons}
 use Rattle.rb_script_report.specs.declared.view.Detail.{Detail}

@@ -17,7 +17,7 @@ use crate::layout::Layout;
 use crate::put::is_same;
 use rb_machine::Machine;
 use rb_replay::Session;
-use rb_report::{FileLine, write_left};
+use rb_report::check::{FileLine, put_left};
 use rb_script::{Block, ChunkedList, Lines, Sink, WriteFault};
 use std::alloc::{AllocError, Global};
 use std::rc::Rc;
@@ -120,7 +120,7 @@ pub(crate) fn left_heads<M: Machine>(
 }
 
 // Writes the note on a directive whose output is not accepted.
-fn write_if_left<S: Sink>(
+fn put_if_left<S: Sink>(
     sink: &mut S,
     wanted: AcceptOptions<'_>,
     text: &Lines,
@@ -135,12 +135,12 @@ fn write_if_left<S: Sink>(
     if !(is_picked(wanted.picked, line) && is_left(wanted, text, line, block, output)) {
         return Ok(());
     }
-    write_left(sink, place, &block.directive(), first_line(output))
+    put_left(sink, place, &block.directive(), first_line(output))
 }
 
 /// Names the outputs of the session's script that are picked but not accepted. The layout is the script's. If the writer fails, a beginning of the
 /// text was written.
-pub fn write_left_errors<M: Machine, S: Sink>(
+pub fn put_left_errors<M: Machine, S: Sink>(
     sink: &mut S,
     session: &Session<M>,
     layout: &Layout,
@@ -157,7 +157,7 @@ pub fn write_left_errors<M: Machine, S: Sink>(
         let output = output_at(session, i);
         let line = number_at(heads, i);
         let place = FileLine { path, line };
-        write_if_left(sink, wanted, &layout.text, place, block, output)?;
+        put_if_left(sink, wanted, &layout.text, place, block, output)?;
     }
     Ok(())
 }

@@ -2,7 +2,7 @@
 
 ghost use Rattle.std.specs.Prelude.{◌≡◌, ◌≢◌, ◌+◌, ◌<◌, Err, IsOk, OnOk, length};
 ghost use Rattle.rb_script.specs.Writes.{Writes};
-ghost use Rattle.rb_report.specs.declared.table.TheConstants.{MAX_SCRIPT_CELLS};
+ghost use Rattle.rb_report.specs.declared.check.table.TheConstants.{MAX_SCRIPT_CELLS};
 ghost use Rattle.rb_script_report.specs.Checked.{left_behind};
 ghost use Rattle.rb_script_report.specs.Whys.{is_all, left_on, told_alone, told_at};
 ghost use Rattle.rb_script_report.specs.Shows.{Shows};
@@ -16,12 +16,12 @@ use crate::reasons::why_at;
 use crate::shown_script::ShownScript;
 use crate::view::{Detail, View};
 use rb_machine::Machine;
-use rb_report::{FileLine, MismatchView, Sides, Table, write_mismatch, write_note, write_run};
+use rb_report::check::{FileLine, MismatchView, Sides, Table, put_mismatch, put_note, put_run};
 use rb_script::{Sink, WriteFault};
 use std::alloc::Global;
 
 /// Writes the directive at an index as a mismatch, step by step or not.
-pub(crate) fn write_mismatch_at<M: Machine, S: Sink>(
+pub(crate) fn put_mismatch_at<M: Machine, S: Sink>(
     sink: &mut S,
     run: &ShownScript<'_, M>,
     view: View<'_>,
@@ -49,12 +49,12 @@ pub(crate) fn write_mismatch_at<M: Machine, S: Sink>(
         why: why_at(run.whys, index),
         hint: hint_of(block, output),
     };
-    write_mismatch(sink, table, place, &block.directive(), sides, shown)
+    put_mismatch(sink, table, place, &block.directive(), sides, shown)
 }
 
 /// Writes the directive at an index. If its output differs, it writes the mismatch. If all directives are shown, it writes the output. Otherwise
 /// it names an error that no comment expects.
-pub(crate) fn write_directive_at<M: Machine, S: Sink>(
+pub(crate) fn put_directive_at<M: Machine, S: Sink>(
     sink: &mut S,
     run: &ShownScript<'_, M>,
     view: View<'_>,
@@ -71,7 +71,7 @@ pub(crate) fn write_directive_at<M: Machine, S: Sink>(
     let block = block_at(run.session, index);
     let output = output_at(run.session, index);
     if !is_same(block.expected(), output) {
-        return write_mismatch_at(sink, run, view, all, index, table);
+        return put_mismatch_at(sink, run, view, all, index, table);
     }
     let path = view.path;
     let line = number_at(run.layout.heads.as_slice(), index);
@@ -79,11 +79,11 @@ pub(crate) fn write_directive_at<M: Machine, S: Sink>(
     if all {
         let why = why_at(run.whys, index);
         let hint = hint_of(block, output);
-        return write_run(sink, place, &block.directive(), output, why, hint);
+        return put_run(sink, place, &block.directive(), output, why, hint);
     }
     if is_unexpected(&run.layout.text, line, output) {
         let hint = hint_of(block, output);
-        return write_note(sink, place, &block.directive(), first_line(output), hint);
+        return put_note(sink, place, &block.directive(), first_line(output), hint);
     }
     Ok(())
 }
@@ -100,7 +100,7 @@ fn is_all(shown: Detail) -> bool
 
 /// Writes the directive at an index, which counts from 0: its mismatch, or, if the view shows all directives, its output step by step. If the
 /// writer fails, a beginning of the text was written.
-pub fn write_alone<M: Machine, S: Sink>(
+pub fn put_alone<M: Machine, S: Sink>(
     alloc: Global,
     sink: &mut S,
     run: &ShownScript<'_, M>,
@@ -116,6 +116,6 @@ pub fn write_alone<M: Machine, S: Sink>(
         return Err(ShowFault::OutOfMemory);
     };
     let all = is_all(view.shown);
-    let written = write_directive_at(sink, run, view, all, index, &mut table);
+    let written = put_directive_at(sink, run, view, all, index, &mut table);
     shown(written)
 }

@@ -6,8 +6,8 @@ ghost use Rattle.rb_script_report.specs.Checked.{meant_by};
 
 use crate::errors::is_error;
 use crate::put::is_same;
-use rb_help::suggested;
-use rb_report::Hint;
+use rb_report::check::Hint;
+use rb_report::help::suggested;
 use rb_script::{Block, Lines};
 
 /// Suggests what was meant, if the output differs from the expectation or is an error.

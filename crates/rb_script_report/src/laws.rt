@@ -7,8 +7,8 @@ ghost use Rattle.rb_script.specs.Script.{PlainBlock, PlainScript, expecting, wit
 ghost use Rattle.rb_script.specs.HeadLines.{AreHeadLines, StandsOn};
 ghost use Rattle.rb_replay.specs.Run.{outputs};
 ghost use Rattle.rb_replay.specs.Report.{same_lines, mismatches};
-ghost use Rattle.rb_report.specs.declared.colors.Colors.{Colors};
-ghost use Rattle.rb_report.specs.declared.table.TheConstants.{MAX_SCRIPT_CELLS};
+ghost use Rattle.rb_report.specs.declared.check.colors.Colors.{Colors};
+ghost use Rattle.rb_report.specs.declared.check.table.TheConstants.{MAX_SCRIPT_CELLS};
 ghost use Rattle.rb_script_report.specs.declared.view.Detail.TheVariants.{Differing};
 ghost use Rattle.rb_script_report.specs.declared.view.Detail.{Detail};
 ghost use Rattle.rb_script_report.specs.Checked.{checked_text, mismatches_at, NoneIsNamed};

@@ -1,7 +1,7 @@
 //! The report of `raftbench check` for a script that ran: each mismatch, in order, with the line on which its head begins, and
 //! each error that no comment expects; and the script after its outputs are accepted.
 //!
-//! [`write_checked`] writes the report of a session on any [`Machine`](rb_machine::Machine) into any sink. One definition says what it
+//! [`put_checked`] writes the report of a session on any [`Machine`](rb_machine::Machine) into any sink. One definition says what it
 //! writes: `Checked.checked_text`, or `Whys.told_text` with the reasons why messages had no effect. The laws say that it is the
 //! mismatches. [`accept`] gives the text with the accepted outputs, and [`warnings`] finds probable mistakes.
 #![tactic(auto)]
@@ -30,10 +30,10 @@ mod whole_lines;
 mod written;
 
 pub use accept_options::{AcceptFilter, AcceptOptions, is_picked};
-pub use accepting::write_left_errors;
-pub use alone::write_alone;
+pub use accepting::put_left_errors;
+pub use alone::put_alone;
 pub use answers::{block_at, number_at, output_at};
-pub use errors::{first_line, has_errors, is_unexpected};
+pub use errors::{first_line, has_errors, is_error, is_unexpected};
 pub use fault::ShowFault;
 pub use hint::hint_of;
 pub use laws::{
@@ -43,11 +43,12 @@ pub use laws::{
     shown_lines_are_of_heads,
 };
 pub use layout::Layout;
-pub use put::{first_index, is_quiet, is_same, summary_of, write_checked};
+pub use names::begins_with_name;
+pub use put::{first_index, is_quiet, is_same, put_checked, summary_of};
 pub use reasons::{LineReasons, why_at};
 pub use shown_script::ShownScript;
 pub use summary::ScriptSummary;
 pub use unnamed::picked_unnamed;
 pub use view::{Detail, View};
-pub use warning::{Warning, looks_like_directive, warnings};
+pub use warning::{Warning, warnings};
 pub use written::{AcceptFault, Accepted, accept};

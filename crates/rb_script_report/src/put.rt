@@ -4,12 +4,12 @@ ghost use Rattle.std.specs.Prelude.{false, ◌≡◌, ◌≢◌, ◌+◌, ◌<�
 ghost use Rattle.rb_script.specs.Writes.{Writes};
 ghost use Rattle.rb_replay.specs.Run.{outputs};
 ghost use Rattle.rb_replay.specs.Report.{same_lines, mismatches};
-ghost use Rattle.rb_report.specs.declared.table.TheConstants.{MAX_SCRIPT_CELLS};
+ghost use Rattle.rb_report.specs.declared.check.table.TheConstants.{MAX_SCRIPT_CELLS};
 ghost use Rattle.rb_script_report.specs.Checked.{of_first, brief_at, IsFirst};
 ghost use Rattle.rb_script_report.specs.Whys.{all_told, told_at, told_text};
 ghost use Rattle.rb_script_report.specs.Shows.{Shows, summary_of, IsQuiet};
 
-use crate::alone::{write_directive_at, write_mismatch_at};
+use crate::alone::{put_directive_at, put_mismatch_at};
 use crate::answers::number_at;
 use crate::errors::{count_errors, has_errors};
 use crate::fault::ShowFault;
@@ -19,7 +19,7 @@ use crate::summary::ScriptSummary;
 use crate::view::{Detail, View};
 use rb_machine::Machine;
 use rb_replay::Session;
-use rb_report::{Table, write_brief};
+use rb_report::check::{Table, put_brief};
 use rb_script::{Lines, Sink, WriteFault};
 use std::alloc::Global;
 
@@ -31,7 +31,7 @@ pub fn is_same(lines: &Lines, other: &Lines) -> bool
 }
 
 // Writes each directive that is shown.
-fn write_directives<M: Machine, S: Sink>(
+fn put_directives<M: Machine, S: Sink>(
     sink: &mut S,
     run: &ShownScript<'_, M>,
     view: View<'_>,
@@ -43,7 +43,7 @@ fn write_directives<M: Machine, S: Sink>(
     ensures all { S.takes_all sink.old → IsOk result × S.takes_all sink.new }
 {
     for i in 0..run.session.len() {
-        write_directive_at(sink, run, view, all, i, table)?;
+        put_directive_at(sink, run, view, all, i, table)?;
     }
     Ok(())
 }
@@ -63,7 +63,7 @@ pub fn first_index<M: Machine>(session: &Session<M>) -> Option<usize>
 }
 
 // Writes the first mismatch.
-fn write_first<M: Machine, S: Sink>(
+fn put_first<M: Machine, S: Sink>(
     sink: &mut S,
     run: &ShownScript<'_, M>,
     view: View<'_>,
@@ -74,13 +74,13 @@ fn write_first<M: Machine, S: Sink>(
     ensures all { S.takes_all sink.old → IsOk result × S.takes_all sink.new }
 {
     match first_index(run.session) {
-        Some(index) => write_mismatch_at(sink, run, view, false, index, table),
+        Some(index) => put_mismatch_at(sink, run, view, false, index, table),
         None => Ok(()),
     }
 }
 
 // Writes one line about a script with mismatches.
-fn write_in_brief<M: Machine, S: Sink>(
+fn put_in_brief<M: Machine, S: Sink>(
     sink: &mut S,
     session: &Session<M>,
     layout: &Layout,
@@ -91,7 +91,7 @@ fn write_in_brief<M: Machine, S: Sink>(
     ensures all { S.takes_all sink.old → IsOk result × S.takes_all sink.new }
 {
     match first_index(session) {
-        Some(index) => write_brief(
+        Some(index) => put_brief(
             sink,
             path,
             session.mismatches().len(),
@@ -136,7 +136,7 @@ pub(crate) fn shown(written: Result<(), WriteFault>) -> Result<(), ShowFault>
 
 /// Writes the report of the session's script, with the reasons that are given below the lines of each output. The layout is the script's. If
 /// [`is_quiet`] holds, nothing is written, and the call isn't needed. If the writer fails, a beginning of the text was written.
-pub fn write_checked<M: Machine, S: Sink>(
+pub fn put_checked<M: Machine, S: Sink>(
     alloc: Global,
     sink: &mut S,
     session: &Session<M>,
@@ -158,10 +158,10 @@ pub fn write_checked<M: Machine, S: Sink>(
         whys,
     };
     let written = match view.shown {
-        Detail::Differing => write_directives(sink, &run, view, false, &mut table),
-        Detail::All => write_directives(sink, &run, view, true, &mut table),
-        Detail::First => write_first(sink, &run, view, &mut table),
-        Detail::Brief => write_in_brief(sink, session, layout, view.path),
+        Detail::Differing => put_directives(sink, &run, view, false, &mut table),
+        Detail::All => put_directives(sink, &run, view, true, &mut table),
+        Detail::First => put_first(sink, &run, view, &mut table),
+        Detail::Brief => put_in_brief(sink, session, layout, view.path),
     };
     shown(written)
 }

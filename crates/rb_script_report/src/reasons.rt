@@ -8,9 +8,9 @@ ghost use Rattle.rb_script_report.specs.Whys.{last_reason, all_reasons, below_li
 use rb_machine::Observer;
 use rb_node::Node;
 use rb_raftlog::RaftLog;
-use rb_report::Why;
+use rb_report::check::Why;
 use rb_script::Lines;
-use rb_texts::{Item, Reason, is_shown, push_reason, reason_of};
+use rb_texts::{Item, Reason, is_shown, put_reason, reason_of};
 use rb_vocab::Level;
 use std::alloc::{AllocError, Global};
 
@@ -31,7 +31,7 @@ fn push_last(reasons: &mut Lines, level: Level, reason: &Option<Reason>) -> Resu
     ensures { OnOk result (reasons.new ≡ reasons.old ++ last_reason level reason.now) }
 {
     match reason {
-        Some(reason) => push_reason(reasons, level, reason),
+        Some(reason) => put_reason(reasons, level, reason),
         None => {
             reasons.push(b"")?;
             Ok(())
@@ -72,7 +72,7 @@ impl LineReasons {
     }
 
     // A line is printed.
-    fn begin_line(&mut self) -> Result<(), AllocError>
+    fn add_line(&mut self) -> Result<(), AllocError>
         ensures { OnOk result (self.new ≡ below_line self.old) }
     {
         if self.has_begun {
@@ -84,7 +84,7 @@ impl LineReasons {
     }
 
     // A reason was given.
-    fn retain_reason(&mut self, reason: Reason)
+    fn add_reason(&mut self, reason: Reason)
         ensures { self.new ≡ below_reason self.old reason }
     {
         self.has_begun = true;
@@ -116,10 +116,10 @@ impl<L: RaftLog> Observer<L> for LineReasons {
 
     fn observe(&mut self, item: &Item<'_>) -> Result<(), AllocError> {
         if is_shown(self.level, item) {
-            self.begin_line()?;
+            self.add_line()?;
         }
         if let Some(reason) = reason_of(item)? {
-            self.retain_reason(reason);
+            self.add_reason(reason);
         }
         Ok(())
     }

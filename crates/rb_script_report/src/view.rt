@@ -1,6 +1,6 @@
 //! The options of a script's report.
 
-use rb_report::Colors;
+use rb_report::check::Colors;
 
 /// How much of a script is shown.
 #[derive(Clone, Copy, Debug, PartialEq, Eq)]

@@ -18,7 +18,7 @@ use crate::text::is_same_text;
 use rb_directive::Name;
 use rb_machine::Machine;
 use rb_replay::Session;
-use rb_report::WarningKind;
+use rb_report::check::WarningKind;
 use rb_script::{Block, Lines, ScriptFault, is_lead, is_separator};
 use std::alloc::{AllocError, Global};
 
@@ -46,12 +46,7 @@ fn reads_alone(alloc: Global, line: &[u8]) -> Result<bool, AllocError>
     }
 }
 
-/// Says whether the line would be a directive with a line `----` below it, by its name and its arguments.
-///
-/// # Errors
-///
-/// If memory was refused.
-pub fn looks_like_directive(alloc: Global, line: &[u8]) -> Result<bool, AllocError>
+fn looks_like_directive(alloc: Global, line: &[u8]) -> Result<bool, AllocError>
     ensures { IfOk result (λ looks. looks ≡ looks_like_directive line.now) }
 {
     if !begins_with_name(line) {

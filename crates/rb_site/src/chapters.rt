@@ -16,7 +16,7 @@ use std::rt::Files;
 
 /// Adds the chapters of these scripts, whose places are below the root; if only those that differ are asked for, not the others, nor those that
 /// can't be shown.
-pub(crate) fn push_chapters<R: Files + AllocGlobal>(
+pub(crate) fn add_chapters<R: Files + AllocGlobal>(
     rt: &R,
     chapters: &mut Vec<Chapter>,
     root: &str,
@@ -25,13 +25,13 @@ pub(crate) fn push_chapters<R: Files + AllocGlobal>(
 ) -> Result<(), SiteFault> {
     for path in scripts {
         if let Some(chapter) = chapter(rt, root, path.as_str(), only_differing)? {
-            push_chapter(chapters, chapter)?;
+            add_chapter(chapters, chapter)?;
         }
     }
     Ok(())
 }
 
-fn push_chapter(chapters: &mut Vec<Chapter>, chapter: Chapter) -> Result<(), AllocError>
+fn add_chapter(chapters: &mut Vec<Chapter>, chapter: Chapter) -> Result<(), AllocError>
     ensures { OnOk result (chapters.new.items ≡ chapters.old.items ++ chapter ∷ []) }
 {
     Ok(chapters.push(chapter)?)

@@ -6,7 +6,6 @@ ghost use Rattle.rb_site.specs.declared.fault.SiteFault.TheVariants.{Book};
 
 use rb_book::BookFault;
 use rb_files::PathError;
-use rb_report::Failure;
 use std::alloc::{AllocError, Global};
 
 /// Why a site was not written.
@@ -34,11 +33,8 @@ impl From<AllocError> for SiteFault {
     }
 }
 
-/// The fault of a path that could not be read; that of memory alone, if it was refused.
+/// The fault of a path that could not be read.
 pub(crate) fn lost(alloc: Global, path: &str, error: PathError) -> SiteFault {
-    if error.failure == Failure::OutOfMemory {
-        return SiteFault::Book(BookFault::OutOfMemory);
-    }
     match Vec::from_slice(alloc, path.as_bytes()) {
         Ok(path) => SiteFault::Lost(path, error),
         Err(_) => SiteFault::Book(BookFault::OutOfMemory),

@@ -10,8 +10,8 @@ use rb_book::{BookFault, ChapterTexts};
 use rb_cluster::Meter;
 use rb_raftlog::SplitLog;
 use rb_script::{Lines, ScriptWithLines, Through};
-use rb_view::chart::{Chart, ChartFault, ChartPart, ChartScript, STYLE, chart_of, write_chart};
-use rb_view::steps::write_steps;
+use rb_view::chart::{Chart, ChartFault, ChartPart, ChartScript, STYLE, chart_of, put_chart};
+use rb_view::steps::put_steps;
 use std::alloc::{AllocError, Global};
 
 /// The page and the picture of a script, by running it.
@@ -21,7 +21,7 @@ pub(crate) struct RanScripts;
 impl ChapterTexts for RanScripts {
     ghost is_page = { λ _ script name front back text. IsPage script name front back text };
 
-    ghost is_picture = { λ _ script name text. IsPicture script name text };
+    ghost is_picture = { λ _ script name text. IsPicture script text };
 
     fn page(
         &self,
@@ -62,7 +62,7 @@ fn rows_text(alloc: Global, name: &[u8], rows: &Lines) -> Result<Vec<u8>, AllocE
     ensures { IfOk result (λ text. text.items ≡ rows_joined name.now rows.now) }
 {
     let mut sink = Through(Vec::new(alloc));
-    match write_steps(&mut sink, name, rows) {
+    match put_steps(&mut sink, name, rows) {
         Ok(()) => Ok(sink.0),
         Err(_) => Err(AllocError),
     }
@@ -72,7 +72,7 @@ fn picture_text(alloc: Global, chart: &Chart) -> Result<Vec<u8>, AllocError>
     ensures { IfOk result (λ text. text.items ≡ chart_text STYLE.now chart.now) }
 {
     let mut sink = Through(Vec::new(alloc));
-    match write_chart(&mut sink, chart) {
+    match put_chart(&mut sink, chart) {
         Ok(()) => Ok(sink.0),
         Err(_) => Err(AllocError),
     }
@@ -80,15 +80,15 @@ fn picture_text(alloc: Global, chart: &Chart) -> Result<Vec<u8>, AllocError>
 
 // The picture of all directives of a script.
 fn chart(alloc: Global, bytes: &[u8], name: &[u8]) -> Result<Chart, BookFault>
-    ensures { IfOk result (λ chart. IsChart bytes.now name.now chart) }
+    ensures { IfOk result (λ chart. IsChart bytes.now chart) }
 {
     let ScriptWithLines {
         script,
-        lines,
+        lines: _,
         heads,
     } = read(alloc, bytes)?;
     let source = ChartScript {
-        lines: &lines,
+        bytes,
         script: &script,
         heads: heads.as_slice(),
     };
@@ -96,7 +96,7 @@ fn chart(alloc: Global, bytes: &[u8], name: &[u8]) -> Result<Chart, BookFault>
         from: None,
         until: None,
     };
-    match chart_of::<SplitLog>(alloc, name, source, part, false, &mut Meter::new()) {
+    match chart_of::<SplitLog>(alloc, name, source, part, &mut Meter::new()) {
         Ok(run) => Ok(run.chart),
         Err(ChartFault::TooLarge) => Err(BookFault::PictureTooLarge),
         Err(ChartFault::OutOfMemory) => Err(BookFault::OutOfMemory),

@@ -1,17 +1,17 @@
 //! Writing a site.
 
-ghost use Rattle.std.specs.Prelude.{◌≡◌, false, IfOk, List};
+ghost use Rattle.std.specs.Prelude.{◌≡◌, IfOk, List};
 ghost use Rattle.rb_book.specs.declared.chapter.Chapter.{Chapter};
-ghost use Rattle.rb_site.specs.Shown.{differs, has_differing, is_for_memory, lacks_memory, status_of};
+ghost use Rattle.rb_site.specs.Shown.{differs, has_differing, status_of};
 
-use crate::chapters::push_chapters;
+use crate::chapters::add_chapters;
 use crate::fault::{SiteFault, lost};
 use crate::folder::SiteFolder;
 use crate::ran_scripts::RanScripts;
 use rb_book::{Assets, BookFault, Chapter, write_book};
-use rb_files::{FailedPath, Found, PathError, find};
-use rb_report::{Failure, Status};
-use rb_view::frame::{WHOLE, back, front};
+use rb_files::{Found, PathError, find};
+use rb_report::check::Status;
+use rb_view::frame::{back, front};
 use std::convert::AsStr;
 use std::path::Path;
 use std::rt::Files;
@@ -44,7 +44,7 @@ pub fn write_site<R: Files + AllocGlobal, S: AsStr>(
         let path = path.as_str();
         let found = found(rt, path, request.only_differing)?;
         let root = root_of(path, request.paths.len());
-        push_chapters(
+        add_chapters(
             rt,
             &mut chapters,
             root,
@@ -74,11 +74,9 @@ fn found<R: Files + AllocGlobal>(
     rt: &R,
     path: &str,
     only_differing: bool,
-) -> Result<Found, SiteFault>
-    ensures { IfOk result (λ found. lacks_memory found ≡ false) }
-{
+) -> Result<Found, SiteFault> {
     let mut found = find(rt, &[path], &[]);
-    if lacks_memory(&found) {
+    if found.is_cut {
         return Err(SiteFault::Book(BookFault::OutOfMemory));
     }
     if only_differing {
@@ -94,22 +92,6 @@ fn found<R: Files + AllocGlobal>(
     Ok(found)
 }
 
-// Whether memory was refused before all scripts of a path were found.
-fn lacks_memory(found: &Found) -> bool
-    ensures { result ≡ lacks_memory found.now }
-{
-    found.is_cut || found.lost.iter().any(|lost| is_for_memory(lost))
-}
-
-fn is_for_memory(lost: &FailedPath) -> bool
-    ensures { result ≡ is_for_memory lost.now }
-{
-    match lost.error.failure {
-        Failure::OutOfMemory => true,
-        _ => false,
-    }
-}
-
 // Makes the folder of a site, and writes its files.
 fn write_chapters<R: Files + AllocGlobal>(
     rt: &R,
@@ -119,10 +101,10 @@ fn write_chapters<R: Files + AllocGlobal>(
 ) -> Result<(), SiteFault> {
     make_folder(rt, site)?;
     let mut folder = SiteFolder { rt, path: site };
-    let (front, back) = (front(WHOLE), back());
-    // The first part and the last ones are elements.
+    let (front, back) = (front(), back());
+    // The first part and the last one are elements.
     let assets = Assets {
-        style: &front[1..front.len() - 3],
+        style: &front[1..front.len() - 1],
         code: &back[1..back.len() - 1],
     };
     write_book(

@@ -1,5 +1,5 @@
-//! Tests of logs, trackers and nodes; of sessions and files, over known and over failing sources and outlets; and of definitions that no script
-//! reaches.
+//! Tests of logs, of trackers and of nodes; and of what the program does with sessions and files, over sources and outlets of which all is known or
+//! that fail, and of definitions that no script reaches. There is nothing here but tests.
 #![tactic(auto)]
 
 #[cfg(test)]

@@ -11,7 +11,7 @@ pub trait Escape {
     ghost text: { Self → ℕ → List ℕ };
 
     /// Writes the text of a byte. After a failure a beginning of it is written.
-    fn write_byte<S: Sink>(&self, sink: &mut S, b: u8) -> Result<(), WriteFault>
+    fn put<S: Sink>(&self, sink: &mut S, b: u8) -> Result<(), WriteFault>
         ensures wrote { Writes result (S.held sink.old) (S.held sink.new) (text self.now b) }
         ensures all { S.takes_all sink.old → IsOk result × S.takes_all sink.new };
 }
@@ -21,7 +21,7 @@ pub trait Escape {
 /// # Errors
 ///
 /// If the sink fails. A beginning of the text is written then.
-pub fn write_escaped<S: Sink, E: Escape>(
+pub fn put_escaped<S: Sink, E: Escape>(
     sink: &mut S,
     escape: &E,
     bytes: &[u8],
@@ -30,7 +30,7 @@ pub fn write_escaped<S: Sink, E: Escape>(
     ensures all { S.takes_all sink.old → IsOk result × S.takes_all sink.new }
 {
     for b in bytes {
-        escape.write_byte(sink, *b)?;
+        escape.put(sink, *b)?;
     }
     Ok(())
 }

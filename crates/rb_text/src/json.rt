@@ -55,11 +55,11 @@ fn numbered(b: u8) -> [u8; 6]
 impl Escape for Json {
     ghost text = { byte_text };
 
-    fn write_byte<S: Sink>(&self, sink: &mut S, b: u8) -> Result<(), WriteFault> {
+    fn put<S: Sink>(&self, sink: &mut S, b: u8) -> Result<(), WriteFault> {
         if is_plain(*self, b) {
-            sink.write_all(&[b])
+            sink.put(&[b])
         } else {
-            sink.write_all(&numbered(b))
+            sink.put(&numbered(b))
         }
     }
 }

@@ -5,10 +5,10 @@
 //! takes all its memory when it is made. A [`LineBuffer`] holds one line. [`read_up_to`] reads the first bytes of a source at once.
 //!
 //! [`first_word`] splits a line at its first blank. [`number_of`] reads a number of one to ten digits: in directives, commands and the command
-//! line. [`write_number`] writes one.
+//! line. [`put_number`] writes one.
 //!
-//! [`write_pieces`] writes a text and [`push_pieces`] appends it to a text in memory. Pieces are bytes, numbers, and bytes escaped for a string
-//! of JSON ([`Json`]). [`write_escaped`] writes bytes in another escape.
+//! [`put_pieces`] writes a text and [`add_pieces`] appends it to a text in memory. Pieces are bytes, numbers, and bytes escaped for a string
+//! of JSON ([`Json`]). [`put_escaped`] writes bytes in another escape.
 #![tactic(auto)]
 
 mod escape;
@@ -23,13 +23,13 @@ mod reading;
 mod source;
 mod words;
 
-pub use escape::{Escape, write_escaped};
+pub use escape::{Escape, put_escaped};
 pub use fail_fast::FailFast;
 pub use json::{Json, hex_digit};
 pub use line_buffer::{LineBuffer, PushByte};
 pub use line_reader::{LineReader, Next};
-pub use number::{number_of, write_number};
-pub use piece::{Piece, WrittenPiece, push_pieces, write_pieces};
+pub use number::{number_of, put_number};
+pub use piece::{Piece, WrittenPiece, add_pieces, put_pieces};
 pub use reading::{ReadFault, read_up_to};
 pub use source::{InputFault, ReadSource, Source};
 pub use words::first_word;

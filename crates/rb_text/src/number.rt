@@ -28,11 +28,11 @@ pub fn number_of(word: &[u8]) -> Option<u64>
 }
 
 /// Writes a number in decimal digits, without leading zeros. Takes no memory.
-pub fn write_number<S: Sink>(sink: &mut S, number: u64) -> Result<(), WriteFault>
+pub fn put_number<S: Sink>(sink: &mut S, number: u64) -> Result<(), WriteFault>
     // On a failure a beginning of the digits is written.
     ensures wrote { Writes result (S.held sink.old) (S.held sink.new) (decimal number) }
     ensures all { S.takes_all sink.old → IsOk result × S.takes_all sink.new }
 {
     let mut digits = Buffer::new();
-    sink.write_all(digits.format(number).as_bytes())
+    sink.put(digits.format(number).as_bytes())
 }

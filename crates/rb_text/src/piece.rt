@@ -5,9 +5,9 @@ ghost use Rattle.std.specs.List.{flat_map};
 ghost use Rattle.rb_script.specs.Writes.{Writes};
 ghost use Rattle.rb_text.specs.Pieces.{piece_text};
 
-use crate::escape::write_escaped;
+use crate::escape::put_escaped;
 use crate::json::Json;
-use crate::number::write_number;
+use crate::number::put_number;
 use rb_script::{Sink, Through, WriteFault};
 use std::alloc::AllocError;
 use std::mem;
@@ -17,7 +17,7 @@ pub trait WrittenPiece {
     ghost text: { Self → List ℕ };
 
     /// Writes the text of the piece. After a failure a beginning of it is written.
-    fn write_to<S: Sink>(&self, sink: &mut S) -> Result<(), WriteFault>
+    fn put<S: Sink>(&self, sink: &mut S) -> Result<(), WriteFault>
         ensures wrote { Writes result (S.held sink.old) (S.held sink.new) (text self.now) }
         ensures all { S.takes_all sink.old → IsOk result × S.takes_all sink.new };
 }
@@ -26,8 +26,8 @@ pub trait WrittenPiece {
 impl WrittenPiece for &[u8] {
     ghost text = { λ bytes. bytes.now };
 
-    fn write_to<S: Sink>(&self, sink: &mut S) -> Result<(), WriteFault> {
-        sink.write_all(self)
+    fn put<S: Sink>(&self, sink: &mut S) -> Result<(), WriteFault> {
+        sink.put(self)
     }
 }
 
@@ -45,11 +45,11 @@ pub enum Piece<'a> {
 impl WrittenPiece for Piece<'_> {
     ghost text = { piece_text };
 
-    fn write_to<S: Sink>(&self, sink: &mut S) -> Result<(), WriteFault> {
+    fn put<S: Sink>(&self, sink: &mut S) -> Result<(), WriteFault> {
         match *self {
-            Piece::Bytes(bytes) => sink.write_all(bytes),
-            Piece::Number(n) => write_number(sink, n),
-            Piece::Escaped(json, bytes) => write_escaped(sink, &json, bytes),
+            Piece::Bytes(bytes) => sink.put(bytes),
+            Piece::Number(n) => put_number(sink, n),
+            Piece::Escaped(json, bytes) => put_escaped(sink, &json, bytes),
         }
     }
 }
@@ -59,12 +59,12 @@ impl WrittenPiece for Piece<'_> {
 /// # Errors
 ///
 /// If the sink fails. A beginning of the text is written then.
-pub fn write_pieces<S: Sink, P: WrittenPiece>(sink: &mut S, pieces: &[P]) -> Result<(), WriteFault>
+pub fn put_pieces<S: Sink, P: WrittenPiece>(sink: &mut S, pieces: &[P]) -> Result<(), WriteFault>
     ensures wrote { Writes result (S.held sink.old) (S.held sink.new) (flat_map P.text pieces.now) }
     ensures all { S.takes_all sink.old → IsOk result × S.takes_all sink.new }
 {
     for piece in pieces {
-        piece.write_to(sink)?;
+        piece.put(sink)?;
     }
     Ok(())
 }
@@ -74,13 +74,13 @@ pub fn write_pieces<S: Sink, P: WrittenPiece>(sink: &mut S, pieces: &[P]) -> Res
 /// # Errors
 ///
 /// If there is no memory. Some of the pieces may be appended then.
-pub fn push_pieces<P: WrittenPiece>(text: &mut Vec<u8>, pieces: &[P]) -> Result<(), AllocError>
+pub fn add_pieces<P: WrittenPiece>(text: &mut Vec<u8>, pieces: &[P]) -> Result<(), AllocError>
     ensures { OnOk result (text.new.items ≡ text.old.items ++ flat_map P.text pieces.now) }
 {
     // The text itself is the sink.
     let nothing = Vec::new(*text.allocator());
     let mut sink = Through(mem::replace(text, nothing));
-    let written = write_pieces(&mut sink, pieces);
+    let written = put_pieces(&mut sink, pieces);
     *text = sink.0;
     match written {
         Ok(()) => Ok(()),

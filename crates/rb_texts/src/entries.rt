@@ -7,7 +7,7 @@ ghost use Rattle.std.specs.Prelude.{◌≡◌, ◌++◌, codes, OnOk};
 ghost use Rattle.std.specs.List.{flat_map};
 ghost use Rattle.rb_texts.specs.Entries.{transition_text, letter, change_word, body_text, entry_text};
 
-use crate::piece::{LinePiece, push_bytes, push_pieces, push_place, push_quoted};
+use crate::piece::{LinePiece, add_bytes, add_pieces, add_place, add_quoted};
 use rb_raftlog::{Body, Entry};
 use rb_script::LineText;
 use rb_vocab::{Transition, Word, WordKind};
@@ -31,7 +31,7 @@ fn letter(kind: WordKind) -> &'static [u8]
     }
 }
 
-fn push_word(line: &mut LineText, word: &Word) -> Result<(), AllocError>
+fn add_word(line: &mut LineText, word: &Word) -> Result<(), AllocError>
     ensures { OnOk result (line.new ≡ line.old ++ change_word word.now) }
 {
     let pieces = [
@@ -39,47 +39,43 @@ fn push_word(line: &mut LineText, word: &Word) -> Result<(), AllocError>
         LinePiece::Bytes(letter(word.kind)),
         LinePiece::Number(word.id),
     ];
-    push_pieces(line, &pieces)
+    add_pieces(line, &pieces)
 }
 
-fn push_words(line: &mut LineText, words: &[Word]) -> Result<(), AllocError>
+fn add_words(line: &mut LineText, words: &[Word]) -> Result<(), AllocError>
     ensures { OnOk result (line.new ≡ line.old ++ flat_map change_word words.now) }
 {
     for word in words {
-        push_word(line, word)?;
+        add_word(line, word)?;
     }
     Ok(())
 }
 
-fn push_change(
-    line: &mut LineText,
-    transition: Transition,
-    words: &[Word],
-) -> Result<(), AllocError>
+fn add_change(line: &mut LineText, transition: Transition, words: &[Word]) -> Result<(), AllocError>
     ensures { OnOk result (line.new ≡ line.old ++ (codes "change " ++ transition_text transition ++ flat_map change_word words.now)) }
 {
     let pieces = [
         LinePiece::Bytes(b"change "),
         LinePiece::Bytes(transition_name(transition)),
     ];
-    push_pieces(line, &pieces)?;
-    push_words(line, words)
+    add_pieces(line, &pieces)?;
+    add_words(line, words)
 }
 
 #[tactic(auto, unfolding(crate::specs::Entries::body_text))]
-pub(crate) fn push_body(line: &mut LineText, body: &Body) -> Result<(), AllocError>
+pub(crate) fn add_body(line: &mut LineText, body: &Body) -> Result<(), AllocError>
     ensures { OnOk result (line.new ≡ line.old ++ body_text body.now) }
 {
     match body {
-        Body::Payload(bytes) => push_quoted(line, bytes.as_slice()),
-        Body::Change { transition, words } => push_change(line, *transition, words.as_slice()),
+        Body::Payload(bytes) => add_quoted(line, bytes.as_slice()),
+        Body::Change { transition, words } => add_change(line, *transition, words.as_slice()),
     }
 }
 
-pub(crate) fn push_entry(line: &mut LineText, index: u64, entry: &Entry) -> Result<(), AllocError>
+pub(crate) fn add_entry(line: &mut LineText, index: u64, entry: &Entry) -> Result<(), AllocError>
     ensures { OnOk result (line.new ≡ line.old ++ entry_text index entry.now) }
 {
-    push_place(line, entry.term, index)?;
-    push_bytes(line, b" ")?;
-    push_body(line, &entry.body)
+    add_place(line, entry.term, index)?;
+    add_bytes(line, b" ")?;
+    add_body(line, &entry.body)
 }

@@ -7,9 +7,9 @@ ghost use Rattle.std.specs.List.{flat_map};
 ghost use Rattle.rb_texts.specs.Entries.{body_text, place_text};
 ghost use Rattle.rb_texts.specs.Messages.{answer_text, append_fields, fields_of, fields_text, place, plain_field, vote_fields};
 
-use crate::entries::push_body;
+use crate::entries::add_body;
 use crate::messages::answer_name;
-use crate::piece::{LinePiece, push_bytes, push_field, push_pieces, shown_if};
+use crate::piece::{LinePiece, add_bytes, add_field, add_pieces, shown_if};
 use rb_message::{Append, MessageKind};
 use rb_raftlog::{Body, Snapshot};
 use rb_script::LineText;
@@ -113,17 +113,17 @@ pub fn kind_fields(kind: &MessageKind) -> [MessageField<'_>; MOST_FIELDS]
     }
 }
 
-fn push_answer(line: &mut LineText, granted: bool) -> Result<(), AllocError>
+fn add_answer(line: &mut LineText, granted: bool) -> Result<(), AllocError>
     ensures { OnOk result (line.new ≡ line.old ++ (codes " " ++ answer_text granted)) }
 {
     let pieces = [
         LinePiece::Bytes(b" "),
         LinePiece::Bytes(answer_name(granted)),
     ];
-    push_pieces(line, &pieces)
+    add_pieces(line, &pieces)
 }
 
-fn push_named_place(
+fn add_named_place(
     line: &mut LineText,
     name: &[u8],
     term: u64,
@@ -132,38 +132,35 @@ fn push_named_place(
     ensures { OnOk result (line.new ≡ line.old ++ (name.now ++ place_text term index)) }
 {
     let pieces = [LinePiece::Bytes(name), LinePiece::Place(term, index)];
-    push_pieces(line, &pieces)
+    add_pieces(line, &pieces)
 }
 
-fn push_proposal(line: &mut LineText, body: &Body) -> Result<(), AllocError>
+fn add_proposal(line: &mut LineText, body: &Body) -> Result<(), AllocError>
     ensures { OnOk result (line.new ≡ line.old ++ (codes " " ++ body_text body.now)) }
 {
-    push_bytes(line, b" ")?;
-    push_body(line, body)
+    add_bytes(line, b" ")?;
+    add_body(line, body)
 }
 
-fn push_field_of_message(line: &mut LineText, field: MessageField<'_>) -> Result<(), AllocError>
+fn add_one(line: &mut LineText, field: MessageField<'_>) -> Result<(), AllocError>
     ensures { OnOk result (line.new ≡ line.old ++ fields_text (plain_field field.entry)) }
 {
     match field {
         MessageField::Nothing | MessageField::Refused(_) => Ok(()),
-        MessageField::Number(name, n) => push_field(line, name, n),
-        MessageField::Place(name, term, index) => push_named_place(line, name, term, index),
-        MessageField::Answer(granted) => push_answer(line, granted),
-        MessageField::Flag(word, applies) => push_bytes(line, shown_if(applies, word)),
-        MessageField::Body(body) => push_proposal(line, body),
+        MessageField::Number(name, n) => add_field(line, name, n),
+        MessageField::Place(name, term, index) => add_named_place(line, name, term, index),
+        MessageField::Answer(granted) => add_answer(line, granted),
+        MessageField::Flag(word, applies) => add_bytes(line, shown_if(applies, word)),
+        MessageField::Body(body) => add_proposal(line, body),
     }
 }
 
 /// Adds the fields to the line.
-pub(crate) fn push_fields(
-    line: &mut LineText,
-    fields: &[MessageField<'_>],
-) -> Result<(), AllocError>
+pub(crate) fn add_fields(line: &mut LineText, fields: &[MessageField<'_>]) -> Result<(), AllocError>
     ensures { OnOk result (line.new ≡ line.old ++ flat_map (λ f. fields_text (plain_field f)) fields.now) }
 {
     for field in fields {
-        push_field_of_message(line, *field)?;
+        add_one(line, *field)?;
     }
     Ok(())
 }

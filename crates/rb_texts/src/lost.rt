@@ -3,7 +3,7 @@
 ghost use Rattle.std.specs.Prelude.{◌≡◌, ◌+◌, ◌++◌, [], codes, decimal, not, ◌&&◌, if◌then◌else◌, OnOk};
 ghost use Rattle.rb_texts.specs.Lost.{loses_entries, loses_term, loses_vote, loses, indexes_text, lost_text};
 
-use crate::piece::{LinePiece, push_field, push_pieces};
+use crate::piece::{LinePiece, add_field, add_pieces};
 use rb_message::{HardState, Unsaved};
 use rb_script::LineText;
 use std::alloc::AllocError;
@@ -33,26 +33,26 @@ pub(crate) fn loses(saved: HardState, unsaved: Unsaved) -> bool
     loses_entries(unsaved) || loses_term(saved, unsaved) || loses_vote(saved, unsaved)
 }
 
-fn push_indexes(line: &mut LineText, first: u64, last: u64) -> Result<(), AllocError>
+fn add_indexes(line: &mut LineText, first: u64, last: u64) -> Result<(), AllocError>
     ensures { OnOk result (line.new ≡ line.old ++ indexes_text first last) }
 {
     if first == last {
-        return push_field(line, b"entry ", last);
+        return add_field(line, b"entry ", last);
     }
     let pieces = [
         LinePiece::Field(b"entries ", first),
         LinePiece::Field(b"..", last),
     ];
-    push_pieces(line, &pieces)
+    add_pieces(line, &pieces)
 }
 
-fn push_entries(line: &mut LineText, unsaved: Unsaved) -> Result<(), AllocError>
+fn add_entries(line: &mut LineText, unsaved: Unsaved) -> Result<(), AllocError>
     ensures { OnOk result (line.new ≡ line.old ++ (if loses_entries unsaved then indexes_text (unsaved.durable + 1) unsaved.last else [])) }
 {
     if !loses_entries(unsaved) {
         return Ok(());
     }
-    push_indexes(line, unsaved.durable + 1, unsaved.last)
+    add_indexes(line, unsaved.durable + 1, unsaved.last)
 }
 
 fn neither(one: bool, other: bool) -> bool
@@ -75,7 +75,7 @@ fn separator(is_first: bool, is_last: bool) -> &'static [u8]
 }
 
 // Adds a name and a number after a separator, if they are shown.
-fn push_part<'a>(
+fn add_part<'a>(
     line: &mut LineText,
     shown: bool,
     before: &'a [u8],
@@ -88,11 +88,11 @@ fn push_part<'a>(
         return Ok(());
     }
     let pieces = [LinePiece::Bytes(before), LinePiece::Field(name, n)];
-    push_pieces(line, &pieces)
+    add_pieces(line, &pieces)
 }
 
 /// Adds what a node lost that had more than this hard state when it restarted.
-pub(crate) fn push_lost(
+pub(crate) fn add_lost(
     line: &mut LineText,
     saved: HardState,
     unsaved: Unsaved,
@@ -104,7 +104,7 @@ pub(crate) fn push_lost(
     let vote = loses_vote(saved, unsaved);
     let before_term = separator(!entries, !vote);
     let before_vote = separator(neither(entries, term), true);
-    push_entries(line, unsaved)?;
-    push_part(line, term, before_term, b"term ", unsaved.term)?;
-    push_part(line, vote, before_vote, b"the vote for ", unsaved.vote)
+    add_entries(line, unsaved)?;
+    add_part(line, term, before_term, b"term ", unsaved.term)?;
+    add_part(line, vote, before_vote, b"the vote for ", unsaved.vote)
 }

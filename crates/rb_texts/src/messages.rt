@@ -6,9 +6,9 @@
 ghost use Rattle.std.specs.Prelude.{◌≡◌, ◌++◌, codes, decimal, OnOk};
 ghost use Rattle.rb_texts.specs.Messages.{answer_text, kind_text, term_text, message_text, verb_text};
 
-use crate::fields::{kind_fields, push_fields};
+use crate::fields::{add_fields, kind_fields};
 use crate::item::Verb;
-use crate::piece::{push_bytes, push_field, push_numbered};
+use crate::piece::{add_bytes, add_field, add_numbered};
 use rb_message::{Message, MessageKind};
 use rb_script::LineText;
 use std::alloc::AllocError;
@@ -31,35 +31,35 @@ pub(crate) fn verb_name(verb: Verb) -> &'static [u8]
 }
 
 // Adds what a message says.
-fn push_kind(line: &mut LineText, kind: &MessageKind) -> Result<(), AllocError>
+fn add_kind(line: &mut LineText, kind: &MessageKind) -> Result<(), AllocError>
     ensures { OnOk result (line.new ≡ line.old ++ kind_text kind.now) }
 {
-    push_fields(line, &kind_fields(kind))
+    add_fields(line, &kind_fields(kind))
 }
 
 // Adds the term, but of a message that is of no term.
-fn push_term(line: &mut LineText, message: &Message) -> Result<(), AllocError>
+fn add_term(line: &mut LineText, message: &Message) -> Result<(), AllocError>
     ensures { OnOk result (line.new ≡ line.old ++ term_text message.now) }
 {
     if !message.kind.has_term() {
         return Ok(());
     }
-    push_field(line, b" term=", message.term)
+    add_field(line, b" term=", message.term)
 }
 
 // Adds who sent a message to whom.
-fn push_way(line: &mut LineText, from: u64, to: u64) -> Result<(), AllocError>
+fn add_way(line: &mut LineText, from: u64, to: u64) -> Result<(), AllocError>
     ensures { OnOk result (line.new ≡ line.old ++ (decimal from ++ codes "->" ++ decimal to ++ codes " ")) }
 {
-    push_numbered(line, from, b"->")?;
-    push_numbered(line, to, b" ")
+    add_numbered(line, from, b"->")?;
+    add_numbered(line, to, b" ")
 }
 
-pub(crate) fn push_message(line: &mut LineText, message: &Message) -> Result<(), AllocError>
+pub(crate) fn add_message(line: &mut LineText, message: &Message) -> Result<(), AllocError>
     ensures { OnOk result (line.new ≡ line.old ++ message_text message.now) }
 {
-    push_way(line, message.from, message.to)?;
-    push_bytes(line, message.kind.message_type().text())?;
-    push_term(line, message)?;
-    push_kind(line, &message.kind)
+    add_way(line, message.from, message.to)?;
+    add_bytes(line, message.kind.message_type().text())?;
+    add_term(line, message)?;
+    add_kind(line, &message.kind)
 }

@@ -37,14 +37,14 @@ pub(crate) fn shown_if<'a>(shown: bool, text: &'a [u8]) -> &'a [u8]
 
 /// Adds the bytes to the line.
 #[inline(always)]
-pub(crate) fn push_bytes(line: &mut LineText, bytes: &[u8]) -> Result<(), AllocError>
+pub(crate) fn add_bytes(line: &mut LineText, bytes: &[u8]) -> Result<(), AllocError>
     ensures { OnOk result (line.new ≡ line.old ++ bytes.now) }
 {
     line.extend_from_slice(bytes)
 }
 
 #[inline(always)]
-fn push_byte(line: &mut LineText, byte: u8) -> Result<(), AllocError>
+fn add_byte(line: &mut LineText, byte: u8) -> Result<(), AllocError>
     ensures { OnOk result (line.new ≡ line.old ++ byte ∷ []) }
 {
     line.push(byte)?;
@@ -52,95 +52,95 @@ fn push_byte(line: &mut LineText, byte: u8) -> Result<(), AllocError>
 }
 
 /// Adds the pieces to the line.
-pub(crate) fn push_pieces(line: &mut LineText, pieces: &[LinePiece<'_>]) -> Result<(), AllocError>
+pub(crate) fn add_pieces(line: &mut LineText, pieces: &[LinePiece<'_>]) -> Result<(), AllocError>
     ensures { OnOk result (line.new ≡ line.old ++ pieces_text pieces.now) }
 {
     for piece in pieces {
-        push_piece(line, *piece)?;
+        add_piece(line, *piece)?;
     }
     Ok(())
 }
 
-fn push_piece(line: &mut LineText, piece: LinePiece<'_>) -> Result<(), AllocError>
+fn add_piece(line: &mut LineText, piece: LinePiece<'_>) -> Result<(), AllocError>
     ensures { OnOk result (line.new ≡ line.old ++ piece_text piece.entry) }
 {
     match piece {
-        LinePiece::Bytes(bytes) => push_bytes(line, bytes),
-        LinePiece::Number(n) => push_number(line, n),
-        LinePiece::Field(name, n) => push_field(line, name, n),
-        LinePiece::Place(term, index) => push_place(line, term, index),
-        LinePiece::Quoted(bytes) => push_quoted(line, bytes),
-        LinePiece::Ids(ids) => push_ids(line, ids),
+        LinePiece::Bytes(bytes) => add_bytes(line, bytes),
+        LinePiece::Number(n) => add_number(line, n),
+        LinePiece::Field(name, n) => add_field(line, name, n),
+        LinePiece::Place(term, index) => add_place(line, term, index),
+        LinePiece::Quoted(bytes) => add_quoted(line, bytes),
+        LinePiece::Ids(ids) => add_ids(line, ids),
     }
 }
 
 /// Adds a number in decimal digits.
-pub(crate) fn push_number(line: &mut LineText, n: u64) -> Result<(), AllocError>
+pub(crate) fn add_number(line: &mut LineText, n: u64) -> Result<(), AllocError>
     ensures { OnOk result (line.new ≡ line.old ++ decimal n) }
 {
     if n < 10 {
-        return push_byte(line, b'0' + n as u8);
+        return add_byte(line, b'0' + n as u8);
     }
     if n < 100 {
-        return push_two_digits(line, n);
+        return add_two_digits(line, n);
     }
-    push_digits(line, n)
+    add_digits(line, n)
 }
 
-fn push_two_digits(line: &mut LineText, n: u64) -> Result<(), AllocError>
+fn add_two_digits(line: &mut LineText, n: u64) -> Result<(), AllocError>
     requires least { 10 ≤ n }
     requires most { n < 100 }
     ensures { OnOk result (line.new ≡ line.old ++ decimal n) }
 {
-    push_bytes(line, &[b'0' + (n / 10) as u8, b'0' + (n % 10) as u8])
+    add_bytes(line, &[b'0' + (n / 10) as u8, b'0' + (n % 10) as u8])
 }
 
 // A function of its own, since it clears its buffer when it begins, and short numbers need none.
 #[inline(never)]
-fn push_digits(line: &mut LineText, n: u64) -> Result<(), AllocError>
+fn add_digits(line: &mut LineText, n: u64) -> Result<(), AllocError>
     ensures { OnOk result (line.new ≡ line.old ++ decimal n) }
 {
     let mut digits = Buffer::new();
-    push_bytes(line, digits.format(n).as_bytes())
+    add_bytes(line, digits.format(n).as_bytes())
 }
 
 /// Adds bytes, and a number after them.
 #[inline(always)]
-pub(crate) fn push_field(line: &mut LineText, name: &[u8], n: u64) -> Result<(), AllocError>
+pub(crate) fn add_field(line: &mut LineText, name: &[u8], n: u64) -> Result<(), AllocError>
     ensures { OnOk result (line.new ≡ line.old ++ (name.now ++ decimal n)) }
 {
-    push_bytes(line, name)?;
-    push_number(line, n)
+    add_bytes(line, name)?;
+    add_number(line, n)
 }
 
 /// Adds a number, and bytes after it.
 #[inline(always)]
-pub(crate) fn push_numbered(line: &mut LineText, n: u64, bytes: &[u8]) -> Result<(), AllocError>
+pub(crate) fn add_numbered(line: &mut LineText, n: u64, bytes: &[u8]) -> Result<(), AllocError>
     ensures { OnOk result (line.new ≡ line.old ++ (decimal n ++ bytes.now)) }
 {
-    push_number(line, n)?;
-    push_bytes(line, bytes)
+    add_number(line, n)?;
+    add_bytes(line, bytes)
 }
 
 /// Adds a term and an index, with a slash between them.
-pub(crate) fn push_place(line: &mut LineText, term: u64, index: u64) -> Result<(), AllocError>
+pub(crate) fn add_place(line: &mut LineText, term: u64, index: u64) -> Result<(), AllocError>
     ensures { OnOk result (line.new ≡ line.old ++ place_text term index) }
 {
-    push_number(line, term)?;
-    push_byte(line, b'/')?;
-    push_number(line, index)
+    add_number(line, term)?;
+    add_byte(line, b'/')?;
+    add_number(line, index)
 }
 
-fn push_ids(line: &mut LineText, ids: &[u64]) -> Result<(), AllocError>
+fn add_ids(line: &mut LineText, ids: &[u64]) -> Result<(), AllocError>
     ensures { OnOk result (line.new ≡ line.old ++ ids_text ids.now) }
 {
     let Some((first, rest)) = ids.split_first() else {
         return Ok(());
     };
-    push_number(line, *first)?;
+    add_number(line, *first)?;
     for id in rest {
-        push_byte(line, b',')?;
-        push_number(line, *id)?;
+        add_byte(line, b',')?;
+        add_number(line, *id)?;
     }
     Ok(())
 }
@@ -190,17 +190,17 @@ fn numbered(b: u8) -> [u8; 4]
 }
 
 /// Adds the bytes in double quotes. Unescaped bytes are added at once, each other byte by its number.
-pub(crate) fn push_quoted(line: &mut LineText, bytes: &[u8]) -> Result<(), AllocError>
+pub(crate) fn add_quoted(line: &mut LineText, bytes: &[u8]) -> Result<(), AllocError>
     ensures { OnOk result (line.new ≡ line.old ++ quoted bytes.now) }
 {
-    push_bytes(line, b"\"")?;
+    add_bytes(line, b"\"")?;
     let (front, mut rest) = split_plain(bytes);
-    push_bytes(line, front)?;
+    add_bytes(line, front)?;
     while let Some((b, after)) = rest.split_first() {
-        push_bytes(line, &numbered(*b))?;
+        add_bytes(line, &numbered(*b))?;
         let (plain, other) = split_plain(after);
-        push_bytes(line, plain)?;
+        add_bytes(line, plain)?;
         rest = other;
     }
-    push_bytes(line, b"\"")
+    add_bytes(line, b"\"")
 }

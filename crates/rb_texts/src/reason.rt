@@ -8,10 +8,10 @@ ghost use Rattle.rb_texts.specs.Items.{plain_item};
 ghost use Rattle.rb_texts.specs.Reasons.{lost_reason, event_reason, reason_of, earlier_text, outdated_text, why_ignored_text, end_text, older_text, why_refused_text, few_entries_text, more_text, give_way_text, gives_way_text, reason_text, reason_front, shows_reasons, reason_line};
 ghost use Rattle.rb_texts.specs.States.{role_text};
 
-use crate::entries::push_entry;
+use crate::entries::add_entry;
 use crate::item::Item;
-use crate::lost::{loses, push_lost};
-use crate::piece::{LinePiece, push_bytes, push_field, push_numbered, push_pieces};
+use crate::lost::{add_lost, loses};
+use crate::piece::{LinePiece, add_bytes, add_field, add_numbered, add_pieces};
 use crate::states::role_name;
 use rb_message::{Event, EventKind, HardState, Role, Unsaved, WhyIgnored, WhyRefused};
 use rb_raftlog::Entries;
@@ -70,7 +70,7 @@ pub fn reason_of(item: &Item<'_>) -> Result<Option<Reason>, AllocError>
 }
 
 // Adds a text, a number, a text and another number.
-fn push_numbers<'a>(
+fn add_numbers<'a>(
     line: &mut LineText,
     before: &'a [u8],
     n: u64,
@@ -83,26 +83,26 @@ fn push_numbers<'a>(
         LinePiece::Field(before, n),
         LinePiece::Field(between, other),
     ];
-    push_pieces(line, &pieces)
+    add_pieces(line, &pieces)
 }
 
-fn push_earlier(line: &mut LineText, term: u64, own: u64) -> Result<(), AllocError>
+fn add_earlier(line: &mut LineText, term: u64, own: u64) -> Result<(), AllocError>
     ensures { OnOk result (line.new ≡ line.old ++ earlier_text term own) }
 {
-    push_numbers(line, b"its term ", term, b" is earlier than ", own)
+    add_numbers(line, b"its term ", term, b" is earlier than ", own)
 }
 
-fn push_hears_leader(line: &mut LineText, lead: u64) -> Result<(), AllocError>
+fn add_hears_leader(line: &mut LineText, lead: u64) -> Result<(), AllocError>
     ensures { OnOk result (line.new ≡ line.old ++ (codes "leader " ++ decimal lead ++ codes " was heard of within an election timeout")) }
 {
     let pieces = [
         LinePiece::Field(b"leader ", lead),
         LinePiece::Bytes(b" was heard of within an election timeout"),
     ];
-    push_pieces(line, &pieces)
+    add_pieces(line, &pieces)
 }
 
-fn push_no_use(line: &mut LineText, role: Role) -> Result<(), AllocError>
+fn add_no_use(line: &mut LineText, role: Role) -> Result<(), AllocError>
     ensures { OnOk result (line.new ≡ line.old ++ (codes "a " ++ role_text role ++ codes " has no use for it")) }
 {
     let pieces = [
@@ -110,11 +110,11 @@ fn push_no_use(line: &mut LineText, role: Role) -> Result<(), AllocError>
         LinePiece::Bytes(role_name(role)),
         LinePiece::Bytes(b" has no use for it"),
     ];
-    push_pieces(line, &pieces)
+    add_pieces(line, &pieces)
 }
 
 // Adds what a node refused, and what is known of it by now.
-fn push_outdated<'a>(
+fn add_outdated<'a>(
     line: &mut LineText,
     from: u64,
     refused: u64,
@@ -129,42 +129,42 @@ fn push_outdated<'a>(
         LinePiece::Field(known, at),
         LinePiece::Bytes(b" by now"),
     ];
-    push_pieces(line, &pieces)
+    add_pieces(line, &pieces)
 }
 
 #[tactic(auto, unfolding(crate::specs::Reasons::why_ignored_text))]
-fn push_why_ignored(line: &mut LineText, why: WhyIgnored) -> Result<(), AllocError>
+fn add_why_ignored(line: &mut LineText, why: WhyIgnored) -> Result<(), AllocError>
     ensures { OnOk result (line.new ≡ line.old ++ why_ignored_text why) }
 {
     match why {
-        WhyIgnored::EarlierTerm { term, own } => push_earlier(line, term, own),
-        WhyIgnored::HearsLeader { lead } => push_hears_leader(line, lead),
-        WhyIgnored::NoUse { role } => push_no_use(line, role),
-        WhyIgnored::NoLeader => push_bytes(line, b"no leader is known to pass it on to"),
-        WhyIgnored::NoView { from } => push_field(line, b"the leader has no view of ", from),
+        WhyIgnored::EarlierTerm { term, own } => add_earlier(line, term, own),
+        WhyIgnored::HearsLeader { lead } => add_hears_leader(line, lead),
+        WhyIgnored::NoUse { role } => add_no_use(line, role),
+        WhyIgnored::NoLeader => add_bytes(line, b"no leader is known to pass it on to"),
+        WhyIgnored::NoView { from } => add_field(line, b"the leader has no view of ", from),
         WhyIgnored::HoldsMore {
             from,
             refused,
             matched,
-        } => push_outdated(line, from, refused, b", and holds ", matched),
+        } => add_outdated(line, from, refused, b", and holds ", matched),
         WhyIgnored::ProbesElsewhere {
             from,
             refused,
             probed,
-        } => push_outdated(line, from, refused, b", and is probed at ", probed),
+        } => add_outdated(line, from, refused, b", and is probed at ", probed),
         WhyIgnored::AwaitsSnapshot { from } => {
-            push_field(line, b"a snapshot is on its way to ", from)
+            add_field(line, b"a snapshot is on its way to ", from)
         }
-        WhyIgnored::NotAVoter { target } => push_numbered(line, target, b" is no voter"),
-        WhyIgnored::LeadsAlready { target } => push_numbered(line, target, b" leads already"),
+        WhyIgnored::NotAVoter { target } => add_numbered(line, target, b" is no voter"),
+        WhyIgnored::LeadsAlready { target } => add_numbered(line, target, b" leads already"),
         WhyIgnored::IsUnderWay { target } => {
-            push_field(line, b"the lead is on its way to ", target)
+            add_field(line, b"the lead is on its way to ", target)
         }
     }
 }
 
 // Adds what is said of a log, and the term and index that it ends with.
-fn push_log_end<'a>(
+fn add_end<'a>(
     line: &mut LineText,
     before: &'a [u8],
     term: u64,
@@ -172,13 +172,13 @@ fn push_log_end<'a>(
 ) -> Result<(), AllocError>
     ensures { OnOk result (line.new ≡ line.old ++ end_text before.now term index) }
 {
-    push_pieces(
+    add_pieces(
         line,
         &[LinePiece::Bytes(before), LinePiece::Place(term, index)],
     )
 }
 
-fn push_older(
+fn add_older(
     line: &mut LineText,
     term: u64,
     index: u64,
@@ -187,37 +187,37 @@ fn push_older(
 ) -> Result<(), AllocError>
     ensures { OnOk result (line.new ≡ line.old ++ older_text term index own_term own_index) }
 {
-    push_log_end(line, b"its log ends at ", term, index)?;
-    push_log_end(line, b", the voter's at ", own_term, own_index)
+    add_end(line, b"its log ends at ", term, index)?;
+    add_end(line, b", the voter's at ", own_term, own_index)
 }
 
-fn push_knows_leader(line: &mut LineText, term: u64, lead: u64) -> Result<(), AllocError>
+fn add_knows_leader(line: &mut LineText, term: u64, lead: u64) -> Result<(), AllocError>
     ensures { OnOk result (line.new ≡ line.old ++ (decimal lead ++ codes " leads term " ++ decimal term)) }
 {
-    push_numbers(line, b"", lead, b" leads term ", term)
+    add_numbers(line, b"", lead, b" leads term ", term)
 }
 
 #[tactic(auto, unfolding(crate::specs::Reasons::why_refused_text))]
-fn push_why_refused(line: &mut LineText, why: WhyRefused) -> Result<(), AllocError>
+fn add_why_refused(line: &mut LineText, why: WhyRefused) -> Result<(), AllocError>
     ensures { OnOk result (line.new ≡ line.old ++ why_refused_text why) }
 {
     match why {
-        WhyRefused::EarlierTerm { term, own } => push_earlier(line, term, own),
+        WhyRefused::EarlierTerm { term, own } => add_earlier(line, term, own),
         WhyRefused::Voted { term, vote } => {
-            push_numbers(line, b"the vote of term ", term, b" is given to ", vote)
+            add_numbers(line, b"the vote of term ", term, b" is given to ", vote)
         }
-        WhyRefused::KnowsLeader { term, lead } => push_knows_leader(line, term, lead),
+        WhyRefused::KnowsLeader { term, lead } => add_knows_leader(line, term, lead),
         WhyRefused::OlderLog {
             term,
             index,
             own_term,
             own_index,
-        } => push_older(line, term, index, own_term, own_index),
+        } => add_older(line, term, index, own_term, own_index),
     }
 }
 
 // Adds the first few entries, the last of which has an index: one text before the first, and a comma before each other.
-fn push_few_entries<'a>(
+fn add_few_entries<'a>(
     line: &mut LineText,
     before: &'a [u8],
     last: u64,
@@ -228,8 +228,8 @@ fn push_few_entries<'a>(
     let len = entries.len();
     let mut separator = before;
     for k in 0..len.min(MAX_ENTRIES) {
-        push_bytes(line, separator)?;
-        push_entry(
+        add_bytes(line, separator)?;
+        add_entry(
             line,
             last.saturating_sub((len - 1 - k) as u64),
             entries.entry(k),
@@ -240,14 +240,14 @@ fn push_few_entries<'a>(
 }
 
 // Adds how many more entries there are.
-fn push_more(line: &mut LineText, more: u64) -> Result<(), AllocError>
+fn add_more(line: &mut LineText, more: u64) -> Result<(), AllocError>
     ensures { OnOk result (line.new ≡ line.old ++ more_text more) }
 {
     if more == 0 {
         return Ok(());
     }
     let pieces = [LinePiece::Field(b" and ", more), LinePiece::Bytes(b" more")];
-    push_pieces(line, &pieces)
+    add_pieces(line, &pieces)
 }
 
 fn give_way_text(len: usize) -> &'static [u8]
@@ -260,13 +260,13 @@ fn give_way_text(len: usize) -> &'static [u8]
     }
 }
 
-fn push_gives_way(line: &mut LineText, last: u64, entries: &Entries) -> Result<(), AllocError>
+fn add_gives_way(line: &mut LineText, last: u64, entries: &Entries) -> Result<(), AllocError>
     ensures { OnOk result (line.new ≡ line.old ++ gives_way_text last entries.now) }
 {
     let len = entries.len();
-    push_few_entries(line, b"  ", last, entries)?;
-    push_more(line, len.saturating_sub(MAX_ENTRIES) as u64)?;
-    push_bytes(line, give_way_text(len))
+    add_few_entries(line, b"  ", last, entries)?;
+    add_more(line, len.saturating_sub(MAX_ENTRIES) as u64)?;
+    add_bytes(line, give_way_text(len))
 }
 
 impl WrittenLine for Reason {
@@ -275,20 +275,20 @@ impl WrittenLine for Reason {
     ghost bytes = { reason_text };
 
     #[tactic(auto, unfolding(crate::specs::Reasons::reason_text))]
-    fn push_to(&self, text: &mut LineText) -> Result<(), AllocError> {
+    fn add_to(&self, text: &mut LineText) -> Result<(), AllocError> {
         match self {
             Reason::Ignored(why) => {
-                push_bytes(text, b"  ignored: ")?;
-                push_why_ignored(text, *why)
+                add_bytes(text, b"  ignored: ")?;
+                add_why_ignored(text, *why)
             }
             Reason::Refused(why) => {
-                push_bytes(text, b"  refused: ")?;
-                push_why_refused(text, *why)
+                add_bytes(text, b"  refused: ")?;
+                add_why_refused(text, *why)
             }
-            Reason::GivesWay { last, entries } => push_gives_way(text, *last, entries),
+            Reason::GivesWay { last, entries } => add_gives_way(text, *last, entries),
             Reason::Lost { saved, unsaved } => {
-                push_bytes(text, b"  lost: ")?;
-                push_lost(text, *saved, *unsaved)
+                add_bytes(text, b"  lost: ")?;
+                add_lost(text, *saved, *unsaved)
             }
         }
     }
@@ -314,7 +314,7 @@ fn shows_reasons(level: Level) -> bool
 
 /// Adds the line of a reason, or nothing at level `none`. Where memory runs out, nothing is known of what `lines` holds then: it is only
 /// good for being dropped.
-pub fn push_reason(lines: &mut Lines, level: Level, reason: &Reason) -> Result<(), AllocError>
+pub fn put_reason(lines: &mut Lines, level: Level, reason: &Reason) -> Result<(), AllocError>
     ensures { OnOk result (lines.new ≡ lines.old ++ reason_line level reason.now) }
 {
     if !shows_reasons(level) {

@@ -8,7 +8,7 @@ ghost use Rattle.rb_texts.specs.Items.{plain_node};
 ghost use Rattle.rb_texts.specs.States.{role_text, node_text, hard_state_text, log_text, progress_state_text, under_way_text, progress_text};
 
 use crate::item::{LogLine, NodeLine};
-use crate::piece::{LinePiece, push_bytes, push_field, push_pieces, shown_if};
+use crate::piece::{LinePiece, add_bytes, add_field, add_pieces, shown_if};
 use rb_message::{HardState, Role};
 use rb_script::LineText;
 use rb_tracker::{Progress, ProgressState};
@@ -26,7 +26,7 @@ pub fn role_name(role: Role) -> &'static [u8]
     }
 }
 
-pub(crate) fn push_node(line: &mut LineText, node: &NodeLine<'_>) -> Result<(), AllocError>
+pub(crate) fn add_node(line: &mut LineText, node: &NodeLine<'_>) -> Result<(), AllocError>
     ensures { OnOk result (line.new ≡ line.old ++ node_text (plain_node node.now)) }
 {
     let pieces = [
@@ -42,18 +42,18 @@ pub(crate) fn push_node(line: &mut LineText, node: &NodeLine<'_>) -> Result<(), 
         LinePiece::Bytes(b":"),
         LinePiece::Quoted(node.content_end),
     ];
-    push_pieces(line, &pieces)
+    add_pieces(line, &pieces)
 }
 
-pub(crate) fn push_hard_state(line: &mut LineText, hard: &HardState) -> Result<(), AllocError>
+pub(crate) fn add_hard_state(line: &mut LineText, hard: &HardState) -> Result<(), AllocError>
     ensures { OnOk result (line.new ≡ line.old ++ hard_state_text hard.now) }
 {
-    push_field(line, b"  hard term=", hard.term)?;
-    push_field(line, b" vote=", hard.vote)?;
-    push_field(line, b" commit=", hard.commit)
+    add_field(line, b"  hard term=", hard.term)?;
+    add_field(line, b" vote=", hard.vote)?;
+    add_field(line, b" commit=", hard.commit)
 }
 
-pub(crate) fn push_log(line: &mut LineText, log: &LogLine) -> Result<(), AllocError>
+pub(crate) fn add_log(line: &mut LineText, log: &LogLine) -> Result<(), AllocError>
     ensures { OnOk result (line.new ≡ line.old ++ log_text log.now) }
 {
     let pieces = [
@@ -63,7 +63,7 @@ pub(crate) fn push_log(line: &mut LineText, log: &LogLine) -> Result<(), AllocEr
         LinePiece::Field(b" commit=", log.commit),
         LinePiece::Field(b" applied=", log.applied),
     ];
-    push_pieces(line, &pieces)
+    add_pieces(line, &pieces)
 }
 
 /// The name of a view's state.
@@ -78,20 +78,20 @@ pub fn progress_state_name(state: ProgressState) -> &'static [u8]
 }
 
 // Adds what a view has in its state alone.
-fn push_under_way(line: &mut LineText, view: &Progress) -> Result<(), AllocError>
+fn add_under_way(line: &mut LineText, view: &Progress) -> Result<(), AllocError>
     ensures { OnOk result (line.new ≡ line.old ++ under_way_text view.now.state view.now.waiting view.now.pending) }
 {
     match view.state() {
-        ProgressState::Probe => push_bytes(line, shown_if(view.waiting(), b" waiting")),
+        ProgressState::Probe => add_bytes(line, shown_if(view.waiting(), b" waiting")),
         ProgressState::Replicate => Ok(()),
-        ProgressState::Snapshot => push_pieces(
+        ProgressState::Snapshot => add_pieces(
             line,
             &[LinePiece::Field(b" snapshot=", view.pending())],
         ),
     }
 }
 
-pub(crate) fn push_progress(line: &mut LineText, id: u64, view: &Progress) -> Result<(), AllocError>
+pub(crate) fn add_progress(line: &mut LineText, id: u64, view: &Progress) -> Result<(), AllocError>
     ensures { OnOk result (line.new ≡ line.old ++ progress_text id view.now) }
 {
     let pieces = [
@@ -105,7 +105,7 @@ pub(crate) fn push_progress(line: &mut LineText, id: u64, view: &Progress) -> Re
         LinePiece::Bytes(b" inflight="),
         LinePiece::Number(view.window().len() as u64),
     ];
-    push_pieces(line, &pieces)?;
-    push_under_way(line, view)?;
-    push_bytes(line, shown_if(!view.active(), b" inactive"))
+    add_pieces(line, &pieces)?;
+    add_under_way(line, view)?;
+    add_bytes(line, shown_if(!view.active(), b" inactive"))
 }

@@ -6,15 +6,15 @@ ghost use Rattle.rb_texts.specs.Items.{plain_item};
 ghost use Rattle.rb_texts.specs.Messages.{message_text, verb_text};
 ghost use Rattle.rb_texts.specs.Texts.{line_of, is_event_shown, is_shown, item_text, unsaved_text};
 
-use crate::configs::push_config;
-use crate::entries::push_entry;
-use crate::errors::push_error;
+use crate::configs::add_config;
+use crate::entries::add_entry;
+use crate::errors::add_error;
 use crate::event_forms::event_form;
-use crate::events::push_event;
+use crate::events::add_event;
 use crate::item::{Item, Verb};
-use crate::messages::{push_message, verb_name};
-use crate::piece::{LinePiece, push_bytes, push_numbered, push_pieces, shown_if};
-use crate::states::{push_hard_state, push_log, push_node, push_progress};
+use crate::messages::{add_message, verb_name};
+use crate::piece::{LinePiece, add_bytes, add_numbered, add_pieces, shown_if};
+use crate::states::{add_hard_state, add_log, add_node, add_progress};
 use rb_message::{Event, Message};
 use rb_raftlog::Entry;
 use rb_script::{LineText, Lines, WrittenLine};
@@ -38,8 +38,8 @@ impl WrittenLine for Item<'_> {
 
     ghost bytes = { λ item. item_text (plain_item item) };
 
-    fn push_to(&self, text: &mut LineText) -> Result<(), AllocError> {
-        push_item(text, self)
+    fn add_to(&self, text: &mut LineText) -> Result<(), AllocError> {
+        add_item(text, self)
     }
 }
 
@@ -62,7 +62,7 @@ pub fn is_shown(level: Level, item: &Item<'_>) -> bool
 }
 
 // Adds a number between two texts.
-fn push_counted<'a>(
+fn add_counted<'a>(
     line: &mut LineText,
     before: &'a [u8],
     n: u64,
@@ -70,16 +70,16 @@ fn push_counted<'a>(
 ) -> Result<(), AllocError>
     ensures { OnOk result (line.new ≡ line.old ++ (before.now ++ decimal n ++ after.now)) }
 {
-    push_pieces(
+    add_pieces(
         line,
         &[LinePiece::Field(before, n), LinePiece::Bytes(after)],
     )
 }
 
-fn push_snapshot(line: &mut LineText, term: u64, index: u64) -> Result<(), AllocError>
+fn add_snapshot(line: &mut LineText, term: u64, index: u64) -> Result<(), AllocError>
     ensures { OnOk result (line.new ≡ line.old ++ (codes "  snapshot " ++ place_text term index)) }
 {
-    push_pieces(
+    add_pieces(
         line,
         &[
             LinePiece::Bytes(b"  snapshot "),
@@ -89,7 +89,7 @@ fn push_snapshot(line: &mut LineText, term: u64, index: u64) -> Result<(), Alloc
 }
 
 // Adds a text, and an entry.
-fn push_entry_after<'a>(
+fn add_entry_after<'a>(
     line: &mut LineText,
     text: &'a [u8],
     index: u64,
@@ -97,12 +97,12 @@ fn push_entry_after<'a>(
 ) -> Result<(), AllocError>
     ensures { OnOk result (line.new ≡ line.old ++ (text.now ++ entry_text index entry.now)) }
 {
-    push_bytes(line, text)?;
-    push_entry(line, index, entry)
+    add_bytes(line, text)?;
+    add_entry(line, index, entry)
 }
 
 // Adds an entry of a log, with a mark if it isn't durable.
-fn push_log_entry(
+fn add_log_entry(
     line: &mut LineText,
     index: u64,
     entry: &Entry,
@@ -110,50 +110,50 @@ fn push_log_entry(
 ) -> Result<(), AllocError>
     ensures { OnOk result (line.new ≡ line.old ++ (entry_text index entry.now ++ unsaved_text unsaved)) }
 {
-    push_entry(line, index, entry)?;
-    push_bytes(line, shown_if(unsaved, b" unsaved"))
+    add_entry(line, index, entry)?;
+    add_bytes(line, shown_if(unsaved, b" unsaved"))
 }
 
 // Adds a text, and a message.
-fn push_message_after<'a>(
+fn add_message_after<'a>(
     line: &mut LineText,
     text: &'a [u8],
     message: &'a Message,
 ) -> Result<(), AllocError>
     ensures { OnOk result (line.new ≡ line.old ++ (text.now ++ message_text message.now)) }
 {
-    push_bytes(line, text)?;
-    push_message(line, message)
+    add_bytes(line, text)?;
+    add_message(line, message)
 }
 
-fn push_moved(line: &mut LineText, verb: Verb, message: &Message) -> Result<(), AllocError>
+fn add_moved(line: &mut LineText, verb: Verb, message: &Message) -> Result<(), AllocError>
     ensures { OnOk result (line.new ≡ line.old ++ (verb_text verb ++ message_text message.now)) }
 {
-    push_message_after(line, verb_name(verb), message)
+    add_message_after(line, verb_name(verb), message)
 }
 
 #[tactic(auto, unfolding(crate::specs::Texts::item_text))]
-fn push_item(line: &mut LineText, item: &Item<'_>) -> Result<(), AllocError>
+fn add_item(line: &mut LineText, item: &Item<'_>) -> Result<(), AllocError>
     ensures { OnOk result (line.new ≡ line.old ++ item_text (plain_item item.now)) }
 {
     match item {
-        Item::NothingElse => push_bytes(line, b"ok"),
-        Item::Ready(id) => push_numbered(line, *id, b" ready"),
-        Item::HardState(hard) => push_hard_state(line, hard),
-        Item::Snapshot(term, index) => push_snapshot(line, *term, *index),
-        Item::Save(index, entry) => push_entry_after(line, b"  save ", *index, entry),
-        Item::Apply(index, entry) => push_entry_after(line, b"  apply ", *index, entry),
-        Item::Send(message) => push_message_after(line, b"  send ", message),
-        Item::NothingReady(id) => push_numbered(line, *id, b" has nothing ready"),
-        Item::Moved(verb, message) => push_moved(line, *verb, message),
-        Item::NoMessages => push_bytes(line, b"no messages"),
-        Item::Stopped(rounds) => push_counted(line, b"stopped after ", *rounds, b" rounds"),
-        Item::RaftState(node) => push_node(line, node),
-        Item::RaftLog(log) => push_log(line, log),
-        Item::Entry(index, entry, unsaved) => push_log_entry(line, *index, entry, *unsaved),
-        Item::Config(config) => push_config(line, config),
-        Item::Progress(id, view) => push_progress(line, *id, view),
-        Item::Event(event) => push_event(line, event),
-        Item::Error(error) => push_error(line, error),
+        Item::NothingElse => add_bytes(line, b"ok"),
+        Item::Ready(id) => add_numbered(line, *id, b" ready"),
+        Item::HardState(hard) => add_hard_state(line, hard),
+        Item::Snapshot(term, index) => add_snapshot(line, *term, *index),
+        Item::Save(index, entry) => add_entry_after(line, b"  save ", *index, entry),
+        Item::Apply(index, entry) => add_entry_after(line, b"  apply ", *index, entry),
+        Item::Send(message) => add_message_after(line, b"  send ", message),
+        Item::NothingReady(id) => add_numbered(line, *id, b" has nothing ready"),
+        Item::Moved(verb, message) => add_moved(line, *verb, message),
+        Item::NoMessages => add_bytes(line, b"no messages"),
+        Item::Stopped(rounds) => add_counted(line, b"stopped after ", *rounds, b" rounds"),
+        Item::RaftState(node) => add_node(line, node),
+        Item::RaftLog(log) => add_log(line, log),
+        Item::Entry(index, entry, unsaved) => add_log_entry(line, *index, entry, *unsaved),
+        Item::Config(config) => add_config(line, config),
+        Item::Progress(id, view) => add_progress(line, *id, view),
+        Item::Event(event) => add_event(line, event),
+        Item::Error(error) => add_error(line, error),
     }
 }

@@ -14,7 +14,7 @@ pub struct IdSet {
     ids: SmallVec<u64, 8>,
 }
 
-// By hand instead of derived: so dropping is one call, proved once.
+// Written by hand, so that an owner drops one by a call, which is proved only here.
 impl Drop for IdSet {
     fn drop(self) {
         let IdSet { ids: _ } = self;

@@ -29,7 +29,7 @@ pub struct Tracker {
     views: IndexMap<u64, Progress>,
 }
 
-// By hand instead of derived: so dropping is one call, proved once.
+// Written by hand, so that an owner drops one by a call, which is proved only here.
 impl Drop for Tracker {
     fn drop(self) {
         let Tracker {

@@ -15,7 +15,7 @@ pub struct Window {
     ring: HeapCircularBuffer<u64>,
 }
 
-// By hand instead of derived: so dropping is one call, proved once.
+// Written by hand, so that an owner drops one by a call, which is proved only here.
 impl Drop for Window {
     fn drop(self) {
         let Window { ring: _ } = self;

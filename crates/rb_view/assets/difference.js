@@ -1,5 +1,7 @@
 // The lines below a directive: its output, or how the output differs from what was expected, as `raftbench check` shows it (docs/USING.md).
 
+import { eventsOfLines } from "./lines.js";
+
 /** @typedef {import("./types.js").Step} Step */
 /** @typedef {import("./types.js").Piece} Piece */
 
@@ -97,19 +99,20 @@ function compared(step) {
 /**
  * What is said of the events of a step, by the line of the output that it is shown below.
  * @param {Step} step
+ * @param {Map<number, number>} events by line of the output
  */
-function remarksOf(step) {
+function remarksOf(step, events) {
   /** @type {Map<number, Line[]>} */
   const remarks = new Map();
+  const lines = [...events].sort((one, other) => one[1] - other[1]);
   let below = 0;
-  let line = step.output.length - 1;
   step.events.forEach((event, at) => {
-    while (step.printers[below] <= at) {
-      line = step.printers[below] >= 0 ? below : line;
+    while (below < lines.length && lines[below][1] <= at) {
       below += 1;
     }
     const texts = [...(event.reasons ?? []).map((text) => `^   ${text}`), ...(event.hints ?? [])];
     if (texts.length > 0) {
+      const line = below > 0 ? lines[below - 1][0] : step.output.length - 1;
       const more = texts.map((text) => ({ look: "reason", text, event: at, range: /** @type {null} */ (null) }));
       remarks.set(line, [...(remarks.get(line) ?? []), ...more]);
     }
@@ -152,12 +155,13 @@ function withFolds(lines, event) {
  * @param {number} event the place of the chosen event among all events of the step, or -1
  */
 export function linesBelow(step, isFolded, event) {
+  const events = eventsOfLines(step);
   const lines = compared(step);
   lines.forEach(({ line, output }) => {
-    line.event = step.printers[output] ?? -1;
+    line.event = events.get(output) ?? -1;
   });
   markPairs(lines.map(({ line }) => line));
-  const remarks = remarksOf(step);
+  const remarks = remarksOf(step, events);
   const all = lines.flatMap(({ line, output }) => [line, ...(remarks.get(output) ?? [])]);
   return isFolded && step.pieces ? withFolds(all, event) : all;
 }

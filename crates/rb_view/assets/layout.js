@@ -190,25 +190,8 @@ export class Layout {
     this.bases = [];
     this.lasts = [];
     this.height = 0;
-    this.model.nodes.forEach((node) => this.begin(node, this.model.steps[0]?.before ?? 0));
     this.model.steps.forEach((step) => this.addRow(step));
     this.tops.push(this.height);
-  }
-
-  /**
-   * A node that was there before the first directive that is shown.
-   * @param {import("./rows.js").Node} node
-   * @param {number} moment
-   */
-  begin(node, moment) {
-    if (node.isThereAt(moment)) {
-      const { role, commit } = node.numbersAt(moment);
-      const { base, last } = node.logAt(moment);
-      this.setRole(node.id, 0, role);
-      this.commits[node.id] = commit;
-      this.bases[node.id] = base;
-      this.lasts[node.id] = last;
-    }
   }
 
   /** @param {Step} step */

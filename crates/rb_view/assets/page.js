@@ -253,9 +253,7 @@ function reserveWhere(model) {
 export function tellCounts(model) {
   const counts = byId("counts");
   const wrong = counted(model.mismatches.length, "mismatch", "mismatches");
-  const shown = model.steps.filter(({ first }) => first > 0).length;
-  const directives = shown < model.count ? `${shown} of ${counted(model.count, "directive", "directives")}` : counted(shown, "directive", "directives");
-  counts.textContent = `${directives}, ${wrong}, ${counted(model.nodes.length, "node", "nodes")}`;
+  counts.textContent = `${counted(model.steps.length, "directive", "directives")}, ${wrong}, ${counted(model.nodes.length, "node", "nodes")}`;
   counts.classList.toggle("bad", model.mismatches.length > 0);
   reserveWhere(model);
   byId("next-mismatch").hidden = model.mismatches.length === 0;

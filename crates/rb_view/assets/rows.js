@@ -86,8 +86,6 @@ export class Model {
     this.source = new Source("");
     /** @type {Step[]} */
     this.steps = [];
-    // How many directives the script has: a page may show some of them.
-    this.count = 0;
     /** @type {Message[]} */
     this.messages = [];
     /** @type {Node[]} */
@@ -122,14 +120,11 @@ export class Reader {
     this.serial = 0;
     // Whether rows of changes came after the last event.
     this.hasChanged = false;
-    // Whether the event of this row prints no line.
-    this.isUnprinted = false;
   }
 
   /** @param {Row} row */
   read(row) {
-    this.isUnprinted = row[0].startsWith("-");
-    const name = this.isUnprinted ? row[0].slice(1) : row[0];
+    const name = row[0];
     const cells = row.slice(1);
     const read = READERS[name];
     if (read) {
@@ -166,9 +161,6 @@ export class Reader {
       this.hasChanged = false;
       this.moment += 1;
       this.step.groups.push({ start: this.step.events.length, moment: this.moment });
-    }
-    if (!this.isUnprinted) {
-      this.step.printers.push(this.step.events.length);
     }
     this.step.events.push({ name, id, cells, message });
     this.serial += 1;
@@ -249,7 +241,7 @@ const READERS = {
     reader.moment += 1;
     reader.hasChanged = false;
     reader.step = {
-      place: steps.length + 1, line, ...source.block(line), output: [], pieces: null, events: [], printers: [], changed: [], stays: new Map(), warnings: [],
+      place: steps.length + 1, line, ...source.block(line), output: [], pieces: null, events: [], changed: [], stays: new Map(), warnings: [],
       groups: [{ start: 0, moment: reader.moment }], serial: reader.serial, before, moment: reader.moment,
     };
     steps.push(reader.step);
@@ -258,9 +250,6 @@ const READERS = {
   },
   output({ step }, [text]) {
     step.output.push(shown(text));
-  },
-  line({ step }) {
-    step.printers.push(-1);
   },
   mismatch({ step, model }) {
     step.pieces = [];
@@ -342,7 +331,6 @@ const READERS = {
   },
   end(reader) {
     const { model } = reader;
-    model.count = model.steps.length;
     model.tailLine = model.source.next + 1;
     model.tail = model.source.rest();
     reader.isWhole = true;

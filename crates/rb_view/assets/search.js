@@ -1,6 +1,7 @@
 // Finding: a text in all that a page can show, also in what isn't drawn; and filters, by node, by type of message and by term.
 
 import { byId, element, withAttributes } from "./dom.js";
+import { eventsOfLines } from "./lines.js";
 import { placesOf } from "./position.js";
 import { paragraphs } from "./wrap.js";
 import { eventText, labelsOf, MARKS, subjectOf } from "./words.js";
@@ -119,6 +120,7 @@ export class Search {
   foundIn(step) {
     const { isKept, isFound } = this.tests();
     const places = placesOf(step);
+    const lines = this.needle ? eventsOfLines(step) : new Map();
     const kept = places.flatMap((at, before) => (isKept(step.events[at]) ? [{ at, number: before + 1 }] : []));
     if (!this.needle) {
       return kept.map(({ number }) => number);
@@ -131,7 +133,7 @@ export class Search {
     for (const { text, of } of this.marksOf(step)) {
       (textsOf.get(step.events.indexOf(of[0])) ?? others).push(text);
     }
-    step.output.forEach((line, at) => (textsOf.get(step.printers[at]) ?? others).push(line));
+    step.output.forEach((line, at) => (textsOf.get(lines.get(at)) ?? others).push(line));
     const found = kept.filter(({ at }) => textsOf.get(at)?.some(isFound)).map(({ number }) => number);
     return !this.isFiltered() && others.some(isFound) ? [0, ...found] : found;
   }

@@ -3,19 +3,17 @@
 import { byId } from "./dom.js";
 import { makeLegend } from "./legend.js";
 import { Page, tellCounts } from "./page.js";
-import { leavePart } from "./part.js";
 import { readRows } from "./rows.js";
 
 function start() {
   const notice = byId("notice");
   try {
     const model = readRows(JSON.parse(byId("steps").textContent ?? ""));
-    leavePart(model, JSON.parse(document.getElementById("part")?.textContent ?? "[0,0]"));
     document.title = `${model.name}: raftbench`;
     byId("name").textContent = model.name;
     tellCounts(model);
     if (model.steps.length === 0) {
-      notice.textContent = model.count > 0 ? "No directive is between these lines." : "The script has no directives.";
+      notice.textContent = "The script has no directives.";
       return;
     }
     byId("panes").hidden = false;

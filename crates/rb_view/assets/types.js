@@ -49,8 +49,7 @@
  */
 
 /**
- * A directive with what it did. By line of its output, `printers` has the place of the event that printed it, or -1; `ok` and lines that show states
- * have none. `serial` is that of its first event; `before` and `moment` are when it begins and ends.
+ * A directive with what it did. `serial` is that of its first event; `before` and `moment` are when it begins and ends.
  * @typedef {object} Step
  * @property {number} place
  * @property {number} line
@@ -61,7 +60,6 @@
  * @property {string[]} output
  * @property {Piece[] | null} pieces
  * @property {Event[]} events
- * @property {number[]} printers
  * @property {Group[]} groups
  * @property {number[]} changed
  * @property {Map<number, number>} stays

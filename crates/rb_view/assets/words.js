@@ -1,6 +1,5 @@
 // What is written at arrows and bands, in few words; and in full.
 
-import { EVENT_MARKS } from "./events.js";
 import { counted, shownBody } from "./text.js";
 
 /** @typedef {import("./types.js").Message} Message */
@@ -100,20 +99,25 @@ export function fateText(message) {
   return message.fate === "delivered" ? `delivered at line ${message.met?.line}` : LOST[message.fate];
 }
 
-/**
- * A mark whose words are made of the cells of its row alone.
- * @param {string[]} made
- * @returns {Mark}
- */
-const markOfCells = ([words, look]) => (cells) => [words.replace(/\{(\d)\}/g, (_, at) => cells[at]), look];
-
-// What a node reports: a sentence, and the look of its mark. Events are here only if their words aren't made of cells alone.
+// What a node reports: a sentence, and the look of its mark.
 /** @type {Record<string, Mark>} */
 export const MARKS = {
-  ...Object.fromEntries(Object.entries(EVENT_MARKS).map(([name, made]) => [name, markOfCells(made)])),
+  started: () => ["started", "quiet"],
+  restarted: ([, term]) => [`↻ restarted, t${term}`, "turn"],
   became: ([, role, term]) => (role === "leader" ? [`★ leader, t${term}`, "won"] : [`${role}, t${term}`, "turn"]),
+  "cannot-campaign": ([, why]) => [`! can't campaign: ${why}`, "bad"],
   vote: ([id, , granted, from, result]) => [`${from === id ? "own vote" : granted ? `vote of ${from}` : `no vote of ${from}`}: ${result}`, "quiet"],
   ignored: ([, type]) => [`ignores ${type.slice(3)}`, "quiet"],
+  "dropped-proposal": () => ["! proposal dropped", "bad"],
+  conflict: ([, index, commit]) => [`! conflict at ${index}, commit ${commit}`, "bad"],
+  "appends-nothing": () => ["! appends nothing: index limit", "bad"],
+  "replaced-change": ([, index, why]) => [`! change ${index} made empty: ${why}`, "bad"],
+  switched: ([, config]) => [`◆ ${config}`, "change"],
+  "refused-change": ([, index, fault]) => [`! change ${index} refused: ${fault}`, "bad"],
+  restored: ([, term, index]) => [`▣ snapshot ${term}/${index}`, "installed"],
+  "transfer-starts": ([, to]) => [`hands over to ${to}`, "change"],
+  "transfer-ends": ([, to]) => [`hand-over to ${to} ends`, "quiet"],
+  "lost-quorum": () => ["! lost its quorum", "bad"],
   "nothing-ready": () => ["nothing ready", "quiet"],
   committed: ([, index]) => [`✓ commit ${index}`, "moved"],
   saved: ([, first, last]) => [`saves ${first === last ? first : `${first}–${last}`}`, "quiet"],

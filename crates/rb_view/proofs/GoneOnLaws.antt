@@ -1,6 +1,6 @@
 -- What is observed of a directive that restarts no node goes on: a node that settles has the entries that it knew to be committed when it was
 -- written last.
-use Rattle.std.proofs.Common.{◌≡◌, ◌∙◌, ℕ, zero, suc, ◌+◌, ◌-◌, Bool, true, false, not, List, [], ◌∷◌, ◌++◌, length, Option, Some, None, Result, Ok, Err, min, refl, ap, sym, subst, arith, inl, inr}
+use Rattle.std.proofs.Common.{◌≡◌, ◌∙◌, ℕ, zero, suc, ◌+◌, ◌-◌, Bool, true, false, not, List, [], ◌∷◌, ◌++◌, length, Option, Some, None, Result, Ok, Err, min, refl, ap, sym, subst, arith, inl, inr, if◌then◌else◌}
 use Rattle.std.specs.Prelude.{slice_get, slice_set}
 use Rattle.std.specs.List.{list_all, range_with_len}
 use Rattle.std.specs.Option.{option_or}
@@ -31,6 +31,7 @@ use Rattle.rb_node.specs.declared.options.Options.{Options}
 use Rattle.rb_node.specs.Node.{PlainNode, NodeStep, node_step}
 use Rattle.rb_node.specs.Calls.{node_started}
 use Rattle.rb_node.specs.Readying.{has_ready, outgoing}
+use Rattle.rb_node.specs.Step.{stepped}
 use Rattle.rb_node.specs.Ticking.{ticked}
 use Rattle.rb_texts.specs.Items.{PlainItem}
 use Rattle.rb_calls.specs.Calling.{Call, Step, Campaign, Propose, Transfer, Tick, Advance, ForgetLeader, ReportUnreachable, SetTimeout, Compact, compacted_unless, after}
@@ -38,15 +39,15 @@ use Rattle.rb_calls.specs.Sound.{IsSound}
 use Rattle.rb_calls.proofs.CallLaws.{calls}
 use Rattle.rb_calls.proofs.ListLaws.{each_set, set_cases}
 use Rattle.rb_machine.specs.Acts.{act, ticked_times}
-use Rattle.rb_machine.specs.AddNodes.{node_added, nodes_added, options, start}
+use Rattle.rb_machine.specs.AddNodes.{added_each, node_added, nodes_added, options, start}
 use Rattle.rb_machine.specs.Changes.{words_of}
 use Rattle.rb_machine.specs.Cluster.{Cluster, node_at, with_node, changed_by}
-use Rattle.rb_machine.specs.Deliveries.{left_by, received, delivered, delivered_each, dropped, dropped_each, chooses_any, msgs_delivered}
+use Rattle.rb_machine.specs.Deliveries.{left_by, received, all_received, delivered, delivered_each, dropped, dropped_each, chooses_any, msgs_delivered}
 use Rattle.rb_machine.specs.Effects.{Effect, quiet, showing, followed_by, each, telling, settled_by, node_settled, moved_by, acted}
 use Rattle.rb_machine.specs.Observations.{Observation, Shown, Settled}
 use Rattle.rb_machine.specs.Outcome.{Execution, missing_node, own_fault, fault, effect, unless_refused, execution_of, execution, outcome}
 use Rattle.rb_machine.specs.Pending.{has_room, mail, sent, all_sent}
-use Rattle.rb_machine.specs.Readies.{advanced_by, node_advanced, advanced_and_settled, whole_ready_processed, ready_processed_by, ready_processed}
+use Rattle.rb_machine.specs.Readies.{advanced_by, node_advanced, advanced_and_settled, whole_ready_processed, ready_processed_by, ready_processed, ready_processed_each}
 use Rattle.rb_machine.specs.Rounds.{chosen, is_ready, has_work, processed_if_ready, each_ready_processed, round, rounds_run}
 use Rattle.rb_machine.specs.Snapshots.{queued, snapshot_sent_by, compact_error_by, compact_error, compact_by}
 use Rattle.rb_machine.specs.Views.{log_shown_by, status_shown_by}

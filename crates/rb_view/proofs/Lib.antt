@@ -12,12 +12,6 @@ pub mod PendingArrows
 pub mod PicturesEnd
 pub mod ViewLaws
 pub mod PathLaws
-pub mod MeasureLaws
-pub mod NoteLaws
-pub mod ShownLaws
-pub mod FewLaws
-pub mod CanvasLaws
-pub mod PictureLaws
 pub mod LookLaws
 pub mod InertLaws
 pub mod PlainLaws
@@ -47,5 +41,4 @@ pub mod ValueLaws
 pub mod SomeLaws
 pub mod StayLaws
 pub mod MailLaws
-pub mod MarkLaws
 pub mod TraceLaws

@@ -1,6 +1,7 @@
 -- Which rows of a node are new: a row is compared with those of its name alone.
 use Rattle.std.proofs.Common.{◌≡◌, ◌∙◌, ℕ, Bool, true, false, List, [], ◌∷◌, ◌++◌, refl, ap, ap₂, sym, append_assoc, append-nil}
-use Rattle.std.specs.Prelude.{◌||◌, if◌then◌else◌}
+use Rattle.std.specs.Prelude.{◌||◌, if◌then◌else◌, codes, length}
+use Rattle.std.specs.List.{flat_map}
 use Rattle.std.specs.Str.{bytes_eq}
 use Rattle.std.proofs.lemmas.Bool.{cond-true, or_left, or_right}
 use Rattle.std.proofs.lemmas.Slice.Eq.{bytes_eq-Decides}
@@ -10,7 +11,7 @@ use Rattle.rb_tracker.specs.Progresses.{PlainProgress}
 use Rattle.rb_tracker.specs.Trackers.{PlainTracker}
 use Rattle.rb_tracker.specs.declared.config.Config.{Config}
 use Rattle.rb_view.specs.Kept.{texts_of}
-use Rattle.rb_view.specs.Rows.{Row, next_text}
+use Rattle.rb_view.specs.Rows.{Row, next_text, number, row, text}
 use Rattle.rb_view.specs.NewRows.{has_text, new_row, new_rows_among, new_texts}
 use Rattle.rb_view.specs.States.{config_row, node_row, standing, view_row, view_rows}
 use Rattle.rb_view.proofs.KeepLaws.{new_rows_are}

@@ -1,11 +1,10 @@
 -- The rows of steps are of bytes.
-use Rattle.std.proofs.Common.{◌≡◌, ◌∙◌, ℕ, zero, suc, ◌+◌, Bool, true, false, List, [], ◌∷◌, ◌++◌, Option, Some, None, drop, length, map, refl, ap, sym, arith, codes}
+use Rattle.std.proofs.Common.{◌≡◌, ◌∙◌, ℕ, zero, suc, ◌+◌, Bool, true, false, List, [], ◌∷◌, ◌++◌, Option, Some, None, drop, length, refl, ap, sym, arith, codes}
 use Rattle.std.specs.Prelude.{◌&&◌, ◌==◌, not, nat_le, if◌then◌else◌}
 use Rattle.std.specs.List.{flat_map, list_all}
 use Rattle.std.proofs.lemmas.Bool.{and_from, and_parts, leb-true, lt-ltb}
 use Rattle.std.proofs.lemmas.List.Folds.{list_all-append, list_all-map}
 use Rattle.rb_vocab.specs.declared.directive_error.DirectiveError.{DirectiveError}
-use Rattle.rb_vocab.specs.declared.level.Level.{Level}
 use Rattle.rb_vocab.specs.MessageTypes.{type_text}
 use Rattle.rb_message.specs.declared.event.Event.{Event}
 use Rattle.rb_message.specs.declared.event.EventKind.{EventKind}
@@ -35,14 +34,13 @@ use Rattle.rb_texts.specs.Items as items
 use Rattle.rb_texts.specs.Quoted.{is_printable}
 use Rattle.rb_texts.specs.Shapes.{is_one_line, is_solid}
 use Rattle.rb_texts.specs.States.{role_text, progress_state_text}
-use Rattle.rb_texts.specs.Texts.{is_shown}
 use Rattle.rb_texts.proofs.KindLaws.{flat_of, joined_of, wider}
 use Rattle.rb_texts.specs.Messages.{fields_of}
 use Rattle.rb_texts.proofs.OneLineLaws.{body_one_line, config_one_line, error_one_line, fault_one_line, no_campaign_one_line, progress_state_one_line, replaced_one_line, role_one_line, type_one_line, votes_one_line}
 use Rattle.rb_machine.specs.Outcome.{is_output}
 use Rattle.rb_replay.specs.Report.{same_lines}
 use Rattle.rb_view.specs.EventRows.{event_rows, form_rows}
-use Rattle.rb_view.specs.ItemRows.{entry_row, error_row, item_rows, marked, rows_at}
+use Rattle.rb_view.specs.ItemRows.{entry_row, error_row, item_rows}
 use Rattle.rb_view.specs.Json.{cell_has_bytes, has_bytes, is_byte}
 use Rattle.rb_view.specs.Kept.{line_row, line_rows, texts_of}
 use Rattle.rb_view.specs.MessageRows.{message_row, said, verb_name}
@@ -146,20 +144,11 @@ reason_bytes (Some reason) =
     let line = line_bytes (reason_text reason) (reason_one_line reason) in
     one_row (reason_row reason) (alone (drop 2 (reason_text reason)) (dropped_bytes 2 (reason_text reason) line))
 
-marked_bytes : (b : Bool) (r : Row) → has_bytes r ≡ true → has_bytes (marked b r) ≡ true
-marked_bytes true r h = h
-marked_bytes false r h = h
+shown_bytes : (item : PlainItem) → list_all has_bytes (shown_rows item) ≡ true
+shown_bytes item = all_both (item_rows item) (reason_rows (reason_of item)) (item_bytes item) (reason_bytes (reason_of item))
 
--- rows, each of which is marked or isn't
-all_marked : (b : Bool) (rs : List Row) → list_all has_bytes rs ≡ true → list_all has_bytes (map (marked b) rs) ≡ true
-all_marked b rs h = list_all-map has_bytes (marked b) rs ∙ wider has_bytes (λ r. has_bytes (marked b r)) (λ r p. marked_bytes b r p) rs h
-
-shown_bytes : (level : Level) (item : PlainItem) → list_all has_bytes (shown_rows level item) ≡ true
-shown_bytes level item =
-    all_both (rows_at level item) (reason_rows (reason_of item)) (all_marked (is_shown level item) (item_rows item) (item_bytes item)) (reason_bytes (reason_of item))
-
-pub items_bytes : (level : Level) (is : List PlainItem) → list_all has_bytes (flat_map (shown_rows level) is) ≡ true
-items_bytes level is = flat_of has_bytes (shown_rows level) (shown_bytes level) is
+pub items_bytes : (is : List PlainItem) → list_all has_bytes (flat_map shown_rows is) ≡ true
+items_bytes is = flat_of has_bytes shown_rows shown_bytes is
 
 -- ---- where a directive stands, and what it printed
 

@@ -12,7 +12,7 @@ use Rattle.rb_view.specs.declared.chart.css_class.DeliveryState.{DeliveryState}
 use Rattle.rb_view.specs.declared.chart.css_class.DeliveryState.TheVariants as states
 use Rattle.rb_view.specs.declared.chart.in_flight.MessageChange.TheVariants as changes
 use Rattle.rb_view.specs.InFlight.{PlainInFlight, arrow, ended, last_alike, next_met, taken, taking}
-use Rattle.rb_view.specs.Arrows.{PlainArrows, drawing, drawn_as, end_arrow, set_state_of, with_state}
+use Rattle.rb_view.specs.Arrows.{PlainArrows, changed, drawing, drawn_as, end_arrow, set_state, set_state_of, with_state}
 use Rattle.rb_view.specs.Promises.{Address, all_sent, arrow_address, is_ready_after, message_address, sends}
 
 -- ---- an arrow that ends stays where it is

@@ -1,19 +1,17 @@
 -- How long the text of rows is, and how many rows there are.
-use Rattle.std.proofs.Common.{◌≡◌, ◌∙◌, ℕ, Bool, true, false, ◌+◌, ◌≤◌, List, [], ◌∷◌, ◌++◌, length, codes, refl, ap, arith}
-use Rattle.std.specs.Prelude.{◌&&◌, not, if◌then◌else◌}
+use Rattle.std.proofs.Common.{◌≡◌, ℕ, true, false, ◌+◌, ◌≤◌, List, [], ◌∷◌, ◌++◌, length, codes, refl, arith}
+use Rattle.std.specs.Prelude.{if◌then◌else◌}
 use Rattle.std.specs.List.{flat_map, sum_by}
 use Rattle.std.proofs.lemmas.List.{length-append}
 use Rattle.std.proofs.lemmas.List.Sums.{sum_by-cons}
-use Rattle.rb_vocab.specs.declared.level.Level.{Level}
 use Rattle.rb_texts.specs.EventForms.{PlainForm, event_form, is_hidden}
 use Rattle.rb_texts.specs.Items.{PlainItem}
 use Rattle.rb_texts.specs.Items as items
-use Rattle.rb_texts.specs.Texts.{is_shown}
 use Rattle.rb_text.specs.Json.{in_page}
 use Rattle.rb_view.specs.EventRows.{event_rows, form_rows, value_cells}
 use Rattle.rb_view.specs.ItemRows.{item_rows}
 use Rattle.rb_view.specs.Rows.{PlainCell, number, text, Row, row, cell_text, front_text, row_text, next_text, rows_text}
-use Rattle.rb_view.specs.Sizes.{cell_size, row_size, count_of, has_no_row, is_view}
+use Rattle.rb_view.specs.Sizes.{cell_size, row_size, count_of}
 use Rattle.rb_view.proofs.InertLaws.{texts_short}
 
 cell_short : (c : PlainCell) → length (cell_text c) ≤ cell_size c
@@ -44,16 +42,3 @@ unfolding item_rows event_rows
 rows_counted items.nothing_else = refl
 rows_counted (items.event e) = form_counted e.id (event_form e)
 rows_counted item = refl
-
--- ---- what prints a line
-
-not_hidden : (h rest : Bool) → (not h && rest) ≡ true → h ≡ false
-not_hidden true rest is = absurd cc
-not_hidden false rest is = refl
-
-has_row : (level : Level) (item : PlainItem) → is_shown level item ≡ true → is_view item ≡ false → has_no_row item ≡ false
-has_row level (items.event e) shown view = not_hidden (is_hidden (event_form e).shown) _ shown
-has_row level item shown view = view
-
-pub printed_row : (level : Level) (item : PlainItem) → is_shown level item ≡ true → is_view item ≡ false → length (item_rows item) ≡ 1
-printed_row level item shown view = rows_counted item ∙ ap (λ (b : Bool). if b then 0 else 1) (has_row level item shown view)

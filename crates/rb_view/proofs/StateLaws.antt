@@ -8,7 +8,7 @@ use Rattle.rb_script.specs.Lines.{Line}
 use Rattle.rb_view.specs.Kept.{texts_of}
 use Rattle.rb_view.specs.Rows.{Row}
 use Rattle.rb_view.proofs.KeptLaws.{left_some}
-use Rattle.rb_view.specs.Committed.{IsKept}
+use Rattle.rb_view.specs.Committed.{IsKept, known}
 use Rattle.rb_view.specs.Logs.{stays, stays_since}
 use Rattle.rb_view.specs.States.{changed_rows, changed_since, changed_to, node_rows, node_since, state_rows}
 use Rattle.rb_view.proofs.ChangeLaws.{no_row}

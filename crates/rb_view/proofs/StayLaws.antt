@@ -1,5 +1,5 @@
 -- What stays of a page's steps after an edit.
-use Rattle.std.proofs.Common.{◌≡◌, ◌∙◌, ℕ, zero, suc, ◌+◌, ◌-◌, ◌<◌, ◌≤◌, max, Bool, true, false, List, [], ◌∷◌, ◌++◌, length, take, drop, map, codes, Option, Some, None, refl, ap, ap₂, sym, subst, arith}
+use Rattle.std.proofs.Common.{◌≡◌, ◌∙◌, ℕ, zero, suc, ◌+◌, ◌-◌, ◌<◌, ◌≤◌, max, Bool, true, false, List, [], ◌∷◌, ◌++◌, length, take, drop, map, codes, Option, Some, None, refl, ap, ap₂, sym, subst, arith, append_assoc}
 use Rattle.std.specs.Prelude.{◌&&◌, if◌then◌else◌, nat_le}
 use Rattle.std.specs.List.{flat_map}
 use Rattle.std.proofs.lemmas.Bool.{le-leb, leb-true}
@@ -8,7 +8,7 @@ use Rattle.std.proofs.lemmas.List.Concat.{flat_map-append}
 use Rattle.rb_script.specs.Lines.{Line}
 use Rattle.rb_script.specs.Script.{PlainBlock, PlainScript}
 use Rattle.rb_script.specs.Reading.{directive_of}
-use Rattle.rb_report.specs.declared.table.TheConstants.{MAX_CELLS, MAX_SCRIPT_CELLS}
+use Rattle.rb_report.specs.declared.check.table.TheConstants.{MAX_CELLS, MAX_SCRIPT_CELLS}
 use Rattle.rb_report.specs.Diffs.{Stretch, fits, last, left_after, middle, parts_between, parts_within, plain, stretches, without_last, work}
 use Rattle.rb_machine.specs.Cluster.{Cluster, empty}
 use Rattle.rb_machine.specs.Outcome.{outcome}
@@ -21,7 +21,7 @@ use Rattle.rb_replay.proofs.ReuseLaws.{parts-on, start-le, states-after}
 use Rattle.rb_view.specs.Kept.{line_rows, texts_of}
 use Rattle.rb_view.specs.Rows.{Row, number, row}
 use Rattle.rb_view.specs.SomeSteps.{StaysAround, left_at, left_from, left_in, relined, some_steps}
-use Rattle.rb_view.specs.Steps.{Step, end_row, hints, left_next, script_rows, source_row, step, step_texts, steps, steps_from, steps_texts, stretch_rows, warning_rows}
+use Rattle.rb_view.specs.Steps.{Step, end_row, hints, left_next, mismatch_rows, script_rows, source_row, step, step_texts, steps, steps_from, steps_texts, stretch_rows, warning_rows}
 use Rattle.rb_view.specs.Watching.{observed_texts}
 use Rattle.rb_view.proofs.SomeLaws.{steps_drop, steps_take}
 use Rattle.rb_view.proofs.StepLaws.{steps_end}
@@ -90,7 +90,7 @@ relines left other (h ∷ heads) (n ∷ lines) c (b ∷ bs) many all room room' 
     let next = (outcome c (directive_of b)).cluster in
     let here : script_rows other n b.expected s.output ≡ script_rows left n b.expected s.output =
     script_room other left n b.expected s.output (omega (arith, room', left_least other c (b ∷ bs))) (omega (arith, room, left_least left c (b ∷ bs))) in
-    ap₂ (λ (rs : List Row) (ts : List Line). (texts_of rs ++ (observed_texts s.level s.before s.observed ++ (texts_of s.changes ++ texts_of (hints s)))) ++ ts) here
+    ap₂ (λ (rs : List Row) (ts : List Line). (texts_of rs ++ (observed_texts s.before s.observed ++ (texts_of s.changes ++ texts_of (hints s)))) ++ ts) here
     (relines (left_next left b.expected s.output) (left_next other b.expected s.output) heads lines next bs (omega (arith, many)) (omega (arith, all)) room room')
 
 -- ---- or none, in any two clusters

@@ -7,10 +7,9 @@ use Rattle.std.proofs.lemmas.List.Folds.{flat_map-map}
 use Rattle.rb_script.specs.Lines.{Line}
 use Rattle.rb_script.specs.Script.{PlainBlock}
 use Rattle.rb_script.specs.Reading.{directive_of}
-use Rattle.rb_vocab.specs.declared.level.Level.{Level}
 use Rattle.rb_texts.specs.Items.{PlainItem}
 use Rattle.rb_texts.specs.Reasons.{reason_of}
-use Rattle.rb_view.specs.ItemRows.{rows_at, text_at}
+use Rattle.rb_view.specs.ItemRows.{item_rows, item_text}
 use Rattle.rb_view.specs.Kept.{joined, texts_of}
 use Rattle.rb_view.specs.Rows.{Row, next_text}
 use Rattle.rb_view.proofs.KeptLaws.{left_some}
@@ -52,7 +51,7 @@ step_kept left line c b output rows t0 t1 t2 t3 printed did first second third =
     let s = step left line c b in
     three_parts t0 t1 t2 t3 (texts_of (script_rows left line b.expected output)) rows (texts_of (hint_rows (meant_by b output))) first second third
     ∙ ap₂ (λ (o r : List Line). t0 ++ (texts_of (script_rows left line b.expected o) ++ (r ++ texts_of (hint_rows (meant_by b o))))) printed did
-    ∙ ap (λ (l : List Line). t0 ++ (texts_of (script_rows left line b.expected s.output) ++ l)) (append_assoc (observed_texts s.level s.before s.observed) (texts_of s.changes) (texts_of (hints s)))
+    ∙ ap (λ (l : List Line). t0 ++ (texts_of (script_rows left line b.expected s.output) ++ l)) (append_assoc (observed_texts s.before s.observed) (texts_of s.changes) (texts_of (hints s)))
 
 -- ---- texts that are of rows
 
@@ -62,24 +61,23 @@ both_joined a b x y p q = flat_map-append (λ (t : Line). t) a b ∙ ap₂ (λ (
 pub rows_joined : (rs : List Row) → joined (texts_of rs) ≡ flat_map next_text rs
 rows_joined rs = flat_map-map (λ (t : Line). t) next_text rs
 
-pub shown_joined : (level : Level) (item : PlainItem) → joined (shown_texts level item) ≡ flat_map next_text (shown_rows level item)
-unfolding text_at
-shown_joined level item =
+pub shown_joined : (item : PlainItem) → joined (shown_texts item) ≡ flat_map next_text (shown_rows item)
+unfolding item_text
+shown_joined item =
     let why = reason_rows (reason_of item) in
-    ap (λ (l : List ℕ). text_at level item ++ l) (rows_joined why) ∙ sym (flat_map-append next_text (rows_at level item) why)
+    ap (λ (l : List ℕ). item_text item ++ l) (rows_joined why) ∙ sym (flat_map-append next_text (item_rows item) why)
 
-pub items_joined : (level : Level) (items : List PlainItem) → joined (flat_map (shown_texts level) items) ≡ flat_map next_text (flat_map (shown_rows level) items)
-items_joined level [] = refl
-items_joined level (item ∷ items) =
-    both_joined (shown_texts level item) (flat_map (shown_texts level) items) (shown_rows level item) (flat_map (shown_rows level) items) (shown_joined level item) (items_joined level items)
+pub items_joined : (items : List PlainItem) → joined (flat_map shown_texts items) ≡ flat_map next_text (flat_map shown_rows items)
+items_joined [] = refl
+items_joined (item ∷ items) =
+    both_joined (shown_texts item) (flat_map shown_texts items) (shown_rows item) (flat_map shown_rows items) (shown_joined item) (items_joined items)
 
 -- what is observed
-pub observed_joined : (level : Level) (nodes : List PlainNode) (observed : List Observation) → joined (observed_texts level nodes observed) ≡ flat_map next_text (observed_rows level nodes observed)
-observed_joined level nodes [] = refl
-observed_joined level nodes (Shown items ∷ observed) =
-    both_joined (flat_map (shown_texts level) items) (observed_texts level nodes observed) (flat_map (shown_rows level) items) (observed_rows level nodes observed) (items_joined level items)
-    (observed_joined level nodes observed)
-observed_joined level nodes (Settled id n ∷ observed) =
+pub observed_joined : (nodes : List PlainNode) (observed : List Observation) → joined (observed_texts nodes observed) ≡ flat_map next_text (observed_rows nodes observed)
+observed_joined nodes [] = refl
+observed_joined nodes (Shown items ∷ observed) =
+    both_joined (flat_map shown_texts items) (observed_texts nodes observed) (flat_map shown_rows items) (observed_rows nodes observed) (items_joined items) (observed_joined nodes observed)
+observed_joined nodes (Settled id n ∷ observed) =
     let here = rows_since nodes id n in
     let on = rewritten nodes id n in
-    both_joined (texts_of here) (observed_texts level on observed) here (observed_rows level on observed) (rows_joined here) (observed_joined level on observed)
+    both_joined (texts_of here) (observed_texts on observed) here (observed_rows on observed) (rows_joined here) (observed_joined on observed)

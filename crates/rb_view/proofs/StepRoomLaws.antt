@@ -1,5 +1,5 @@
 -- Whether a page has room for the steps of a run.
-use Rattle.std.proofs.Common.{◌≡◌, ◌∙◌, ℕ, ◌+◌, false, List, ◌++◌, drop, Some, refl, ap, sym, append_assoc}
+use Rattle.std.proofs.Common.{◌≡◌, ◌∙◌, ℕ, ◌+◌, false, List, ◌∷◌, [], ◌++◌, drop, Some, refl, ap, sym, append_assoc}
 use Rattle.std.specs.Prelude.{slice_get}
 use Rattle.std.specs.List.{flat_map}
 use Rattle.rb_script.specs.Lines.{Line}
@@ -19,7 +19,7 @@ pub step_full : (texts : List Line) (left line : ℕ) (c : Cluster) (b : PlainBl
 step_full texts left line c b full =
     let s = step left line c b in
     let d = directive_of b in
-    full_step texts (texts_of (script_rows left line b.expected s.output)) (observed_texts (execution c d).level c.nodes (execution c d).observed) (texts_of (changes_left c d)) (texts_of (hints s)) full
+    full_step texts (texts_of (script_rows left line b.expected s.output)) (observed_texts c.nodes (execution c d).observed) (texts_of (changes_left c d)) (texts_of (hints s)) full
 
 -- one step has no room
 pub steps_full : (texts : List Line) (left : ℕ) (heads : List ℕ) (bs : List PlainBlock) (i line : ℕ) (b : PlainBlock) (c : Cluster) → slice_get heads i ≡ Some line → slice_get bs i ≡ Some b

@@ -1,5 +1,5 @@
 -- How long the text of steps is at the most.
-use Rattle.std.proofs.Common.{◌≡◌, ◌∙◌, ℕ, ◌+◌, ◌*◌, ◌≤◌, true, List, [], ◌∷◌, ◌++◌, length, decimal, codes, refl, ap, arith, length-append}
+use Rattle.std.proofs.Common.{◌≡◌, ◌∙◌, ℕ, ◌+◌, ◌*◌, ◌≤◌, Bool, true, List, [], ◌∷◌, ◌++◌, length, decimal, codes, refl, ap, arith, length-append}
 use Rattle.std.specs.Fmt.{digits}
 use Rattle.std.specs.List.{flat_map, sum_by}
 use Rattle.std.proofs.lemmas.List.Concat.{flat_map-append}
@@ -7,7 +7,6 @@ use Rattle.std.proofs.lemmas.List.Sums.{sum_by-cons}
 use Rattle.rb_script.specs.Lines.{Line}
 use Rattle.rb_script.specs.Script.{PlainScript}
 use Rattle.rb_node.specs.Node.{PlainNode}
-use Rattle.rb_vocab.specs.declared.level.Level.{Level}
 use Rattle.rb_texts.specs.Items.{PlainItem}
 use Rattle.rb_texts.specs.Items as items
 use Rattle.rb_machine.specs.Observations.{Observation, Shown, Settled}
@@ -53,23 +52,23 @@ both_long a b = ap (λ (l : List ℕ). length l) (flat_map-append (λ (t : Line)
 
 -- ---- what happened
 
-item_short : (level : Level) (i : PlainItem) → length (joined (shown_texts level i)) ≤ item_size level i
-item_short level i = omega (arith, ap (λ (l : List ℕ). length l) (shown_joined level i), next_short (shown_rows level i))
+item_short : (i : PlainItem) → length (joined (shown_texts i)) ≤ item_size i
+item_short i = omega (arith, ap (λ (l : List ℕ). length l) (shown_joined i), next_short (shown_rows i))
 
-items_short : (level : Level) (items : List PlainItem) → length (joined (flat_map (shown_texts level) items)) ≤ sum_by (item_size level) items
-items_short level [] = omega arith
-items_short level (i ∷ items) =
-    omega (arith, both_long (shown_texts level i) (flat_map (shown_texts level) items), sum_by-cons (item_size level) i items, item_short level i, items_short level items)
+items_short : (items : List PlainItem) → length (joined (flat_map shown_texts items)) ≤ sum_by item_size items
+items_short [] = omega arith
+items_short (i ∷ items) =
+    omega (arith, both_long (shown_texts i) (flat_map shown_texts items), sum_by-cons item_size i items, item_short i, items_short items)
 
 -- what is observed
-observed_short : (level : Level) (nodes : List PlainNode) (observed : List Observation) → length (joined (observed_texts level nodes observed)) ≤ observed_size level nodes observed
-observed_short level nodes [] = omega arith
-observed_short level nodes (Shown items ∷ observed) =
-    omega (arith, both_long (flat_map (shown_texts level) items) (observed_texts level nodes observed), items_short level items, observed_short level nodes observed)
-observed_short level nodes (Settled id n ∷ observed) =
+observed_short : (nodes : List PlainNode) (observed : List Observation) → length (joined (observed_texts nodes observed)) ≤ observed_size nodes observed
+observed_short nodes [] = omega arith
+observed_short nodes (Shown items ∷ observed) =
+    omega (arith, both_long (flat_map shown_texts items) (observed_texts nodes observed), items_short items, observed_short nodes observed)
+observed_short nodes (Settled id n ∷ observed) =
     let here = rows_since nodes id n in
     let on = rewritten nodes id n in
-    omega (arith, both_long (texts_of here) (observed_texts level on observed), kept_short here, observed_short level on observed)
+    omega (arith, both_long (texts_of here) (observed_texts on observed), kept_short here, observed_short on observed)
 
 -- ---- steps
 
@@ -78,11 +77,11 @@ step_short s =
     let script = script_rows s.left s.line s.block.expected s.output in
     omega (
       arith,
-      both_long (texts_of script) (observed_texts s.level s.before s.observed ++ (texts_of s.changes ++ texts_of (hints s))),
-      both_long (observed_texts s.level s.before s.observed) (texts_of s.changes ++ texts_of (hints s)),
+      both_long (texts_of script) (observed_texts s.before s.observed ++ (texts_of s.changes ++ texts_of (hints s))),
+      both_long (observed_texts s.before s.observed) (texts_of s.changes ++ texts_of (hints s)),
       both_long (texts_of s.changes) (texts_of (hints s)),
       kept_short script,
-      observed_short s.level s.before s.observed,
+      observed_short s.before s.observed,
       kept_short s.changes,
       kept_short (hints s),
     )
@@ -142,12 +141,12 @@ text_short name bytes heads s =
     )
 
 -- what shows how a node stands has no row
-pub view_said : (level : Level) (i : PlainItem) → is_view i ≡ true → item_size level i ≡ 0
+pub view_said : (i : PlainItem) → is_view i ≡ true → item_size i ≡ 0
 unfolding item_rows
-view_said level items.nothing_else is = refl
-view_said level (items.raft_state node) is = refl
-view_said level (items.raft_log log) is = refl
-view_said level (items.entry index e unsaved) is = refl
-view_said level (items.config c) is = refl
-view_said level (items.progress id view) is = refl
-view_said level item is = absurd cc
+view_said items.nothing_else is = refl
+view_said (items.raft_state node) is = refl
+view_said (items.raft_log log) is = refl
+view_said (items.entry index e unsaved) is = refl
+view_said (items.config c) is = refl
+view_said (items.progress id view) is = refl
+view_said item is = absurd cc

@@ -1,5 +1,5 @@
 -- Rows of stretches, one after another.
-use Rattle.std.proofs.Common.{◌≡◌, ◌∙◌, ℕ, Bool, cond, false, List, [], ◌∷◌, ◌++◌, length, ap, ap₂, sym, append-nil, append_assoc}
+use Rattle.std.proofs.Common.{◌≡◌, ◌∙◌, ℕ, Bool, cond, false, List, [], ◌∷◌, ◌++◌, length, refl, ap, ap₂, sym, append-nil, append_assoc}
 use Rattle.std.specs.Prelude.{codes, fold}
 use Rattle.std.specs.List.{flat_map}
 use Rattle.std.proofs.lemmas.List.{map-append}

@@ -3,16 +3,16 @@ use Rattle.std.proofs.Common.{◌≡◌, ◌∙◌, ℕ, true, List, [], ◌∷�
 use Rattle.std.specs.Prelude.{◌&&◌}
 use Rattle.std.specs.List.{flat_map, list_all}
 use Rattle.std.proofs.lemmas.Bool.{and_from, and_parts}
-use Rattle.rb_report.specs.declared.table.TheConstants.{MAX_SCRIPT_CELLS}
-use Rattle.rb_report.specs.declared.warning_kind.WarningKind.{WarningKind}
-use Rattle.rb_report.specs.declared.warning_kind.WarningKind.TheVariants as kinds
+use Rattle.rb_report.specs.declared.check.table.TheConstants.{MAX_SCRIPT_CELLS}
+use Rattle.rb_report.specs.declared.check.warning_kind.WarningKind.{WarningKind}
+use Rattle.rb_report.specs.declared.check.warning_kind.WarningKind.TheVariants as kinds
 use Rattle.rb_report.specs.Hints.{PlainHint, meant, sentence, unknown}
 use Rattle.rb_report.specs.Notices.{warning_sentence}
 use Rattle.rb_texts.proofs.KindLaws.{joined_of}
 use Rattle.rb_replay.specs.Run.{outputs}
 use Rattle.rb_script_report.specs.Doubts.{all_warnings}
 use Rattle.rb_script_report.specs.declared.warning.Warning.{Warning}
-use Rattle.rb_script.specs.Lines.{lines}
+use Rattle.rb_script.specs.Lines.{Line, lines}
 use Rattle.rb_script.specs.Reading.{directive_of}
 use Rattle.rb_script.specs.Reads.{Reads}
 use Rattle.rb_script.specs.Script.{PlainBlock, PlainScript}
@@ -39,10 +39,10 @@ use Rattle.rb_view.proofs.WatchLaws.{observed_bytes}
 step_is : (s : Step) → joined (step_texts s) ≡ flat_map next_text (step_rows s)
 step_is s =
     let script = script_rows s.left s.line s.block.expected s.output in
-    let texts = observed_texts s.level s.before s.observed in
-    let rows = observed_rows s.level s.before s.observed in
+    let texts = observed_texts s.before s.observed in
+    let rows = observed_rows s.before s.observed in
     both_joined (texts_of script) (texts ++ (texts_of s.changes ++ texts_of (hints s))) script (rows ++ (s.changes ++ hints s)) (rows_joined script)
-    (both_joined texts (texts_of s.changes ++ texts_of (hints s)) rows (s.changes ++ hints s) (observed_joined s.level s.before s.observed)
+    (both_joined texts (texts_of s.changes ++ texts_of (hints s)) rows (s.changes ++ hints s) (observed_joined s.before s.observed)
     (both_joined (texts_of s.changes) (texts_of (hints s)) s.changes (hints s) (rows_joined s.changes) (rows_joined (hints s))))
 
 pub steps_are : (ss : List Step) → joined (flat_map step_texts ss) ≡ flat_map next_text (flat_map step_rows ss)
@@ -83,10 +83,10 @@ steps_bytes left (line ∷ heads) c (b ∷ bs) expected shown =
     let p = and_parts (expects_bytes b) (list_all expects_bytes bs) expected in
     let next : ℕ = left_next left b.expected s.output in
     let script = script_rows left line b.expected s.output in
-    let rows = observed_rows s.level c.nodes s.observed in
+    let rows = observed_rows c.nodes s.observed in
     all_both (script ++ (rows ++ (s.changes ++ hints s))) (flat_map step_rows (steps_from next heads after bs))
     (all_both script (rows ++ (s.changes ++ hints s)) (script_bytes left line b.expected s.output p.0 (outcome_is_output c (directive_of b)))
-    (all_both rows (s.changes ++ hints s) (observed_bytes s.level c.nodes s.observed shown.0.0.0)
+    (all_both rows (s.changes ++ hints s) (observed_bytes c.nodes s.observed shown.0.0.0)
     (all_both s.changes (hints s) (changes_bytes (written_last c.nodes s.observed) after.nodes shown.0.0.1) (hints_bytes (meant_by b s.output) shown.0.1))))
     (steps_bytes next heads after bs p.1 shown.1)
 

@@ -13,43 +13,21 @@ use Rattle.rb_view.specs.declared.chart.part.ChartPhase.{ChartPhase}
 use Rattle.rb_view.specs.declared.chart.part.ChartPhase.TheVariants as phases
 use Rattle.rb_view.specs.InFlight.{mail_choice}
 use Rattle.rb_view.specs.Drawn.{PlainView, beginning, entering, has_room, phase_at, room_entered, room_seen, seeing, shown, views_from}
-use Rattle.rb_view.specs.Pictures.{Drawing, begins, directive_drawn, drawn_from, entered_at, item_taken, looked_at, ran}
-
--- ---- what is drawn has the arrows that the laws are about
-
-items_view : (items : List PlainItem) (d : Drawing) → (fold item_taken d items).view ≡ fold seeing d.view items
-items_view [] d = refl
-items_view (item ∷ items) d = items_view items (item_taken d item)
-
-directive_view : (p : ChartPart) (line : ℕ) (b : PlainBlock) (c : Cluster) (d : Drawing)
-    → (directive_drawn p line b c d).view ≡ shown (entering (phase_at p line) (mail_choice (directive_of b)) d.view) (execution c (directive_of b))
-directive_view p line b c d =
-    items_view (shown_items (execution c (directive_of b))) (begins (entered_at (phase_at p line) (mail_choice (directive_of b)) line c.nodes d))
-
-pub drawn_view : (p : ChartPart) (heads : List ℕ) (bs : List PlainBlock) (d : Drawing) (c : Cluster) → (drawn_from p d c heads bs).view ≡ views_from p d.view c heads bs
-drawn_view p [] bs d c = refl
-drawn_view p (line ∷ heads) [] d c = refl
-drawn_view p (line ∷ heads) (b ∷ bs) d c =
-    drawn_view p heads bs (directive_drawn p line b c d) (outcome c (directive_of b)).cluster
-    ∙ ap (λ (v : PlainView). views_from p v (outcome c (directive_of b)).cluster heads bs) (directive_view p line b c d)
-
--- ---- directives, one after another
 
 -- one directive more
-pub drawn_more : (p : ChartPart) (heads : List ℕ) (bs : List PlainBlock) (i line : ℕ) (b : PlainBlock) (c after : Cluster) (d entered next seen : Drawing)
-    → slice_get heads i ≡ Some line → slice_get bs i ≡ Some b → entered ≡ entered_at (phase_at p line) (mail_choice (directive_of b)) line c.nodes d
-    → next ≡ ran entered (execution c (directive_of b)) → after ≡ (outcome c (directive_of b)).cluster → seen ≡ looked_at after.nodes next
-    → drawn_from p seen after (drop (i + 1) heads) (drop (i + 1) bs) ≡ drawn_from p d c (drop i heads) (drop i bs)
-drawn_more p heads bs i line b c after d entered next seen head block enters runs leads looks =
-    ap₂ (λ (e : Drawing) (k : Cluster). drawn_from p e k (drop (i + 1) heads) (drop (i + 1) bs))
-    (looks ∙ ap₂ (λ (k : Cluster) (e : Drawing). looked_at k.nodes e) leads (runs ∙ ap (λ (e : Drawing). ran e (execution c (directive_of b))) enters)) leads
-    ∙ sym (ap₂ (λ (ns : List ℕ) (more : List PlainBlock). drawn_from p d c ns more) (left_some heads i line head) (left_some bs i b block))
+pub views_more : (p : ChartPart) (heads : List ℕ) (bs : List PlainBlock) (i line : ℕ) (b : PlainBlock) (c after : Cluster) (v entered next : PlainView)
+    → slice_get heads i ≡ Some line → slice_get bs i ≡ Some b → entered ≡ entering (phase_at p line) (mail_choice (directive_of b)) v → next ≡ shown entered (execution c (directive_of b))
+    → after ≡ (outcome c (directive_of b)).cluster
+    → views_from p next after (drop (i + 1) heads) (drop (i + 1) bs) ≡ views_from p v c (drop i heads) (drop i bs)
+views_more p heads bs i line b c after v entered next head block enters shows leads =
+    ap₂ (λ (w : PlainView) (d : Cluster). views_from p w d (drop (i + 1) heads) (drop (i + 1) bs)) (shows ∙ ap (λ (w : PlainView). shown w (execution c (directive_of b))) enters) leads
+    ∙ sym (ap₂ (λ (ns : List ℕ) (more : List PlainBlock). views_from p v c ns more) (left_some heads i line head) (left_some bs i b block))
 
 -- there is none any more
-pub drawn_end : (p : ChartPart) (d : Drawing) (c : Cluster) (heads : List ℕ) (bs : List PlainBlock) → bs ≡ [] → drawn_from p d c heads bs ≡ d
-drawn_end p d c [] bs e = refl
-drawn_end p d c (line ∷ heads) [] e = refl
-drawn_end p d c (line ∷ heads) (b ∷ bs) e = absurd cc
+pub views_end : (p : ChartPart) (v : PlainView) (c : Cluster) (heads : List ℕ) (bs : List PlainBlock) → bs ≡ [] → views_from p v c heads bs ≡ v
+views_end p v c [] bs e = refl
+views_end p v c (line ∷ heads) [] e = refl
+views_end p v c (line ∷ heads) (b ∷ bs) e = absurd cc
 
 -- ---- once there is no room, there is none
 
@@ -77,6 +55,6 @@ views_none p v c (line ∷ heads) (b ∷ bs) e =
     let h = execution c (directive_of b) in
     views_none p (shown w h) (outcome c (directive_of b)).cluster heads bs (seen_none (shown_items h) (beginning w) (room_entered_none v.phase (phase_at p line) v e))
 
-pub stays_full : (p : ChartPart) (d : Drawing) (c : Cluster) (heads : List ℕ) (bs : List PlainBlock) → has_room d.view ≡ false → has_room (drawn_from p d c heads bs).view ≡ false
-stays_full p d c heads bs full =
-    ap has_room (drawn_view p heads bs d c) ∙ ap (λ (room : ℕ). ltb 0 room) (views_none p d.view c heads bs (omega (arith, ltb-false 0 d.view.room full)))
+pub stays_full : (p : ChartPart) (v : PlainView) (c : Cluster) (heads : List ℕ) (bs : List PlainBlock) → has_room v ≡ false → has_room (views_from p v c heads bs) ≡ false
+stays_full p v c heads bs full =
+    ap (λ (room : ℕ). ltb 0 room) (views_none p v c heads bs (omega (arith, ltb-false 0 v.room full)))

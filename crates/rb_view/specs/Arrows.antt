@@ -52,16 +52,6 @@ drawn_as d t = changed t.change (record d { in_flight = t.left })
 unfoldable pub drawing : PlainArrows → PlainItem → PlainArrows
 drawing d item = drawn_as d (taking d.in_flight item)
 
--- the arrow that a message begins or ends
-abbrev pub arrow_of : MessageChange → PlainArrows → Option ℕ
-arrow_of changes.Nothing d = None
-arrow_of (changes.Sent a) d = Some (length d.arrows)
-arrow_of (changes.Refused a) d = Some (length d.arrows)
-arrow_of (changes.Ended at state) d = slice_get d.positions at
-
-unfoldable pub arrow_at : PlainArrows → PlainItem → Option ℕ
-arrow_at d item = arrow_of (taking d.in_flight item).change d
-
 -- a directive begins, and chooses these messages
 abbrev pub choosing : MailChoice → PlainArrows → PlainArrows
 choosing choice d = record d { in_flight = with_choice choice d.in_flight }
@@ -71,14 +61,6 @@ begun d = record d { in_flight = started d.in_flight }
 
 abbrev pub begun_by : PlainDirective → PlainArrows → PlainArrows
 begun_by directive d = begun (choosing (mail_choice directive) d)
-
--- the messages in flight that have arrows: above what is drawn none have
-abbrev pub with_arrows : List ℕ → List Message → List Message
-with_arrows [] messages = []
-with_arrows (position ∷ positions) messages = messages
-
-abbrev pub on_their_way : PlainArrows → List Message
-on_their_way d = with_arrows d.positions d.in_flight.messages
 
 -- messages that come in from above: as if they were sent
 abbrev pub resent : PlainArrows → Message → PlainArrows

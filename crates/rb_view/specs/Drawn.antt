@@ -7,6 +7,7 @@ use Rattle.rb_texts.specs.Items.{PlainItem}
 use Rattle.rb_machine.specs.Cluster.{Cluster, empty}
 use Rattle.rb_machine.specs.Outcome.{Execution, execution, shown_items, outcome}
 use Rattle.rb_view.specs.declared.chart.arrow.Arrow.{Arrow}
+use Rattle.rb_view.specs.declared.chart.builder.ChartBuilder.{ChartBuilder}
 use Rattle.rb_view.specs.declared.chart.draw.TheConstants.{MAX_EVENTS}
 use Rattle.rb_view.specs.declared.chart.part.ChartPart.{ChartPart}
 use Rattle.rb_view.specs.declared.chart.part.ChartPhase.{ChartPhase}
@@ -37,6 +38,10 @@ pub record PlainView : Type 0 where
   pub phase : ChartPhase
   pub arrows : PlainArrows
   pub room : ℕ
+
+-- what of a picture that is being drawn is stated
+abbrev pub view_of : ChartBuilder → PlainView
+view_of b = record { phase = b.phase; arrows = b.arrows; room = b.room }
 
 -- messages come in from above where the first directive is drawn
 abbrev pub entered : ChartPhase → ChartPhase → PlainArrows → PlainArrows

@@ -1,16 +1,14 @@
 -- What a directive did, as rows: those of the items that it can show. What it shows of nodes that stand as they stood has none, since a page
 -- has what changed. (docs/FORMATS.md)
-use Rattle.std.specs.Prelude.{ℕ, Bool, true, false, codes, List, [], ◌∷◌, ◌++◌, drop, map}
+use Rattle.std.specs.Prelude.{ℕ, codes, List, [], ◌∷◌, drop}
 use Rattle.std.specs.List.{flat_map}
 use Rattle.rb_vocab.specs.declared.directive_error.DirectiveError.{DirectiveError}
-use Rattle.rb_vocab.specs.declared.level.Level.{Level}
 use Rattle.rb_message.specs.declared.hard_state.HardState.{HardState}
 use Rattle.rb_raftlog.specs.declared.entry.Entry.{Entry}
 use Rattle.rb_texts.specs.Entries.{body_text}
 use Rattle.rb_texts.specs.Errors.{error_text}
 use Rattle.rb_texts.specs.Items.{PlainItem}
 use Rattle.rb_texts.specs.Items as items
-use Rattle.rb_texts.specs.Texts.{is_shown}
 use Rattle.rb_view.specs.EventRows.{event_rows}
 use Rattle.rb_view.specs.MessageRows.{message_row, verb_name}
 use Rattle.rb_view.specs.Rows.{number, text, Row, row, next_text}
@@ -49,16 +47,3 @@ item_rows (items.error e) = error_row e ∷ []
 -- the text of an item's rows, which follow another
 unfoldable pub item_text : PlainItem → List ℕ
 item_text item = flat_map next_text (item_rows item)
-
--- ---- at a level
-
--- a row, by whether its item prints a line: if not, its name begins with `-`
-abbrev pub marked : Bool → Row → Row
-marked true r = r
-marked false r = row (codes "-" ++ r.name) r.cells
-
-abbrev pub rows_at : Level → PlainItem → List Row
-rows_at level item = map (marked (is_shown level item)) (item_rows item)
-
-unfoldable pub text_at : Level → PlainItem → List ℕ
-text_at level item = flat_map next_text (rows_at level item)

@@ -1,15 +1,26 @@
--- Arrows as elements of SVG, and where they are across the picture. (SVG 2, W3C, section 9.3; sizes: docs/FORMATS.md.)
-use Rattle.std.specs.Prelude.{ℕ, Bool, not, ◌==◌, nat_lt, if◌then◌else◌, List, [], ◌++◌}
+-- Arrows as elements of SVG, and where they are across the picture. How far down they are isn't stated. (SVG 2, W3C, section 9.3; sizes:
+-- docs/FORMATS.md.)
+use Rattle.std.specs.Prelude.{ℕ, ◌+◌, ◌-◌, ◌*◌, ◌^◌, Bool, not, ◌==◌, nat_lt, min, if◌then◌else◌, codes, decimal, List, [], ◌++◌}
 use Rattle.rb_vocab.specs.MessageTypes.{class_of}
 use Rattle.rb_view.specs.declared.chart.arrow.Arrow.{Arrow}
 use Rattle.rb_view.specs.declared.chart.arrow.ArrowPlace.{ArrowPlace}
 use Rattle.rb_view.specs.declared.chart.css_class.DeliveryState.{DeliveryState}
 use Rattle.rb_view.specs.declared.chart.css_class.DeliveryState.TheVariants as states
 use Rattle.rb_view.specs.declared.chart.path.DrawnArrow.{DrawnArrow}
-use Rattle.rb_view.specs.Elements.{bent_path, cross_text, line_text, loop_path}
-use Rattle.rb_view.specs.Places.{beside, middle, plus}
+use Rattle.rb_view.specs.Shapes.{arrow_text, cross_text, loop_text}
 
--- ---- across the picture
+-- ---- across the picture, where sums stop at the largest number
+
+abbrev pub right_of : ℕ → ℕ → ℕ
+right_of x far = min (x + far) (2 ^ 64 - 1)
+
+-- to the left or to the right
+abbrev pub beside : ℕ → Bool → ℕ → ℕ
+beside x is_left far = if is_left then x - far else right_of x far
+
+-- the middle of a node's band
+abbrev pub middle : ℕ → ℕ
+middle id = right_of 280 (min (220 * (id - 1)) (2 ^ 64 - 1))
 
 abbrev pub is_left : Arrow → Bool
 is_left a = nat_lt a.to a.from
@@ -36,16 +47,14 @@ abbrev pub is_loop : Arrow → Bool
 is_loop a = a.to == a.from
 
 abbrev pub loop_of : Arrow → ℕ
-loop_of a = plus (middle a.from) 6
+loop_of a = right_of (middle a.from) 6
 
 -- ---- elements
 
-abbrev pub path_of : Arrow → ArrowPlace → List ℕ
-path_of a p =
-    if is_loop a then loop_path (loop_of a) p.y (plus (loop_of a) 40) p.end else bent_path (start_of a) p.y (bend_of a) (end_of a p.is_short) p.end
-
 abbrev pub path_text : Arrow → ArrowPlace → List ℕ
-path_text a p = line_text (class_of a.message_type) a.state (path_of a p)
+path_text a p =
+    if is_loop a then loop_text (class_of a.message_type) a.state (loop_of a) p.y (right_of (loop_of a) 40) p.end
+    else arrow_text (class_of a.message_type) a.state (start_of a) p.y (bend_of a) (end_of a p.is_short) p.end
 
 abbrev pub cross_of : Arrow → Bool → ℕ
 cross_of a is_short = if is_loop a then loop_of a else end_of a is_short

@@ -4,7 +4,7 @@ use Rattle.std.specs.List.{flat_map}
 use Rattle.rb_script.specs.Lines.{Line}
 use Rattle.rb_script.specs.Script.{PlainBlock, PlainScript}
 use Rattle.rb_script.specs.Reading.{directive_of}
-use Rattle.rb_report.specs.declared.table.TheConstants.{MAX_CELLS, MAX_SCRIPT_CELLS}
+use Rattle.rb_report.specs.declared.check.table.TheConstants.{MAX_CELLS, MAX_SCRIPT_CELLS}
 use Rattle.rb_machine.specs.Cluster.{Cluster, empty}
 use Rattle.rb_machine.specs.Outcome.{outcome}
 use Rattle.rb_replay.specs.Run.{state}

@@ -3,7 +3,6 @@ use Rattle.std.specs.Prelude.{ℕ, ◌+◌, ◌*◌, List, [], ◌∷◌, length
 use Rattle.std.specs.List.{sum_by}
 use Rattle.rb_script.specs.Script.{PlainScript}
 use Rattle.rb_replay.specs.Report.{mismatches}
-use Rattle.rb_vocab.specs.declared.level.Level.{Level}
 use Rattle.rb_node.specs.Node.{PlainNode}
 use Rattle.rb_machine.specs.Observations.{Observation, Shown, Settled}
 use Rattle.rb_texts.specs.Items.{PlainItem}
@@ -15,17 +14,17 @@ use Rattle.rb_view.specs.Steps.{Step, hints, script_rows}
 abbrev pub around_size : List ℕ → List ℕ → PlainScript → ℕ
 around_size name bytes s = 125 + 6 * length name + 6 * length bytes + length (decimal (length s.blocks)) + length (decimal (length (mismatches s)))
 
--- what happened, and why, as its rows say it at a level
-abbrev pub item_size : Level → PlainItem → ℕ
-item_size level item = sum_by row_size (shown_rows level item)
+-- what happened, and why, as its rows say it
+abbrev pub item_size : PlainItem → ℕ
+item_size item = sum_by row_size (shown_rows item)
 
 -- what is observed: what happened, and what changed at nodes
-abbrev pub observed_size : Level → List PlainNode → List Observation → ℕ
-observed_size level nodes [] = 0
-observed_size level nodes (Shown items ∷ observed) = sum_by (item_size level) items + observed_size level nodes observed
-observed_size level nodes (Settled id n ∷ observed) = sum_by row_size (rows_since nodes id n) + observed_size level (rewritten nodes id n) observed
+abbrev pub observed_size : List PlainNode → List Observation → ℕ
+observed_size nodes [] = 0
+observed_size nodes (Shown items ∷ observed) = sum_by item_size items + observed_size nodes observed
+observed_size nodes (Settled id n ∷ observed) = sum_by row_size (rows_since nodes id n) + observed_size (rewritten nodes id n) observed
 
 -- where a step stands and what it printed, what it did, what changed, and what was probably meant
 abbrev pub step_size : Step → ℕ
 step_size s =
-    sum_by row_size (script_rows s.left s.line s.block.expected s.output) + observed_size s.level s.before s.observed + sum_by row_size s.changes + sum_by row_size (hints s)
+    sum_by row_size (script_rows s.left s.line s.block.expected s.output) + observed_size s.before s.observed + sum_by row_size s.changes + sum_by row_size (hints s)

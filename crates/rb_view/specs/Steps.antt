@@ -4,12 +4,11 @@ use Rattle.std.specs.List.{flat_map}
 use Rattle.rb_script.specs.Lines.{Line, lines}
 use Rattle.rb_script.specs.Script.{PlainBlock, PlainScript}
 use Rattle.rb_script.specs.Reading.{directive_of}
-use Rattle.rb_report.specs.declared.table.TheConstants.{MAX_SCRIPT_CELLS}
+use Rattle.rb_report.specs.declared.check.table.TheConstants.{MAX_SCRIPT_CELLS}
 use Rattle.rb_report.specs.Diffs.{Stretch, parts_within, left_after}
 use Rattle.rb_report.specs.Notices.{warning_sentence}
 use Rattle.rb_machine.specs.Cluster.{Cluster, empty}
 use Rattle.rb_machine.specs.Outcome.{execution, outcome}
-use Rattle.rb_vocab.specs.declared.level.Level.{Level}
 use Rattle.rb_replay.specs.Report.{same_lines, mismatches}
 use Rattle.rb_replay.specs.Run.{outputs}
 use Rattle.rb_script_report.specs.Checked.{meant_by}
@@ -33,8 +32,7 @@ pub record Step : Type 0 where
   -- what is in the script, and what was printed
   pub block : PlainBlock
   pub output : List Line
-  -- the level that says which items print a line, the nodes before it, and what is observed of it, whatever the level is
-  pub level : Level
+  -- the nodes before it, and what is observed of it, whatever the level is
   pub before : List PlainNode
   pub observed : List Observation
   -- what is after it that wasn't written
@@ -46,7 +44,7 @@ changes_left c d = state_rows (written_last c.nodes (execution c d).observed) (o
 
 -- what a directive does, and what changes
 abbrev pub done_texts : Cluster → PlainDirective → List Line
-done_texts c d = observed_texts (execution c d).level c.nodes (execution c d).observed ++ texts_of (changes_left c d)
+done_texts c d = observed_texts c.nodes (execution c d).observed ++ texts_of (changes_left c d)
 
 -- the directive of a block, whose head is at a line, in a cluster
 abbrev pub step : ℕ → ℕ → Cluster → PlainBlock → Step
@@ -55,7 +53,6 @@ step left line c b = record {
   left = left;
   block = b;
   output = (outcome c (directive_of b)).output;
-  level = (execution c (directive_of b)).level;
   before = c.nodes;
   observed = (execution c (directive_of b)).observed;
   changes = changes_left c (directive_of b);
@@ -101,7 +98,7 @@ hints s = hint_rows (meant_by s.block s.output)
 
 abbrev pub step_texts : Step → List Line
 step_texts s =
-    texts_of (script_rows s.left s.line s.block.expected s.output) ++ (observed_texts s.level s.before s.observed ++ (texts_of s.changes ++ texts_of (hints s)))
+    texts_of (script_rows s.left s.line s.block.expected s.output) ++ (observed_texts s.before s.observed ++ (texts_of s.changes ++ texts_of (hints s)))
 
 -- how many directives and mismatches there are
 abbrev pub end_row : PlainScript → Row

@@ -1,5 +1,9 @@
 -- The titles of pictures. (This project's.)
-use Rattle.std.specs.Prelude.{ℕ, codes, decimal, List, [], ◌++◌, Option, Some, None}
+use Rattle.std.specs.Prelude.{ℕ, Bool, ◌&&◌, nat_le, codes, decimal, List, [], ◌++◌, Option, Some, None}
+
+-- printable ASCII
+abbrev pub is_printable : ℕ → Bool
+is_printable b = nat_le 32 b && nat_le b 126
 
 -- what a title says of the line from which the picture continues
 abbrev pub from_text : Option ℕ → List ℕ
@@ -11,6 +15,6 @@ abbrev pub until_text : Option ℕ → List ℕ
 until_text None = []
 until_text (Some line) = codes ", up to line " ++ decimal line
 
--- of a script whose name is shown so
+-- of a script with a name of printable ASCII
 abbrev pub title_text : List ℕ → Option ℕ → Option ℕ → List ℕ
 title_text name from until = name ++ (from_text from ++ until_text until)

@@ -1,8 +1,8 @@
 -- The trace of a script: an object of JSON a line for each thing that happens. (docs/FORMATS.md.)
-use Rattle.std.specs.Prelude.{ℕ, ◌+◌, Bool, true, ◌&&◌, if◌then◌else◌, nat_lt, fold, length, List, [], ◌∷◌, ◌++◌, Option, Some, None}
+use Rattle.std.specs.Prelude.{ℕ, ◌+◌, Bool, true, false, if◌then◌else◌, fold, List, [], ◌∷◌, ◌++◌, Option, Some, None}
 use Rattle.rb_vocab.specs.declared.level.Level.{Level}
 use Rattle.rb_message.specs.declared.message.Message.{Message}
-use Rattle.rb_script.specs.Lines.{Line, text_of}
+use Rattle.rb_script.specs.Lines.{Line}
 use Rattle.rb_script.specs.Script.{PlainBlock, PlainScript}
 use Rattle.rb_script.specs.Reading.{directive_of}
 use Rattle.rb_texts.specs.declared.item.Verb.{Verb}
@@ -12,10 +12,6 @@ use Rattle.rb_texts.specs.Items as items
 use Rattle.rb_texts.specs.Texts.{item_text}
 use Rattle.rb_machine.specs.Cluster.{Cluster, empty}
 use Rattle.rb_machine.specs.Outcome.{execution, shown_items, outcome}
-use Rattle.rb_machine.specs.Printing as printing
-use Rattle.rb_replay.specs.Report.{same_lines}
-use Rattle.rb_view.specs.declared.trace.directive_trace.DirectiveTrace.{DirectiveTrace}
-use Rattle.rb_view.specs.declared.trace.directive_trace.TheConstants.{MAX_TRACE}
 use Rattle.rb_view.specs.declared.trace.tracer.Tracer.{Tracer}
 use Rattle.rb_view.specs.declared.trace.trace.TheConstants.{FORMAT}
 use Rattle.rb_view.specs.Mail.{PlainOnWay, joined_by, number_of, number_past, without, without_past}
@@ -68,12 +64,11 @@ ready_after ready item = ready
 abbrev pub counted : Tracer → Numbered → Tracer
 counted t n = record t { sent = n.sent; mail = n.mail }
 
--- with an object, which has an end of line
-abbrev pub with_line : Tracer → Line → Tracer
-with_line t line = record t { lines = t.lines ++ line ∷ []; size = t.size + (length line + 1) }
-
 abbrev pub with_object : Tracer → ℕ → PlainItem → Tracer
-with_object t number item = with_line (record t { ready = ready_after t.ready item }) (object t.place t.line (node_of t.ready item) number item)
+with_object t number item = record t {
+  ready = ready_after t.ready item;
+  lines = t.lines ++ object t.place t.line (node_of t.ready item) number item ∷ [];
+}
 
 abbrev pub with_number : Tracer → Numbered → PlainItem → Tracer
 with_number t n item = with_object (counted t n) n.number item
@@ -81,52 +76,33 @@ with_number t n item = with_object (counted t n) n.number item
 abbrev pub with_item : Tracer → PlainItem → Tracer
 with_item t item = with_number t (numbered t item) item
 
--- ---- what observes a directive
-
 -- a directive begins, whatever its level is
-abbrev pub at_level : DirectiveTrace → Level → DirectiveTrace
-at_level d level = record d { printed = printing.at_level d.printed level }
-
--- an item is observed, unless the objects have more bytes than there is room for
-abbrev pub with_both : DirectiveTrace → PlainItem → DirectiveTrace
-with_both d item =
-    if nat_lt MAX_TRACE d.tracer.size then d
-    else record { printed = printing.with_item d.printed item; tracer = with_item d.tracer item }
+abbrev pub at_level : Tracer → Level → Tracer
+at_level t level = t
 
 -- ---- directives
 
 -- the directive at this place, whose head is at this line
 abbrev pub begun : Tracer → ℕ → ℕ → Tracer
-begun t place line = record t { place = place; line = line; lines = [] }
+begun t place line = record t { place = place; line = line }
 
 -- what is traced of a directive of a cluster
 abbrev pub traced : Tracer → ℕ → ℕ → Cluster → PlainBlock → Tracer
 traced t place line c b = fold with_item (begun t place line) (shown_items (execution c (directive_of b)))
 
--- the objects of blocks, one after another from a place on, whose heads are at these lines
-abbrev pub objects_from : List ℕ → ℕ → Cluster → Tracer → List PlainBlock → List Line
-objects_from [] place c t bs = []
-objects_from (line ∷ heads) place c t [] = []
-objects_from (line ∷ heads) place c t (b ∷ bs) =
-    (traced t place line c b).lines ++ objects_from heads (place + 1) (outcome c (directive_of b)).cluster (traced t place line c b) bs
+-- of blocks, one after another from a place on, whose heads are at these lines
+abbrev pub traced_from : List ℕ → ℕ → Cluster → Tracer → List PlainBlock → Tracer
+traced_from [] place c t bs = t
+traced_from (line ∷ heads) place c t [] = t
+traced_from (line ∷ heads) place c t (b ∷ bs) = traced_from heads (place + 1) (outcome c (directive_of b)).cluster (traced t place line c b) bs
 
 -- nothing has happened yet
 abbrev pub nothing : Tracer
-nothing = record { place = 0; line = 0; ready = 0; sent = 0; mail = []; lines = []; size = 0 }
+nothing = record { place = 0; line = 0; ready = 0; sent = 0; mail = []; lines = [] }
 
 -- the objects of a script, from the empty cluster on
 abbrev pub objects : List ℕ → PlainScript → List Line
-objects heads s = objects_from heads 1 empty nothing s.blocks
-
--- how many bytes they have, with the ends of their lines
-abbrev pub size_of : List ℕ → PlainScript → ℕ
-size_of heads s = length (text_of (objects heads s))
-
--- each output is the expected one
-abbrev pub all_same : List PlainBlock → List (List Line) → Bool
-all_same [] os = true
-all_same (b ∷ bs) [] = true
-all_same (b ∷ bs) (o ∷ os) = same_lines b.expected o && all_same bs os
+objects heads s = (traced_from heads 1 empty nothing s.blocks).lines
 
 -- the lines of the trace of a script of this name
 abbrev pub trace_lines : List ℕ → List ℕ → PlainScript → List Line

@@ -17,7 +17,7 @@ use Rattle.rb_view.specs.Steps.{Step, hints, script_rows, source_row, end_row, s
 
 -- the rows of a step
 abbrev pub step_rows : Step → List Row
-step_rows s = script_rows s.left s.line s.block.expected s.output ++ (observed_rows s.level s.before s.observed ++ (s.changes ++ hints s))
+step_rows s = script_rows s.left s.line s.block.expected s.output ++ (observed_rows s.before s.observed ++ (s.changes ++ hints s))
 
 -- the rows after the first: the bytes of a script, its steps, what is probably a mistake, and how many there are
 abbrev pub all_rows : List ℕ → List ℕ → PlainScript → List Row

@@ -7,15 +7,12 @@ use Rattle.rb_node.specs.Node.{PlainNode}
 use Rattle.rb_texts.specs.declared.reason.Reason.{Reason}
 use Rattle.rb_texts.specs.Items.{PlainItem}
 use Rattle.rb_texts.specs.Reasons.{reason_of, reason_text}
-use Rattle.rb_view.specs.ItemRows.{rows_at, text_at}
+use Rattle.rb_view.specs.ItemRows.{item_rows, item_text}
 use Rattle.rb_view.specs.Json.{is_byte}
 use Rattle.rb_view.specs.Kept.{texts_of}
 use Rattle.rb_view.specs.PageRoom.{held_with}
 use Rattle.rb_view.specs.Rows.{Row, row, text}
-use Rattle.rb_machine.specs.declared.printed.PrintedLines.{PrintedLines}
 use Rattle.rb_machine.specs.Observations.{Observation, Shown, Settled}
-use Rattle.rb_machine.specs.Printing as printing
-use Rattle.rb_vocab.specs.declared.level.Level.{Level}
 use Rattle.rb_view.specs.States.{node_rows, node_since}
 
 -- what of a node is not as it was among these
@@ -46,18 +43,16 @@ reason_rows None = []
 reason_rows (Some reason) = reason_row reason ∷ []
 
 -- what happened, and why
-abbrev pub shown_rows : Level → PlainItem → List Row
-shown_rows level item = rows_at level item ++ reason_rows (reason_of item)
+abbrev pub shown_rows : PlainItem → List Row
+shown_rows item = item_rows item ++ reason_rows (reason_of item)
 
 -- the same as texts: one of what happened, and one of why
-abbrev pub shown_texts : Level → PlainItem → List Line
-shown_texts level item = text_at level item ∷ texts_of (reason_rows (reason_of item))
+abbrev pub shown_texts : PlainItem → List Line
+shown_texts item = item_text item ∷ texts_of (reason_rows (reason_of item))
 
 -- ---- by an observer
 
 pub record Watching : Type 0 where
-  -- the level of the directive: which items print a line
-  pub level : Level
   -- what is written, as long as a page has room for it
   pub texts : Option (List Line)
   -- the nodes as they were written last
@@ -67,11 +62,8 @@ pub record Watching : Type 0 where
   -- what is shown of each content is bytes
   pub of_bytes : Bool
 
-abbrev pub watching_at : Watching → Level → Watching
-watching_at w level = record w { level = level }
-
 abbrev pub with_item : Watching → PlainItem → Watching
-with_item w item = record w { texts = held_with w.texts (shown_texts w.level item) }
+with_item w item = record w { texts = held_with w.texts (shown_texts item) }
 
 abbrev pub with_node : Watching → ℕ → PlainNode → Watching
 with_node w id n = record w {
@@ -79,22 +71,6 @@ with_node w id n = record w {
   nodes = rewritten w.nodes id n;
   of_bytes = w.of_bytes && list_all is_byte (content_end n.content);
 }
-
--- ---- by an observer of lines, too
-
--- lines are collected as long as a page has room for the rows
-abbrev pub printed_with : PrintedLines → Option (List Line) → PlainItem → PrintedLines
-printed_with p None item = p
-printed_with p (Some texts) item = printing.with_item p item
-
-abbrev pub at_level : PrintedLines × Watching → Level → PrintedLines × Watching
-at_level m level = (printing.at_level m.0 level, watching_at m.1 level)
-
-abbrev pub with_both : PrintedLines × Watching → PlainItem → PrintedLines × Watching
-with_both m item = (printed_with m.0 m.1.texts item, with_item m.1 item)
-
-abbrev pub with_node_of : PrintedLines × Watching → ℕ → PlainNode → PrintedLines × Watching
-with_node_of m id n = (m.0, with_node m.1 id n)
 
 -- ---- all of it
 
@@ -104,24 +80,22 @@ written_last nodes [] = nodes
 written_last nodes (Shown items ∷ observed) = written_last nodes observed
 written_last nodes (Settled id n ∷ observed) = written_last (rewritten nodes id n) observed
 
--- at a level
-abbrev pub observed_rows : Level → List PlainNode → List Observation → List Row
-observed_rows level nodes [] = []
-observed_rows level nodes (Shown items ∷ observed) = flat_map (shown_rows level) items ++ observed_rows level nodes observed
-observed_rows level nodes (Settled id n ∷ observed) = rows_since nodes id n ++ observed_rows level (rewritten nodes id n) observed
+abbrev pub observed_rows : List PlainNode → List Observation → List Row
+observed_rows nodes [] = []
+observed_rows nodes (Shown items ∷ observed) = flat_map shown_rows items ++ observed_rows nodes observed
+observed_rows nodes (Settled id n ∷ observed) = rows_since nodes id n ++ observed_rows (rewritten nodes id n) observed
 
 -- the same as texts
-abbrev pub observed_texts : Level → List PlainNode → List Observation → List Line
-observed_texts level nodes [] = []
-observed_texts level nodes (Shown items ∷ observed) = flat_map (shown_texts level) items ++ observed_texts level nodes observed
-observed_texts level nodes (Settled id n ∷ observed) = texts_of (rows_since nodes id n) ++ observed_texts level (rewritten nodes id n) observed
+abbrev pub observed_texts : List PlainNode → List Observation → List Line
+observed_texts nodes [] = []
+observed_texts nodes (Shown items ∷ observed) = flat_map shown_texts items ++ observed_texts nodes observed
+observed_texts nodes (Settled id n ∷ observed) = texts_of (rows_since nodes id n) ++ observed_texts (rewritten nodes id n) observed
 
 -- the same, by comparisons that begin after what nodes were known to have committed, if that stays
-abbrev pub compared_texts : Level → Bool → List PlainNode → List Observation → List Line
-compared_texts level keeps nodes [] = []
-compared_texts level keeps nodes (Shown items ∷ observed) = flat_map (shown_texts level) items ++ compared_texts level keeps nodes observed
-compared_texts level keeps nodes (Settled id n ∷ observed) =
-    texts_of (compared_rows keeps nodes id n) ++ compared_texts level keeps (rewritten nodes id n) observed
+abbrev pub compared_texts : Bool → List PlainNode → List Observation → List Line
+compared_texts keeps nodes [] = []
+compared_texts keeps nodes (Shown items ∷ observed) = flat_map shown_texts items ++ compared_texts keeps nodes observed
+compared_texts keeps nodes (Settled id n ∷ observed) = texts_of (compared_rows keeps nodes id n) ++ compared_texts keeps (rewritten nodes id n) observed
 
 -- what is shown of each content is bytes
 abbrev pub shows_bytes : List Observation → Bool

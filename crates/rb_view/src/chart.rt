@@ -1,46 +1,54 @@
-//! A picture of a script's run: a document of SVG that needs no scripts, or a diagram (docs/FORMATS.md).
+//! A picture of a script's run, as a document of SVG that needs no scripts (docs/FORMATS.md).
 //!
-//! A picture is a value: a list of marks in the order in which things happen, and the arrows of its messages. [`chart_of`] runs a script and observes
-//! each directive: nodes are next to each other, time goes down, and messages are arrows. The picture is the definition's. Laws say of it that each
-//! message has its arrow, with its ending, and that those that wait are of the messages that are pending. [`write_chart`] and [`write_diagram`] write the
-//! marks, layer by layer, by one fold. Each text of a script is a text of XML, or of a diagram.
+//! [`chart_of`] runs a script and observes each directive: nodes are next to each other, time goes down, and messages are
+//! arrows. The arrows are proved: one for each message that was sent, in order, with its ending; those that wait are of
+//! the messages that are pending. [`put_chart`] writes the document. Its text is the definition's text of the picture, in
+//! which each text of a script is a text of XML. Vertical positions are tested against another program.
 
 mod arrow;
 mod arrows;
 mod builder;
 mod canvas;
-mod canvas_items;
-mod canvas_logs;
+mod canvas_arrows;
 mod chart;
 mod choice;
+mod columns;
 mod css_class;
-mod describe;
 mod draw;
-mod elements;
 mod escape;
 mod in_flight;
+mod labels;
 mod laws;
-mod layers;
-mod mark;
+mod marks;
 mod measure;
-mod notes;
+mod messages;
+mod painting;
 mod part;
 mod path;
 mod piece;
 mod row_layout;
+mod sentence;
+mod shape;
 mod shown;
 mod sizes;
+mod source;
 mod style;
+mod telling;
 mod title;
-mod words;
 mod writing;
 
+pub use arrow::{Arrow, ArrowPlace};
+pub use arrows::Arrows;
 pub use chart::Chart;
+pub use css_class::{CssClass, DeliveryState};
 pub use draw::{ChartFault, ChartScript, DrawnRun, MAX_EVENTS, chart_of};
+pub use in_flight::{InFlight, MessageChange};
 pub use laws::{
     arrows_are_of_what_is_sent, messages_end_their_own_arrows, pictures_show_what_is_pending,
     what_is_on_its_way_waits, what_waits_is_pending, words_have_no_brackets, words_read_back,
 };
 pub use part::{ChartPart, ChartPhase};
+pub use path::DrawnArrow;
+pub use shape::Shape;
 pub use style::STYLE;
-pub use writing::{write_chart, write_diagram};
+pub use writing::put_chart;

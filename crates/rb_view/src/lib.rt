@@ -1,4 +1,4 @@
-//! Views of a run: the cluster after a directive, a page, a picture, a trace.
+//! What can be looked at: a place of a script, a run step by step, its picture, its trace, and the page around the steps.
 #![tactic(auto)]
 
 pub mod chart;

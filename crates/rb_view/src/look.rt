@@ -9,7 +9,6 @@ mod counting;
 mod laws;
 mod looking;
 mod nodes;
-mod quiet;
 mod section;
 
 pub use counting::nodes_after;

@@ -17,13 +17,14 @@ mod reason;
 mod row;
 mod span;
 
-pub(crate) use cell::Cell;
-pub(crate) use kept::{push_item, push_item_at, push_lines, push_row, push_texts, write_texts};
+pub use cell::Cell;
+pub use item::put_item;
+pub use kept::{keep_item, keep_lines, keep_row, keep_texts, put_texts};
 pub use laws::{
     rows_are_inert, rows_are_json, rows_grow_with_what_they_say, texts_grow_little,
     what_happens_has_a_row,
 };
-pub(crate) use message::flag;
+pub use message::flag;
 pub use rb_texts::role_name;
 pub(crate) use reason::{past, reason_line};
-pub(crate) use row::{RowPlace, write_end, write_row};
+pub use row::{RowPlace, put_end, put_row};

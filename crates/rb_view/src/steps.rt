@@ -2,7 +2,7 @@
 //!
 //! [`steps_of`] runs the directives of a session once more and keeps, as texts of rows (docs/FORMATS.md), what is in the script, what each
 //! directive printed, what it did whatever the level is, and what is after each event that didn't stand so before. So the rows grow
-//! with what happens, and not with nodes times directives. [`write_page`] writes them, and a page around them. Nothing is written before all
+//! with what happens, and not with nodes times directives. [`put_page`] writes them, and a page around them. Nothing is written before all
 //! memory is there. [`rows_of_some`] makes the rows of some directives alone, from a checkpoint of the session.
 
 mod cells;
@@ -13,7 +13,6 @@ mod log;
 mod meant;
 mod node;
 mod page;
-mod page_observer;
 mod room;
 mod rows;
 mod script;
@@ -31,7 +30,7 @@ pub use laws::{
     some_steps_are_rows, steps_are_inert, steps_are_json, steps_are_rows,
     what_is_not_written_stood, what_stands_still_has_no_row,
 };
-pub use page::{Frame, write_page, write_steps};
+pub use page::{FORMAT, Frame, put_page, put_steps};
 pub use room::MAX_PAGE;
 pub use shown::{DirectiveRun, StepMachine};
 pub use some::{SomeDirectives, rows_of_some};

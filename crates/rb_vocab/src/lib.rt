@@ -1,5 +1,5 @@
 //! Names that directives, outputs and nodes share: levels, message types, faults of directives, changes of the configuration and its members;
-//! and shared lists of them.
+//! and the lists, shared by copies, in which they are held.
 #![tactic(auto)]
 
 mod change;

@@ -71,9 +71,6 @@ declare module "vscode" {
   export class DocumentSymbol {
     constructor(name: string, detail: string, kind: number, range: Range, selectionRange: Range);
   }
-  export class SymbolInformation {
-    constructor(name: string, kind: number, container: string, location: Location);
-  }
   export class DocumentHighlight {
     constructor(range: Range, kind?: number);
   }
@@ -144,13 +141,6 @@ declare module "vscode" {
   export interface SelectionRangeProvider {
     provideSelectionRanges(document: TextDocument, positions: readonly Position[]): Result<SelectionRange[]>;
   }
-  export interface RenameProvider {
-    prepareRename(document: TextDocument, position: Position): Result<Range>;
-    provideRenameEdits(document: TextDocument, position: Position, newName: string): Result<WorkspaceEdit>;
-  }
-  export interface WorkspaceSymbolProvider {
-    provideWorkspaceSymbols(query: string): Result<SymbolInformation[]>;
-  }
   export interface DiagnosticCollection extends Disposable {
     set(uri: Uri, diagnostics: Diagnostic[]): void;
     clear(): void;
@@ -184,8 +174,6 @@ declare module "vscode" {
     function registerDocumentHighlightProvider(language: string, provider: DocumentHighlightProvider): Disposable;
     function registerCodeLensProvider(language: string, provider: CodeLensProvider): Disposable;
     function registerSelectionRangeProvider(language: string, provider: SelectionRangeProvider): Disposable;
-    function registerRenameProvider(language: string, provider: RenameProvider): Disposable;
-    function registerWorkspaceSymbolProvider(provider: WorkspaceSymbolProvider): Disposable;
     const registerInlayHintsProvider: ((language: string, provider: InlayHintsProvider) => Disposable) | undefined;
   }
   export namespace window {

@@ -1,11 +1,11 @@
-//! The text above a line.
+//! The lines of a text above one of them.
 
 ghost use Rattle.std.specs.Prelude.{◌≡◌, ◌≤◌, length};
 ghost use Rattle.rb_lsp.specs.Tables.{feed_start};
 ghost use Rattle.rb_editor.specs.Findings.{above};
 ghost use Rattle.rb_editor.specs.RangeFormatting.{lines_before};
 
-/// The offset at which a line begins, counted from 0. If the text has fewer lines, that is its end.
+/// Where a line of a text begins, which counts from 0: at its end, if it has fewer lines.
 pub(crate) fn line_start(text: &[u8], line: usize) -> usize
     ensures start { result ≡ feed_start line text.now }
     ensures within { result ≤ length text.now }

@@ -1,4 +1,4 @@
-//! Code actions: quick fixes, and edits that accept actual outputs.
+//! Code actions: corrections, and edits that accept outputs.
 
 ghost use Rattle.std.specs.Prelude.{◌≡◌, ◌≤◌, ◌^◌, ◌++◌, ◌||◌, None, Some, IfOk, OnOk, length};
 ghost use Rattle.rb_script.specs.Lines.{lines};
@@ -11,19 +11,19 @@ ghost use Rattle.rb_editor.specs.Actions.{accepting, action_head, action_if, act
 use crate::actions::correction::corrections;
 use crate::actions::document::AskedDocument;
 use crate::actions::extent::{Extent, LineSpan, extent_of, has_line};
-use crate::actions::fix::{first_within, push_fixes};
+use crate::actions::fix::{add_fixes, first_within};
 use crate::actions::layout::{ScriptLayout, line_at};
 use crate::actions::replacement::new_text;
 use crate::actions::run::{DocumentRun, kept_of};
-use crate::offers::push_range_member;
-use rb_lsp::document::{Encoding, PositionTable, Range};
+use crate::offers::add_range_member;
+use rb_lsp::document::{Encoding, LineTable, Range};
 use rb_machine::{Count, Machine};
 use rb_replay::Session;
 use rb_script::{Block, Lines};
 use rb_script_report::{
     AcceptFilter, block_at, is_picked, is_same, is_unexpected, number_at, output_at, picked_unnamed,
 };
-use rb_text::{Json, Piece, push_pieces};
+use rb_text::{Json, Piece, add_pieces};
 use std::alloc::{AllocError, Global};
 
 /// Whether the directive is picked, and its output differs and is no new error.
@@ -51,7 +51,6 @@ fn is_among(span: Option<LineSpan>, extent: Extent) -> bool
     }
 }
 
-// Whether a directive's output is to be accepted: it is picked, differs, isn't a new error, and has one of the lines.
 #[tactic(auto, unfolding(crate::specs::Actions::is_wanted))]
 fn is_wanted(
     picked: AcceptFilter<'_>,
@@ -67,13 +66,13 @@ fn is_wanted(
     is_accepted(picked, lines, line, block, output) && is_among(span, extent_of(lines, line, block))
 }
 
-// Appends the edit that replaces a directive's expectation by a text.
+// Adds an edit that replaces an expectation.
 #[tactic(auto, unfolding(crate::specs::Actions::edit_text))]
-pub(crate) fn push_edit(
+pub(crate) fn add_edit(
     out: &mut Vec<u8>,
     encoding: Encoding,
     text: &[u8],
-    table: &PositionTable,
+    table: &LineTable,
     extent: Extent,
     new: &[u8],
 ) -> Result<(), AllocError>
@@ -82,8 +81,8 @@ pub(crate) fn push_edit(
 {
     let start = table.start_of(extent.expected);
     let end = table.start_of(extent.end);
-    push_range_member(out, start, end)?;
-    push_pieces(
+    add_range_member(out, start, end)?;
+    add_pieces(
         out,
         &[
             Piece::Bytes(b",\"newText\":\""),
@@ -93,7 +92,6 @@ pub(crate) fn push_edit(
     )
 }
 
-// A comma if an item comes before; else nothing.
 fn comma_if(later: bool) -> &'static [u8]
     ensures { result.now ≡ comma_if later }
 {
@@ -118,9 +116,9 @@ pub(crate) struct RanBlock<'a> {
     pub(crate) output: &'a Lines,
 }
 
-// Appends the edit that accepts a directive's output, if it is wanted. Returns whether any edit was appended so far.
+// Adds the edit of a directive after others, if it is wanted.
 #[tactic(auto, unfolding(crate::specs::Actions::one_edit))]
-fn push_edit_if_wanted(
+fn add_one(
     alloc: Global,
     out: &mut Vec<u8>,
     selected: Selection<'_>,
@@ -148,7 +146,7 @@ fn push_edit_if_wanted(
     let extent = extent_of(&layout.script.text, ran.line, ran.block);
     let new = new_text(alloc, text, &layout.script.text, extent, ran.output)?;
     out.extend_from_slice(comma_if(later))?;
-    push_edit(
+    add_edit(
         out,
         selected.encoding,
         text,
@@ -159,7 +157,7 @@ fn push_edit_if_wanted(
     Ok(true)
 }
 
-// The edits that accept the outputs of the selected directives, as JSON.
+// Makes the edits of the directives on the selected lines.
 fn edits<M: Machine>(
     alloc: Global,
     session: &Session<M>,
@@ -176,12 +174,11 @@ fn edits<M: Machine>(
             block: block_at(session, i),
             output: output_at(session, i),
         };
-        later = push_edit_if_wanted(alloc, &mut out, selected, later, ran)?;
+        later = add_one(alloc, &mut out, selected, later, ran)?;
     }
     Ok(out)
 }
 
-// The title and kind of an action: for some lines, or for all directives.
 #[tactic(auto, unfolding(crate::specs::Actions::action_head))]
 fn action_head(span: Option<LineSpan>) -> &'static [u8]
     ensures { result.now ≡ action_head span }
@@ -196,9 +193,8 @@ fn action_head(span: Option<LineSpan>) -> &'static [u8]
     }
 }
 
-// Appends the action that makes these edits.
 #[tactic(auto, unfolding(crate::specs::Actions::action_text))]
-fn push_action<'a>(
+fn add_action<'a>(
     out: &mut Vec<u8>,
     uri: &'a [u8],
     span: Option<LineSpan>,
@@ -206,7 +202,7 @@ fn push_action<'a>(
 ) -> Result<(), AllocError>
     ensures { OnOk result (out.new.items ≡ out.old.items ++ action_text uri.now span edits.now) }
 {
-    push_pieces(
+    add_pieces(
         out,
         &[
             Piece::Bytes(action_head(span)),
@@ -218,8 +214,8 @@ fn push_action<'a>(
     )
 }
 
-// Appends the action that makes these edits, unless there are none.
-fn push_action_of_edits(
+// Adds an action of these edits after others, if there are any.
+fn add_if(
     out: &mut Vec<u8>,
     uri: &[u8],
     span: Option<LineSpan>,
@@ -232,12 +228,12 @@ fn push_action_of_edits(
         return Ok(());
     }
     out.extend_from_slice(comma_if(later))?;
-    push_action(out, uri, span, edits)
+    add_action(out, uri, span, edits)
 }
 
-// Appends the list of actions: the quick fix, the one that accepts on some lines, and the one that accepts everywhere.
+// Adds a list of actions: the correction, and those that accept the edits of some lines and those of all.
 #[tactic(auto, unfolding(crate::specs::Actions::actions_text))]
-fn push_action_list(
+fn add_list(
     out: &mut Vec<u8>,
     uri: &[u8],
     correction: &[u8],
@@ -250,12 +246,12 @@ fn push_action_list(
     let later = !correction.is_empty();
     out.extend_from_slice(b"[")?;
     out.extend_from_slice(correction)?;
-    push_action_of_edits(out, uri, Some(span), later, here)?;
-    push_action_of_edits(out, uri, None, later || !here.is_empty(), all)?;
+    add_if(out, uri, Some(span), later, here)?;
+    add_if(out, uri, None, later || !here.is_empty(), all)?;
     out.extend_from_slice(b"]")
 }
 
-/// The lines on which a range begins and ends.
+/// Finds the lines on which a range begins and ends.
 pub(crate) fn span_of(encoding: Encoding, range: Range, text: &[u8]) -> LineSpan
     ensures { result ≡ span_of encoding range text.now }
 {
@@ -276,9 +272,9 @@ fn picked_of<M: Machine>(
     picked_unnamed(alloc, run.session(), &run.layout().script, false)
 }
 
-// Appends the actions for some lines of a script without warnings: a quick fix, and those that accept outputs.
+// Adds the correction of these lines, and the actions that accept outputs.
 #[tactic(auto, using(crate::proofs::RunLaws::layout_by))]
-fn push_accepting_actions<M: Machine>(
+fn add_accepting<M: Machine>(
     alloc: Global,
     out: &mut Vec<u8>,
     encoding: Encoding,
@@ -315,7 +311,7 @@ fn push_accepting_actions<M: Machine>(
     let correction = corrections(alloc, document, session, layout, span)?;
     let here = edits(alloc, session, selected)?;
     let all = edits(alloc, session, everywhere)?;
-    push_action_list(
+    add_list(
         out,
         uri,
         correction.as_slice(),
@@ -325,9 +321,9 @@ fn push_accepting_actions<M: Machine>(
     )
 }
 
-// Appends the actions for a range of a script that ran. If lines of the script look like mistakes, only their quick fix is offered.
+// Adds the actions for a range of a script that ran: if a line looks like a mistake, its quick fix alone.
 #[tactic(auto, using(crate::proofs::ActionLaws::of_run, crate::proofs::ActionLaws::of_slips, crate::proofs::RunLaws::table_by))]
-fn push_actions_of_run<M: Machine>(
+fn add_of_run<M: Machine>(
     alloc: Global,
     out: &mut Vec<u8>,
     encoding: Encoding,
@@ -344,15 +340,15 @@ fn push_actions_of_run<M: Machine>(
     let span = span_of(encoding, range, text);
     let slips = layout.slips.as_slice();
     if slips.is_empty() {
-        return push_accepting_actions(alloc, out, encoding, uri, run, span);
+        return add_accepting(alloc, out, encoding, uri, run, span);
     }
     let found = first_within(span, slips);
-    push_fixes(out, encoding, uri, text, &layout.table, found)
+    add_fixes(out, encoding, uri, text, &layout.table, found)
 }
 
-/// Appends the actions for a range of a document: none if the text isn't a script. The kept run is used if it is that of the text.
+/// Adds the actions for a range of a document, by the kept run if it is that of its text: none if the text isn't a script.
 #[tactic(auto, using(crate::proofs::ActionLaws::of_text, crate::proofs::ActionLaws::of_none))]
-pub(crate) fn push_actions<M: Machine>(
+pub(crate) fn add_actions<M: Machine>(
     alloc: Global,
     out: &mut Vec<u8>,
     document: AskedDocument<'_, '_>,
@@ -367,10 +363,10 @@ pub(crate) fn push_actions<M: Machine>(
     let encoding = document.encoding;
     let uri = document.uri;
     if let Some(run) = kept_of(kept, encoding, document.text) {
-        return push_actions_of_run(alloc, out, encoding, range, uri, run);
+        return add_of_run(alloc, out, encoding, range, uri, run);
     }
     match DocumentRun::<M>::fresh(alloc, encoding, document.text, meter)? {
-        Some(run) => push_actions_of_run(alloc, out, encoding, range, uri, &run),
+        Some(run) => add_of_run(alloc, out, encoding, range, uri, &run),
         None => out.extend_from_slice(b"[]"),
     }
 }

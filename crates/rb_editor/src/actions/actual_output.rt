@@ -1,4 +1,4 @@
-//! The actual output of a mismatch, as related information at the lines that expect something else.
+//! The actual output of a mismatch, at the lines that expect something else.
 
 ghost use Rattle.std.specs.Prelude.{◌≡◌, ◌<◌, IfOk, length, take};
 ghost use Rattle.rb_editor.specs.Came.{actual_output_of, cut_off, shown, whole};
@@ -6,7 +6,7 @@ ghost use Rattle.rb_editor.specs.declared.actions.actual_output.TheConstants.{MA
 
 use crate::offers::BlockLines;
 use rb_script::Lines;
-use rb_text::{Piece, push_pieces};
+use rb_text::{Piece, add_pieces};
 use std::alloc::{AllocError, Global};
 use std::marker::Model;
 
@@ -32,7 +32,7 @@ impl Model for ActualOutput {
     ghost view = { λ c. record { first = c.first; behind = c.behind; shown = c.shown.items } };
 }
 
-// Copies an output without its last line end.
+// Copies an output without the end of its last line.
 fn whole(alloc: Global, output: &Lines) -> Result<Vec<u8>, AllocError>
     ensures { IfOk result (λ text. text.items ≡ whole output.now) }
 {
@@ -61,7 +61,7 @@ fn cut_off(alloc: Global, output: &Lines) -> Result<Vec<u8>, AllocError>
     let front = first_lines(alloc, output)?;
     let mut text = Vec::from_slice(alloc, front.text())?;
     let more = (output.len() - MAX_SHOWN) as u64;
-    push_pieces(
+    add_pieces(
         &mut text,
         &[
             Piece::Bytes(b"and "),
@@ -72,7 +72,7 @@ fn cut_off(alloc: Global, output: &Lines) -> Result<Vec<u8>, AllocError>
     Ok(text)
 }
 
-// Copies an output up to the stated number of lines.
+// Copies an output as far as it is shown.
 #[tactic(auto, unfolding(crate::specs::Came::shown))]
 fn shown(alloc: Global, output: &Lines) -> Result<Vec<u8>, AllocError>
     ensures { IfOk result (λ text. text.items ≡ shown output.now) }
@@ -84,7 +84,7 @@ fn shown(alloc: Global, output: &Lines) -> Result<Vec<u8>, AllocError>
     }
 }
 
-/// The actual output of a mismatch, at the lines of its expectation.
+/// Makes the actual output of a directive with these lines.
 pub(crate) fn actual_output_of(
     alloc: Global,
     lines: BlockLines,

@@ -1,4 +1,4 @@
-//! The language server's service for scripts: it answers each request, and makes the diagnostics of each text.
+//! The language server of scripts.
 
 ghost use Rattle.std.specs.Prelude.{◌≡◌, ◌≢◌, ◌≤◌, ◌++◌, ◌||◌, not, is_some, Err, None, Some, true, IfOk, OnErr, OnOk, length};
 ghost use Rattle.rb_lsp.specs.declared.document.limits.TheConstants.{MAX_TEXT};
@@ -11,29 +11,26 @@ ghost use Rattle.rb_editor.specs.Served.{text_for};
 ghost use Rattle.rb_editor.specs.Stops.{needs_run};
 ghost use Rattle.rb_editor.specs.LastStops.{refused_by};
 
-use crate::actions::action::push_actions;
+use crate::actions::action::add_actions;
 use crate::actions::bounded::BoundedCluster;
-use crate::actions::completing::{AskedPlace, push_completions};
+use crate::actions::completing::{AskedPlace, add_completions};
 use crate::actions::document::AskedDocument;
-use crate::actions::hover::push_hover;
-use crate::actions::inlay_hint::push_hints;
-use crate::actions::lens::push_lenses;
-use crate::actions::message_places::{push_definition, push_highlights, push_references};
-use crate::actions::publishing::push_diagnostic_list;
-use crate::actions::range_formatting::push_range_formatting;
-use crate::actions::read_blocks::{push_read_folds, push_read_found, push_read_symbols};
-use crate::actions::rename::{push_prepared_rename, push_rename, refusal};
-use crate::actions::selection_range::push_selection;
-use crate::actions::served::{diagnostics_of_served, text_for};
-use crate::actions::some_rows::push_rows;
+use crate::actions::hover::add_hover;
+use crate::actions::inlay_hint::add_hints;
+use crate::actions::lens::add_lenses;
+use crate::actions::message_places::{add_definition, add_highlights, add_references};
+use crate::actions::publishing::add_list;
+use crate::actions::range_formatting::add_range_formatting;
+use crate::actions::selection_range::add_selection;
+use crate::actions::served::{shown, text_for};
+use crate::actions::some_rows::add_rows;
 use crate::actions::stopping::KeptRun;
-use crate::actions::unclosed::answer_of_fault;
 use crate::actions::work_meter::WorkMeter;
-use crate::offers::{SymbolSearch, push_formatting};
+use crate::offers::{add_folds, add_formatting, add_symbols};
 use rb_lsp::server::{
     Client, DocumentQuery, ExitStatus, MAX_WORK, Query, ServeFault, Service, Stop, serve,
 };
-use rb_report::Table;
+use rb_report::check::Table;
 use rb_script::Sink;
 use rb_text::Source;
 use std::alloc::{AllocError, Global};
@@ -64,7 +61,7 @@ impl Service for Bench {
         KeptRun::none()
     }
 
-    fn push_diagnostics(
+    fn add_diagnostics(
         &mut self,
         client: Client,
         uri: &[u8],
@@ -79,13 +76,13 @@ impl Service for Bench {
             uri,
             text,
         };
-        let found = diagnostics_of_served(alloc, document, &mut self.table, kept, &mut meter)?;
-        push_diagnostic_list(alloc, out, client, uri, text, found.list.as_slice())?;
+        let found = shown(alloc, document, &mut self.table, kept, &mut meter)?;
+        add_list(alloc, out, client, uri, text, found.list.as_slice())?;
         Ok(found.stop)
     }
 
     #[tactic(auto, using(crate::proofs::ServedLaws::stop_above))]
-    fn push_answer(
+    fn add_answer(
         &mut self,
         asked: DocumentQuery<'_, '_>,
         kept: &KeptRun<BoundedCluster>,
@@ -103,57 +100,18 @@ impl Service for Bench {
         {
             return Ok(Some(stop));
         }
-        let document = AskedDocument {
-            encoding: asked.client.encoding,
-            uri: asked.uri,
-            text: asked.text,
-        };
-        let answered = answer_of_fault(self.alloc, document, asked.query)?;
-        let of_fault = answered.as_slice();
-        if !of_fault.is_empty() {
-            out.extend_from_slice(of_fault)?;
-            return Ok(None);
-        }
         let front = DocumentQuery {
             client: asked.client,
             query: asked.query,
             uri: asked.uri,
             text,
         };
-        self.push_result(front, kept, out)?;
+        self.add_result(front, kept, out)?;
         Ok(None)
-    }
-
-    fn refusal(
-        &self,
-        client: Client,
-        asked: Query,
-        text: &[u8],
-        kept: &KeptRun<BoundedCluster>,
-    ) -> Result<Option<&'static str>, AllocError> {
-        let mut meter = WorkMeter::new(2 * MAX_WORK);
-        refusal(self.alloc, client, asked, text, &kept.run, &mut meter)
-    }
-
-    fn push_found(
-        &self,
-        client: Client,
-        wanted: &[u8],
-        uri: &[u8],
-        text: &[u8],
-        out: &mut Vec<u8>,
-    ) -> Result<(), AllocError> {
-        let search = SymbolSearch {
-            encoding: client.encoding,
-            wanted,
-            uri,
-            text,
-        };
-        push_read_found(self.alloc, out, search)
     }
 }
 
-// Whether a request needs the run of its text.
+// Says whether the run of the text is needed for what is asked.
 fn needs_run(asked: Query) -> bool
     ensures { result ≡ needs_run asked }
 {
@@ -168,8 +126,8 @@ fn needs_run(asked: Query) -> bool
 }
 
 impl Bench {
-    // Appends the result of a request about a text whose run ended.
-    fn push_result(
+    // Adds the result of a request by a text that was run whole. Showing a directive takes some more work.
+    fn add_result(
         &self,
         asked: DocumentQuery<'_, '_>,
         kept: &KeptRun<BoundedCluster>,
@@ -191,38 +149,34 @@ impl Bench {
         };
         match asked.query {
             Query::CodeAction(range) => {
-                push_actions(alloc, out, document, range, run, &mut meter)
+                add_actions(alloc, out, document, range, run, &mut meter)
             }
-            Query::Formatting => push_formatting(alloc, out, encoding, text),
+            Query::Formatting => add_formatting(alloc, out, encoding, text),
             Query::RangeFormatting(range) => {
-                push_range_formatting(alloc, out, encoding, text, range)
+                add_range_formatting(alloc, out, encoding, text, range)
             }
-            Query::Hover(position) => push_hover(alloc, out, document, position, run, &mut meter),
+            Query::Hover(position) => add_hover(alloc, out, document, position, run, &mut meter),
             Query::Completion(position) => {
                 let place = AskedPlace {
                     client,
                     text,
                     position,
                 };
-                push_completions(alloc, out, place, run, &mut meter)
+                add_completions(alloc, out, place, run, &mut meter)
             }
-            Query::FoldingRange => push_read_folds(alloc, out, text),
-            Query::DocumentSymbol => push_read_symbols(alloc, out, encoding, text),
-            Query::Definition(position) => push_definition(alloc, out, document, position),
+            Query::FoldingRange => add_folds(alloc, out, text),
+            Query::DocumentSymbol => add_symbols(alloc, out, encoding, text),
+            Query::Definition(position) => add_definition(alloc, out, document, position),
             Query::References(position, includes) => {
-                push_references(alloc, out, document, position, includes)
+                add_references(alloc, out, document, position, includes)
             }
-            Query::DocumentHighlight(position) => push_highlights(alloc, out, document, position),
-            Query::CodeLens => push_lenses(alloc, out, client, document, run, &mut meter),
+            Query::DocumentHighlight(position) => add_highlights(alloc, out, document, position),
+            Query::CodeLens => add_lenses(alloc, out, client, document, run, &mut meter),
             Query::InlayHint(range) => {
-                push_hints(alloc, out, client, (text, range), run, &mut meter)
+                add_hints(alloc, out, client, (text, range), run, &mut meter)
             }
-            Query::SelectionRange(position) => push_selection(alloc, out, encoding, text, position),
-            Query::PrepareRename(position) => {
-                push_prepared_rename(alloc, out, encoding, text, position)
-            }
-            Query::Rename(position, new) => push_rename(alloc, out, document, position, new),
-            Query::Rows(span) => push_rows(alloc, out, document, span, run, &mut meter),
+            Query::SelectionRange(position) => add_selection(alloc, out, encoding, text, position),
+            Query::Rows(span) => add_rows(alloc, out, document, span, run, &mut meter),
         }
     }
 }

@@ -77,7 +77,6 @@ impl<L: RaftLog> Observer<L> for CountedLines {
         Ok(())
     }
 
-    // Counts nothing: a node's state is no item.
     fn settle(&mut self, _id: u64, _node: &Node<L>) -> Result<(), AllocError> {
         Ok(())
     }
@@ -105,7 +104,7 @@ impl BoundedCluster {
     ghost use Rattle.rb_machine.specs.Outcome.{execution, lines_at, shown_items};
     ghost use Rattle.rb_editor.specs.Work.{work_after};
 
-    /// Gives up the bound.
+    /// The cluster alone.
     pub(crate) fn into_cluster(self) -> Cluster<SplitLog>
         ensures { result ≡ self.cluster }
     {

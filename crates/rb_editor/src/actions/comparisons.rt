@@ -55,7 +55,7 @@ impl Comparison {
         }
     }
 
-    // Whether it is the diff of these lines.
+    // Whether it compares these lines.
     fn is_of(&self, expected: &Lines, output: &Lines) -> bool
         ensures expected { IsTrue result → self.now.expected ≡ expected.now }
         ensures output { IsTrue result → self.now.output ≡ output.now }
@@ -75,7 +75,7 @@ pub(crate) struct Comparisons {
 }
 
 impl Comparisons {
-    /// No diffs are kept.
+    /// Keeps nothing.
     pub(crate) fn none(alloc: Global) -> Comparisons {
         Comparisons {
             old: Vec::new(alloc),
@@ -130,8 +130,8 @@ impl Comparisons {
         found
     }
 
-    /// Keeps a diff of these lines for the next text. If memory is refused, it is dropped.
-    pub(crate) fn retain(&mut self, diff: Diff, expected: &Lines, output: &Lines)
+    /// Keeps the diff of these lines for the next text. If memory is refused, it isn't kept.
+    pub(crate) fn keep(&mut self, diff: Diff, expected: &Lines, output: &Lines)
         requires { IsDiffOf diff.left expected.now output.now diff }
     {
         if let Ok(comparison) = Comparison::new(diff, expected, output) {

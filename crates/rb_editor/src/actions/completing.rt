@@ -5,7 +5,7 @@ ghost use Rattle.rb_lsp.specs.declared.document.limits.TheConstants.{MAX_TEXT};
 ghost use Rattle.rb_editor.specs.Completing.{complete, nodes_above, nodes_at};
 
 use crate::actions::run::DocumentRun;
-use crate::offers::{CompletionPlace, push_completion};
+use crate::offers::{CompletionPlace, add_completion};
 use rb_lsp::document::Position;
 use rb_lsp::server::Client;
 use rb_machine::{Count, Machine};
@@ -14,7 +14,6 @@ use rb_script::{Script, ScriptFault};
 use rb_view::look::{Nodes, nodes_after};
 use std::alloc::{AllocError, Global};
 
-// The session of the kept run, if there is one.
 fn session_of<M: Machine>(kept: &Option<DocumentRun<M>>) -> Option<&Session<M>> {
     match kept {
         Some(run) => Some(run.session()),
@@ -22,8 +21,8 @@ fn session_of<M: Machine>(kept: &Option<DocumentRun<M>>) -> Option<&Session<M>> 
     }
 }
 
-/// How many nodes the cluster has after a text: none if the text isn't a script. Runs from the last checkpoint that the kept session shares with it.
-pub(crate) fn nodes_above<M: Nodes>(
+// Counts the nodes after a text, from the last checkpoint that the kept session has on the way; none if the text isn't a script.
+fn nodes_above<M: Nodes>(
     alloc: Global,
     text: &[u8],
     kept: &Option<DocumentRun<M>>,
@@ -39,7 +38,7 @@ pub(crate) fn nodes_above<M: Nodes>(
     }
 }
 
-// How many nodes the cluster has above the block of a place, if ids can be offered there; else 0.
+// Counts the nodes above the block of a place, if ids are offered there.
 fn nodes_at<M: Nodes>(
     alloc: Global,
     text: &[u8],
@@ -65,9 +64,10 @@ pub(crate) struct AskedPlace<'t> {
     pub(crate) position: Position,
 }
 
-/// Appends the words that a document can continue with at a position. Ids are those of the cluster after the directives above.
+/// Adds the words that a document can continue with at a position. The ids of nodes are those of the cluster after the directives above, which
+/// the kept session runs from its last checkpoint that they share.
 #[tactic(auto, unfolding(crate::specs::Completing::complete))]
-pub(crate) fn push_completions<M: Nodes>(
+pub(crate) fn add_completions<M: Nodes>(
     alloc: Global,
     out: &mut Vec<u8>,
     asked: AskedPlace<'_>,
@@ -85,5 +85,5 @@ pub(crate) fn push_completions<M: Nodes>(
     } = asked;
     let place = CompletionPlace::find(alloc, client.encoding, text, position)?;
     let nodes = nodes_at(alloc, text, &place, kept, meter)?;
-    push_completion(alloc, out, client, text, &place, nodes)
+    add_completion(alloc, out, client, text, &place, nodes)
 }

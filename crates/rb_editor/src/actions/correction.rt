@@ -13,14 +13,14 @@ ghost use Rattle.rb_editor.specs.Layouts.{IsLayout};
 use crate::actions::document::AskedDocument;
 use crate::actions::extent::{LineSpan, extent_of, has_line};
 use crate::actions::layout::ScriptLayout;
-use crate::offers::push_range_member;
-use rb_help::{suggested_word, wrong_word};
-use rb_lsp::document::{Position, PositionTable, offset, position_of};
+use crate::offers::add_range_member;
+use rb_lsp::document::{LineTable, Position, offset, position_of};
 use rb_machine::Machine;
 use rb_replay::Session;
+use rb_report::help::{suggested_word, wrong_word};
 use rb_script::{Block, DirectiveRef, Lines, is_space};
 use rb_script_report::{block_at, number_at};
-use rb_text::{Json, Piece, push_pieces};
+use rb_text::{Json, Piece, add_pieces};
 use std::alloc::{AllocError, Global};
 
 /// Whether the byte ends a word of a head.
@@ -30,7 +30,7 @@ pub(crate) fn ends_word(b: u8) -> bool
     is_space(b) || b == b'=' || b == b'(' || b == b')' || b == b','
 }
 
-// The column at which a word begins in a line, if it is in it.
+// Finds where the word begins in a line.
 fn word_column(word: &[u8], line: &[u8]) -> Option<usize>
     ensures { result ≡ word_column word.now line.now }
 {
@@ -53,7 +53,7 @@ fn word_column(word: &[u8], line: &[u8]) -> Option<usize>
 // The position of a column of a line, counted in bytes.
 fn column_at(
     document: AskedDocument<'_, '_>,
-    table: &PositionTable,
+    table: &LineTable,
     line: usize,
     column: usize,
 ) -> Position
@@ -66,9 +66,9 @@ fn column_at(
     position_of(document.encoding, at, document.text)
 }
 
-// Appends the edit that replaces the text between two positions by a word.
+// Adds the edit that puts a word in place of another, which begins at a column of a line.
 #[tactic(auto, unfolding(crate::specs::Corrections::replacement_edit))]
-fn push_replacement(
+fn add_replacement(
     out: &mut Vec<u8>,
     start: Position,
     end: Position,
@@ -76,8 +76,8 @@ fn push_replacement(
 ) -> Result<(), AllocError>
     ensures { OnOk result (out.new.items ≡ out.old.items ++ replacement_edit start end word.now) }
 {
-    push_range_member(out, start, end)?;
-    push_pieces(
+    add_range_member(out, start, end)?;
+    add_pieces(
         out,
         &[
             Piece::Bytes(b",\"newText\":\""),
@@ -87,7 +87,7 @@ fn push_replacement(
     )
 }
 
-// The action that replaces the text between two positions by a word.
+// Makes the action that puts a word in place of another of a line.
 #[tactic(auto, unfolding(crate::specs::Corrections::replacement_text))]
 fn replacement<'a>(
     alloc: Global,
@@ -99,7 +99,7 @@ fn replacement<'a>(
     ensures { IfOk result (λ text. text.items ≡ replacement_text document.entry.uri.now start end word.now) }
 {
     let mut out = Vec::new(alloc);
-    push_pieces(
+    add_pieces(
         &mut out,
         &[
             Piece::Bytes(b"{\"title\":\"Replace with "),
@@ -109,15 +109,15 @@ fn replacement<'a>(
             Piece::Bytes(b"\":["),
         ],
     )?;
-    push_replacement(&mut out, start, end, word)?;
+    add_replacement(&mut out, start, end, word)?;
     Ok(out)
 }
 
-// The quick fix of a directive: it replaces a wrong word by the one that was probably meant. Empty if there is none.
+// Makes the quick fix of a directive whose head begins on a line, counted from 0, with these bytes; empty if there is none.
 fn directive_correction(
     alloc: Global,
     document: AskedDocument<'_, '_>,
-    table: &PositionTable,
+    table: &LineTable,
     line: usize,
     front: &[u8],
     directive: &DirectiveRef<'_>,
@@ -138,7 +138,7 @@ fn directive_correction(
     replacement(alloc, document, start, end, word)
 }
 
-// The quick fix of a block, if it has one of the lines; else empty.
+// Makes the quick fix of a block whose head begins on the line, which counts from 1, if it has one of the lines; else empty.
 fn correction(
     alloc: Global,
     document: AskedDocument<'_, '_>,
@@ -179,7 +179,7 @@ fn line_or_none(lines: &Lines, index: usize) -> &[u8]
     }
 }
 
-/// The quick fix of the first directive on these lines that has one; empty if none has.
+/// Makes the quick fix of the first refused directive on these lines of which a word that was probably meant is known; empty if there is none.
 pub(crate) fn corrections<M: Machine>(
     alloc: Global,
     document: AskedDocument<'_, '_>,

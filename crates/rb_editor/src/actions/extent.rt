@@ -1,4 +1,4 @@
-//! The lines that a directive takes in its text.
+//! The lines of a directive.
 
 ghost use Rattle.std.specs.Prelude.{◌≡◌};
 ghost use Rattle.rb_editor.specs.BlockLines.{StandsIn};

@@ -1,4 +1,4 @@
-//! The diagnostic of one directive that ran: a mismatch, or an unexpected error.
+//! The diagnostic of a directive that ran.
 
 ghost use Rattle.std.specs.Prelude.{◌≡◌, ◌++◌, not, IfOk, OnOk};
 ghost use Rattle.rb_report.specs.Diffs.{left_after};
@@ -12,16 +12,16 @@ ghost use Rattle.rb_editor.specs.Findings.{diff_message, error_output, finding, 
 use crate::actions::actual_output::actual_output_of;
 use crate::actions::comparisons::{Comparisons, Diff};
 use crate::actions::diagnostic::{Diagnostic, DiagnosticKind};
-use crate::actions::front::{common_front, marked_at, push_opening};
+use crate::actions::front::{add_opening, common_front, marked_at};
 use crate::offers::BlockLines;
-use rb_help::suggested;
-use rb_report::{Colors, Hint, Table, write_diff_within};
+use rb_report::check::{Colors, Hint, Table, put_diff_within};
+use rb_report::help::suggested;
 use rb_script::{Block, Lines, Through};
 use rb_script_report::{first_line, is_unexpected};
-use rb_text::{Piece, push_pieces};
+use rb_text::{Piece, add_pieces};
 use std::alloc::{AllocError, Global};
 
-// The diff of a mismatch as `check` shows it, without the last line end. Takes its cells off those that are left.
+// Makes the diff that `check` shows, without the end of its last line. It takes its cells off those that are left.
 fn diff_message(
     alloc: Global,
     table: &mut Table,
@@ -32,7 +32,7 @@ fn diff_message(
     ensures left { OnOk result (table.new.left ≡ left_after table.old.left expected.now output.now) }
 {
     let mut sink = Through(Vec::new(alloc));
-    let Ok(()) = write_diff_within(&mut sink, table, expected, output, Colors::Off) else {
+    let Ok(()) = put_diff_within(&mut sink, table, expected, output, Colors::Off) else {
         return Err(AllocError);
     };
     let mut message = sink.0;
@@ -40,7 +40,7 @@ fn diff_message(
     Ok(message)
 }
 
-// The diff of a mismatch, with how many cells were left before it and how many it took.
+// Makes the same diff, with the numbers of cells that were left and that it took.
 fn compared(
     alloc: Global,
     table: &mut Table,
@@ -60,7 +60,7 @@ fn compared(
     })
 }
 
-// The diff of a mismatch: a kept one, or a new one. Either way its cells are taken off those that are left.
+// Takes the same diff from the kept ones, or makes it. Either way its cells are taken off those that are left.
 fn known_or_compared(
     alloc: Global,
     table: &mut Table,
@@ -81,8 +81,8 @@ fn known_or_compared(
     }
 }
 
-// Appends the diff of a mismatch to its message, and keeps the diff for the next text.
-fn push_diff(
+// Adds the same diff to a message, and keeps it.
+fn add_diff(
     alloc: Global,
     message: &mut Vec<u8>,
     table: &mut Table,
@@ -95,17 +95,17 @@ fn push_diff(
 {
     let diff = known_or_compared(alloc, table, comparisons, expected, output)?;
     message.extend_from_slice(diff.text.as_slice())?;
-    comparisons.retain(diff, expected, output);
+    comparisons.keep(diff, expected, output);
     Ok(())
 }
 
-// Appends a hint to a message, on a line of its own.
-fn push_hint(message: &mut Vec<u8>, hint: Hint<'_>) -> Result<(), AllocError>
+// Adds a hint, on a line of its own.
+fn add_hint(message: &mut Vec<u8>, hint: Hint<'_>) -> Result<(), AllocError>
     ensures { OnOk result (message.new.items ≡ message.old.items ++ hint_end (plain_hint hint.entry)) }
 {
     match hint {
         Hint::Unknown => Ok(()),
-        Hint::Meant(word) => push_pieces(
+        Hint::Meant(word) => add_pieces(
             message,
             &[
                 Piece::Bytes(b"\ndid you mean \""),
@@ -114,12 +114,12 @@ fn push_hint(message: &mut Vec<u8>, hint: Hint<'_>) -> Result<(), AllocError>
             ],
         ),
         Hint::Sentence(sentence) => {
-            push_pieces(message, &[Piece::Bytes(b"\n"), Piece::Bytes(sentence)])
+            add_pieces(message, &[Piece::Bytes(b"\n"), Piece::Bytes(sentence)])
         }
     }
 }
 
-// The message of a mismatch: the first lines that differ, the diff, and a hint.
+// Makes a message: the first lines that differ, the diff, and a hint.
 fn mismatch_message(
     alloc: Global,
     table: &mut Table,
@@ -132,18 +132,18 @@ fn mismatch_message(
 {
     let expected = block.expected();
     let mut message = Vec::new(alloc);
-    push_opening(
+    add_opening(
         &mut message,
         common_front(expected, output),
         expected,
         output,
     )?;
-    push_diff(alloc, &mut message, table, comparisons, expected, output)?;
-    push_hint(&mut message, suggested(&block.directive()))?;
+    add_diff(alloc, &mut message, table, comparisons, expected, output)?;
+    add_hint(&mut message, suggested(&block.directive()))?;
     Ok(message)
 }
 
-// Whether a mismatch is the first one or a later one: its head is below the first one's.
+// The kind of a mismatch whose head is on a line: a later one if the first is above.
 fn mismatch_kind(first: usize, line: usize) -> DiagnosticKind
     ensures { result ≡ mismatch_kind first line }
 {
@@ -185,7 +185,6 @@ fn mismatch(
     })
 }
 
-// The diagnostic of an error that no comment expects.
 fn error_output(
     alloc: Global,
     line: usize,
@@ -195,7 +194,7 @@ fn error_output(
     ensures { IfOk result (λ d. d ≡ error_output line block.now output.now) }
 {
     let mut message = Vec::from_slice(alloc, first_line(output))?;
-    push_hint(&mut message, suggested(&block.directive()))?;
+    add_hint(&mut message, suggested(&block.directive()))?;
     Ok(Diagnostic {
         line,
         kind: DiagnosticKind::ErrorOutput,
@@ -204,7 +203,8 @@ fn error_output(
     })
 }
 
-/// The diagnostic of a directive that ran, if it has one. `first` is the line of the first mismatch's head.
+/// Makes the diagnostic of a directive, if it has one, with the cells that the directives before it left. The head of the first mismatch is on a
+/// line that is known.
 #[tactic(auto, unfolding(crate::specs::Findings::finding))]
 pub(crate) fn finding(
     alloc: Global,

@@ -1,4 +1,4 @@
-//! The diagnostics of a whole script that ran, and that of a text that isn't a script.
+//! The diagnostics of a script that ran, and of a text that isn't a script.
 
 ghost use Rattle.std.specs.Prelude.{◌≡◌, ◌+◌, ◌<◌, ◌≤◌, ◌^◌, ◌++◌, [], ◌∷◌, if◌then◌else◌, IfOk, OnOk, length, drop, map, slice_index_or};
 ghost use Rattle.rb_script.specs.HeadLines.{AreHeadLines};
@@ -17,13 +17,13 @@ use crate::actions::quiet::is_quiet;
 use crate::actions::run::DocumentRun;
 use rb_machine::{Count, Machine};
 use rb_replay::Session;
-use rb_report::{MAX_SCRIPT_CELLS, Table, fault_line, sentence, warning_sentence};
+use rb_report::check::{MAX_SCRIPT_CELLS, Table, fault_line, sentence, warning_sentence};
 use rb_script::{Lines, ScriptFault, ScriptWithLines};
 use rb_script_report::{Warning, block_at, number_at, output_at};
 use std::alloc::{AllocError, Global};
 
 // Adds a diagnostic, if there is one.
-fn push_if_some(list: &mut Vec<Diagnostic>, found: Option<Diagnostic>) -> Result<(), AllocError>
+fn keep(list: &mut Vec<Diagnostic>, found: Option<Diagnostic>) -> Result<(), AllocError>
     ensures { OnOk result (list.new.items ≡ list.old.items ++ before found []) }
 {
     match found {
@@ -32,7 +32,7 @@ fn push_if_some(list: &mut Vec<Diagnostic>, found: Option<Diagnostic>) -> Result
     }
 }
 
-// Whether the next of these places is this one.
+// Says whether a place is the next of these.
 fn is_next(places: &[usize], next: usize, place: usize) -> bool
     ensures { result ≡ stands_first place (drop next places.now) }
 {
@@ -42,8 +42,8 @@ fn is_next(places: &[usize], next: usize, place: usize) -> bool
     }
 }
 
-// The index of the next place: one more if the last one was taken.
-fn index_after(next: usize, is_taken: bool) -> usize
+// Gives the index of the next place, after the last was taken or not.
+fn behind(next: usize, is_taken: bool) -> usize
     requires { next < 2 ^ 63 }
     ensures value { result ≡ (if is_taken then next + 1 else next) }
     ensures most { result ≤ next + 1 }
@@ -51,7 +51,7 @@ fn index_after(next: usize, is_taken: bool) -> usize
     if is_taken { next + 1 } else { next }
 }
 
-// The line of the head at the first of these places; 0 if there is none.
+// Finds the line of the head at the first of these places, which count from 1; 0 if there is none.
 fn first_head(heads: &[usize], places: &[usize]) -> usize
     ensures { result ≡ first_head heads.now places.now }
 {
@@ -72,8 +72,9 @@ fn number_or_none(numbers: &[usize], index: usize) -> usize
     }
 }
 
-// The diagnostics of a script's directives, if some have one: it goes over the directives and the session's mismatches side by side.
-fn diagnostics_of_directives<M: Machine>(
+// Makes the diagnostics of the directives of a script that ran, by its lines and the lines of its heads. The session knows the mismatches. The
+// table has the cells that are left to compare outputs.
+fn each_finding<M: Machine>(
     alloc: Global,
     table: &mut Table,
     comparisons: &mut Comparisons,
@@ -100,19 +101,20 @@ fn diagnostics_of_directives<M: Machine>(
             output,
         };
         let found = finding(alloc, table, comparisons, text, first, ran)?;
-        push_if_some(&mut list, found)?;
-        next = index_after(next, differs);
+        keep(&mut list, found)?;
+        next = behind(next, differs);
     }
     Ok(list)
 }
 
-/// The diagnostics of a script's directives. The table has the cells that are left to compare outputs.
+/// Makes the diagnostics of the directives of a script that ran, by its lines and the lines of its heads. The table has the cells that are left to
+/// compare outputs.
 ///
 /// # Errors
 ///
 /// If memory was refused.
 #[tactic(auto, using(crate::proofs::QuietLaws::nothing_said))]
-pub(crate) fn diagnostics_of_session<M: Machine>(
+pub(crate) fn of_session<M: Machine>(
     alloc: Global,
     table: &mut Table,
     comparisons: &mut Comparisons,
@@ -126,11 +128,11 @@ pub(crate) fn diagnostics_of_session<M: Machine>(
     if is_quiet(session) {
         return Ok(Vec::new(alloc));
     }
-    diagnostics_of_directives(alloc, table, comparisons, session, text, heads)
+    each_finding(alloc, table, comparisons, session, text, heads)
 }
 
-// The diagnostic of a line that looks like a mistake.
-fn warning_diagnostic(alloc: Global, warning: &Warning) -> Result<Diagnostic, AllocError>
+// Makes the diagnostic of a line that looks like a mistake.
+fn slip(alloc: Global, warning: &Warning) -> Result<Diagnostic, AllocError>
     ensures { IfOk result (λ d. d ≡ slip warning.now) }
 {
     Ok(Diagnostic {
@@ -141,24 +143,20 @@ fn warning_diagnostic(alloc: Global, warning: &Warning) -> Result<Diagnostic, Al
     })
 }
 
-// Appends the diagnostics of lines that look like mistakes.
-fn push_warnings(
-    alloc: Global,
-    list: &mut Vec<Diagnostic>,
-    slips: &[Warning],
-) -> Result<(), AllocError>
+// Adds the diagnostics of lines that look like a mistake.
+fn add_slips(alloc: Global, list: &mut Vec<Diagnostic>, slips: &[Warning]) -> Result<(), AllocError>
     ensures { OnOk result (list.new.items ≡ list.old.items ++ map slip slips.now) }
 {
     for warning in slips {
-        let found = warning_diagnostic(alloc, warning)?;
-        push_if_some(list, Some(found))?;
+        let found = slip(alloc, warning)?;
+        keep(list, Some(found))?;
     }
     Ok(())
 }
 
-// The diagnostics of a document whose text was read as this script. The kept session runs it, and is kept again.
+// Makes the diagnostics of a document whose text reads as this.
 #[tactic(auto, using(crate::proofs::RunLaws::heads_by))]
-fn diagnostics_of_script<M: Machine>(
+fn of_read<M: Machine>(
     alloc: Global,
     document: AskedDocument<'_, '_>,
     table: &mut Table,
@@ -174,42 +172,28 @@ fn diagnostics_of_script<M: Machine>(
     ensures { IfOk result (λ list. list.items ≡ diagnostics_of document.entry.text.now) }
 {
     let last = kept.take();
-    let mut run = DocumentRun::of_script(
-        alloc,
-        document.encoding,
-        last,
-        document.text,
-        read,
-        meter,
-    )?;
+    let mut run = DocumentRun::of_read(alloc, document.encoding, last, document.text, read, meter)?;
     let mut comparisons = run.take_comparisons(alloc);
     let layout = run.layout();
     let heads = layout.script.heads.as_slice();
     // Each list of diagnostics has all cells of a script.
     table.left = MAX_SCRIPT_CELLS;
     let text = &layout.script.text;
-    let mut list = diagnostics_of_session(
-        alloc,
-        table,
-        &mut comparisons,
-        run.session(),
-        text,
-        heads,
-    )?;
-    push_warnings(alloc, &mut list, layout.slips.as_slice())?;
-    run.retain_comparisons(comparisons);
+    let mut list = of_session(alloc, table, &mut comparisons, run.session(), text, heads)?;
+    add_slips(alloc, &mut list, layout.slips.as_slice())?;
+    run.keep_comparisons(comparisons);
     *kept = Some(run);
     Ok(list)
 }
 
-/// The diagnostics of a document's text: those of one fresh run, found by the kept one. If the text isn't a script, the kept run stays for the next
-/// text that is one.
+/// Makes the diagnostics of the text of a document: those of one fresh run, found by the kept one. If the text isn't a script, the kept run stays
+/// for the next that is one.
 ///
 /// # Errors
 ///
 /// If memory was refused. Then no run is kept.
 #[tactic(auto, using(crate::proofs::FindingLaws::of_fault))]
-pub(crate) fn diagnostics_of_document<M: Machine>(
+pub(crate) fn of_document<M: Machine>(
     alloc: Global,
     document: AskedDocument<'_, '_>,
     table: &mut Table,
@@ -221,46 +205,43 @@ pub(crate) fn diagnostics_of_document<M: Machine>(
     ensures { IfOk result (λ list. list.items ≡ diagnostics_of document.entry.text.now) }
 {
     match ScriptWithLines::read(alloc, document.text) {
-        Ok(read) => diagnostics_of_script(alloc, document, table, kept, meter, read),
+        Ok(read) => of_read(alloc, document, table, kept, meter, read),
         Err(ScriptFault::OutOfMemory) => Err(AllocError),
-        Err(fault) => diagnostics_of_fault(alloc, fault),
+        Err(fault) => of_fault(alloc, fault),
     }
 }
 
-/// The diagnostic of a text that isn't a script.
+/// Makes the diagnostic of a text that isn't a script.
 ///
 /// # Errors
 ///
 /// If memory was refused.
-pub(crate) fn fault_diagnostic(alloc: Global, fault: ScriptFault) -> Result<Diagnostic, AllocError>
+pub(crate) fn refused(alloc: Global, fault: ScriptFault) -> Result<Diagnostic, AllocError>
     ensures { IfOk result (λ d. d ≡ refused fault) }
 {
     Ok(Diagnostic {
-        line: line_or_first(fault_line(fault)),
+        line: or_first(fault_line(fault)),
         kind: DiagnosticKind::NoScript,
         message: Vec::from_slice(alloc, sentence(fault))?,
         came: None,
     })
 }
 
-/// The diagnostics of a text that isn't a script: one.
+/// Makes the diagnostics of a text that isn't a script: that one alone.
 ///
 /// # Errors
 ///
 /// If memory was refused.
-pub(crate) fn diagnostics_of_fault(
-    alloc: Global,
-    fault: ScriptFault,
-) -> Result<Vec<Diagnostic>, AllocError>
+pub(crate) fn of_fault(alloc: Global, fault: ScriptFault) -> Result<Vec<Diagnostic>, AllocError>
     ensures { IfOk result (λ list. list.items ≡ refused fault ∷ []) }
 {
     let mut list = Vec::new(alloc);
-    list.push(fault_diagnostic(alloc, fault)?)?;
+    list.push(refused(alloc, fault)?)?;
     Ok(list)
 }
 
-/// The line that a fault names; the first line if it names none.
-pub(crate) fn line_or_first(line: Option<usize>) -> usize
+/// The line that a fault names; the first if it names none.
+pub(crate) fn or_first(line: Option<usize>) -> usize
     ensures { result ≡ or_first line }
 {
     line.unwrap_or(1)

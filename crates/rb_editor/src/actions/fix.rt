@@ -1,18 +1,17 @@
-//! Quick fixes of lines that look like a mistake: each inserts the text that is missing above its line.
+//! Quick fixes of lines that look like a mistake: they insert what is missing above.
 
 ghost use Rattle.std.specs.Prelude.{◌≡◌, ◌++◌, OnOk};
 ghost use Rattle.rb_lsp.specs.Tables.{IsTable};
 ghost use Rattle.rb_editor.specs.Actions.{above, first_within, fix_head, fix_if, fix_text, fixes_text, is_within, missing};
 
-use crate::actions::action::push_edit;
+use crate::actions::action::add_edit;
 use crate::actions::extent::{Extent, LineSpan};
-use rb_lsp::document::{Encoding, PositionTable};
-use rb_report::WarningKind;
+use rb_lsp::document::{Encoding, LineTable};
+use rb_report::check::WarningKind;
 use rb_script_report::Warning;
-use rb_text::{Json, Piece, push_pieces};
+use rb_text::{Json, Piece, add_pieces};
 use std::alloc::AllocError;
 
-// Whether a warning is on one of these lines.
 fn is_within(span: LineSpan, slip: &Warning) -> bool
     ensures { result ≡ is_within span slip.now }
 {
@@ -20,7 +19,7 @@ fn is_within(span: LineSpan, slip: &Warning) -> bool
     span.first <= line && line <= span.last
 }
 
-/// The first warning on these lines.
+/// Finds the first on these lines.
 pub(crate) fn first_within(span: LineSpan, slips: &[Warning]) -> Option<Warning>
     ensures { result ≡ first_within span slips.now }
 {
@@ -32,7 +31,7 @@ pub(crate) fn first_within(span: LineSpan, slips: &[Warning]) -> Option<Warning>
     None
 }
 
-// The text that a quick fix inserts above a line.
+// The text that is missing above a line.
 #[tactic(auto, unfolding(crate::specs::Actions::missing))]
 fn missing(doubt: WarningKind) -> &'static [u8]
     ensures { result.now ≡ missing doubt }
@@ -44,7 +43,6 @@ fn missing(doubt: WarningKind) -> &'static [u8]
     }
 }
 
-// The title and kind of a quick fix.
 #[tactic(auto, unfolding(crate::specs::Actions::fix_head))]
 fn fix_head(doubt: WarningKind) -> &'static [u8]
     ensures { result.now ≡ fix_head doubt }
@@ -62,7 +60,7 @@ fn fix_head(doubt: WarningKind) -> &'static [u8]
     }
 }
 
-// The empty extent above a line, counted from 0.
+// The place above a line, counted from 0.
 fn above(line: usize) -> Extent
     ensures { result ≡ above line }
 {
@@ -74,20 +72,20 @@ fn above(line: usize) -> Extent
     }
 }
 
-// Appends the quick fix of a warning: it inserts the missing text above the line.
+// Adds an action that inserts what is missing above the line.
 #[tactic(auto, unfolding(crate::specs::Actions::fix_text))]
-fn push_fix(
+fn add_fix(
     out: &mut Vec<u8>,
     encoding: Encoding,
     uri: &[u8],
     text: &[u8],
-    table: &PositionTable,
+    table: &LineTable,
     slip: Warning,
 ) -> Result<(), AllocError>
     requires { IsTable encoding text.now table.now }
     ensures { OnOk result (out.new.items ≡ out.old.items ++ fix_text encoding uri.now text.now slip) }
 {
-    push_pieces(
+    add_pieces(
         out,
         &[
             Piece::Bytes(fix_head(slip.doubt)),
@@ -96,42 +94,41 @@ fn push_fix(
         ],
     )?;
     let place = above(slip.line.saturating_sub(1));
-    push_edit(out, encoding, text, table, place, missing(slip.doubt))?;
+    add_edit(out, encoding, text, table, place, missing(slip.doubt))?;
     out.extend_from_slice(b"]}}}")
 }
 
-// Appends the quick fix of a warning, if there is one.
-fn push_fix_if_some(
+fn add_if(
     out: &mut Vec<u8>,
     encoding: Encoding,
     uri: &[u8],
     text: &[u8],
-    table: &PositionTable,
+    table: &LineTable,
     found: Option<Warning>,
 ) -> Result<(), AllocError>
     requires { IsTable encoding text.now table.now }
     ensures { OnOk result (out.new.items ≡ out.old.items ++ fix_if encoding uri.now text.now found) }
 {
     match found {
-        Some(slip) => push_fix(out, encoding, uri, text, table, slip),
+        Some(slip) => add_fix(out, encoding, uri, text, table, slip),
         None => Ok(()),
     }
 }
 
-/// Appends the quick fix of a warning as a list, which is empty if there is no warning.
+/// Adds the quick fix of a line as a list, which is empty if there is none.
 #[tactic(auto, unfolding(crate::specs::Actions::fixes_text))]
-pub(crate) fn push_fixes(
+pub(crate) fn add_fixes(
     out: &mut Vec<u8>,
     encoding: Encoding,
     uri: &[u8],
     text: &[u8],
-    table: &PositionTable,
+    table: &LineTable,
     found: Option<Warning>,
 ) -> Result<(), AllocError>
     requires { IsTable encoding text.now table.now }
     ensures { OnOk result (out.new.items ≡ out.old.items ++ fixes_text encoding uri.now text.now found) }
 {
     out.extend_from_slice(b"[")?;
-    push_fix_if_some(out, encoding, uri, text, table, found)?;
+    add_if(out, encoding, uri, text, table, found)?;
     out.extend_from_slice(b"]")
 }

@@ -1,4 +1,4 @@
-//! The first line at which an output differs from its expectation.
+//! Where an output first differs from the expectation.
 
 ghost use Rattle.std.specs.Prelude.{◌≡◌, ◌≤◌, ◌++◌, IsTrue, OnOk, length, slice_get};
 ghost use Rattle.std.specs.Str.{bytes_eq};
@@ -15,7 +15,7 @@ fn is_same_line(one: &[u8], other: &[u8]) -> bool
     one == other
 }
 
-/// How many lines an expectation and an output share at the beginning.
+/// Counts the lines that both share at the beginning.
 pub(crate) fn common_front(expected: &Lines, output: &Lines) -> usize
     ensures { result ≡ common_front expected.now output.now }
 {
@@ -28,13 +28,8 @@ pub(crate) fn common_front(expected: &Lines, output: &Lines) -> usize
     count
 }
 
-// Appends a mark and the line at an index, if there is such a line.
-fn push_marked(
-    out: &mut Vec<u8>,
-    mark: &[u8],
-    lines: &Lines,
-    index: usize,
-) -> Result<(), AllocError>
+// Adds a mark and the line at an index, if there is one.
+fn add_marked(out: &mut Vec<u8>, mark: &[u8], lines: &Lines, index: usize) -> Result<(), AllocError>
     ensures { OnOk result (out.new.items ≡ out.old.items ++ marked_line mark.now (slice_get lines.now index)) }
 {
     if index >= lines.len() {
@@ -45,8 +40,8 @@ fn push_marked(
     out.extend_from_slice(b"\n")
 }
 
-/// Appends the first lines that differ, as the beginning of a message. If no line is equal, appends nothing: the diff begins with them.
-pub(crate) fn push_opening(
+/// Adds the first lines that differ, after this many equal ones. If no line is equal, adds nothing: the diff then begins with them.
+pub(crate) fn add_opening(
     out: &mut Vec<u8>,
     front: usize,
     expected: &Lines,
@@ -57,12 +52,13 @@ pub(crate) fn push_opening(
     if front == 0 {
         return Ok(());
     }
-    push_marked(out, b"- ", expected, front)?;
-    push_marked(out, b"+ ", output, front)?;
+    add_marked(out, b"- ", expected, front)?;
+    add_marked(out, b"+ ", output, front)?;
     out.extend_from_slice(b"\n")
 }
 
-/// The line, counted from 1, at which an editor marks a mismatch: the first expected line that differs, or else the last line of the expectation.
+/// Finds the line of a block, counted from 1, on which a mismatch is marked: the first expected line that differs, or else the last line of the
+/// expectation.
 pub(crate) fn marked_at(text: &Lines, lines: BlockLines, expected: &Lines, output: &Lines) -> usize
     ensures { result ≡ marked_at text.now lines expected.now output.now }
 {

@@ -1,4 +1,4 @@
-//! Hovers: the output of the directive at a position with its reasons, and the cluster after it.
+//! Hover: what is shown of a position in a script.
 
 ghost use Rattle.std.specs.Prelude.{◌≡◌, ◌+◌, ◌≤◌, ◌^◌, ◌++◌, Some, IfOk, OnOk, length, slice_get};
 ghost use Rattle.rb_script.specs.declared.limits.TheConstants.{MAX_DIRECTIVES};
@@ -16,17 +16,17 @@ use crate::actions::explain::Explains;
 use crate::actions::extent::{Extent, LineSpan, extent_of, has_line};
 use crate::actions::layout::line_at;
 use crate::actions::run::{DocumentRun, RunView, kept_of};
-use crate::offers::push_range_member;
-use rb_lsp::document::{Encoding, Position, PositionTable};
+use crate::offers::add_range_member;
+use rb_lsp::document::{Encoding, LineTable, Position};
 use rb_machine::{Count, Machine};
 use rb_replay::Session;
 use rb_script::{Block, Lines};
 use rb_script_report::{block_at, number_at, output_at};
-use rb_text::{Json, Piece, push_pieces};
+use rb_text::{Json, Piece, add_pieces};
 use rb_view::look::{look_in, machine_in_session};
 use std::alloc::{AllocError, Global};
 
-// The reason below the line at an index; empty if it has none.
+// Gives the reason below the line at an index; an empty one if there is none.
 fn reason_or_none(reasons: &Lines, index: usize) -> &[u8]
     ensures { below result.now ≡ reason_at reasons.now index }
 {
@@ -37,8 +37,8 @@ fn reason_or_none(reasons: &Lines, index: usize) -> &[u8]
     }
 }
 
-// Appends a line of an output, and its reason below it.
-fn push_explained(
+// Adds a line of an output, and the reason below it.
+fn add_explained(
     out: &mut Vec<u8>,
     reasons: &Lines,
     index: usize,
@@ -52,7 +52,7 @@ fn push_explained(
     if reason.is_empty() {
         return Ok(());
     }
-    push_pieces(
+    add_pieces(
         out,
         &[
             Piece::Bytes(b"^ "),
@@ -62,18 +62,18 @@ fn push_explained(
     )
 }
 
-// An output with its reasons, as a text.
+// Makes a text of an output with its reasons.
 fn explained(alloc: Global, reasons: &Lines, output: &Lines) -> Result<Vec<u8>, AllocError>
     ensures { IfOk result (λ text. text.items ≡ explained reasons.now 0 output.now) }
 {
     let mut out = Vec::new(alloc);
     for i in 0..output.len() {
-        push_explained(&mut out, reasons, i, output.line(i))?;
+        add_explained(&mut out, reasons, i, output.line(i))?;
     }
     Ok(out)
 }
 
-// The text of the hover of a directive: its output with reasons, an empty line, and the cluster after it.
+// Makes the text that is shown of the directive at an index, which counts from 0: its output with reasons, an empty line, and the cluster after it.
 #[tactic(auto, using(crate::proofs::HoverLaws::seen_after))]
 fn shown_at<M: Explains>(
     alloc: Global,
@@ -97,13 +97,13 @@ fn shown_at<M: Explains>(
     Ok(text)
 }
 
-/// Appends a hover: its range is the directive's lines, and this is its text.
+// Adds a text for the lines of a directive.
 #[tactic(auto, unfolding(crate::specs::Hovers::hover_text))]
-pub(crate) fn push_hover_text(
+fn add_hover_text(
     out: &mut Vec<u8>,
     encoding: Encoding,
     text: &[u8],
-    table: &PositionTable,
+    table: &LineTable,
     extent: Extent,
     shown: &[u8],
 ) -> Result<(), AllocError>
@@ -112,8 +112,8 @@ pub(crate) fn push_hover_text(
 {
     let start = table.start_of(extent.head);
     let end = table.start_of(extent.end);
-    push_range_member(out, start, end)?;
-    push_pieces(
+    add_range_member(out, start, end)?;
+    add_pieces(
         out,
         &[
             Piece::Bytes(b",\"contents\":{\"kind\":\"plaintext\",\"value\":\""),
@@ -123,8 +123,8 @@ pub(crate) fn push_hover_text(
     )
 }
 
-// Appends the hover of the directive that has a line, or `null` if none has it.
-fn push_line_hover<M: Explains>(
+// Adds what is shown of a line of a script that ran, whose layout this is.
+fn add_line<M: Explains>(
     alloc: Global,
     out: &mut Vec<u8>,
     run: RunView<'_, M>,
@@ -147,7 +147,7 @@ fn push_line_hover<M: Explains>(
         if has_line(span, extent) {
             let shown = shown_at(alloc, run.session, i, block, output, meter)?;
             let table = &run.layout.table;
-            push_hover_text(out, run.encoding, run.text, table, extent, shown.as_slice())?;
+            add_hover_text(out, run.encoding, run.text, table, extent, shown.as_slice())?;
             return Ok(());
         }
     }
@@ -155,9 +155,9 @@ fn push_line_hover<M: Explains>(
     Ok(())
 }
 
-// Appends the hover of a position, by the run of its script.
+// Adds what is shown of a position in a script that ran.
 #[tactic(auto, using(crate::proofs::HoverLaws::of_run, crate::proofs::RunLaws::layout_by))]
-fn push_position_hover<M: Explains>(
+fn add_position<M: Explains>(
     alloc: Global,
     out: &mut Vec<u8>,
     encoding: Encoding,
@@ -179,13 +179,13 @@ fn push_position_hover<M: Explains>(
         session,
         layout,
     };
-    push_line_hover(alloc, out, view, line, meter)
+    add_line(alloc, out, view, line, meter)
 }
 
-/// Appends the hover of a position in a document: `null` if no directive is there, or the text isn't a script. The kept run is used if it is that
-/// of the text.
+/// Adds what is shown of a position in a document, by the kept run if it is that of its text: `null` if no directive is there, and if the text
+/// isn't a script.
 #[tactic(auto, using(crate::proofs::HoverLaws::of_text, crate::proofs::HoverLaws::of_none))]
-pub(crate) fn push_hover<M: Explains>(
+pub(crate) fn add_hover<M: Explains>(
     alloc: Global,
     out: &mut Vec<u8>,
     document: AskedDocument<'_, '_>,
@@ -199,10 +199,10 @@ pub(crate) fn push_hover<M: Explains>(
 {
     let encoding = document.encoding;
     if let Some(run) = kept_of(kept, encoding, document.text) {
-        return push_position_hover(alloc, out, encoding, position, run, meter);
+        return add_position(alloc, out, encoding, position, run, meter);
     }
     match DocumentRun::<M>::fresh(alloc, encoding, document.text, meter)? {
-        Some(run) => push_position_hover(alloc, out, encoding, position, &run, meter),
+        Some(run) => add_position(alloc, out, encoding, position, &run, meter),
         None => out.extend_from_slice(b"null"),
     }
 }

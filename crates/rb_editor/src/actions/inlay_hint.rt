@@ -12,10 +12,10 @@ ghost use Rattle.rb_editor.specs.Hints.{all_hints, hint_at, hint_place, hint_tex
 
 use crate::actions::action::span_of;
 use crate::actions::extent::LineSpan;
-use crate::actions::leadership::{Leadership, Leads, push_label};
+use crate::actions::leadership::{Leadership, Leads, add_label};
 use crate::actions::run::{DocumentRun, RunView, kept_of};
-use crate::offers::{BlockLines, line_at, push_position};
-use rb_lsp::document::{Encoding, Position, PositionTable, Range};
+use crate::offers::{BlockLines, add_position, line_at};
+use rb_lsp::document::{Encoding, LineTable, Position, Range};
 use rb_lsp::server::Client;
 use rb_machine::{Count, Machine};
 use rb_replay::Session;
@@ -34,7 +34,7 @@ pub(crate) struct InlayHint {
 
 // ---- the hints of a script
 
-// The separator of a directive, if it is one of the lines that are asked for.
+// Gives the line `----` of a directive with these lines, if it is one of the lines that are asked for.
 fn line_within(span: LineSpan, at: BlockLines) -> Option<usize>
     ensures { result ≡ line_within span at }
 {
@@ -46,8 +46,8 @@ fn line_within(span: LineSpan, at: BlockLines) -> Option<usize>
     }
 }
 
-// Appends the hint at the end of a line, if the cluster has nodes.
-fn push_hint_on(
+// Adds the hint on a line, if somebody can lead.
+fn add_hint_on(
     list: &mut Vec<InlayHint>,
     text: &Lines,
     line: usize,
@@ -105,8 +105,8 @@ fn machine_after<M: Machine>(
     }
 }
 
-// Appends the hint of the directive at an index, if its line is asked for, and then returns the machine after it.
-fn push_hint_at<M: Leads>(
+// Adds the hint of the directive at an index, if its line is asked for. Gives the machine after it then.
+fn add_hint_at<M: Leads>(
     list: &mut Vec<InlayHint>,
     run: &RunView<'_, M>,
     last: Option<M>,
@@ -127,11 +127,11 @@ fn push_hint_at<M: Leads>(
         return Ok(None);
     };
     let machine = machine_after(run.session, last, index, meter)?;
-    push_hint_on(list, &run.layout.script.text, line, machine.leadership())?;
+    add_hint_on(list, &run.layout.script.text, line, machine.leadership())?;
     Ok(Some(machine))
 }
 
-// The hints on some lines of a script that ran. Neighbouring directives run once each.
+// Makes the hints on some lines of a script that ran. Of directives one after another each runs once.
 fn hints_in<M: Leads>(
     alloc: Global,
     run: RunView<'_, M>,
@@ -148,7 +148,7 @@ fn hints_in<M: Leads>(
     for i in 0..run.session.len() {
         let head = number_at(all.heads.as_slice(), i);
         let at = BlockLines::of_block(&all.text, head, block_at(run.session, i));
-        last = push_hint_at(&mut list, &run, last, i, line_within(span, at), meter)?;
+        last = add_hint_at(&mut list, &run, last, i, line_within(span, at), meter)?;
     }
     Ok(list)
 }
@@ -156,7 +156,7 @@ fn hints_in<M: Leads>(
 // ---- as they are sent
 
 // The position at which a hint of a text is shown, whose lines are in the table.
-fn hint_place(encoding: Encoding, text: &[u8], table: &PositionTable, hint: InlayHint) -> Position
+fn hint_place(encoding: Encoding, text: &[u8], table: &LineTable, hint: InlayHint) -> Position
     requires { IsTable encoding text.now table.now }
     ensures { result ≡ hint_place encoding text.now hint }
 {
@@ -166,31 +166,31 @@ fn hint_place(encoding: Encoding, text: &[u8], table: &PositionTable, hint: Inla
     }
 }
 
-// Appends a hint as JSON.
-fn push_hint(
+// Adds a hint of a text, whose lines are in the table.
+fn add_hint(
     out: &mut Vec<u8>,
     encoding: Encoding,
     text: &[u8],
-    table: &PositionTable,
+    table: &LineTable,
     hint: InlayHint,
 ) -> Result<(), AllocError>
     requires { IsTable encoding text.now table.now }
     ensures { OnOk result (out.new.items ≡ out.old.items ++ hint_text encoding text.now hint) }
 {
     out.extend_from_slice(b"{\"position\":")?;
-    push_position(out, hint_place(encoding, text, table, hint))?;
+    add_position(out, hint_place(encoding, text, table, hint))?;
     out.extend_from_slice(b",\"label\":\"")?;
-    push_label(out, hint.leadership)?;
+    add_label(out, hint.leadership)?;
     out.extend_from_slice(b"\",\"paddingLeft\":true}")?;
     Ok(())
 }
 
-// Appends hints with commas between them, and the end of their list.
-fn push_each_hint(
+// Adds hints, separated by commas, and the end of the list.
+fn add_all(
     out: &mut Vec<u8>,
     encoding: Encoding,
     text: &[u8],
-    table: &PositionTable,
+    table: &LineTable,
     list: &[InlayHint],
 ) -> Result<(), AllocError>
     requires { IsTable encoding text.now table.now }
@@ -199,32 +199,32 @@ fn push_each_hint(
     let mut lead: &[u8] = b"";
     for hint in list {
         out.extend_from_slice(lead)?;
-        push_hint(out, encoding, text, table, *hint)?;
+        add_hint(out, encoding, text, table, *hint)?;
         lead = b",";
     }
     out.extend_from_slice(b"]")?;
     Ok(())
 }
 
-// Appends hints as a list.
+// Adds hints of a text, as a list.
 #[tactic(auto, unfolding(crate::specs::Texts::list_text))]
-fn push_hint_list(
+fn add_list(
     out: &mut Vec<u8>,
     encoding: Encoding,
     text: &[u8],
-    table: &PositionTable,
+    table: &LineTable,
     list: &[InlayHint],
 ) -> Result<(), AllocError>
     requires { IsTable encoding text.now table.now }
     ensures { OnOk result (out.new.items ≡ out.old.items ++ list_text (hint_text encoding text.now) list.now) }
 {
     out.extend_from_slice(b"[")?;
-    push_each_hint(out, encoding, text, table, list)
+    add_all(out, encoding, text, table, list)
 }
 
-// Appends the hints in a range of a script that ran.
+// Adds the hints on some lines of a script that ran.
 #[tactic(auto, using(crate::proofs::HintLaws::of_run, crate::proofs::RunLaws::layout_by))]
-fn push_hints_of_run<M: Leads>(
+fn add_of_run<M: Leads>(
     alloc: Global,
     out: &mut Vec<u8>,
     encoding: Encoding,
@@ -247,12 +247,12 @@ fn push_hints_of_run<M: Leads>(
     };
     let span = span_of(encoding, range, text);
     let list = hints_in(alloc, view, span, meter)?;
-    push_hint_list(out, encoding, text, &layout.table, list.as_slice())
+    add_list(out, encoding, text, &layout.table, list.as_slice())
 }
 
-// Appends the hints in a range of a text: none if it isn't a script. The kept run is used if it is that of the text.
+// Adds the hints in a range of a text, by the kept run if it is that of the text: none if it isn't a script.
 #[tactic(auto, using(crate::proofs::HintLaws::of_text, crate::proofs::HintLaws::of_none))]
-fn push_all_hints<M: Leads>(
+fn add_all_hints<M: Leads>(
     alloc: Global,
     out: &mut Vec<u8>,
     encoding: Encoding,
@@ -266,10 +266,10 @@ fn push_all_hints<M: Leads>(
 {
     let (text, range) = asked;
     if let Some(run) = kept_of(kept, encoding, text) {
-        return push_hints_of_run(alloc, out, encoding, range, run, meter);
+        return add_of_run(alloc, out, encoding, range, run, meter);
     }
     match DocumentRun::<M>::fresh(alloc, encoding, text, meter)? {
-        Some(run) => push_hints_of_run(alloc, out, encoding, range, &run, meter),
+        Some(run) => add_of_run(alloc, out, encoding, range, &run, meter),
         None => out.extend_from_slice(b"[]"),
     }
 }
@@ -279,7 +279,7 @@ fn push_all_hints<M: Leads>(
 /// # Errors
 ///
 /// If memory was refused. A part of the result may have been added then.
-pub(crate) fn push_hints<M: Leads>(
+pub(crate) fn add_hints<M: Leads>(
     alloc: Global,
     out: &mut Vec<u8>,
     client: Client,
@@ -294,5 +294,5 @@ pub(crate) fn push_hints<M: Leads>(
     if !client.shows_hints {
         return out.extend_from_slice(b"[]");
     }
-    push_all_hints(alloc, out, client.encoding, asked, kept, meter)
+    add_all_hints(alloc, out, client.encoding, asked, kept, meter)
 }

@@ -3,7 +3,7 @@
 ghost use Rattle.std.specs.Prelude.{◌≡◌, ◌≤◌, ◌+◌, ◌*◌, List, ℕ, None, codes, length};
 ghost use Rattle.rb_script.specs.Script.{PlainScript};
 ghost use Rattle.rb_replay.specs.Run.{outputs};
-ghost use Rattle.rb_report.specs.declared.table.TheConstants.{MAX_SCRIPT_CELLS};
+ghost use Rattle.rb_report.specs.declared.check.table.TheConstants.{MAX_SCRIPT_CELLS};
 ghost use Rattle.rb_lsp.specs.declared.server.client.Client.{Client};
 ghost use Rattle.rb_editor.specs.ActionLaws.{AcceptsAsCheckDoes, EditedLinesRead, EditedTextsRead, EditsReplaceLines, IdsAreOfTheCluster, IsQuietText, MakesWhatCheckWrites, TextsHaveOneRun};
 ghost use Rattle.rb_editor.specs.Diagnostics.{PlainDiagnostic};
@@ -29,7 +29,7 @@ pub fn texts_have_one_run()
     ensures { TextsHaveOneRun }
 {}
 
-/// The diagnostics of a script compare at most as many pairs of lines as the report of `check` does: [`rb_report::MAX_SCRIPT_CELLS`]. After that
+/// The diagnostics of a script compare at most as many pairs of lines as the report of `check` does: [`rb_report::check::MAX_SCRIPT_CELLS`]. After that
 /// the lines between the common beginning and the common end of a mismatch are shown whole.
 #[tactic(auto, using(crate::proofs::EachFindingLaws::cells_bounded))]
 pub fn comparing_is_bounded()

@@ -3,14 +3,14 @@
 ghost use Rattle.std.specs.Prelude.{◌≡◌};
 ghost use Rattle.rb_editor.specs.Layouts.{line_at};
 
-use rb_lsp::document::{Encoding, Position, PositionTable, offset};
+use rb_lsp::document::{Encoding, LineTable, Position, offset};
 use rb_script_report::{Layout, Warning};
 
 /// A script's lines and those of its heads, where each line begins in an editor, and the lines that look like a mistake.
 #[derive(Drop)]
 pub(crate) struct ScriptLayout {
     pub(crate) script: Layout,
-    pub(crate) table: PositionTable,
+    pub(crate) table: LineTable,
     pub(crate) slips: Vec<Warning>,
 }
 

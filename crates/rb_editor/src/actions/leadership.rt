@@ -8,7 +8,7 @@ use rb_cluster::SharedNode;
 use rb_message::Role;
 use rb_node::State;
 use rb_raftlog::RaftLog;
-use rb_text::{Piece, push_pieces};
+use rb_text::{Piece, add_pieces};
 use rb_view::look::Nodes;
 use std::alloc::AllocError;
 
@@ -39,14 +39,14 @@ fn is_leader(role: Role) -> bool
     matches!(role, Role::Leader)
 }
 
-// Whether a node leads in a later term than the known leader, or none is known.
+// Whether a node leads in a greater term than the leader that is known, if one is.
 fn takes_over<L: RaftLog>(known: Leadership, state: &State<L>) -> bool
     ensures { result ≡ takes_over known state.now }
 {
     is_leader(state.role) && (known.leader == 0 || known.term < state.term)
 }
 
-// Who leads, after one more node is looked at.
+// Looks at one node more.
 fn with_node<L: RaftLog>(known: Leadership, state: &State<L>) -> Leadership
     ensures { result ≡ with_node known state.now }
 {
@@ -65,7 +65,7 @@ fn with_node<L: RaftLog>(known: Leadership, state: &State<L>) -> Leadership
     }
 }
 
-// Who leads among some nodes: the leader of the latest term.
+// Looks at some nodes.
 fn with_nodes<L: RaftLog>(nodes: &[SharedNode<L>]) -> Leadership
     ensures { result ≡ with_nodes NOBODY nodes.now }
 {
@@ -80,7 +80,6 @@ fn with_nodes<L: RaftLog>(nodes: &[SharedNode<L>]) -> Leadership
     known
 }
 
-// Who leads a cluster; none if it has no nodes.
 fn leadership_of<L: RaftLog>(nodes: &[SharedNode<L>]) -> Option<Leadership>
     ensures { result ≡ leadership nodes.now }
 {
@@ -96,11 +95,11 @@ fn leadership_of<L: RaftLog>(nodes: &[SharedNode<L>]) -> Option<Leadership>
 ///
 /// If memory was refused. A part may have been added then.
 #[tactic(auto, unfolding(crate::specs::Hints::label_text))]
-pub(crate) fn push_label(out: &mut Vec<u8>, known: Leadership) -> Result<(), AllocError>
+pub(crate) fn add_label(out: &mut Vec<u8>, known: Leadership) -> Result<(), AllocError>
     ensures { OnOk result (out.new.items ≡ out.old.items ++ label_text known) }
 {
     if known.leader == 0 {
-        return push_pieces(
+        return add_pieces(
             out,
             &[
                 Piece::Bytes(b"no leader, term "),
@@ -108,7 +107,7 @@ pub(crate) fn push_label(out: &mut Vec<u8>, known: Leadership) -> Result<(), All
             ],
         );
     }
-    push_pieces(
+    add_pieces(
         out,
         &[
             Piece::Bytes(b"leader "),

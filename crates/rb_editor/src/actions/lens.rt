@@ -9,18 +9,18 @@ ghost use Rattle.rb_editor.specs.Layouts.{IsLayout};
 ghost use Rattle.rb_editor.specs.Texts.{list_text, listed};
 ghost use Rattle.rb_editor.specs.Lenses.{accept_head, accept_if, accept_lens, accept_text, command_text, lens_text, lenses, lenses_at, lenses_by, lenses_in, page_if, page_text};
 
-use crate::actions::action::{RanBlock, is_accepted, push_edit};
+use crate::actions::action::{RanBlock, add_edit, is_accepted};
 use crate::actions::document::AskedDocument;
 use crate::actions::extent::{Extent, extent_of};
 use crate::actions::replacement::new_text;
 use crate::actions::run::{DocumentRun, RunView, kept_of};
-use crate::offers::push_range_member;
-use rb_lsp::document::PositionTable;
+use crate::offers::add_range_member;
+use rb_lsp::document::LineTable;
 use rb_lsp::server::Client;
 use rb_machine::{Count, Machine};
 use rb_script::Lines;
 use rb_script_report::{AcceptFilter, block_at, is_same, number_at, output_at};
-use rb_text::{Json, Piece, push_pieces};
+use rb_text::{Json, Piece, add_pieces};
 use std::alloc::{AllocError, Global};
 use std::marker::Model;
 
@@ -82,8 +82,8 @@ fn accept_lens(
     })
 }
 
-// Appends the lens that accepts a directive's output, if the client takes it, and the output differs and isn't a new error.
-fn push_accept_lens(
+// Adds it, if it is wanted, and the output differs and is no new error.
+fn add_accept_if(
     alloc: Global,
     list: &mut Vec<Lens>,
     accepts: bool,
@@ -101,8 +101,8 @@ fn push_accept_lens(
     Ok(())
 }
 
-// Appends the lens that opens the page at a directive, if the client takes it, and the output differs.
-fn push_page_lens(list: &mut Vec<Lens>, opens: bool, ran: RanBlock<'_>) -> Result<(), AllocError>
+// Adds the lens that opens the page, if it is wanted and the output differs.
+fn add_page_if(list: &mut Vec<Lens>, opens: bool, ran: RanBlock<'_>) -> Result<(), AllocError>
     ensures { OnOk result (list.new.items ≡ list.old.items ++ page_if opens ran.entry.line ran.entry.block.now ran.entry.output.now) }
 {
     if opens && !is_same(ran.block.expected(), ran.output) {
@@ -115,7 +115,7 @@ fn push_page_lens(list: &mut Vec<Lens>, opens: bool, ran: RanBlock<'_>) -> Resul
 }
 
 // Adds the lenses of a directive.
-fn push_lenses_of_directive(
+fn add_at(
     alloc: Global,
     list: &mut Vec<Lens>,
     wanted: WantedLenses,
@@ -127,11 +127,11 @@ fn push_lenses_of_directive(
     requires stands { StandsIn all.now ran.line ran.block.now }
     ensures { OnOk result (list.new.items ≡ list.old.items ++ lenses_at wanted.accepts wanted.opens text.now ran.entry.line ran.entry.block.now ran.entry.output.now) }
 {
-    push_accept_lens(alloc, list, wanted.accepts, text, all, ran)?;
-    push_page_lens(list, wanted.opens, ran)
+    add_accept_if(alloc, list, wanted.accepts, text, all, ran)?;
+    add_page_if(list, wanted.opens, ran)
 }
 
-// The lenses of a script's directives, of the wanted kinds.
+// Makes the lenses of the directives of a script that ran.
 fn lenses_by<M: Machine>(
     alloc: Global,
     wanted: WantedLenses,
@@ -148,12 +148,12 @@ fn lenses_by<M: Machine>(
             block: block_at(run.session, i),
             output: output_at(run.session, i),
         };
-        push_lenses_of_directive(alloc, &mut list, wanted, run.text, &all.text, ran)?;
+        add_at(alloc, &mut list, wanted, run.text, &all.text, ran)?;
     }
     Ok(list)
 }
 
-// The lenses of a script's directives, of the kinds whose commands the client runs.
+// Makes the lenses of the text of a run that a client takes.
 #[tactic(auto, using(crate::proofs::LensLaws::wanted_by))]
 fn lenses_in<M: Machine>(
     alloc: Global,
@@ -183,16 +183,16 @@ fn accept_head() -> &'static [u8]
 
 // Adds the command that accepts an output.
 #[tactic(auto, unfolding(crate::specs::Lenses::accept_text))]
-fn push_accept_command(
+fn add_accept(
     out: &mut Vec<u8>,
     document: AskedDocument<'_, '_>,
-    table: &PositionTable,
+    table: &LineTable,
     acceptance: &Acceptance,
 ) -> Result<(), AllocError>
     requires { IsTable document.encoding document.text.now table.now }
     ensures { OnOk result (out.new.items ≡ out.old.items ++ accept_text document.entry.encoding document.entry.uri.now document.entry.text.now acceptance.now) }
 {
-    push_pieces(
+    add_pieces(
         out,
         &[
             Piece::Bytes(accept_head()),
@@ -201,7 +201,7 @@ fn push_accept_command(
         ],
     )?;
     let new = acceptance.new.as_slice();
-    push_edit(
+    add_edit(
         out,
         document.encoding,
         document.text,
@@ -214,10 +214,10 @@ fn push_accept_command(
 
 // Adds the command that opens the page of a document at a head.
 #[tactic(auto, unfolding(crate::specs::Lenses::page_text))]
-fn push_page_command(out: &mut Vec<u8>, uri: &[u8], line: usize) -> Result<(), AllocError>
+fn add_page(out: &mut Vec<u8>, uri: &[u8], line: usize) -> Result<(), AllocError>
     ensures { OnOk result (out.new.items ≡ out.old.items ++ page_text uri.now line) }
 {
-    push_pieces(
+    add_pieces(
         out,
         &[
             Piece::Bytes(
@@ -232,42 +232,42 @@ fn push_page_command(out: &mut Vec<u8>, uri: &[u8], line: usize) -> Result<(), A
 }
 
 // Adds the command of a lens.
-fn push_command(
+fn add_command(
     out: &mut Vec<u8>,
     document: AskedDocument<'_, '_>,
-    table: &PositionTable,
+    table: &LineTable,
     lens: &Lens,
 ) -> Result<(), AllocError>
     requires { IsTable document.encoding document.text.now table.now }
     ensures { OnOk result (out.new.items ≡ out.old.items ++ command_text document.entry.encoding document.entry.uri.now document.entry.text.now lens.now.line lens.now.accepts) }
 {
     match &lens.accepts {
-        Some(acceptance) => push_accept_command(out, document, table, acceptance),
-        None => push_page_command(out, document.uri, lens.line),
+        Some(acceptance) => add_accept(out, document, table, acceptance),
+        None => add_page(out, document.uri, lens.line),
     }
 }
 
 // Adds a lens of a document, whose lines are in the table.
 #[tactic(auto, unfolding(crate::specs::Lenses::lens_text))]
-fn push_lens(
+fn add_lens(
     out: &mut Vec<u8>,
     document: AskedDocument<'_, '_>,
-    table: &PositionTable,
+    table: &LineTable,
     lens: &Lens,
 ) -> Result<(), AllocError>
     requires { IsTable document.encoding document.text.now table.now }
     ensures { OnOk result (out.new.items ≡ out.old.items ++ lens_text document.entry.encoding document.entry.uri.now document.entry.text.now lens.now) }
 {
     let place = table.start_of(lens.line.saturating_sub(1));
-    push_range_member(out, place, place)?;
-    push_command(out, document, table, lens)
+    add_range_member(out, place, place)?;
+    add_command(out, document, table, lens)
 }
 
-// Appends lenses with commas between them, and the end of their list.
-fn push_each_lens(
+// Adds lenses, separated by commas, and the end of the list.
+fn add_all(
     out: &mut Vec<u8>,
     document: AskedDocument<'_, '_>,
-    table: &PositionTable,
+    table: &LineTable,
     list: &[Lens],
 ) -> Result<(), AllocError>
     requires { IsTable document.encoding document.text.now table.now }
@@ -276,31 +276,31 @@ fn push_each_lens(
     let mut lead: &[u8] = b"";
     for lens in list {
         out.extend_from_slice(lead)?;
-        push_lens(out, document, table, lens)?;
+        add_lens(out, document, table, lens)?;
         lead = b",";
     }
     out.extend_from_slice(b"]")?;
     Ok(())
 }
 
-// Appends lenses as a list.
+// Adds lenses of a document, as a list.
 #[tactic(auto, unfolding(crate::specs::Texts::list_text))]
-fn push_lens_list(
+fn add_list(
     out: &mut Vec<u8>,
     document: AskedDocument<'_, '_>,
-    table: &PositionTable,
+    table: &LineTable,
     list: &[Lens],
 ) -> Result<(), AllocError>
     requires { IsTable document.encoding document.text.now table.now }
     ensures { OnOk result (out.new.items ≡ out.old.items ++ list_text (lens_text document.entry.encoding document.entry.uri.now document.entry.text.now) list.now) }
 {
     out.extend_from_slice(b"[")?;
-    push_each_lens(out, document, table, list)
+    add_all(out, document, table, list)
 }
 
 // Adds the lenses of a script that ran.
 #[tactic(auto, using(crate::proofs::LensLaws::of_run, crate::proofs::RunLaws::layout_by))]
-fn push_lenses_of_run<M: Machine>(
+fn add_of_run<M: Machine>(
     alloc: Global,
     out: &mut Vec<u8>,
     client: Client,
@@ -326,7 +326,7 @@ fn push_lenses_of_run<M: Machine>(
         uri,
         text,
     };
-    push_lens_list(out, document, &layout.table, list.as_slice())?;
+    add_list(out, document, &layout.table, list.as_slice())?;
     Ok(())
 }
 
@@ -336,7 +336,7 @@ fn push_lenses_of_run<M: Machine>(
 ///
 /// If memory was refused. A part of the result may have been added then.
 #[tactic(auto, using(crate::proofs::LensLaws::of_text, crate::proofs::LensLaws::of_none))]
-pub(crate) fn push_lenses<M: Machine>(
+pub(crate) fn add_lenses<M: Machine>(
     alloc: Global,
     out: &mut Vec<u8>,
     client: Client,
@@ -350,10 +350,10 @@ pub(crate) fn push_lenses<M: Machine>(
 {
     let encoding = client.encoding;
     if let Some(run) = kept_of(kept, encoding, document.text) {
-        return push_lenses_of_run(alloc, out, client, document.uri, run);
+        return add_of_run(alloc, out, client, document.uri, run);
     }
     match DocumentRun::<M>::fresh(alloc, encoding, document.text, meter)? {
-        Some(run) => push_lenses_of_run(alloc, out, client, document.uri, &run),
+        Some(run) => add_of_run(alloc, out, client, document.uri, &run),
         None => out.extend_from_slice(b"[]"),
     }
 }

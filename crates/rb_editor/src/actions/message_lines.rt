@@ -32,25 +32,25 @@ pub(crate) struct MessageLines {
     pub(crate) ended: Option<usize>,
 }
 
-// The rest of a line that begins with a word.
-fn after<'l>(word: &[u8], line: &'l [u8]) -> Option<&'l [u8]>
+// Gives what is after a word at the front of a line.
+fn behind<'l>(word: &[u8], line: &'l [u8]) -> Option<&'l [u8]>
     ensures { option_map (λ rest. rest.now) result ≡ behind word.now line.now }
 {
     line.strip_prefix(word)
 }
 
-// The message that a line names, such as `1->2 MsgVote term=1 last=1/10`.
+// Gives the message that a line is about.
 #[tactic(auto, unfolding(crate::specs::Messages::message_of))]
 fn message_of(line: &[u8]) -> Option<&[u8]>
     ensures { option_map (λ m. m.now) result ≡ message_of line.now }
 {
-    if let Some(message) = after(b"  send ", line) {
+    if let Some(message) = behind(b"  send ", line) {
         return Some(message);
     }
-    if let Some(message) = after(b"deliver ", line) {
+    if let Some(message) = behind(b"deliver ", line) {
         return Some(message);
     }
-    after(b"drop ", line)
+    behind(b"drop ", line)
 }
 
 // Whether it is this message.
@@ -68,7 +68,7 @@ fn is_message(message: &[u8], other: Option<&[u8]>) -> bool
 fn sends(message: &[u8], line: &[u8]) -> bool
     ensures { result ≡ sends message.now line.now }
 {
-    is_message(message, after(b"  send ", line))
+    is_message(message, behind(b"  send ", line))
 }
 
 // Whether the message arrives on a line, or is lost.
@@ -76,10 +76,10 @@ fn sends(message: &[u8], line: &[u8]) -> bool
 fn ends(message: &[u8], line: &[u8]) -> bool
     ensures { result ≡ ends message.now line.now }
 {
-    is_message(message, after(b"deliver ", line)) || is_message(message, after(b"drop ", line))
+    is_message(message, behind(b"deliver ", line)) || is_message(message, behind(b"drop ", line))
 }
 
-// Whether this event of a message is on a line: it is sent, or it ends.
+// Whether a line says this of the message.
 fn has_event(event: MessageEvent, message: &[u8], line: &[u8]) -> bool
     ensures { result ≡ has_event event message.now line.now }
 {
@@ -89,7 +89,7 @@ fn has_event(event: MessageEvent, message: &[u8], line: &[u8]) -> bool
     }
 }
 
-// The counts after a line: how many equal messages were sent, and how many of them arrived or were lost.
+// Counts after a line. A message that wasn't sent on a line above doesn't count.
 fn after_line(message: &[u8], flights: Flights, line: &[u8]) -> Flights
     requires { (flights.sent < 2 ^ 64 - 1) × (flights.ended ≤ flights.sent) }
     ensures value { result ≡ after_line message.now flights line.now }
@@ -110,7 +110,7 @@ fn after_line(message: &[u8], flights: Flights, line: &[u8]) -> Flights
     }
 }
 
-// The counts after the first `count` lines.
+// Counts the messages in flight after the first lines.
 fn flights_after(message: &[u8], count: usize, lines: &Lines) -> Flights
     requires { count ≤ length lines.now }
     ensures value { result ≡ flights_after message.now NO_FLIGHTS count lines.now }
@@ -123,7 +123,7 @@ fn flights_after(message: &[u8], count: usize, lines: &Lines) -> Flights
     counted
 }
 
-// The line with the event of a message that `count` equal ones precede, from line `from` on.
+// Finds the line with an event that `count` others with it are above, from a line on.
 fn event_line(
     event: MessageEvent,
     message: &[u8],
@@ -146,7 +146,7 @@ fn event_line(
     None
 }
 
-// The lines of the message that is sent on line `n`. `flights` counts the equal messages above.
+// Finds the lines of the message that is sent on a line, where these are in flight.
 fn lines_of_sent(lines: &Lines, n: usize, message: &[u8], flights: Flights) -> MessageLines
     requires { n < 2 ^ 64 - 1 }
     ensures value { result ≡ lines_of_sent lines.now n message.now flights }
@@ -160,7 +160,7 @@ fn lines_of_sent(lines: &Lines, n: usize, message: &[u8], flights: Flights) -> M
     }
 }
 
-// The lines of the message that arrives or is lost on line `n`. `flights` counts the equal messages above.
+// Finds the lines of the message that arrives on a line, or is lost.
 fn lines_of_ended(lines: &Lines, n: usize, message: &[u8], flights: Flights) -> MessageLines
     requires { n < 2 ^ 64 - 1 }
     ensures value { result ≡ lines_of_ended lines.now n message.now flights }
@@ -178,7 +178,7 @@ fn lines_of_ended(lines: &Lines, n: usize, message: &[u8], flights: Flights) -> 
     }
 }
 
-// The lines of the message that line `n` names.
+// Finds the lines of the message that a line is about.
 fn lines_of_message(lines: &Lines, n: usize, line: &[u8], message: &[u8]) -> MessageLines
     requires within { n ≤ length lines.now }
     requires few { n < 2 ^ 64 - 1 }
@@ -206,7 +206,7 @@ fn line_at(lines: &Lines, n: usize) -> Option<&[u8]>
     }
 }
 
-/// The lines of the message that line `n` names; none if it names none.
+/// Finds the lines of the message that a line is about; none if it is about none.
 #[tactic(auto, unfolding(crate::specs::Messages::message_lines))]
 pub(crate) fn message_lines(lines: &Lines, n: usize) -> MessageLines
     ensures value { result ≡ message_lines lines.now n }

@@ -1,4 +1,4 @@
-//! The answers on the message of a line: its definition, its references, and its highlights.
+//! What is sent of the message that a line is about: where it is sent, and where it arrives or is lost.
 
 ghost use Rattle.std.specs.Prelude.{◌≡◌, ◌≤◌, ◌<◌, ◌-◌, ◌^◌, ◌++◌, true, false, IfOk, IfSome, OnOk, length};
 ghost use Rattle.rb_lsp.specs.declared.document.limits.TheConstants.{MAX_TEXT};
@@ -8,27 +8,27 @@ ghost use Rattle.rb_editor.specs.MessagePlaces.{both, definition, highlight_text
 use crate::actions::document::AskedDocument;
 use crate::actions::layout::line_at;
 use crate::actions::message_lines::{MessageLines, message_lines};
-use crate::offers::{push_range, push_range_member};
-use rb_lsp::document::{Encoding, Position, PositionTable};
+use crate::offers::{add_range, add_range_member};
+use rb_lsp::document::{Encoding, LineTable, Position};
 use rb_script::lines_of;
-use rb_text::{Json, Piece, push_pieces};
+use rb_text::{Json, Piece, add_pieces};
 use std::alloc::{AllocError, Global};
 
 // ---- a line
 
-// Appends the location of a line.
+// Adds a line of a document.
 #[tactic(auto, unfolding(crate::specs::MessagePlaces::location_text))]
-fn push_location(
+fn add_location(
     out: &mut Vec<u8>,
     document: AskedDocument<'_, '_>,
-    table: &PositionTable,
+    table: &LineTable,
     n: usize,
 ) -> Result<(), AllocError>
     requires table { IsTable document.encoding document.text.now table.now }
     requires few { n < 2 ^ 64 - 1 }
     ensures { OnOk result (out.new.items ≡ out.old.items ++ location_text document.entry.encoding document.entry.uri.now document.entry.text.now n) }
 {
-    push_pieces(
+    add_pieces(
         out,
         &[
             Piece::Bytes(b"{\"uri\":\""),
@@ -36,12 +36,11 @@ fn push_location(
             Piece::Bytes(b"\",\"range\":"),
         ],
     )?;
-    push_range(out, table.start_of(n), table.start_of(n + 1))?;
+    add_range(out, table.start_of(n), table.start_of(n + 1))?;
     out.extend_from_slice(b"}")?;
     Ok(())
 }
 
-// The kind of a highlight: a write where the message is sent, else a read.
 fn kind_text(is_sent: bool) -> &'static [u8]
     ensures { result.now ≡ kind_text is_sent }
 {
@@ -52,13 +51,13 @@ fn kind_text(is_sent: bool) -> &'static [u8]
     }
 }
 
-// Appends the highlight of a line.
+// Adds a line to highlight, on which a message is sent or isn't.
 #[tactic(auto, unfolding(crate::specs::MessagePlaces::highlight_text))]
-fn push_highlight(
+fn add_highlight(
     out: &mut Vec<u8>,
     encoding: Encoding,
     text: &[u8],
-    table: &PositionTable,
+    table: &LineTable,
     is_sent: bool,
     n: usize,
 ) -> Result<(), AllocError>
@@ -66,18 +65,18 @@ fn push_highlight(
     requires few { n < 2 ^ 64 - 1 }
     ensures { OnOk result (out.new.items ≡ out.old.items ++ highlight_text encoding text.now is_sent n) }
 {
-    push_range_member(out, table.start_of(n), table.start_of(n + 1))?;
+    add_range_member(out, table.start_of(n), table.start_of(n + 1))?;
     out.extend_from_slice(kind_text(is_sent))?;
     Ok(())
 }
 
 // ---- lines
 
-// Appends the locations of a message: the line that sends it and the line that ends it, as far as they are known.
-fn push_both_locations(
+// Adds the first of two lines of a document, a comma, and the other, as far as there are two.
+fn add_both(
     out: &mut Vec<u8>,
     document: AskedDocument<'_, '_>,
-    table: &PositionTable,
+    table: &LineTable,
     sent: Option<usize>,
     ended: Option<usize>,
 ) -> Result<(), AllocError>
@@ -88,21 +87,21 @@ fn push_both_locations(
 {
     match (sent, ended) {
         (None, None) => Ok(()),
-        (None, Some(n)) => push_location(out, document, table, n),
-        (Some(m), None) => push_location(out, document, table, m),
+        (None, Some(n)) => add_location(out, document, table, n),
+        (Some(m), None) => add_location(out, document, table, m),
         (Some(m), Some(n)) => {
-            push_location(out, document, table, m)?;
+            add_location(out, document, table, m)?;
             out.extend_from_slice(b",")?;
-            push_location(out, document, table, n)
+            add_location(out, document, table, n)
         }
     }
 }
 
-// Appends the locations of a message as a list.
-fn push_locations(
+// Adds a list of these lines of a document.
+fn add_locations(
     out: &mut Vec<u8>,
     document: AskedDocument<'_, '_>,
-    table: &PositionTable,
+    table: &LineTable,
     sent: Option<usize>,
     ended: Option<usize>,
 ) -> Result<(), AllocError>
@@ -112,17 +111,17 @@ fn push_locations(
     ensures { OnOk result (out.new.items ≡ out.old.items ++ locations document.entry.encoding document.entry.uri.now document.entry.text.now sent ended) }
 {
     out.extend_from_slice(b"[")?;
-    push_both_locations(out, document, table, sent, ended)?;
+    add_both(out, document, table, sent, ended)?;
     out.extend_from_slice(b"]")?;
     Ok(())
 }
 
-// Appends the highlights of a message: the line that sends it and the line that ends it, as far as they are known.
-fn push_both_highlights(
+// Adds the lines of a message to highlight, as far as there are two.
+fn add_both_highlights(
     out: &mut Vec<u8>,
     encoding: Encoding,
     text: &[u8],
-    table: &PositionTable,
+    table: &LineTable,
     found: MessageLines,
 ) -> Result<(), AllocError>
     requires table { IsTable encoding text.now table.now }
@@ -132,12 +131,12 @@ fn push_both_highlights(
 {
     match (found.sent, found.ended) {
         (None, None) => Ok(()),
-        (None, Some(n)) => push_highlight(out, encoding, text, table, false, n),
-        (Some(m), None) => push_highlight(out, encoding, text, table, true, m),
+        (None, Some(n)) => add_highlight(out, encoding, text, table, false, n),
+        (Some(m), None) => add_highlight(out, encoding, text, table, true, m),
         (Some(m), Some(n)) => {
-            push_highlight(out, encoding, text, table, true, m)?;
+            add_highlight(out, encoding, text, table, true, m)?;
             out.extend_from_slice(b",")?;
-            push_highlight(out, encoding, text, table, false, n)
+            add_highlight(out, encoding, text, table, false, n)
         }
     }
 }
@@ -160,10 +159,10 @@ fn message_at(
 }
 
 // Adds a line of a document, or `null`.
-fn push_location_or_null(
+fn add_location_or_null(
     out: &mut Vec<u8>,
     document: AskedDocument<'_, '_>,
-    table: &PositionTable,
+    table: &LineTable,
     line: Option<usize>,
 ) -> Result<(), AllocError>
     requires table { IsTable document.encoding document.text.now table.now }
@@ -171,7 +170,7 @@ fn push_location_or_null(
     ensures { OnOk result (out.new.items ≡ out.old.items ++ location_or_null document.entry.encoding document.entry.uri.now document.entry.text.now line) }
 {
     match line {
-        Some(n) => push_location(out, document, table, n),
+        Some(n) => add_location(out, document, table, n),
         None => Ok(out.extend_from_slice(b"null")?),
     }
 }
@@ -182,7 +181,7 @@ fn push_location_or_null(
 ///
 /// If memory was refused. A part of the result may have been added then.
 #[tactic(auto, unfolding(crate::specs::MessagePlaces::definition))]
-pub(crate) fn push_definition(
+pub(crate) fn add_definition(
     alloc: Global,
     out: &mut Vec<u8>,
     document: AskedDocument<'_, '_>,
@@ -192,11 +191,10 @@ pub(crate) fn push_definition(
     ensures { OnOk result (out.new.items ≡ out.old.items ++ definition document.entry.encoding position document.entry.uri.now document.entry.text.now) }
 {
     let found = message_at(alloc, document.encoding, position, document.text)?;
-    let table = PositionTable::new(alloc, document.encoding, document.text)?;
-    push_location_or_null(out, document, &table, found.sent)
+    let table = LineTable::new(alloc, document.encoding, document.text)?;
+    add_location_or_null(out, document, &table, found.sent)
 }
 
-// The line, if it is asked for.
 fn kept_if(is_kept: bool, line: Option<usize>) -> Option<usize>
     ensures value { result ≡ kept_if is_kept line }
     ensures few { IfSome line (λ n. n < 2 ^ 64 - 1) → IfSome result (λ n. n < 2 ^ 64 - 1) }
@@ -210,7 +208,7 @@ fn kept_if(is_kept: bool, line: Option<usize>) -> Option<usize>
 ///
 /// If memory was refused. A part of the result may have been added then.
 #[tactic(auto, unfolding(crate::specs::MessagePlaces::references))]
-pub(crate) fn push_references(
+pub(crate) fn add_references(
     alloc: Global,
     out: &mut Vec<u8>,
     document: AskedDocument<'_, '_>,
@@ -221,9 +219,9 @@ pub(crate) fn push_references(
     ensures { OnOk result (out.new.items ≡ out.old.items ++ references document.entry.encoding position includes document.entry.uri.now document.entry.text.now) }
 {
     let found = message_at(alloc, document.encoding, position, document.text)?;
-    let table = PositionTable::new(alloc, document.encoding, document.text)?;
+    let table = LineTable::new(alloc, document.encoding, document.text)?;
     let sent = kept_if(includes, found.sent);
-    push_locations(out, document, &table, sent, found.ended)
+    add_locations(out, document, &table, sent, found.ended)
 }
 
 /// Adds the lines of the message at a position, as the result of `textDocument/documentHighlight`.
@@ -232,7 +230,7 @@ pub(crate) fn push_references(
 ///
 /// If memory was refused. A part of the result may have been added then.
 #[tactic(auto, unfolding(crate::specs::MessagePlaces::highlighted))]
-pub(crate) fn push_highlights(
+pub(crate) fn add_highlights(
     alloc: Global,
     out: &mut Vec<u8>,
     document: AskedDocument<'_, '_>,
@@ -243,9 +241,9 @@ pub(crate) fn push_highlights(
 {
     let encoding = document.encoding;
     let found = message_at(alloc, encoding, position, document.text)?;
-    let table = PositionTable::new(alloc, encoding, document.text)?;
+    let table = LineTable::new(alloc, encoding, document.text)?;
     out.extend_from_slice(b"[")?;
-    push_both_highlights(out, encoding, document.text, &table, found)?;
+    add_both_highlights(out, encoding, document.text, &table, found)?;
     out.extend_from_slice(b"]")?;
     Ok(())
 }

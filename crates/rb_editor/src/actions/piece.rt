@@ -1,4 +1,4 @@
-//! The word or the argument around a column of a line.
+//! Pieces of a line: words, and arguments.
 
 ghost use Rattle.std.specs.Prelude.{◌≡◌, ◌+◌, ◌≤◌, false, drop, if◌then◌else◌, length, take};
 ghost use Rattle.rb_lsp.specs.declared.document.limits.TheConstants.{MAX_TEXT};
@@ -23,7 +23,7 @@ pub(crate) struct OffsetSpan {
     pub(crate) to: usize,
 }
 
-// Whether a byte ends a word or an argument. Within parentheses a blank doesn't end an argument.
+// Whether a byte ends a piece, which is within parentheses or isn't.
 fn ends(kind: PieceKind, inside: bool, b: u8) -> bool
     ensures { result ≡ ends kind inside b }
 {
@@ -55,15 +55,15 @@ fn inside_of(bytes: &[u8]) -> bool
     inside
 }
 
-// Where the next byte's piece begins: after this byte if it ends a piece, else where the current one began.
+// Gives where the piece of the next byte begins, by whether this one ends the piece that began here.
 fn next_start(is_end: bool, start: usize, next: usize) -> usize
     ensures { result ≡ (if is_end then next else start) }
 {
     if is_end { next } else { start }
 }
 
-/// Where the piece begins that contains the end of these bytes.
-pub(crate) fn piece_start(kind: PieceKind, bytes: &[u8]) -> usize
+// Finds where the piece begins that these bytes end in.
+fn piece_start(kind: PieceKind, bytes: &[u8]) -> usize
     ensures value { result ≡ piece_start kind 0 0 false bytes.now }
     ensures within { result ≤ length bytes.now }
 {
@@ -76,11 +76,10 @@ pub(crate) fn piece_start(kind: PieceKind, bytes: &[u8]) -> usize
     start
 }
 
-/// Where the piece ends that contains this column.
-pub(crate) fn piece_end(kind: PieceKind, column: usize, begins_inside: bool, line: &[u8]) -> usize
+// Finds where a piece of a line ends that goes on at a column, within parentheses or not.
+fn piece_end(kind: PieceKind, column: usize, begins_inside: bool, line: &[u8]) -> usize
     requires { column ≤ length line.now }
     ensures value { result ≡ piece_end kind column begins_inside (drop column line.now) }
-    ensures behind { column ≤ result }
     ensures within { result ≤ length line.now }
 {
     let mut inside = begins_inside;
@@ -94,7 +93,7 @@ pub(crate) fn piece_end(kind: PieceKind, column: usize, begins_inside: bool, lin
     line.len()
 }
 
-/// The piece around a column of a line, as offsets of the text. `begin` is the line's offset.
+/// Finds the piece of a line around a column, where the line begins at an offset of its text.
 pub(crate) fn piece_span(kind: PieceKind, begin: usize, column: usize, line: &[u8]) -> OffsetSpan
     requires begin { begin ≤ MAX_TEXT }
     requires within { column ≤ length line.now }

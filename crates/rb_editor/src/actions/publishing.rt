@@ -1,4 +1,4 @@
-//! Diagnostics as JSON.
+//! Diagnostics as an editor is sent them.
 
 ghost use Rattle.std.specs.Prelude.{◌≡◌, ◌≤◌, ◌++◌, [], OnOk, length, option_map};
 ghost use Rattle.rb_lsp.specs.Tables.{IsTable};
@@ -10,16 +10,14 @@ ghost use Rattle.rb_editor.specs.Published.{diagnostic_text, kind_text, message_
 use crate::actions::actual_output::ActualOutput;
 use crate::actions::diagnostic::{Diagnostic, DiagnosticKind};
 use crate::actions::shown_message::shown_message;
-use crate::actions::told::{
-    BoundedDiagnostic, MAX_TOLD, bounded_message, bounded_output, left_for_next,
-};
-use crate::offers::push_range_member;
-use rb_lsp::document::{Encoding, PositionTable};
+use crate::actions::told::{BoundedDiagnostic, MAX_TOLD, left_behind, told_came, told_message};
+use crate::offers::add_range_member;
+use rb_lsp::document::{Encoding, LineTable};
 use rb_lsp::server::Client;
-use rb_text::{Json, Piece, push_pieces};
+use rb_text::{Json, Piece, add_pieces};
 use std::alloc::{AllocError, Global};
 
-// The members of a diagnostic between its range and its message: severity, code and source.
+// Gives what begins a diagnostic after its range: its severity and its code.
 #[tactic(auto, unfolding(crate::specs::Published::kind_text))]
 fn kind_text(softens_later: bool, kind: DiagnosticKind) -> &'static [u8]
     ensures { result.now ≡ kind_text softens_later kind }
@@ -50,10 +48,9 @@ fn kind_text(softens_later: bool, kind: DiagnosticKind) -> &'static [u8]
     }
 }
 
-// Appends the severity, the code and the message of a diagnostic. The message is cut to the bytes that are left, and has no control characters but
-// line ends.
+// Adds the severity of a diagnostic, its code, and its message as far as it is told, in which only ends of lines act.
 #[tactic(auto, unfolding(crate::specs::Published::message_text))]
-fn push_message(
+fn add_message(
     out: &mut Vec<u8>,
     softens_later: bool,
     bounded: BoundedDiagnostic<'_>,
@@ -62,10 +59,10 @@ fn push_message(
 {
     let alloc = *out.allocator();
     let diagnostic = bounded.diagnostic;
-    let message = bounded_message(alloc, bounded)?;
+    let message = told_message(alloc, bounded)?;
     let shown = shown_message(alloc, message.as_slice())?;
     out.extend_from_slice(kind_text(softens_later, diagnostic.kind))?;
-    push_pieces(
+    add_pieces(
         out,
         &[
             Piece::Escaped(Json::Utf8, shown.as_slice()),
@@ -74,13 +71,13 @@ fn push_message(
     )
 }
 
-// Appends the beginning of related information: the range of the lines that expect another output.
+// Adds the range from one line of a text up to another.
 #[tactic(auto, unfolding(crate::specs::Published::place_text))]
-fn push_related_range(
+fn add_place(
     out: &mut Vec<u8>,
     encoding: Encoding,
     text: &[u8],
-    table: &PositionTable,
+    table: &LineTable,
     first: usize,
     behind: usize,
 ) -> Result<(), AllocError>
@@ -90,20 +87,16 @@ fn push_related_range(
     let start = table.start_of(first);
     let end = table.start_of(behind);
     out.extend_from_slice(b",\"relatedInformation\":[{\"location\":")?;
-    push_range_member(out, start, end)?;
+    add_range_member(out, start, end)?;
     Ok(())
 }
 
-// Appends the rest of related information: the document, and the actual output as its message.
+// Adds the document in which it is, and the actual output.
 #[tactic(auto, unfolding(crate::specs::Published::shown_text))]
-fn push_related_message<'a>(
-    out: &mut Vec<u8>,
-    uri: &'a [u8],
-    shown: &'a [u8],
-) -> Result<(), AllocError>
+fn add_shown<'a>(out: &mut Vec<u8>, uri: &'a [u8], shown: &'a [u8]) -> Result<(), AllocError>
     ensures { OnOk result (out.new.items ≡ out.old.items ++ shown_text uri.now shown.now) }
 {
-    push_pieces(
+    add_pieces(
         out,
         &[
             Piece::Bytes(b",\"uri\":\""),
@@ -115,30 +108,30 @@ fn push_related_message<'a>(
     )
 }
 
-// Appends the actual output of a mismatch as related information.
+// Adds the actual output, at the lines of a text that expect another.
 #[tactic(auto, unfolding(crate::specs::Published::related_text))]
-fn push_related_info(
+fn add_related(
     out: &mut Vec<u8>,
     encoding: Encoding,
     uri: &[u8],
     text: &[u8],
-    table: &PositionTable,
+    table: &LineTable,
     came: &ActualOutput,
 ) -> Result<(), AllocError>
     requires { IsTable encoding text.now table.now }
     ensures { OnOk result (out.new.items ≡ out.old.items ++ related_text encoding uri.now text.now came.now) }
 {
-    push_related_range(out, encoding, text, table, came.first, came.behind)?;
-    push_related_message(out, uri, came.shown.as_slice())
+    add_place(out, encoding, text, table, came.first, came.behind)?;
+    add_shown(out, uri, came.shown.as_slice())
 }
 
-// Appends the actual output of a mismatch as related information, if there is one, and the client shows such.
-fn push_related_info_if_taken(
+// Adds the actual output of a mismatch, if there is one, and the client takes it.
+fn add_if(
     out: &mut Vec<u8>,
     client: Client,
     uri: &[u8],
     text: &[u8],
-    table: &PositionTable,
+    table: &LineTable,
     came: Option<&ActualOutput>,
 ) -> Result<(), AllocError>
     requires { IsTable client.encoding text.now table.now }
@@ -148,19 +141,19 @@ fn push_related_info_if_taken(
         return Ok(());
     }
     match came {
-        Some(came) => push_related_info(out, client.encoding, uri, text, table, came),
+        Some(came) => add_related(out, client.encoding, uri, text, table, came),
         None => Ok(()),
     }
 }
 
-// Appends a diagnostic, cut to the bytes that are left.
+// Adds a diagnostic of a text, whose lines are in the table, as far as it is told.
 #[tactic(auto, unfolding(crate::specs::Published::diagnostic_text))]
-fn push_diagnostic(
+fn add_diagnostic(
     out: &mut Vec<u8>,
     client: Client,
     uri: &[u8],
     text: &[u8],
-    table: &PositionTable,
+    table: &LineTable,
     bounded: BoundedDiagnostic<'_>,
 ) -> Result<(), AllocError>
     requires { IsTable client.encoding text.now table.now }
@@ -170,19 +163,19 @@ fn push_diagnostic(
     let line = diagnostic.line;
     let start = table.start_of(line.saturating_sub(1));
     let end = table.start_of(line);
-    push_range_member(out, start, end)?;
-    push_message(out, client.softens_later, bounded)?;
-    push_related_info_if_taken(out, client, uri, text, table, bounded_output(bounded))?;
+    add_range_member(out, start, end)?;
+    add_message(out, client.softens_later, bounded)?;
+    add_if(out, client, uri, text, table, told_came(bounded))?;
     out.extend_from_slice(b"}")
 }
 
-// Appends diagnostics with commas between them, and the end of their list. Together their diffs and outputs have at most [`MAX_TOLD`] bytes.
-fn push_each_diagnostic(
+// Adds the diagnostics as far as they are told, separated by commas, and the end of the list.
+fn add_all(
     out: &mut Vec<u8>,
     client: Client,
     uri: &[u8],
     text: &[u8],
-    table: &PositionTable,
+    table: &LineTable,
     list: &[Diagnostic],
 ) -> Result<(), AllocError>
     requires { IsTable client.encoding text.now table.now }
@@ -193,18 +186,18 @@ fn push_each_diagnostic(
     for diagnostic in list {
         let bounded = BoundedDiagnostic { diagnostic, left };
         out.extend_from_slice(lead)?;
-        push_diagnostic(out, client, uri, text, table, bounded)?;
+        add_diagnostic(out, client, uri, text, table, bounded)?;
         lead = b",";
-        left = left_for_next(bounded);
+        left = left_behind(bounded);
     }
     out.extend_from_slice(b"]")?;
     Ok(())
 }
 
-/// Appends the diagnostics of a text as a list. Each mismatch has its actual output, if the client shows related information. Diffs and actual
-/// outputs together have at most [`MAX_TOLD`] bytes.
+/// Adds the diagnostics of a text, as a list. Each mismatch has its actual output, if the client takes it. Of diffs and actual outputs [`MAX_TOLD`] bytes
+/// are told.
 #[tactic(auto, unfolding(crate::specs::Texts::list_text), using(crate::proofs::QuietLaws::none_listed))]
-pub(crate) fn push_diagnostic_list(
+pub(crate) fn add_list(
     alloc: Global,
     out: &mut Vec<u8>,
     client: Client,
@@ -218,7 +211,7 @@ pub(crate) fn push_diagnostic_list(
     if list.is_empty() {
         return out.extend_from_slice(b"[]");
     }
-    let table = PositionTable::new(alloc, client.encoding, text)?;
+    let table = LineTable::new(alloc, client.encoding, text)?;
     out.extend_from_slice(b"[")?;
-    push_each_diagnostic(out, client, uri, text, &table, list)
+    add_all(out, client, uri, text, &table, list)
 }

@@ -1,4 +1,4 @@
-//! Scripts without diagnostics. They are found without their text, so a keystroke that changes nothing costs little.
+//! Scripts whose directives have no diagnostics. This is known without their texts, so a letter that changes nothing costs little.
 
 ghost use Rattle.std.specs.Prelude.{◌≡◌};
 ghost use Rattle.rb_editor.specs.Findings.{is_quiet};

@@ -6,7 +6,7 @@ ghost use Rattle.rb_editor.specs.RangeFormatting.{after_block, between, if_same,
 
 use crate::actions::above::lines_before;
 use crate::actions::layout::line_at;
-use crate::offers::{BlockLines, blocks_of, formatted, has_canonical, push_edits, script_of};
+use crate::offers::{BlockLines, add_edits, blocks_of, formatted, has_canonical, script_of};
 use rb_lsp::document::{Encoding, Range};
 use rb_script::Script;
 use std::alloc::{AllocError, Global};
@@ -18,7 +18,7 @@ fn is_touched(first: usize, last: usize, block: BlockLines) -> bool
     block.from <= last && first < block.end
 }
 
-// The lines from the first block found so far, or from this one, to this one's end.
+// Gives the first line of the first block, and the line after this one.
 fn with_block(found: Option<(usize, usize)>, block: BlockLines) -> Option<(usize, usize)>
     ensures { result ≡ with_block found block }
 {
@@ -28,7 +28,7 @@ fn with_block(found: Option<(usize, usize)>, block: BlockLines) -> Option<(usize
     }
 }
 
-// The lines found so far, extended by a block if it has a line from `first` to `last`.
+// Gives the same lines, with those of this block if it has a line from `first` to `last`.
 fn after_block(
     first: usize,
     last: usize,
@@ -44,7 +44,7 @@ fn after_block(
     }
 }
 
-// The lines of all blocks that have a line from `first` to `last`: where the first begins, and where the last ends.
+// Finds the first line of the first block with a line from `first` to `last`, and the line after the last of them.
 fn touched(first: usize, last: usize, blocks: &[BlockLines]) -> Option<(usize, usize)>
     ensures { result ≡ touched first last None blocks.now }
 {
@@ -55,7 +55,7 @@ fn touched(first: usize, last: usize, blocks: &[BlockLines]) -> Option<(usize, u
     found
 }
 
-// A text whose part between `front` and the end of `upto` is replaced by a script's canonical text, without the empty line at its end.
+// Makes a text with another part between these fronts and the rest, without the empty line at the end of the part.
 fn with_part(
     alloc: Global,
     text: &[u8],
@@ -73,8 +73,8 @@ fn with_part(
     Ok(new)
 }
 
-// Appends the edits that make the new text, if it is the same script; else an empty list.
-fn push_if_same(
+// Adds the edit that makes a text, if it is the same script.
+fn add_if_same(
     alloc: Global,
     out: &mut Vec<u8>,
     encoding: Encoding,
@@ -87,14 +87,14 @@ fn push_if_same(
 {
     let canonical = script.canonical_text(alloc)?;
     if has_canonical(alloc, canonical.as_slice(), new)? {
-        push_edits(out, encoding, text, new)
+        add_edits(out, encoding, text, new)
     } else {
         Ok(out.extend_from_slice(b"[]")?)
     }
 }
 
-// Appends the edits that format the text between two fronts: what is below the first, up to the end of the second.
-fn push_edit_between(
+// Adds the edit that formats the text that is below `front`, up to the end of `upto`.
+fn add_between(
     alloc: Global,
     out: &mut Vec<u8>,
     encoding: Encoding,
@@ -111,14 +111,14 @@ fn push_edit_between(
     match script_of(alloc, &upto[front.len()..])? {
         Some(part) => {
             let new = with_part(alloc, text, front, upto, &part)?;
-            push_if_same(alloc, out, encoding, text, script, new.as_slice())
+            add_if_same(alloc, out, encoding, text, script, new.as_slice())
         }
         None => Ok(out.extend_from_slice(b"[]")?),
     }
 }
 
-// Appends the edits that format the lines between two numbers, if some are found; else an empty list.
-fn push_edit_of_lines(
+// Adds the edit that formats the lines from one up to another.
+fn add_lines(
     alloc: Global,
     out: &mut Vec<u8>,
     encoding: Encoding,
@@ -134,7 +134,7 @@ fn push_edit_of_lines(
     };
     let upto = lines_before(text, end);
     let front = lines_before(upto, from);
-    push_edit_between(alloc, out, encoding, text, script, (front, upto))
+    add_between(alloc, out, encoding, text, script, (front, upto))
 }
 
 /// Adds the edits that format the directives in a range, as the result of `textDocument/rangeFormatting`: one of what differs, or none if nothing does.
@@ -144,7 +144,7 @@ fn push_edit_of_lines(
 ///
 /// If memory was refused. A part of the result may have been added then.
 #[tactic(auto, unfolding(crate::specs::RangeFormatting::range_formatting))]
-pub(crate) fn push_range_formatting(
+pub(crate) fn add_range_formatting(
     alloc: Global,
     out: &mut Vec<u8>,
     encoding: Encoding,
@@ -160,7 +160,7 @@ pub(crate) fn push_range_formatting(
             let last = line_at(encoding, range.end, text);
             let blocks = blocks_of(alloc, text)?;
             let found = touched(first, last, blocks.as_slice());
-            push_edit_of_lines(alloc, out, encoding, text, &script, found)
+            add_lines(alloc, out, encoding, text, &script, found)
         }
         None => Ok(out.extend_from_slice(b"[]")?),
     }

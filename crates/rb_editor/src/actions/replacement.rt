@@ -8,7 +8,7 @@ use crate::actions::extent::Extent;
 use rb_script::Lines;
 use std::alloc::{AllocError, Global};
 
-// Whether a text ends with a line end.
+// Whether the last line of a text has an end.
 fn has_end(text: &[u8]) -> bool
     ensures { result ≡ has_end text.now }
 {
@@ -18,7 +18,7 @@ fn has_end(text: &[u8]) -> bool
     }
 }
 
-// The line end that is missing at a text's end, if the expectation begins there; else nothing.
+// The end of the line above, if the text ends with that line and it has none.
 fn end_above(text: &[u8], lines: &Lines, extent: Extent) -> &'static [u8]
     ensures { result.now ≡ end_above text.now lines.now extent }
 {
@@ -29,8 +29,8 @@ fn end_above(text: &[u8], lines: &Lines, extent: Extent) -> &'static [u8]
     }
 }
 
-// Appends an output as an expectation, in the plain or the double form.
-fn push_formed(new: &mut Vec<u8>, is_double: bool, output: &Lines) -> Result<(), AllocError>
+// Adds the lines, in the plain or the double form.
+fn add_formed(new: &mut Vec<u8>, is_double: bool, output: &Lines) -> Result<(), AllocError>
     ensures { OnOk result (new.new.items ≡ new.old.items ++ text_of (form is_double output.now)) }
 {
     if !is_double {
@@ -41,7 +41,7 @@ fn push_formed(new: &mut Vec<u8>, is_double: bool, output: &Lines) -> Result<(),
     new.extend_from_slice(b"----\n----\n")
 }
 
-/// The text that replaces a directive's expectation, so that it expects this output.
+/// Makes the text that replaces an expectation.
 #[tactic(auto, unfolding(crate::specs::Actions::new_text))]
 pub(crate) fn new_text(
     alloc: Global,
@@ -53,6 +53,6 @@ pub(crate) fn new_text(
     ensures { IfOk result (λ new. new.items ≡ new_text text.now lines.now extent output.now) }
 {
     let mut new = Vec::from_slice(alloc, end_above(text, lines, extent))?;
-    push_formed(&mut new, extent.is_double, output)?;
+    add_formed(&mut new, extent.is_double, output)?;
     Ok(new)
 }

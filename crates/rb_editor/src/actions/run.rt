@@ -14,7 +14,7 @@ ghost use Rattle.rb_editor.specs.Layouts.{IsLayout, IsNoScript};
 
 use crate::actions::comparisons::Comparisons;
 use crate::actions::layout::ScriptLayout;
-use rb_lsp::document::{Encoding, PositionTable};
+use rb_lsp::document::{Encoding, LineTable};
 use rb_machine::{Count, Machine};
 use rb_replay::Session;
 use rb_script::{ScriptFault, ScriptWithLines};
@@ -55,8 +55,8 @@ impl<M: Machine> Model for DocumentRun<M> {
     ghost invariant = { λ r. IsLayout r.encoding r.text.items r.session.script r.layout };
 }
 
-// Starts a session on the empty script. A document's first text replaces that.
-fn empty_session<M: Machine>(alloc: Global, meter: &mut M::Meter) -> Result<Session<M>, AllocError>
+// Starts a session on the empty script, from which any other is reached.
+fn begun<M: Machine>(alloc: Global, meter: &mut M::Meter) -> Result<Session<M>, AllocError>
     requires { M.Meter.count_of meter.old ≤ 2 ^ 61 }
     ensures { OnOk result (M.Meter.count_of meter.new ≤ M.Meter.count_of meter.old + MAX_DIRECTIVES) }
 {
@@ -143,7 +143,7 @@ impl<M: Machine> DocumentRun<M> {
         &self.layout
     }
 
-    /// Takes the diffs of the last text's mismatches, to use them again.
+    /// Takes what comparing the mismatches of the text before gave, for those of this one.
     pub(crate) fn take_comparisons(&mut self, alloc: Global) -> Comparisons
         ensures { self.new ≡ self.old }
     {
@@ -152,16 +152,16 @@ impl<M: Machine> DocumentRun<M> {
         comparisons
     }
 
-    /// Keeps the diffs of its mismatches for the next text.
-    pub(crate) fn retain_comparisons(&mut self, mut comparisons: Comparisons)
+    /// Keeps what comparing its mismatches gave, for the next text.
+    pub(crate) fn keep_comparisons(&mut self, mut comparisons: Comparisons)
         ensures { self.new ≡ self.old }
     {
         comparisons.end();
         self.comparisons = comparisons;
     }
 
-    /// Runs the script that a text was read as. The kept session continues from its own script, so only what differs runs.
-    pub(crate) fn of_script(
+    /// Runs a text that was read so. The session continues from the script that it has.
+    pub(crate) fn of_read(
         alloc: Global,
         encoding: Encoding,
         kept: Option<DocumentRun<M>>,
@@ -181,7 +181,7 @@ impl<M: Machine> DocumentRun<M> {
     {
         let (mut session, comparisons) = match kept {
             Some(run) => (run.session, run.comparisons),
-            None => (empty_session(alloc, meter)?, Comparisons::none(alloc)),
+            None => (begun(alloc, meter)?, Comparisons::none(alloc)),
         };
         session.replace_script(read.script, meter)?;
         let script = Layout {
@@ -189,7 +189,7 @@ impl<M: Machine> DocumentRun<M> {
             heads: read.heads,
         };
         let slips = warnings(alloc, &session, &script)?;
-        let table = PositionTable::new(alloc, encoding, bytes)?;
+        let table = LineTable::new(alloc, encoding, bytes)?;
         let text = Vec::from_slice(alloc, bytes)?;
         let layout = ScriptLayout {
             script,
@@ -205,7 +205,7 @@ impl<M: Machine> DocumentRun<M> {
         })
     }
 
-    /// Runs a text from the empty cluster; none if it isn't a script.
+    /// Runs a text of which nothing is kept. None if it isn't a script.
     pub(crate) fn fresh(
         alloc: Global,
         encoding: Encoding,
@@ -220,7 +220,7 @@ impl<M: Machine> DocumentRun<M> {
         ensures counted { OnOk result (M.Meter.count_of meter.new ≤ M.Meter.count_of meter.old + MAX_DIRECTIVES + MAX_DIRECTIVES) }
     {
         match ScriptWithLines::read(alloc, text) {
-            Ok(read) => Ok(Some(DocumentRun::of_script(alloc, encoding, None, text, read, meter)?)),
+            Ok(read) => Ok(Some(DocumentRun::of_read(alloc, encoding, None, text, read, meter)?)),
             Err(ScriptFault::OutOfMemory) => Err(AllocError),
             Err(_) => Ok(None),
         }

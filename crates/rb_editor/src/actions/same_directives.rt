@@ -15,7 +15,7 @@ fn is_same_line(one: &Lines, i: usize, other: &Lines, j: usize) -> bool
     i < one.len() && j < other.len() && one.line(i) == other.line(j)
 }
 
-// Whether two blocks have the same directive.
+// Compares the directives of two blocks.
 fn is_same_directive(one: &Lines, a: BlockLines, other: &Lines, b: BlockLines) -> bool
     ensures { IsTrue result → directive_in one.now a ≡ directive_in other.now b }
 {
@@ -31,7 +31,7 @@ fn is_same_directive(one: &Lines, a: BlockLines, other: &Lines, b: BlockLines) -
     true
 }
 
-// Whether the first `count` blocks have the same directives.
+// Compares the directives of the first blocks.
 fn has_same_front(
     one: &Lines,
     olds: &[BlockLines],

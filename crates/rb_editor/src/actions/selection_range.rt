@@ -2,19 +2,19 @@
 
 ghost use Rattle.std.specs.Prelude.{◌≡◌, ◌+◌, ◌≤◌, ◌++◌, [], IfOk, OnOk, length, None};
 ghost use Rattle.rb_lsp.specs.declared.document.limits.TheConstants.{MAX_TEXT};
-ghost use Rattle.rb_editor.specs.Selections.{block_spans, chain_text, closings, fronts, is_around, is_next, last_after, line_spans, lines_above, lines_span, nested, or_whole, part_span, selection, span_text, spans_at, spans_on, taken};
+ghost use Rattle.rb_editor.specs.Selections.{block_spans, block_with, chain_text, closings, fronts, has_line, is_around, is_next, last_after, line_spans, lines_above, lines_span, nested, or_whole, part_span, selection, span_text, spans_at, spans_on, taken};
 
 use crate::actions::above::line_start;
 use crate::actions::piece::{OffsetSpan, PieceKind, piece_span};
-use crate::actions::read_blocks::read_blocks;
-use crate::offers::{BlockLines, block_with, line_at, push_range_member};
+use crate::actions::served::served;
+use crate::offers::{BlockLines, add_range_member, blocks_of, line_at};
 use rb_lsp::document::{Encoding, Position, offset, position_of};
 use rb_script::lines_of;
 use std::alloc::{AllocError, Global};
 
 // ---- lines
 
-// The span of some lines.
+// Gives the text of some lines.
 fn lines_span(text: &[u8], first: usize, behind: usize) -> OffsetSpan
     ensures { result ≡ lines_span text.now first behind }
 {
@@ -24,7 +24,26 @@ fn lines_span(text: &[u8], first: usize, behind: usize) -> OffsetSpan
     }
 }
 
-// The span of the part of a block that has a line: its head, its input and separator, or its expectation.
+// Whether a block has a line.
+fn has_line(n: usize, block: BlockLines) -> bool
+    ensures { result ≡ has_line n block }
+{
+    block.from <= n && n < block.end
+}
+
+// Finds the block that has a line.
+fn block_with(n: usize, blocks: &[BlockLines]) -> Option<BlockLines>
+    ensures { result ≡ block_with n blocks.now }
+{
+    for block in blocks {
+        if has_line(n, *block) {
+            return Some(*block);
+        }
+    }
+    None
+}
+
+// Gives the head of a block, what is between the head and the output, or the output: the one that has this line.
 fn part_span(text: &[u8], n: usize, block: BlockLines) -> OffsetSpan
     ensures { result ≡ part_span text.now n block }
 {
@@ -37,8 +56,8 @@ fn part_span(text: &[u8], n: usize, block: BlockLines) -> OffsetSpan
     }
 }
 
-// Appends the spans of the block that has a line: of the part with the line, and of the block.
-fn push_block_spans(
+// Adds the part of a block that has a line, and the block.
+fn add_block_spans(
     list: &mut Vec<OffsetSpan>,
     text: &[u8],
     n: usize,
@@ -56,8 +75,8 @@ fn push_block_spans(
 
 // ---- around a place
 
-// Appends the spans on a line around an offset: of the word, of the argument, and of the line. `begin` is the line's offset.
-fn push_line_spans(
+// Adds the word and the argument at an offset, and the line, which begins at another.
+fn add_line_spans(
     list: &mut Vec<OffsetSpan>,
     at: usize,
     begin: usize,
@@ -76,7 +95,7 @@ fn push_line_spans(
     Ok(())
 }
 
-// The spans around an offset on line `n`, smallest first.
+// Makes the spans around an offset of a line, from the smallest.
 fn spans_on(alloc: Global, text: &[u8], at: usize, n: usize) -> Result<Vec<OffsetSpan>, AllocError>
     requires { length text.now ≤ MAX_TEXT }
     ensures { IfOk result (λ list. list.items ≡ spans_on text.now at n) }
@@ -84,9 +103,9 @@ fn spans_on(alloc: Global, text: &[u8], at: usize, n: usize) -> Result<Vec<Offse
     let mut list = Vec::new(alloc);
     let begin = line_start(text, n);
     let all = lines_of(alloc, text)?;
-    push_line_spans(&mut list, at, begin, line_at(&all, n))?;
-    let blocks = read_blocks(alloc, text)?;
-    push_block_spans(&mut list, text, n, block_with(n, blocks.as_slice()))?;
+    add_line_spans(&mut list, at, begin, line_at(&all, n))?;
+    let blocks = blocks_of(alloc, served(alloc, text)?)?;
+    add_block_spans(&mut list, text, n, block_with(n, blocks.as_slice()))?;
     list.push(OffsetSpan {
         from: 0,
         to: text.len(),
@@ -102,7 +121,7 @@ fn is_around(inner: OffsetSpan, span: OffsetSpan) -> bool
     contains && (span.from < inner.from || inner.to < span.to)
 }
 
-// Whether a span can follow the last one: it contains it and is larger. The first one must not be empty.
+// Whether a span is larger than the last one and contains it; if there is none, whether it isn't empty.
 fn is_next(last: Option<OffsetSpan>, span: OffsetSpan) -> bool
     ensures { result ≡ is_next last span }
 {
@@ -112,7 +131,7 @@ fn is_next(last: Option<OffsetSpan>, span: OffsetSpan) -> bool
     }
 }
 
-// Appends a span if it can follow the last one. Returns the span that is last then.
+// Takes a span, if it is next after the last one that was taken. Gives the last one then.
 fn take_next(
     list: &mut Vec<OffsetSpan>,
     last: Option<OffsetSpan>,
@@ -128,7 +147,7 @@ fn take_next(
     Ok(Some(span))
 }
 
-// Those spans of which each contains the one before it, and is larger.
+// Takes each span that contains the last one and is larger.
 fn nested(alloc: Global, spans: &[OffsetSpan]) -> Result<Vec<OffsetSpan>, AllocError>
     ensures { IfOk result (λ list. list.items ≡ nested None spans.now) }
 {
@@ -140,7 +159,7 @@ fn nested(alloc: Global, spans: &[OffsetSpan]) -> Result<Vec<OffsetSpan>, AllocE
     Ok(list)
 }
 
-// How many lines end before an offset.
+// Counts the lines that end before an offset.
 fn lines_above(at: usize, text: &[u8]) -> usize
     requires { at ≤ length text.now }
     ensures { result ≡ lines_above at text.now }
@@ -148,7 +167,7 @@ fn lines_above(at: usize, text: &[u8]) -> usize
     text[..at].iter().filter(|b| **b == b'\n').count()
 }
 
-// The spans around an offset, each within the next.
+// Makes the spans around an offset, each in the next.
 #[tactic(auto, unfolding(crate::specs::Selections::spans_at))]
 fn spans_at(alloc: Global, text: &[u8], at: usize) -> Result<Vec<OffsetSpan>, AllocError>
     requires within { at ≤ length text.now }
@@ -161,9 +180,9 @@ fn spans_at(alloc: Global, text: &[u8], at: usize) -> Result<Vec<OffsetSpan>, Al
 
 // ---- as they are sent
 
-// Appends the beginning of a selection range: the range of a span.
+// Adds the beginning of the range of a span.
 #[tactic(auto, unfolding(crate::specs::Selections::span_text))]
-fn push_span(
+fn add_span(
     out: &mut Vec<u8>,
     encoding: Encoding,
     text: &[u8],
@@ -174,11 +193,11 @@ fn push_span(
 {
     let start = position_of(encoding, span.from.min(text.len()), text);
     let end = position_of(encoding, span.to.min(text.len()), text);
-    push_range_member(out, start, end)
+    add_range_member(out, start, end)
 }
 
-// Appends the beginnings of selection ranges, each as the parent of the one before it.
-fn push_fronts(
+// Adds the beginnings of spans, each with the next as its parent.
+fn add_fronts(
     out: &mut Vec<u8>,
     encoding: Encoding,
     text: &[u8],
@@ -190,14 +209,14 @@ fn push_fronts(
     let mut lead: &[u8] = b"";
     for span in spans {
         out.extend_from_slice(lead)?;
-        push_span(out, encoding, text, *span)?;
+        add_span(out, encoding, text, *span)?;
         lead = b",\"parent\":";
     }
     Ok(())
 }
 
-// Appends the ends of these selection ranges.
-fn push_closings(out: &mut Vec<u8>, spans: &[OffsetSpan]) -> Result<(), AllocError>
+// Adds their ends.
+fn add_closings(out: &mut Vec<u8>, spans: &[OffsetSpan]) -> Result<(), AllocError>
     ensures { OnOk result (out.new.items ≡ out.old.items ++ closings spans.now) }
 {
     for _closing in 0..spans.len() {
@@ -206,8 +225,8 @@ fn push_closings(out: &mut Vec<u8>, spans: &[OffsetSpan]) -> Result<(), AllocErr
     Ok(())
 }
 
-// Appends a selection range whose parents are the later spans.
-fn push_chain(
+// Adds spans, each with the next as its parent.
+fn add_chain(
     out: &mut Vec<u8>,
     encoding: Encoding,
     text: &[u8],
@@ -216,17 +235,18 @@ fn push_chain(
     requires { length text.now ≤ MAX_TEXT }
     ensures { OnOk result (out.new.items ≡ out.old.items ++ chain_text encoding text.now spans.now) }
 {
-    push_fronts(out, encoding, text, spans)?;
-    push_closings(out, spans)
+    add_fronts(out, encoding, text, spans)?;
+    add_closings(out, spans)
 }
 
-/// Appends the selection range of a position, as an item of the result of `textDocument/selectionRange`. An empty text has the empty range.
+/// Adds what can be selected around a position of a text, as an item of the result of `textDocument/selectionRange`. If there is nothing, that is the
+/// empty text.
 ///
 /// # Errors
 ///
 /// If memory was refused. A part of the item may have been added then.
 #[tactic(auto, unfolding(crate::specs::Selections::selection))]
-pub(crate) fn push_selection(
+pub(crate) fn add_selection(
     alloc: Global,
     out: &mut Vec<u8>,
     encoding: Encoding,
@@ -242,7 +262,7 @@ pub(crate) fn push_selection(
             from: 0,
             to: text.len(),
         };
-        return push_chain(out, encoding, text, &[whole]);
+        return add_chain(out, encoding, text, &[whole]);
     }
-    push_chain(out, encoding, text, spans.as_slice())
+    add_chain(out, encoding, text, spans.as_slice())
 }

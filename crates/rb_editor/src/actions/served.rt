@@ -10,21 +10,17 @@ use crate::actions::above::above;
 use crate::actions::bounded::Bounded;
 use crate::actions::diagnostic::Diagnostic;
 use crate::actions::document::AskedDocument;
-use crate::actions::findings::{fault_diagnostic, line_or_first};
-use crate::actions::stopping::{BoundedFindings, KeptRun, diagnostics_of_text};
+use crate::actions::findings::{or_first, refused};
+use crate::actions::stopping::{BoundedFindings, KeptRun, of_text};
 use crate::offers::begun_lines;
 use rb_lsp::server::Query;
-use rb_report::{Table, fault_line};
+use rb_report::check::{Table, fault_line};
 use rb_script::{Script, ScriptFault, lines_of};
 use std::alloc::{AllocError, Global};
 
-/// Finds why a text isn't a script, if it isn't one.
-///
-/// # Errors
-///
-/// If memory was refused.
+// Finds why a text isn't a script, if it isn't one.
 #[tactic(auto, using(crate::proofs::ServedLaws::fault_none, crate::proofs::ServedLaws::fault_some))]
-pub(crate) fn fault_of(alloc: Global, text: &[u8]) -> Result<Option<ScriptFault>, AllocError>
+fn fault_of(alloc: Global, text: &[u8]) -> Result<Option<ScriptFault>, AllocError>
     ensures { IfOk result (λ fault. fault ≡ fault_of text.now) }
 {
     match Script::read(alloc, text) {
@@ -42,7 +38,7 @@ fn block_line(alloc: Global, line: usize, text: &[u8]) -> Result<usize, AllocErr
     Ok(line.saturating_sub(begun_lines(&lines)))
 }
 
-// The text above the block with a fault; all of it if there is no fault.
+// Gives the text above the block with this fault; all of it if there is none.
 fn above_fault<'t>(
     alloc: Global,
     text: &'t [u8],
@@ -54,13 +50,13 @@ fn above_fault<'t>(
     match fault {
         None => Ok(text),
         Some(fault) => {
-            let line = block_line(alloc, line_or_first(fault_line(fault)), text)?;
+            let line = block_line(alloc, or_first(fault_line(fault)), text)?;
             Ok(above(text, line))
         }
     }
 }
 
-/// The text that is served: all of it, or the text above the block with the first fault.
+/// Gives the text that is served.
 ///
 /// # Errors
 ///
@@ -74,8 +70,8 @@ pub(crate) fn served(alloc: Global, text: &[u8]) -> Result<&[u8], AllocError>
     above_fault(alloc, text, fault)
 }
 
-/// Gives the text by which a request is answered. A text that isn't a script isn't formatted, has no rows and no ids to rename, and can be completed
-/// anywhere; messages are found in all of it, pieces of all lines are selected, and folds and symbols are those of all blocks that read.
+/// Gives the text by which a request is answered. A text that isn't a script isn't formatted, has no rows, and can be completed anywhere; messages
+/// are found in all of it, and pieces of all lines are selected.
 ///
 /// # Errors
 ///
@@ -85,15 +81,18 @@ pub(crate) fn text_for(alloc: Global, asked: Query, text: &[u8]) -> Result<&[u8]
     ensures within { IfOk result (λ front. length front.now ≤ length text.now) }
 {
     match asked {
-        Query::CodeAction(_) | Query::Hover(_) | Query::CodeLens | Query::InlayHint(_) => served(
-            alloc, text,
-        ),
+        Query::CodeAction(_)
+        | Query::Hover(_)
+        | Query::FoldingRange
+        | Query::DocumentSymbol
+        | Query::CodeLens
+        | Query::InlayHint(_) => served(alloc, text),
         _ => Ok(text),
     }
 }
 
-// Appends the diagnostic of a fault, if there is one.
-fn push_mark(
+// Adds the mark of a fault, if there is one.
+fn add_mark(
     alloc: Global,
     list: &mut Vec<Diagnostic>,
     fault: Option<ScriptFault>,
@@ -102,17 +101,17 @@ fn push_mark(
 {
     match fault {
         None => Ok(()),
-        Some(fault) => Ok(list.push(fault_diagnostic(alloc, fault)?)?),
+        Some(fault) => Ok(list.push(refused(alloc, fault)?)?),
     }
 }
 
-/// The diagnostics of a document's text, as far as one fresh run of it goes: those of the text that is served, and that of the fault.
+/// Makes the diagnostics of the text of a document, as far as one fresh run of it goes: those of the text that is served, and the mark of the fault.
 ///
 /// # Errors
 ///
 /// If memory was refused.
 #[tactic(auto, using(crate::proofs::ServedLaws::shown_by, crate::proofs::ServedLaws::may_stop_by))]
-pub(crate) fn diagnostics_of_served<M: Bounded>(
+pub(crate) fn shown<M: Bounded>(
     alloc: Global,
     document: AskedDocument<'_, '_>,
     table: &mut Table,
@@ -129,7 +128,7 @@ pub(crate) fn diagnostics_of_served<M: Bounded>(
         uri: document.uri,
         text: above_fault(alloc, document.text, fault)?,
     };
-    let mut found = diagnostics_of_text(alloc, front, table, kept, meter)?;
-    push_mark(alloc, &mut found.list, fault)?;
+    let mut found = of_text(alloc, front, table, kept, meter)?;
+    add_mark(alloc, &mut found.list, fault)?;
     Ok(found)
 }

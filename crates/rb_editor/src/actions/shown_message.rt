@@ -8,9 +8,9 @@ ghost use Rattle.std.specs.List.{list_any};
 ghost use Rattle.rb_report.specs.Names.{is_printable};
 ghost use Rattle.rb_editor.specs.ShownMessages.{acts, acts_alone, message_byte, shown_message};
 
-use rb_report::{by_number, has_acting_char};
+use rb_report::check::{by_number, has_acting_char};
 use rb_script::{Sink, Through, WriteFault};
-use rb_text::{Escape, write_escaped};
+use rb_text::{Escape, put_escaped};
 use std::alloc::{AllocError, Global};
 
 // How the bytes of a message are written in which something acts.
@@ -19,12 +19,12 @@ struct InMessage;
 impl Escape for InMessage {
     ghost text = { λ _ b. message_byte b };
 
-    fn write_byte<S: Sink>(&self, sink: &mut S, b: u8) -> Result<(), WriteFault> {
-        sink.write_all(byte_text(b, &[b], &by_number(b)))
+    fn put<S: Sink>(&self, sink: &mut S, b: u8) -> Result<(), WriteFault> {
+        sink.put(byte_text(b, &[b], &by_number(b)))
     }
 }
 
-// The byte itself if it is printable or a line end; else its number.
+// The byte itself, or its number if it is neither printable nor an end of a line.
 fn byte_text<'a>(b: u8, itself: &'a [u8], number: &'a [u8]) -> &'a [u8]
     ensures { result.now ≡ (if b == 10 then itself.now else (if is_printable b then itself.now else number.now)) }
 {
@@ -35,7 +35,7 @@ fn byte_text<'a>(b: u8, itself: &'a [u8], number: &'a [u8]) -> &'a [u8]
     }
 }
 
-// Whether a byte is a control character, other than a line end.
+// Whether the byte is a control character but an end of a line.
 fn acts_alone(b: u8) -> bool
     ensures { result ≡ acts_alone b }
 {
@@ -48,14 +48,14 @@ fn has_control(message: &[u8]) -> bool
     message.iter().any(|b| acts_alone(*b))
 }
 
-// Whether a message has a character that acts in an editor: a control character, or one that turns or hides text.
+// Whether something acts in a message.
 fn acts(message: &[u8]) -> bool
     ensures { result ≡ acts message.now }
 {
     has_control(message) || has_acting_char(message)
 }
 
-/// Copies a message. If a character in it would act, all but printable ASCII and line ends is shown by numbers.
+/// Copies a message as it is shown.
 ///
 /// # Errors
 ///
@@ -68,7 +68,7 @@ pub(crate) fn shown_message(alloc: Global, message: &[u8]) -> Result<Vec<u8>, Al
         return Vec::from_slice(alloc, message);
     }
     let mut sink = Through(Vec::new(alloc));
-    match write_escaped(&mut sink, &InMessage, message) {
+    match put_escaped(&mut sink, &InMessage, message) {
         Ok(()) => Ok(sink.0),
         Err(_) => Err(AllocError),
     }

@@ -16,11 +16,11 @@ use rb_lsp::server::ItemSpan;
 use rb_machine::Count;
 use rb_script::{Lines, Through};
 use rb_view::look::machine_in_session;
-use rb_view::steps::{SomeDirectives, rows_of_some, write_steps};
+use rb_view::steps::{SomeDirectives, put_steps, rows_of_some};
 use std::alloc::{AllocError, Global};
 use std::mem;
 
-// How many of `count` directives are before a span.
+// How many of so many directives are before a span.
 fn first_of(span: ItemSpan, count: usize) -> usize
     ensures value { result ≡ first_of span count }
     ensures within { result ≤ count }
@@ -28,7 +28,7 @@ fn first_of(span: ItemSpan, count: usize) -> usize
     span.from.min(count as u64) as usize
 }
 
-// How many of `count` directives are before the end of a span.
+// How many of so many directives are before those after it.
 fn end_of(span: ItemSpan, count: usize) -> usize
     ensures value { result ≡ first_of span count + count_of span count }
     ensures order { first_of span count ≤ result }
@@ -38,14 +38,14 @@ fn end_of(span: ItemSpan, count: usize) -> usize
     first + span.count.min((count - first) as u64) as usize
 }
 
-// Appends rows, after a row that names the document.
-fn push_steps(out: &mut Vec<u8>, uri: &[u8], rows: &Lines) -> Result<(), AllocError>
+// Adds rows after a row that names the document.
+fn add_steps(out: &mut Vec<u8>, uri: &[u8], rows: &Lines) -> Result<(), AllocError>
     ensures { OnOk result (out.new.items ≡ out.old.items ++ rows_joined uri.now rows.now) }
 {
     // The text itself is the sink.
     let nothing = Vec::new(*out.allocator());
     let mut sink = Through(mem::replace(out, nothing));
-    let written = write_steps(&mut sink, uri, rows);
+    let written = put_steps(&mut sink, uri, rows);
     *out = sink.0;
     match written {
         Ok(()) => Ok(()),
@@ -53,9 +53,9 @@ fn push_steps(out: &mut Vec<u8>, uri: &[u8], rows: &Lines) -> Result<(), AllocEr
     }
 }
 
-// Appends the page's rows of the directives in a span, by the run of their script.
+// Adds the rows of a script that ran.
 #[tactic(auto, using(crate::proofs::RunLaws::layout_by))]
-fn push_rows_in(
+fn add_rows_in(
     alloc: Global,
     out: &mut Vec<u8>,
     uri: &[u8],
@@ -83,15 +83,15 @@ fn push_rows_in(
     let cluster = bounded.into_cluster();
     let rows = rows_of_some(alloc, session, some, cluster, &mut Meter::new())?;
     match rows {
-        Some(rows) => push_steps(out, uri, &rows),
+        Some(rows) => add_steps(out, uri, &rows),
         None => out.extend_from_slice(b"null"),
     }
 }
 
-/// Appends the page's rows of the directives in a span of a document, and the rows after the last directive. Appends `null` if the text isn't a
-/// script, or a page has no room for the rows. The kept run is used if it is that of the text.
+/// Adds the rows that a page of a document has of some directives, by the kept run if it is that of its text, and what follows the directives: `null`
+/// if the text isn't a script, and if a page has no room for them.
 #[tactic(auto, using(crate::proofs::SomeRowLaws::of_text, crate::proofs::SomeRowLaws::of_none))]
-pub(crate) fn push_rows(
+pub(crate) fn add_rows(
     alloc: Global,
     out: &mut Vec<u8>,
     document: AskedDocument<'_, '_>,
@@ -105,10 +105,10 @@ pub(crate) fn push_rows(
 {
     let encoding = document.encoding;
     if let Some(run) = kept_of(kept, encoding, document.text) {
-        return push_rows_in(alloc, out, document.uri, span, run, meter);
+        return add_rows_in(alloc, out, document.uri, span, run, meter);
     }
     match DocumentRun::<BoundedCluster>::fresh(alloc, encoding, document.text, meter)? {
-        Some(run) => push_rows_in(alloc, out, document.uri, span, &run, meter),
+        Some(run) => add_rows_in(alloc, out, document.uri, span, &run, meter),
         None => out.extend_from_slice(b"null"),
     }
 }

@@ -13,14 +13,14 @@ use crate::actions::above::above;
 use crate::actions::bounded::Bounded;
 use crate::actions::diagnostic::{Diagnostic, DiagnosticKind};
 use crate::actions::document::AskedDocument;
-use crate::actions::findings::diagnostics_of_document;
+use crate::actions::findings::of_document;
 use crate::actions::run::{DocumentRun, kept_of};
 use crate::actions::same_directives::{directives_of, has_same_directives};
 use crate::actions::stopped_text::{DirectiveStop, StoppedText};
 use crate::actions::work_meter::EnoughWork;
 use rb_lsp::server::Stop;
 use rb_machine::{Count, Machine};
-use rb_report::Table;
+use rb_report::check::Table;
 use rb_script::{ScriptFault, ScriptWithLines};
 use rb_script_report::number_at;
 use std::alloc::{AllocError, Global};
@@ -47,7 +47,7 @@ impl<M: Machine> KeptRun<M> {
     ghost use Rattle.rb_editor.specs.Stops.{may_stop};
     ghost use Rattle.rb_editor.specs.LastStops.{stop_of};
 
-    /// Nothing ran yet.
+    /// Keeps nothing.
     pub(crate) fn none() -> KeptRun<M>
         ensures run { result.run ≡ None }
         ensures stopped { result.stopped ≡ None }
@@ -58,7 +58,7 @@ impl<M: Machine> KeptRun<M> {
         }
     }
 
-    /// Where the run of this text stopped, if it is the last text whose run stopped.
+    /// Finds where the run of this text stopped, if it is the last one that did.
     pub(crate) fn stop_of(&self, text: &[u8]) -> Option<Stop>
         ensures known { result ≡ stop_of self.now.stopped text.now }
         ensures head { IfSome result (λ stop. may_stop text.now stop ≡ true) }
@@ -70,13 +70,13 @@ impl<M: Machine> KeptRun<M> {
     }
 }
 
-// The diagnostic that says that the run stopped at a line.
+// Says that the run stopped at the directive on a line.
 #[tactic(auto, unfolding(crate::specs::Findings::stopped))]
-fn stop_diagnostic(alloc: Global, line: usize) -> Result<Diagnostic, AllocError>
+fn stopped(alloc: Global, line: usize) -> Result<Diagnostic, AllocError>
     ensures { IfOk result (λ d. d ≡ stopped line) }
 {
     let sentence =
-        b"the script is not run from here on: an editor waits for 16,000,000 steps; raftbench run runs it all";
+        b"the script is not run from here on: an editor waits for 16,000,000 steps; raftbench check runs it all";
     Ok(Diagnostic {
         line,
         kind: DiagnosticKind::Stopped,
@@ -85,7 +85,7 @@ fn stop_diagnostic(alloc: Global, line: usize) -> Result<Diagnostic, AllocError>
     })
 }
 
-// The line of the head of the directive at an index, if the text is a script that has it.
+// Finds the line of the head of the directive at an index, if the text is a script that has it.
 #[tactic(auto, using(crate::proofs::StopLaws::head_of_none))]
 fn head_line(alloc: Global, text: &[u8], index: usize) -> Result<Option<usize>, AllocError>
     ensures { IfOk result (λ line. line ≡ head_line text.now index) }
@@ -97,7 +97,7 @@ fn head_line(alloc: Global, text: &[u8], index: usize) -> Result<Option<usize>, 
     }
 }
 
-// Where the run of a text stops, if it has the same directives up to where the last run stopped.
+// Finds where the run of a text stops if it stops as that of the last text did: both have the same directives up to there.
 fn same_stop(
     alloc: Global,
     stopped: &Option<StoppedText>,
@@ -127,9 +127,9 @@ fn same_stop(
     }))
 }
 
-// The diagnostics of a text whose run stops at a directive: those of the text above it, and one there.
+// Makes the diagnostics of a text whose run stops here.
 #[tactic(auto, using(crate::proofs::StopLaws::head_is))]
-fn diagnostics_above_stop<M: Machine>(
+fn of_front<M: Machine>(
     alloc: Global,
     document: AskedDocument<'_, '_>,
     table: &mut Table,
@@ -151,8 +151,8 @@ fn diagnostics_above_stop<M: Machine>(
         uri: document.uri,
         text: above(document.text, stop.line),
     };
-    let mut list = diagnostics_of_document(alloc, front, table, &mut kept.run, meter)?;
-    list.push(stop_diagnostic(alloc, stop.line)?)?;
+    let mut list = of_document(alloc, front, table, &mut kept.run, meter)?;
+    list.push(stopped(alloc, stop.line)?)?;
     let text = Vec::from_slice(alloc, document.text)?;
     kept.stopped = Some(StoppedText { text, index, stop });
     Ok(BoundedFindings {
@@ -161,9 +161,9 @@ fn diagnostics_above_stop<M: Machine>(
     })
 }
 
-// The diagnostics of a text whose run stops where the last one did. Returns none, without a run, if it needn't stop there.
+// Makes the diagnostics of a text if its run stops where the run of the last text stopped. Otherwise returns none, and has run nothing.
 #[tactic(auto, using(crate::proofs::StopLaws::may_stop_at))]
-fn diagnostics_of_same_stop<M: Bounded>(
+fn of_same_stop<M: Bounded>(
     alloc: Global,
     document: AskedDocument<'_, '_>,
     table: &mut Table,
@@ -176,13 +176,13 @@ fn diagnostics_of_same_stop<M: Bounded>(
     ensures head { IfOk result (λ found. IfSome found (λ f. IfSome f.stop (λ stop. may_stop document.entry.text.now stop ≡ true))) }
 {
     match same_stop(alloc, &kept.stopped, document.text)? {
-        Some(at) => Ok(Some(diagnostics_above_stop(alloc, document, table, kept, meter, at)?)),
+        Some(at) => Ok(Some(of_front(alloc, document, table, kept, meter, at)?)),
         None => Ok(None),
     }
 }
 
-// The diagnostics of a text whose run ends. If the run stops, returns none and keeps no run.
-fn diagnostics_of_whole_run<M: Bounded>(
+// Makes the diagnostics of a text if its run ends. If the run stops, returns none and keeps no run.
+fn of_whole<M: Bounded>(
     alloc: Global,
     document: AskedDocument<'_, '_>,
     table: &mut Table,
@@ -197,7 +197,7 @@ fn diagnostics_of_whole_run<M: Bounded>(
     if meter.count() > MAX_COUNT {
         return Err(AllocError);
     }
-    match diagnostics_of_document(alloc, document, table, &mut kept.run, meter) {
+    match of_document(alloc, document, table, &mut kept.run, meter) {
         Ok(list) => {
             // If the text isn't a script it has no run, and that of the last one stays.
             if kept_of(&kept.run, document.encoding, document.text).is_some() {
@@ -212,7 +212,7 @@ fn diagnostics_of_whole_run<M: Bounded>(
     }
 }
 
-// Where a run stopped that has run this many directives: the last of them was refused.
+// Finds where the run of a text stopped that has run this many directives: the last of them was refused.
 fn stop_after(
     alloc: Global,
     text: &[u8],
@@ -234,8 +234,8 @@ fn stop_after(
     }
 }
 
-// The diagnostics of a text, if its run from the empty cluster ends. If it stops, returns where, and keeps no run.
-fn diagnostics_of_first_run<M: Bounded>(
+// Makes the diagnostics of a text if its run from the empty cluster ends. If it stops, returns where, and keeps no run.
+fn of_first_run<M: Bounded>(
     alloc: Global,
     document: AskedDocument<'_, '_>,
     table: &mut Table,
@@ -252,7 +252,7 @@ fn diagnostics_of_first_run<M: Bounded>(
     ensures work { IfOk result (λ found. IfErr found (λ at. option_map (λ enough. enough.work) (M.refused_of meter.new) ≡ Some at.stop.work)) }
 {
     let count = meter.count();
-    match diagnostics_of_whole_run(alloc, document, table, kept, meter)? {
+    match of_whole(alloc, document, table, kept, meter)? {
         Ok(found) => Ok(Ok(found)),
         Err(enough) => {
             let ran = meter.count().saturating_sub(count);
@@ -261,9 +261,9 @@ fn diagnostics_of_first_run<M: Bounded>(
     }
 }
 
-// The diagnostics of a text by a run from the empty cluster, as far as it goes.
+// Makes the diagnostics of a text whose run begins with the empty cluster.
 #[tactic(auto, using(crate::proofs::StopLaws::may_stop_at))]
-fn diagnostics_of_fresh_run<M: Bounded>(
+fn of_fresh<M: Bounded>(
     alloc: Global,
     document: AskedDocument<'_, '_>,
     table: &mut Table,
@@ -275,18 +275,18 @@ fn diagnostics_of_fresh_run<M: Bounded>(
     ensures head { IfOk result (λ found. IfSome found.stop (λ stop. may_stop document.entry.text.now stop ≡ true)) }
 {
     kept.run = None;
-    match diagnostics_of_first_run(alloc, document, table, kept, meter)? {
+    match of_first_run(alloc, document, table, kept, meter)? {
         Ok(found) => Ok(found),
-        Err(at) => diagnostics_above_stop(alloc, document, table, kept, meter, at),
+        Err(at) => of_front(alloc, document, table, kept, meter, at),
     }
 }
 
-/// The diagnostics of a document's text, as far as one fresh run of it goes.
+/// Makes the diagnostics of the text of a document, as far as one fresh run of it goes.
 ///
 /// # Errors
 ///
 /// If memory was refused. Then no run is kept.
-pub(crate) fn diagnostics_of_text<M: Bounded>(
+pub(crate) fn of_text<M: Bounded>(
     alloc: Global,
     document: AskedDocument<'_, '_>,
     table: &mut Table,
@@ -297,13 +297,13 @@ pub(crate) fn diagnostics_of_text<M: Bounded>(
     ensures list { IfOk result (λ found. found.list.items ≡ diagnosed found.stop document.entry.text.now) }
     ensures head { IfOk result (λ found. IfSome found.stop (λ stop. may_stop document.entry.text.now stop ≡ true)) }
 {
-    if let Some(found) = diagnostics_of_same_stop(alloc, document, table, kept, meter)? {
+    if let Some(found) = of_same_stop(alloc, document, table, kept, meter)? {
         return Ok(found);
     }
     if kept.run.is_some()
-        && let Ok(found) = diagnostics_of_whole_run(alloc, document, table, kept, meter)?
+        && let Ok(found) = of_whole(alloc, document, table, kept, meter)?
     {
         return Ok(found);
     }
-    diagnostics_of_fresh_run(alloc, document, table, kept, meter)
+    of_fresh(alloc, document, table, kept, meter)
 }

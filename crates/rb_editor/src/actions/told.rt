@@ -1,4 +1,4 @@
-//! How much of diagnostics is sent: their diffs and actual outputs share a bound.
+//! What is told of diagnostics: their diffs and actual outputs, as far as they have room.
 
 ghost use Rattle.std.specs.Prelude.{◌≡◌, ◌<◌, ◌++◌, IfOk, length, option_map, take};
 ghost use Rattle.rb_editor.specs.Above.{line_begin};
@@ -21,7 +21,6 @@ pub(crate) struct BoundedDiagnostic<'d> {
     pub(crate) left: usize,
 }
 
-// The line that says where the rest of a cut message is.
 #[tactic(auto, unfolding(crate::specs::Told::more_text))]
 fn more_text() -> &'static [u8]
     ensures { result.now ≡ more_text }
@@ -29,14 +28,14 @@ fn more_text() -> &'static [u8]
     b"raftbench check shows the whole diff"
 }
 
-// How many bytes one message or output may have, if `left` are left for all.
+// How many bytes a message has, or an actual output, if so many are left for all.
 fn room(left: usize) -> usize
     ensures { result ≡ room left }
 {
     left.min(MAX_DIFF)
 }
 
-// Copies the first lines of a message that is too long, and the line that says where the rest is.
+// Copies the first lines of a message that is too long, and says where the rest is.
 fn first_lines(alloc: Global, most: usize, message: &[u8]) -> Result<Vec<u8>, AllocError>
     requires { most < length message.now }
     ensures { IfOk result (λ text. text.items ≡ take (line_begin most message.now) message.now ++ more_text) }
@@ -46,7 +45,7 @@ fn first_lines(alloc: Global, most: usize, message: &[u8]) -> Result<Vec<u8>, Al
     Ok(text)
 }
 
-// Copies a message of at most `most` bytes: all of it, or its first lines.
+// Copies a message in so many bytes: all of it, or its first lines.
 fn cut(alloc: Global, most: usize, message: &[u8]) -> Result<Vec<u8>, AllocError>
     ensures { IfOk result (λ text. text.items ≡ cut most message.now) }
 {
@@ -56,7 +55,7 @@ fn cut(alloc: Global, most: usize, message: &[u8]) -> Result<Vec<u8>, AllocError
     first_lines(alloc, most, message)
 }
 
-// How many bytes [`cut`] copies.
+// How many bytes that is.
 #[tactic(auto, using(crate::proofs::ToldLaws::cut_length, crate::proofs::ToldLaws::whole_length))]
 fn cut_len(most: usize, message: &[u8]) -> usize
     ensures { result ≡ length (cut most message.now) }
@@ -67,12 +66,12 @@ fn cut_len(most: usize, message: &[u8]) -> usize
     line_begin(most, message) + more_text().len()
 }
 
-/// Copies the message of a diagnostic, cut to the bytes that are left.
+/// Copies the message of a diagnostic, as far as it is told.
 ///
 /// # Errors
 ///
 /// If memory was refused.
-pub(crate) fn bounded_message(
+pub(crate) fn told_message(
     alloc: Global,
     bounded: BoundedDiagnostic<'_>,
 ) -> Result<Vec<u8>, AllocError>
@@ -86,15 +85,15 @@ pub(crate) fn bounded_message(
     }
 }
 
-// How many bytes are left for all after a message.
+// How many bytes are left behind a message.
 fn left_after(left: usize, message: &[u8]) -> usize
     ensures { result ≡ left_after left message.now }
 {
     left.saturating_sub(cut_len(room(left), message))
 }
 
-/// The actual output of a mismatch, if there is room for it after the message.
-pub(crate) fn bounded_output(bounded: BoundedDiagnostic<'_>) -> Option<&ActualOutput>
+/// Gives the actual output of a mismatch, if it has room behind the message.
+pub(crate) fn told_came(bounded: BoundedDiagnostic<'_>) -> Option<&ActualOutput>
     ensures { option_map (λ c. c.now) result ≡ told_came bounded.entry.left bounded.entry.diagnostic.now.message bounded.entry.diagnostic.now.came }
 {
     let diagnostic = bounded.diagnostic;
@@ -107,8 +106,8 @@ pub(crate) fn bounded_output(bounded: BoundedDiagnostic<'_>) -> Option<&ActualOu
     }
 }
 
-/// How many bytes are left for the diagnostics after this one.
-pub(crate) fn left_for_next(bounded: BoundedDiagnostic<'_>) -> usize
+/// Says how many bytes are left for the diagnostics after it.
+pub(crate) fn left_behind(bounded: BoundedDiagnostic<'_>) -> usize
     ensures { result ≡ left_behind bounded.entry.left bounded.entry.diagnostic.now }
 {
     let diagnostic = bounded.diagnostic;
@@ -116,7 +115,7 @@ pub(crate) fn left_for_next(bounded: BoundedDiagnostic<'_>) -> usize
         return bounded.left;
     }
     let left = left_after(bounded.left, diagnostic.message.as_slice());
-    match bounded_output(bounded) {
+    match told_came(bounded) {
         Some(came) => left.saturating_sub(came.shown.len()),
         None => left,
     }

@@ -1,4 +1,4 @@
-//! A meter of directives that also notes at how much work a run was refused.
+//! A meter of an editor's run.
 
 ghost use Rattle.std.specs.Prelude.{◌≤◌};
 ghost use Rattle.rb_lsp.specs.declared.server.limits.TheConstants.{MAX_WORK};
@@ -39,7 +39,7 @@ impl WorkMeter {
         }
     }
 
-    /// Counts one more directive.
+    /// Counts one more directive, which isn't refused yet.
     pub(crate) fn raise(&mut self)
         requires { self.old.count < 2 ^ 63 }
         ensures count { self.new.count ≡ self.old.count + 1 }
@@ -50,7 +50,7 @@ impl WorkMeter {
         self.refused = None;
     }
 
-    /// Notes that a directive was refused at this much work, if that meets the bound.
+    /// Remembers that a directive was refused at this much work, if that meets the bound.
     pub(crate) fn refuse(&mut self, work: u64)
         ensures count { self.new.count ≡ self.old.count }
         ensures bound { self.new.bound ≡ self.old.bound }

@@ -1,4 +1,4 @@
-//! The lines above an offset of a text, and the head that is unfinished there.
+//! The lines above a place of a text, and the head up to it.
 
 ghost use Rattle.std.specs.Prelude.{◌≡◌, ◌<◌, ◌≤◌, ◌+◌, ◌-◌, ◌^◌, [], IfOk, OnOk, length, option_map};
 ghost use Rattle.rb_script.specs.Joined.{body};
@@ -9,7 +9,7 @@ use crate::offers::part::Part;
 use rb_script::{Lines, is_space};
 use std::alloc::{AllocError, Global};
 
-/// The offset at which the line of an offset begins.
+/// Finds where the line of a place begins.
 pub(crate) fn line_begin(at: usize, text: &[u8]) -> usize
     requires { at ≤ length text.now }
     ensures value { result ≡ line_begin at text.now }
@@ -22,7 +22,7 @@ pub(crate) fn line_begin(at: usize, text: &[u8]) -> usize
     start
 }
 
-/// The offset at which a line begins that is `lines` above the line of an offset.
+/// Finds where the line begins that is this many lines above the line of a place.
 pub(crate) fn line_above(lines: usize, at: usize, text: &[u8]) -> usize
     requires { at ≤ length text.now }
     ensures value { result ≡ line_above lines at text.now }
@@ -35,7 +35,7 @@ pub(crate) fn line_above(lines: usize, at: usize, text: &[u8]) -> usize
     line_begin(place, text)
 }
 
-// A head line that is continued, without its backslash and what follows it.
+// Cuts the last byte that is no blank off a line, and what follows it.
 fn body(line: &[u8]) -> &[u8]
     ensures { result.now ≡ body line.now }
 {
@@ -49,8 +49,8 @@ fn body(line: &[u8]) -> &[u8]
     front
 }
 
-/// Continues a head by a line, if the line below is of the same head; else forgets the head.
-pub(crate) fn push_head_line(head: &mut Vec<u8>, part: Part, line: &[u8]) -> Result<(), AllocError>
+/// Keeps what is known of a head after a line, which a line of this part follows.
+pub(crate) fn keep(head: &mut Vec<u8>, part: Part, line: &[u8]) -> Result<(), AllocError>
     ensures { OnOk result (head.new.items ≡ kept part line.now head.old.items) }
 {
     match part {
@@ -63,8 +63,8 @@ pub(crate) fn push_head_line(head: &mut Vec<u8>, part: Part, line: &[u8]) -> Res
     Ok(())
 }
 
-/// Which part the line below these lines is, and the head that it continues.
-pub(crate) fn after_lines(alloc: Global, lines: &Lines) -> Result<(Part, Vec<u8>), AllocError>
+/// Finds what the line below these is, and the head that it continues.
+pub(crate) fn behind_lines(alloc: Global, lines: &Lines) -> Result<(Part, Vec<u8>), AllocError>
     ensures { IfOk result (λ found. (found.0, found.1.items) ≡ behind_lines Lead [] lines.now) }
 {
     let mut part = Part::Lead;
@@ -72,12 +72,12 @@ pub(crate) fn after_lines(alloc: Global, lines: &Lines) -> Result<(Part, Vec<u8>
     for i in 0..lines.len() {
         let line = lines.line(i);
         part = part.next(line);
-        push_head_line(&mut head, part, line)?;
+        keep(&mut head, part, line)?;
     }
     Ok((part, head))
 }
 
-// How many lines an unfinished block has, with one more line of this part.
+// Counts one line more of a block that isn't finished.
 fn more_begun(part: Part, count: usize) -> usize
     requires { count < 2 ^ 64 - 1 }
     ensures value { result ≡ more_begun part count }
@@ -89,7 +89,7 @@ fn more_begun(part: Part, count: usize) -> usize
     }
 }
 
-/// How many of the last lines are of a block that isn't finished.
+/// Counts the last of these lines that are of a block that isn't finished.
 pub(crate) fn begun_lines(lines: &Lines) -> usize
     ensures value { result ≡ begun_lines Lead 0 lines.now }
     ensures most { result ≤ length lines.now }
@@ -103,7 +103,7 @@ pub(crate) fn begun_lines(lines: &Lines) -> usize
     count
 }
 
-/// The head up to an offset whose line begins with `front`; none if the line isn't of a head.
+/// Gives the head up to a place, if the line of this part, which begins so, is one of it.
 pub(crate) fn head_in(
     part: Part,
     head: Vec<u8>,

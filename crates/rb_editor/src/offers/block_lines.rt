@@ -1,10 +1,10 @@
-//! Where each block of a script is in its text: its head, its separator, its expectation.
+//! The lines of a script's blocks.
 
 ghost use Rattle.std.specs.Prelude.{◌≡◌, ◌≢◌, ◌≤◌, ◌<◌, ◌^◌, ◌-◌, length, drop, slice_get, IfOk, IfSome, OnOk, Some};
 ghost use Rattle.rb_script.specs.declared.fault.ScriptFault.TheVariants.{OutOfMemory};
 ghost use Rattle.rb_script.specs.HeadLines.{AreHeadLines};
 ghost use Rattle.rb_script.specs.Reads.{Reads, begins_rule};
-ghost use Rattle.rb_editor.specs.BlockLines.{all_lines, behind_head, block_with, blocks_of, has_line, mark_lines, script_of};
+ghost use Rattle.rb_editor.specs.BlockLines.{all_lines, behind_head, blocks_of, mark_lines, script_of};
 
 use rb_script::{Block, Lines, Script, ScriptFault, ScriptWithLines, continues, is_rule};
 use std::alloc::{AllocError, Global};
@@ -25,8 +25,8 @@ pub struct BlockLines {
 /// The lines that mark the double form of an expectation: one above it, and two after it.
 const DOUBLE_LINES: usize = 3;
 
-// The line after the head that begins on a line.
-fn after_head(text: &Lines, from: usize) -> usize
+// Finds the line after the head that begins on a line.
+fn behind_head(text: &Lines, from: usize) -> usize
     requires { from ≤ length text.now }
     ensures value { result ≡ behind_head text.now from }
     ensures within { result ≤ length text.now }
@@ -41,14 +41,14 @@ fn after_head(text: &Lines, from: usize) -> usize
     count
 }
 
-/// Whether the line at this index is `----`.
+/// Whether there is a line after this many, and it is `----`.
 pub fn begins_rule(text: &Lines, below: usize) -> bool
     ensures { result ≡ begins_rule (drop below text.now) }
 {
     below < text.len() && is_rule(text.line(below))
 }
 
-// How many lines mark the form of the expectation that begins on a line: two for the double form, else none.
+// Counts the lines that mark the form of the expectation that begins on a line.
 fn mark_lines(text: &Lines, below: usize) -> usize
     ensures { result ≡ mark_lines text.now below }
 {
@@ -63,13 +63,13 @@ impl BlockLines {
     ghost use Rattle.std.specs.Prelude.{◌≡◌};
     ghost use Rattle.rb_editor.specs.BlockLines.{StandsIn, block_lines};
 
-    /// The lines of a block whose head begins on this line, counted from 1.
+    /// Finds the lines of a block whose head begins on this line, counted from 1.
     pub fn of_block(text: &Lines, head: usize, block: &Block) -> BlockLines
         requires { StandsIn text.now head block.now }
         ensures { result ≡ block_lines text.now head block.now }
     {
         let from = head - 1;
-        let body = after_head(text, from);
+        let body = behind_head(text, from);
         let below = body + block.directive().inputs() + 1;
         let end = below + block.expected().len() + mark_lines(text, below);
         BlockLines {
@@ -107,7 +107,7 @@ pub(crate) fn all_lines(
     Ok(all)
 }
 
-// Fails if memory was refused. Any other fault says that the bytes aren't a script.
+// Says that the bytes were refused, or fails if memory was.
 fn refused(fault: ScriptFault) -> Result<(), AllocError>
     ensures { OnOk result (fault ≢ OutOfMemory) }
 {
@@ -117,7 +117,7 @@ fn refused(fault: ScriptFault) -> Result<(), AllocError>
     }
 }
 
-/// The script that the bytes are, if they are one.
+/// Reads the bytes as a script, if they are one.
 pub(crate) fn script_of(alloc: Global, bytes: &[u8]) -> Result<Option<Script>, AllocError>
     ensures value { IfOk result (λ found. found ≡ script_of bytes.now) }
     ensures reads { IfOk result (λ found. IfSome found (λ s. Reads bytes.now s)) }
@@ -143,23 +143,4 @@ pub(crate) fn blocks_of(alloc: Global, bytes: &[u8]) -> Result<Vec<BlockLines>, 
             Ok(Vec::new(alloc))
         }
     }
-}
-
-// Whether a block has a line.
-fn has_line(n: usize, block: BlockLines) -> bool
-    ensures { result ≡ has_line n block }
-{
-    block.from <= n && n < block.end
-}
-
-/// Finds the block that has a line.
-pub(crate) fn block_with(n: usize, blocks: &[BlockLines]) -> Option<BlockLines>
-    ensures { result ≡ block_with n blocks.now }
-{
-    for block in blocks {
-        if has_line(n, *block) {
-            return Some(*block);
-        }
-    }
-    None
 }

@@ -1,42 +1,31 @@
-//! Completion: what a text can continue with at an offset.
+//! What a text can continue with at a place.
 
 ghost use Rattle.std.specs.Prelude.{◌≡◌, ◌≤◌, ◌++◌, [], IfOk, OnOk, drop, length};
 ghost use Rattle.rb_lsp.specs.declared.document.limits.TheConstants.{MAX_TEXT};
 ghost use Rattle.rb_script.specs.Lines.{lines};
-ghost use Rattle.rb_editor.specs.Completion.{back_text, completion, end_text, front_text, is_blank_at, item_text, items_place, items_text, kind_number, mark, name_end, name_end_at};
+ghost use Rattle.rb_editor.specs.Completion.{back_text, completion, end_text, front_text, has_block, is_blank_at, item_text, items_place, items_text, kind_number, mark};
 ghost use Rattle.rb_editor.specs.Ids.{id_offers};
 ghost use Rattle.rb_editor.specs.Offers.{offers};
 ghost use Rattle.rb_editor.specs.Texts.{list_text, listed};
 
-use crate::offers::ids::{change_wanted, push_changes, push_ids};
+use crate::offers::ids::{add_changes, add_ids, change_wanted};
 use crate::offers::offer::{Offer, OfferKind, offers};
 use crate::offers::place::CompletionPlace;
 use crate::offers::symbols::line_at;
 use crate::offers::unfinished::{UnfinishedWord, wanted_of};
-use crate::offers::writing::push_range;
+use crate::offers::writing::add_range;
 use rb_lsp::document::{Position, position_of};
 use rb_lsp::server::Client;
 use rb_script::{Lines, is_blank, lines_of};
-use rb_text::{Json, Piece, push_pieces};
+use rb_text::{Json, Piece, add_pieces};
 use std::alloc::{AllocError, Global};
 
-/// What a directive's name comes with.
-#[derive(Clone, Copy, Debug, PartialEq, Eq)]
-pub(crate) enum NameEnd {
-    /// Nothing.
-    Alone,
-    /// The line `----` and an empty line.
-    Lines,
-    /// The same, as a snippet.
-    Snippet,
-}
-
-/// Where words are put: in place of the text between two positions. A name comes with lines if nothing is behind it.
+/// Where words are put: in place of the text between two positions. A name has its block there if nothing is behind it.
 #[derive(Clone, Copy)]
 pub(crate) struct ItemPlace {
     pub(crate) start: Position,
     pub(crate) end: Position,
-    pub(crate) name_end: NameEnd,
+    pub(crate) has_block: bool,
 }
 
 // The protocol's number for a kind of word.
@@ -50,7 +39,7 @@ fn kind_number(kind: OfferKind) -> u64
     }
 }
 
-// What a word is followed by: `=` after a key.
+// The mark after a word.
 fn mark(kind: OfferKind) -> &'static [u8]
     ensures { result.now ≡ mark kind }
 {
@@ -60,12 +49,12 @@ fn mark(kind: OfferKind) -> &'static [u8]
     }
 }
 
-// Appends an item up to the range that it replaces.
+// Adds an item up to the range of its edit.
 #[tactic(auto, unfolding(crate::specs::Completion::front_text))]
-fn push_item_front(out: &mut Vec<u8>, offer: &Offer) -> Result<(), AllocError>
+fn add_front(out: &mut Vec<u8>, offer: &Offer) -> Result<(), AllocError>
     ensures { OnOk result (out.new.items ≡ out.old.items ++ front_text offer.now) }
 {
-    push_pieces(
+    add_pieces(
         out,
         &[
             Piece::Bytes(b"{\"label\":\""),
@@ -80,62 +69,51 @@ fn push_item_front(out: &mut Vec<u8>, offer: &Offer) -> Result<(), AllocError>
     )
 }
 
-// The end of the item of a name.
-fn name_end(end: NameEnd) -> &'static [u8]
-    ensures { result.now ≡ name_end end }
-{
-    match end {
-        NameEnd::Alone => b"\"}}",
-        NameEnd::Lines => b"\\n----\\n\"}}",
-        NameEnd::Snippet => b"$1\\n----\\n$0\"},\"insertTextFormat\":2}",
-    }
-}
-
-// The end of an item.
-fn end_text(end: NameEnd, kind: OfferKind) -> &'static [u8]
-    ensures { result.now ≡ end_text end kind }
+// The end of an item. A name may come with the line `----` and an empty line below it, as a snippet.
+fn end_text(has_block: bool, kind: OfferKind) -> &'static [u8]
+    ensures { result.now ≡ end_text has_block kind }
 {
     match kind {
-        OfferKind::Directive => name_end(end),
-        OfferKind::Key | OfferKind::Value => b"\"}}",
+        OfferKind::Directive if has_block => b"$1\\n----\\n$0\"},\"insertTextFormat\":2}",
+        _ => b"\"}}",
     }
 }
 
-// Appends an item after the range that it replaces.
+// Adds the rest of an item.
 #[tactic(auto, unfolding(crate::specs::Completion::back_text))]
-fn push_item_back(out: &mut Vec<u8>, end: NameEnd, offer: &Offer) -> Result<(), AllocError>
-    ensures { OnOk result (out.new.items ≡ out.old.items ++ back_text end offer.now) }
+fn add_back(out: &mut Vec<u8>, has_block: bool, offer: &Offer) -> Result<(), AllocError>
+    ensures { OnOk result (out.new.items ≡ out.old.items ++ back_text has_block offer.now) }
 {
-    push_pieces(
+    add_pieces(
         out,
         &[
             Piece::Bytes(b",\"newText\":\""),
             Piece::Escaped(Json::Utf8, offer.word),
             Piece::Bytes(mark(offer.kind)),
-            Piece::Bytes(end_text(end, offer.kind)),
+            Piece::Bytes(end_text(has_block, offer.kind)),
         ],
     )
 }
 
-// Appends an offered word as an item.
+// Adds an item: a word in a place.
 #[tactic(auto, unfolding(crate::specs::Completion::item_text))]
-fn push_item(out: &mut Vec<u8>, place: ItemPlace, offer: &Offer) -> Result<(), AllocError>
+fn add_item(out: &mut Vec<u8>, place: ItemPlace, offer: &Offer) -> Result<(), AllocError>
     ensures { OnOk result (out.new.items ≡ out.old.items ++ item_text place offer.now) }
 {
-    push_item_front(out, offer)?;
-    push_range(out, place.start, place.end)?;
-    push_item_back(out, place.name_end, offer)?;
+    add_front(out, offer)?;
+    add_range(out, place.start, place.end)?;
+    add_back(out, place.has_block, offer)?;
     Ok(())
 }
 
-// Appends offers with commas between them, and the end of their list.
-fn push_each_item(out: &mut Vec<u8>, place: ItemPlace, list: &[Offer]) -> Result<(), AllocError>
+// Adds the items, separated by commas, and the end of the list.
+fn add_all(out: &mut Vec<u8>, place: ItemPlace, list: &[Offer]) -> Result<(), AllocError>
     ensures { OnOk result (out.new.items ≡ out.old.items ++ listed (item_text place) [] list.now) }
 {
     let mut lead: &[u8] = b"";
     for offer in list {
         out.extend_from_slice(lead)?;
-        push_item(out, place, offer)?;
+        add_item(out, place, offer)?;
         lead = b",";
     }
     out.extend_from_slice(b"]")?;
@@ -150,24 +128,20 @@ fn is_blank_at(index: usize, _text: &[u8], all: &Lines) -> bool
     is_blank(line_at(all, index))
 }
 
-// What a name at an offset comes with: lines, if nothing follows on the line or the next one.
-fn name_end_at(alloc: Global, client: Client, text: &[u8], at: usize) -> Result<NameEnd, AllocError>
+// Whether a name at an offset has its block: the client takes snippets, and nothing is behind it, nor on the line below.
+fn has_block(alloc: Global, client: Client, text: &[u8], at: usize) -> Result<bool, AllocError>
     requires { at ≤ length text.now }
-    ensures { IfOk result (λ end. end ≡ name_end_at client text.now at) }
+    ensures { IfOk result (λ has. has ≡ has_block client text.now at) }
 {
+    if !client.takes_snippets {
+        return Ok(false);
+    }
     let below = &text[at..];
     let all = lines_of(alloc, below)?;
-    if !(is_blank_at(0, below, &all) && is_blank_at(1, below, &all)) {
-        return Ok(NameEnd::Alone);
-    }
-    if client.takes_snippets {
-        Ok(NameEnd::Snippet)
-    } else {
-        Ok(NameEnd::Lines)
-    }
+    Ok(is_blank_at(0, below, &all) && is_blank_at(1, below, &all))
 }
 
-// What the items replace: a prefix that ends at an offset.
+// Gives the place of a prefix that ends at an offset.
 fn items_place(
     alloc: Global,
     client: Client,
@@ -183,20 +157,20 @@ fn items_place(
     Ok(ItemPlace {
         start: position_of(client.encoding, start, text),
         end: position_of(client.encoding, at, text),
-        name_end: name_end_at(alloc, client, text, at)?,
+        has_block: has_block(alloc, client, text, at)?,
     })
 }
 
-// Appends offers as a list of items.
+// Adds words, each in a place.
 #[tactic(auto, unfolding(crate::specs::Texts::list_text))]
-fn push_items(out: &mut Vec<u8>, place: ItemPlace, list: &[Offer]) -> Result<(), AllocError>
+fn add_items(out: &mut Vec<u8>, place: ItemPlace, list: &[Offer]) -> Result<(), AllocError>
     ensures { OnOk result (out.new.items ≡ out.old.items ++ list_text (item_text place) list.now) }
 {
     out.extend_from_slice(b"[")?;
-    push_each_item(out, place, list)
+    add_all(out, place, list)
 }
 
-// The words that a head can continue with, in a cluster with this many nodes.
+// Finds the words that a head can continue with, in a cluster with this many nodes.
 fn head_offers(
     alloc: Global,
     head: &[u8],
@@ -206,7 +180,7 @@ fn head_offers(
     ensures { IfOk result (λ list. list.items ≡ offers head.now wanted.now ++ id_offers nodes head.now wanted.now) }
 {
     let mut list = offers(alloc, head, wanted)?;
-    push_ids(&mut list, nodes, head, wanted)?;
+    add_ids(&mut list, nodes, head, wanted)?;
     Ok(list)
 }
 
@@ -217,7 +191,7 @@ fn head_offers(
 ///
 /// If memory was refused. A part of the result may have been added then.
 #[tactic(auto, unfolding(crate::specs::Completion::completion, crate::specs::Completion::of_head, crate::specs::Completion::of_change))]
-pub fn push_completion(
+pub fn add_completion(
     alloc: Global,
     out: &mut Vec<u8>,
     client: Client,
@@ -233,14 +207,14 @@ pub fn push_completion(
         let wanted = wanted_of(head.as_slice());
         let list = head_offers(alloc, head.as_slice(), &wanted, nodes)?;
         let at = items_place(alloc, client, text, place.at, wanted.prefix)?;
-        return push_items(out, at, list.as_slice());
+        return add_items(out, at, list.as_slice());
     }
     let Some(front) = &place.change else {
         return out.extend_from_slice(b"[]");
     };
     let wanted = change_wanted(front.as_slice());
     let mut list = Vec::new(alloc);
-    push_changes(&mut list, nodes, front.as_slice())?;
+    add_changes(&mut list, nodes, front.as_slice())?;
     let at = items_place(alloc, client, text, place.at, wanted.prefix)?;
-    push_items(out, at, list.as_slice())
+    add_items(out, at, list.as_slice())
 }

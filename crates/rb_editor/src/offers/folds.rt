@@ -7,13 +7,13 @@ ghost use Rattle.rb_lsp.specs.Tables.{IsTable};
 ghost use Rattle.rb_editor.specs.Folds.{block_folds, ended_line, expectation_fold, fold_text, folds, lines_text};
 ghost use Rattle.rb_editor.specs.Texts.{listed};
 
-use crate::offers::block_lines::BlockLines;
+use crate::offers::block_lines::{BlockLines, blocks_of};
 use crate::offers::writing::start_of;
-use rb_lsp::document::{Encoding, Position, PositionTable};
-use rb_text::{Piece, push_pieces};
+use rb_lsp::document::{Encoding, LineTable, Position};
+use rb_text::{Piece, add_pieces};
 use std::alloc::{AllocError, Global};
 
-// The last line before a position: the line above if it is at the beginning of a line.
+// Finds the line that ends at a position.
 fn ended_line(position: Position) -> u64
     ensures { result ≡ ended_line position }
 {
@@ -24,12 +24,12 @@ fn ended_line(position: Position) -> u64
     }
 }
 
-// Appends a fold from one line to another, counted as the editor does.
+// Adds a fold of an editor's lines.
 #[tactic(auto, unfolding(crate::specs::Folds::lines_text))]
-fn push_line_range(out: &mut Vec<u8>, first: u64, last: u64) -> Result<(), AllocError>
+fn add_lines(out: &mut Vec<u8>, first: u64, last: u64) -> Result<(), AllocError>
     ensures { OnOk result (out.new.items ≡ out.old.items ++ lines_text first last) }
 {
-    push_pieces(
+    add_pieces(
         out,
         &[
             Piece::Bytes(b"{\"startLine\":"),
@@ -41,11 +41,11 @@ fn push_line_range(out: &mut Vec<u8>, first: u64, last: u64) -> Result<(), Alloc
     )
 }
 
-// Appends the fold of the lines from `from` up to, but without, `end`.
-fn push_fold(
+// Adds the fold of a script's lines from one up to the one before another.
+fn add_fold(
     out: &mut Vec<u8>,
     text: &[u8],
-    table: &PositionTable,
+    table: &LineTable,
     from: usize,
     end: usize,
 ) -> Result<(), AllocError>
@@ -54,15 +54,15 @@ fn push_fold(
 {
     let start = start_of(Encoding::Utf8, text, table, from);
     let stop = start_of(Encoding::Utf8, text, table, end);
-    push_line_range(out, start.line, ended_line(stop))
+    add_lines(out, start.line, ended_line(stop))
 }
 
 // Adds the fold of a block's expectation, if that has more than one line.
 #[tactic(auto, unfolding(crate::specs::Folds::expectation_fold))]
-fn push_expectation(
+fn add_expectation(
     out: &mut Vec<u8>,
     text: &[u8],
-    table: &PositionTable,
+    table: &LineTable,
     block: BlockLines,
 ) -> Result<(), AllocError>
     requires { IsTable Utf8 text.now table.now }
@@ -72,29 +72,29 @@ fn push_expectation(
         return Ok(());
     }
     out.extend_from_slice(b",")?;
-    push_fold(out, text, table, block.below, block.end)
+    add_fold(out, text, table, block.below, block.end)
 }
 
 // Adds the folds of a block.
 #[tactic(auto, unfolding(crate::specs::Folds::block_folds))]
-fn push_block(
+fn add_block(
     out: &mut Vec<u8>,
     text: &[u8],
-    table: &PositionTable,
+    table: &LineTable,
     block: BlockLines,
 ) -> Result<(), AllocError>
     requires { IsTable Utf8 text.now table.now }
     ensures { OnOk result (out.new.items ≡ out.old.items ++ block_folds text.now block) }
 {
-    push_fold(out, text, table, block.from, block.end)?;
-    push_expectation(out, text, table, block)
+    add_fold(out, text, table, block.from, block.end)?;
+    add_expectation(out, text, table, block)
 }
 
-// Appends the folds of blocks with commas between them, and the end of the list.
-fn push_each_block(
+// Adds the folds of the blocks, separated by commas.
+fn add_all(
     out: &mut Vec<u8>,
     text: &[u8],
-    table: &PositionTable,
+    table: &LineTable,
     blocks: &[BlockLines],
 ) -> Result<(), AllocError>
     requires { IsTable Utf8 text.now table.now }
@@ -103,29 +103,25 @@ fn push_each_block(
     let mut lead: &[u8] = b"";
     for block in blocks {
         out.extend_from_slice(lead)?;
-        push_block(out, text, table, *block)?;
+        add_block(out, text, table, *block)?;
         lead = b",";
     }
     out.extend_from_slice(b"]")?;
     Ok(())
 }
 
-/// Adds the folds of some blocks of a text, as the result of `textDocument/foldingRange`.
+/// Adds the folds of a text, as the result of `textDocument/foldingRange`. A text that isn't a script has none.
 ///
 /// # Errors
 ///
 /// If memory was refused. A part of the result may have been added then.
 #[tactic(auto, unfolding(crate::specs::Folds::folds, crate::specs::Texts::list_text))]
-pub fn push_folds(
-    alloc: Global,
-    out: &mut Vec<u8>,
-    text: &[u8],
-    blocks: &[BlockLines],
-) -> Result<(), AllocError>
+pub fn add_folds(alloc: Global, out: &mut Vec<u8>, text: &[u8]) -> Result<(), AllocError>
     requires { length text.now ≤ MAX_TEXT }
-    ensures { OnOk result (out.new.items ≡ out.old.items ++ folds text.now blocks.now) }
+    ensures { OnOk result (out.new.items ≡ out.old.items ++ folds text.now) }
 {
-    let table = PositionTable::new(alloc, Encoding::Utf8, text)?;
+    let blocks = blocks_of(alloc, text)?;
+    let table = LineTable::new(alloc, Encoding::Utf8, text)?;
     out.extend_from_slice(b"[")?;
-    push_each_block(out, text, &table, blocks)
+    add_all(out, text, &table, blocks.as_slice())
 }

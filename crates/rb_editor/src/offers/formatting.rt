@@ -8,19 +8,19 @@ ghost use Rattle.rb_editor.specs.BlockLines.{script_of};
 ghost use Rattle.rb_editor.specs.Formatting.{can_be_cut, cut, edits, ends_empty, formatted, formatting, has_canonical, text_edit};
 
 use crate::offers::block_lines::script_of;
-use crate::offers::writing::push_range;
+use crate::offers::writing::add_range;
 use rb_lsp::document::{Encoding, Range, edit_between};
-use rb_text::{Json, Piece, push_pieces};
+use rb_text::{Json, Piece, add_pieces};
 use std::alloc::{AllocError, Global};
 
-// Appends a list of one edit, which replaces the text in a range.
+// Adds an edit that replaces the text in a range, as a list.
 #[tactic(auto, unfolding(crate::specs::Formatting::text_edit))]
-fn push_text_edit(out: &mut Vec<u8>, range: Range, new: &[u8]) -> Result<(), AllocError>
+fn add_text_edit(out: &mut Vec<u8>, range: Range, new: &[u8]) -> Result<(), AllocError>
     ensures { OnOk result (out.new.items ≡ out.old.items ++ text_edit range new.now) }
 {
     out.extend_from_slice(b"[{\"range\":")?;
-    push_range(out, range.start, range.end)?;
-    push_pieces(
+    add_range(out, range.start, range.end)?;
+    add_pieces(
         out,
         &[
             Piece::Bytes(b",\"newText\":\""),
@@ -30,22 +30,17 @@ fn push_text_edit(out: &mut Vec<u8>, range: Range, new: &[u8]) -> Result<(), All
     )
 }
 
-// Appends a list of one edit: of what differs between two texts.
-fn push_edit(
-    out: &mut Vec<u8>,
-    encoding: Encoding,
-    old: &[u8],
-    new: &[u8],
-) -> Result<(), AllocError>
+// Adds the edit of what differs between two texts.
+fn add_edit(out: &mut Vec<u8>, encoding: Encoding, old: &[u8], new: &[u8]) -> Result<(), AllocError>
     requires { length old.now ≤ MAX_TEXT }
     ensures { OnOk result (out.new.items ≡ out.old.items ++ text_edit (range_between encoding old.now new.now) (new_between old.now new.now)) }
 {
     let edit = edit_between(encoding, old, new);
-    push_text_edit(out, edit.range, edit.new)
+    add_text_edit(out, edit.range, edit.new)
 }
 
-/// Appends the edits that turn one text into another: none if they are the same.
-pub(crate) fn push_edits(
+/// Adds the edits that make one text of another: none if they are the same.
+pub(crate) fn add_edits(
     out: &mut Vec<u8>,
     encoding: Encoding,
     old: &[u8],
@@ -58,17 +53,17 @@ pub(crate) fn push_edits(
         out.extend_from_slice(b"[]")?;
         return Ok(());
     }
-    push_edit(out, encoding, old, new)
+    add_edit(out, encoding, old, new)
 }
 
-// Whether the last line of a text is empty.
+// Whether the last line of a text whose lines have ends is empty.
 fn ends_empty(text: &[u8]) -> bool
     ensures { result ≡ ends_empty text.now }
 {
     text.len() >= 2 && text[text.len() - 2] == b'\n'
 }
 
-// A text without its last byte.
+// Gives a text without its last byte.
 fn cut(text: &[u8]) -> &[u8]
     ensures { result.now ≡ cut text.now }
 {
@@ -92,7 +87,7 @@ pub(crate) fn has_canonical(
     }
 }
 
-// Whether a canonical text is the same script without the empty line at its end.
+// Whether a canonical text stays the same script without the empty line at its end.
 fn can_be_cut(alloc: Global, canonical: &[u8]) -> Result<bool, AllocError>
     ensures { IfOk result (λ can. can ≡ can_be_cut canonical.now) }
 {
@@ -102,7 +97,7 @@ fn can_be_cut(alloc: Global, canonical: &[u8]) -> Result<bool, AllocError>
     has_canonical(alloc, canonical, cut(canonical))
 }
 
-/// A canonical text without the empty line at its end, if it stays the same script.
+/// Gives a canonical text without the empty line at its end, if it is the same script so.
 #[tactic(auto, unfolding(crate::specs::Formatting::formatted))]
 pub(crate) fn formatted(alloc: Global, canonical: &[u8]) -> Result<&[u8], AllocError>
     ensures { IfOk result (λ text. text.now ≡ formatted canonical.now) }
@@ -121,7 +116,7 @@ pub(crate) fn formatted(alloc: Global, canonical: &[u8]) -> Result<&[u8], AllocE
 ///
 /// If memory was refused. A part of the result may have been added then.
 #[tactic(auto, unfolding(crate::specs::Formatting::formatting))]
-pub fn push_formatting(
+pub fn add_formatting(
     alloc: Global,
     out: &mut Vec<u8>,
     encoding: Encoding,
@@ -133,7 +128,7 @@ pub fn push_formatting(
     match script_of(alloc, text)? {
         Some(script) => {
             let canonical = script.canonical_text(alloc)?;
-            push_edits(out, encoding, text, formatted(alloc, canonical.as_slice())?)
+            add_edits(out, encoding, text, formatted(alloc, canonical.as_slice())?)
         }
         None => Ok(out.extend_from_slice(b"[]")?),
     }

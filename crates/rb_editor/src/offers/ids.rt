@@ -1,15 +1,15 @@
-//! Completion of ids of nodes, and of words of changes, which contain one.
+//! Ids of nodes, and words of changes, which have one.
 
 ghost use Rattle.std.specs.Prelude.{◌≡◌, ◌≤◌, ◌++◌, Some, OnOk, length, map, min, take};
 ghost use Rattle.rb_editor.specs.declared.offers.ids.TheConstants.{IDS, LEARNERS, MAX_IDS, REMOVALS, VOTERS};
 ghost use Rattle.rb_editor.specs.Offers.{chosen};
 ghost use Rattle.rb_editor.specs.Ids.{added, change_offers, change_wanted, id_offers, nodes_of_head, takes_ids, with_more};
 
-use crate::offers::offer::{Offer, line_of, push_chosen};
+use crate::offers::offer::{Offer, add_chosen, line_of};
 use crate::offers::unfinished::{UnfinishedKind, UnfinishedWord, last_piece, name_of};
 use crate::offers::words::{arguments_of, first_word, words_before};
 use rb_directive::{id_words, takes_id};
-use rb_help::Known;
+use rb_report::help::Known;
 use rb_text::number_of;
 use std::alloc::AllocError;
 
@@ -61,7 +61,7 @@ fn added(head: &[u8]) -> u64
     number_of(first_word(arguments_of(head))).unwrap_or(0)
 }
 
-// How many nodes there are with some more; the same if these are too many.
+// Adds nodes, unless they are too many.
 fn with_more(nodes: usize, more: u64) -> usize
     requires { nodes ≤ MAX_IDS }
     ensures value { result ≡ with_more nodes more }
@@ -75,7 +75,7 @@ fn with_more(nodes: usize, more: u64) -> usize
     }
 }
 
-// How many nodes there are once a head's own nodes are added.
+// How many nodes there are to a head, in a cluster with this many.
 fn nodes_of_head(nodes: usize, head: &[u8]) -> usize
     ensures value { result ≡ nodes_of_head nodes head.now }
     ensures few { result ≤ MAX_IDS }
@@ -83,8 +83,8 @@ fn nodes_of_head(nodes: usize, head: &[u8]) -> usize
     with_more(nodes.min(MAX_IDS), added(head))
 }
 
-// Appends those of the first `count` words that fit, with a line of help.
-fn push_first_words(
+// Adds the first of the words that fit.
+fn add_first(
     list: &mut Vec<Offer>,
     wanted: &UnfinishedWord<'_>,
     line: Known,
@@ -95,12 +95,12 @@ fn push_first_words(
     ensures { OnOk result (list.new.items ≡ list.old.items ++ chosen wanted.now (Some line.now) (take count (map (λ i. i.now) words.now))) }
 {
     let first = &words[..count];
-    push_chosen(list, wanted, Some(line), first)
+    add_chosen(list, wanted, Some(line), first)
 }
 
 /// Adds the ids that a head can continue with, in a cluster with this many nodes.
 #[tactic(auto, unfolding(crate::specs::Ids::id_offers))]
-pub(crate) fn push_ids(
+pub(crate) fn add_ids(
     list: &mut Vec<Offer>,
     nodes: usize,
     head: &[u8],
@@ -111,7 +111,7 @@ pub(crate) fn push_ids(
     if !takes_ids(head, wanted) {
         return Ok(());
     }
-    push_first_words(
+    add_first(
         list,
         wanted,
         line_of(name_of(head)),
@@ -120,7 +120,7 @@ pub(crate) fn push_ids(
     )
 }
 
-/// The unfinished word at the end of a line of changes.
+/// The word of a change with which a line of input ends.
 pub(crate) fn change_wanted(front: &[u8]) -> UnfinishedWord<'_>
     ensures { result ≡ change_wanted front.now }
 {
@@ -134,7 +134,7 @@ pub(crate) fn change_wanted(front: &[u8]) -> UnfinishedWord<'_>
 
 /// Adds the words of changes that a line of input can continue with, in a cluster with this many nodes.
 #[tactic(auto, unfolding(crate::specs::Ids::change_offers))]
-pub(crate) fn push_changes(
+pub(crate) fn add_changes(
     list: &mut Vec<Offer>,
     nodes: usize,
     front: &[u8],
@@ -143,13 +143,13 @@ pub(crate) fn push_changes(
 {
     let wanted = change_wanted(front);
     let count = nodes.min(MAX_IDS);
-    push_first_words(list, &wanted, b"the node becomes a voter", &VOTERS, count)?;
-    push_first_words(
+    add_first(list, &wanted, b"the node becomes a voter", &VOTERS, count)?;
+    add_first(
         list,
         &wanted,
         b"the node becomes a learner",
         &LEARNERS,
         count,
     )?;
-    push_first_words(list, &wanted, b"the node is removed", &REMOVALS, count)
+    add_first(list, &wanted, b"the node is removed", &REMOVALS, count)
 }

@@ -5,7 +5,7 @@ ghost use Rattle.rb_editor.specs.Offers.{arguments, begins_with, chosen, fits, h
 
 use crate::offers::unfinished::{UnfinishedKind, UnfinishedWord, is_listed, name_of};
 use crate::offers::words::{arguments_of, words_before};
-use rb_help::{KEYS, Known, PAGES, choices_of, option_line, value_line};
+use rb_report::help::{KEYS, Known, PAGES, choices_of, option_line, value_line};
 use std::alloc::{AllocError, Global};
 use std::marker::Model;
 
@@ -44,8 +44,8 @@ fn begins_with(prefix: &[u8], word: &[u8]) -> bool
     word.starts_with(prefix)
 }
 
-// Appends an offer, if it fits.
-fn push_if(list: &mut Vec<Offer>, is_kept: bool, offer: Offer) -> Result<(), AllocError>
+// Appends an offer, if it is kept.
+fn keep(list: &mut Vec<Offer>, is_kept: bool, offer: Offer) -> Result<(), AllocError>
     ensures { OnOk result (list.new.items ≡ list.old.items ++ if_kept is_kept offer) }
 {
     if is_kept {
@@ -54,7 +54,7 @@ fn push_if(list: &mut Vec<Offer>, is_kept: bool, offer: Offer) -> Result<(), All
     Ok(())
 }
 
-// The names of directives that begin with a prefix.
+// Finds the names among these pages that begin so.
 fn named(
     alloc: Global,
     prefix: &[u8],
@@ -69,12 +69,12 @@ fn named(
             word: page.0,
             documentation: page.1,
         };
-        push_if(&mut list, begins_with(prefix, page.0), offer)?;
+        keep(&mut list, begins_with(prefix, page.0), offer)?;
     }
     Ok(list)
 }
 
-// The line of help of a directive, among these pages.
+// Finds the manual's line on the directive with this name, among these pages.
 fn line_in(name: &[u8], pages: &[(Known, Known, Known)]) -> Known
     ensures { result.now ≡ line_in name.now (map (λ p. (p.0.now, p.1.now, p.2.now)) pages.now) }
 {
@@ -86,8 +86,8 @@ fn line_in(name: &[u8], pages: &[(Known, Known, Known)]) -> Known
     b""
 }
 
-/// The line of help of a directive.
-#[tactic(auto, unfolding(rb_help::specs::Manual::pages, crate::specs::Offers::line_of))]
+/// Finds the manual's line on the directive with this name.
+#[tactic(auto, unfolding(rb_report::specs::Manual::pages, crate::specs::Offers::line_of))]
 pub(crate) fn line_of(name: &[u8]) -> Known
     ensures { result.now ≡ line_of name.now }
 {
@@ -107,7 +107,7 @@ pub(crate) fn has_key(name: &[u8], key: &[u8], keys: &[(Known, Known)]) -> bool
 }
 
 // Whether the directive with this name takes an option with this key.
-#[tactic(auto, unfolding(rb_help::specs::Manual::keys, crate::specs::Offers::takes))]
+#[tactic(auto, unfolding(rb_report::specs::Manual::keys, crate::specs::Offers::takes))]
 fn takes(name: &[u8], key: &[u8]) -> bool
     ensures { result ≡ takes name.now key.now }
 {
@@ -117,14 +117,14 @@ fn takes(name: &[u8], key: &[u8]) -> bool
     has_key(name, key, &KEYS)
 }
 
-// Whether a key of the directive `owner` is offered: `owner` is the directive with this name, and the key begins with the prefix.
+// Whether this key of that directive is one of the directive with this name, and begins so.
 fn is_key(name: &[u8], prefix: &[u8], owner: &[u8], key: &[u8]) -> bool
     ensures { result ≡ is_key name.now prefix.now owner.now key.now }
 {
     owner == name && begins_with(prefix, key)
 }
 
-// The keys of a directive that begin with a prefix, among these.
+// Finds the keys among these that the directive with this name has, and that begin so.
 fn keyed(
     alloc: Global,
     name: &[u8],
@@ -140,13 +140,13 @@ fn keyed(
             word: row.1,
             documentation: option_line(row.1),
         };
-        push_if(&mut list, is_key(name, prefix, row.0, row.1), offer)?;
+        keep(&mut list, is_key(name, prefix, row.0, row.1), offer)?;
     }
     Ok(list)
 }
 
-// The keys that a directive takes and that begin with a prefix.
-#[tactic(auto, unfolding(rb_help::specs::Manual::keys, crate::specs::Offers::options))]
+// Finds the keys of the options that the directive with this name takes, and that begin so.
+#[tactic(auto, unfolding(rb_report::specs::Manual::keys, crate::specs::Offers::options))]
 fn options(alloc: Global, name: &[u8], prefix: &[u8]) -> Result<Vec<Offer>, AllocError>
     ensures { IfOk result (λ list. list.items ≡ options name.now prefix.now) }
 {
@@ -157,11 +157,11 @@ fn options(alloc: Global, name: &[u8], prefix: &[u8]) -> Result<Vec<Offer>, Allo
         word: every,
         documentation: option_line(every),
     };
-    push_if(&mut list, begins_with(prefix, every), offer)?;
+    keep(&mut list, begins_with(prefix, every), offer)?;
     Ok(list)
 }
 
-// The line of help for all, or that of the value.
+// The line for all, or the value's own.
 fn line_or(line: Option<Known>, value: Known) -> Known
     ensures { result.now ≡ line_or (option_map (λ l. l.now) line.entry) value.now }
 {
@@ -171,7 +171,7 @@ fn line_or(line: Option<Known>, value: Known) -> Known
     }
 }
 
-// Whether a value begins with the unfinished word, and isn't in its list already.
+// Whether a value begins like what there is of one, and isn't in the list already.
 #[tactic(auto, unfolding(crate::specs::Offers::fits))]
 fn fits(wanted: &UnfinishedWord<'_>, value: &[u8]) -> bool
     ensures { result ≡ fits wanted.now value.now }
@@ -179,8 +179,8 @@ fn fits(wanted: &UnfinishedWord<'_>, value: &[u8]) -> bool
     begins_with(wanted.prefix, value) && !is_listed(value, wanted.listed)
 }
 
-/// Appends the values that fit, each with this line of help or its own.
-pub(crate) fn push_chosen(
+/// Adds the values among these that fit, each with this line of help or with its own.
+pub(crate) fn add_chosen(
     list: &mut Vec<Offer>,
     wanted: &UnfinishedWord<'_>,
     line: Option<Known>,
@@ -194,18 +194,18 @@ pub(crate) fn push_chosen(
             word: *choice,
             documentation: line_or(line, *choice),
         };
-        push_if(list, fits(wanted, choice), offer)?;
+        keep(list, fits(wanted, choice), offer)?;
     }
     Ok(())
 }
 
-// The values of an option that takes only some, and that fit.
+// The values of an option that takes some alone.
 fn values(alloc: Global, name: &[u8], wanted: &UnfinishedWord<'_>) -> Result<Vec<Offer>, AllocError>
     ensures { IfOk result (λ list. list.items ≡ values name.now wanted.now) }
 {
     let mut list = Vec::new(alloc);
     if takes(name, wanted.key) {
-        push_chosen(&mut list, wanted, None, choices_of(wanted.key))?;
+        add_chosen(&mut list, wanted, None, choices_of(wanted.key))?;
     }
     Ok(list)
 }
@@ -218,7 +218,7 @@ fn takes_level(head: &[u8]) -> bool
     name_of(head) == b"log-level".as_slice() && words_before(arguments_of(head)) == 0
 }
 
-// The words that fit as an argument.
+// The words that an argument can be.
 #[tactic(auto, unfolding(rb_directive::specs::Table::argument_of))]
 fn arguments(
     alloc: Global,
@@ -229,13 +229,13 @@ fn arguments(
 {
     let mut list = options(alloc, name_of(head), wanted.prefix)?;
     if takes_level(head) {
-        push_chosen(&mut list, wanted, None, choices_of(b"log-level"))?;
+        add_chosen(&mut list, wanted, None, choices_of(b"log-level"))?;
     }
     Ok(list)
 }
 
-/// The words that a head can continue with, by its unfinished word.
-#[tactic(auto, unfolding(rb_help::specs::Manual::pages, crate::specs::Offers::offers))]
+/// The words that a head can continue with, by what it ends in.
+#[tactic(auto, unfolding(rb_report::specs::Manual::pages, crate::specs::Offers::offers))]
 pub(crate) fn offers(
     alloc: Global,
     head: &[u8],

@@ -1,4 +1,4 @@
-//! Which part of a block a line is, by the lines above it.
+//! What a line of a text is, by the lines above it.
 
 ghost use Rattle.std.specs.Prelude.{◌≡◌};
 ghost use Rattle.rb_editor.specs.Above.{begins_head, goes_on, next};
@@ -24,7 +24,7 @@ pub(crate) enum Part {
     Closing,
 }
 
-// Which part follows a line of a head.
+// What follows a line of a head.
 fn begins_head(line: &[u8]) -> Part
     ensures { result ≡ begins_head line.now }
 {
@@ -36,7 +36,7 @@ fn begins_head(line: &[u8]) -> Part
 }
 
 impl Part {
-    /// Which part the line below this one is.
+    /// What the line below this one is.
     pub(crate) fn next(self, line: &[u8]) -> Part
         ensures { result ≡ next self line.now }
     {
@@ -54,7 +54,7 @@ impl Part {
         }
     }
 
-    /// Whether a line of this part that begins so can be of a head.
+    /// Whether a line that begins so can be one of a head.
     pub(crate) fn goes_on(self, front: &[u8]) -> bool
         ensures { result ≡ goes_on self front.now }
     {

@@ -1,9 +1,9 @@
-//! The place of a completion: an unfinished head, or an unfinished line of input.
+//! A place of a text where words are offered.
 
 ghost use Rattle.std.specs.Prelude.{◌≡◌, ◌≤◌, IfOk, length, option_map};
 ghost use Rattle.rb_editor.specs.Places.{begun_line, change_in, completion_place, head_takes_ids, is_change, place_takes_ids};
 
-use crate::offers::above::{after_lines, begun_lines, head_in, line_above, line_begin};
+use crate::offers::above::{begun_lines, behind_lines, head_in, line_above, line_begin};
 use crate::offers::ids::takes_ids;
 use crate::offers::part::Part;
 use crate::offers::unfinished::{name_of, wanted_of};
@@ -34,7 +34,7 @@ impl Model for CompletionPlace {
     ghost view = { λ p. record { at = p.at; block = p.block; head = option_map (λ h. h.items) p.head; change = option_map (λ l. l.items) p.change } };
 }
 
-// The first of the last `count` lines.
+// Gives the first of the last lines.
 fn begun_line(lines: &Lines, count: usize) -> &[u8]
     requires { count ≤ length lines.now }
     ensures { result.now ≡ begun_line lines.now count }
@@ -47,7 +47,7 @@ fn begun_line(lines: &Lines, count: usize) -> &[u8]
     }
 }
 
-// The line up to an offset, if it is input of a `propose-conf-change`.
+// Gives the line up to a place, which is of this part, if it is input of a change.
 fn change_in(
     alloc: Global,
     part: Part,
@@ -66,7 +66,6 @@ fn change_in(
     }
 }
 
-// Whether a head can continue with an id.
 fn head_takes_ids(head: &Option<Vec<u8>>) -> bool
     ensures { result ≡ head_takes_ids (option_map (λ h. h.items) head.now) }
 {
@@ -95,7 +94,7 @@ impl CompletionPlace {
         let at = offset(encoding, position, text);
         let start = line_begin(at, text);
         let above = lines_of(alloc, &text[..start])?;
-        let (part, head) = after_lines(alloc, &above)?;
+        let (part, head) = behind_lines(alloc, &above)?;
         let begun = begun_lines(&above);
         let front = &text[start..at];
         let change = change_in(alloc, part, &above, begun, front)?;
@@ -108,14 +107,14 @@ impl CompletionPlace {
         })
     }
 
-    /// The offset at which its block begins.
+    /// Where the first line of its block begins.
     pub fn block(&self) -> usize
         ensures { result ≡ self.now.block }
     {
         self.block
     }
 
-    /// Whether ids, or words that contain one, are offered there.
+    /// Whether ids are offered there, or words that have one.
     #[tactic(auto, unfolding(crate::specs::Places::place_takes_ids))]
     pub fn takes_ids(&self) -> bool
         ensures { result ≡ place_takes_ids self.now }

@@ -43,7 +43,7 @@ impl<'a> Model for UnfinishedWord<'a> {
     ghost view = { λ w. record { kind = w.kind; key = w.key.now; prefix = w.prefix.now; listed = w.listed.now } };
 }
 
-// A head that can't be continued.
+// The end of a head that can't be continued.
 fn nothing<'a>() -> UnfinishedWord<'a>
     ensures { result ≡ nothing }
 {
@@ -75,14 +75,14 @@ pub(crate) fn begins_space(bytes: &[u8]) -> bool
     }
 }
 
-// Whether a byte separates values within parentheses.
+// Whether the byte parts two values in parentheses.
 fn is_gap(b: u8) -> bool
     ensures { result ≡ is_gap b }
 {
     is_space(b) || b == b','
 }
 
-/// The bytes after the last blank or comma.
+/// Gives the bytes after the last blank or comma.
 pub(crate) fn last_piece(bytes: &[u8]) -> &[u8]
     ensures { result.now ≡ last_piece bytes.now }
 {
@@ -95,7 +95,7 @@ pub(crate) fn last_piece(bytes: &[u8]) -> &[u8]
     piece
 }
 
-/// Whether a word is among the finished values of a list. The last value is still being written.
+/// Whether one of these values is the word. The last isn't finished.
 pub(crate) fn is_listed(word: &[u8], bytes: &[u8]) -> bool
     ensures { result ≡ is_listed word.now bytes.now }
 {
@@ -111,7 +111,7 @@ pub(crate) fn is_listed(word: &[u8], bytes: &[u8]) -> bool
     false
 }
 
-// The bytes after an argument; if there are none, the argument is the unfinished word.
+// Gives what is left after an argument, or the argument if nothing is left.
 fn rest_or<'a>(wanted: UnfinishedWord<'a>, rest: &'a [u8]) -> Result<&'a [u8], UnfinishedWord<'a>>
     ensures { reach_of result ≡ rest_or wanted.entry rest.now }
 {
@@ -122,14 +122,14 @@ fn rest_or<'a>(wanted: UnfinishedWord<'a>, rest: &'a [u8]) -> Result<&'a [u8], U
     }
 }
 
-// The bytes after a closing parenthesis.
+// Cuts the closing parenthesis off.
 fn closed(rest: &[u8]) -> &[u8]
     ensures { result.now ≡ closed rest.now }
 {
     if begins(b')', rest) { &rest[1..] } else { rest }
 }
 
-// The bytes after a list of values, or its unfinished value.
+// Reads values up to the closing parenthesis.
 fn list_value<'a>(key: &'a [u8], bytes: &'a [u8]) -> Result<&'a [u8], UnfinishedWord<'a>>
     ensures { reach_of result ≡ list_value key.now bytes.now }
 {
@@ -145,7 +145,7 @@ fn list_value<'a>(key: &'a [u8], bytes: &'a [u8]) -> Result<&'a [u8], Unfinished
     Ok(closed(rest))
 }
 
-// The bytes after the value of an option, or the unfinished value.
+// Reads the value after the `=` of an option.
 fn value_at<'a>(key: &'a [u8], bytes: &'a [u8]) -> Result<&'a [u8], UnfinishedWord<'a>>
     ensures { reach_of result ≡ value_at key.now bytes.now }
 {
@@ -161,7 +161,7 @@ fn value_at<'a>(key: &'a [u8], bytes: &'a [u8]) -> Result<&'a [u8], UnfinishedWo
     rest_or(wanted, ByteClass::Value.after(bytes))
 }
 
-/// The bytes after the first argument, or the unfinished argument.
+/// Reads the argument at the front: what is left after it, or the word if the head ends in it.
 #[tactic(auto, unfolding(crate::specs::Unfinished::argument_at))]
 pub(crate) fn argument_at(bytes: &[u8]) -> Result<&[u8], UnfinishedWord<'_>>
     ensures { reach_of result ≡ argument_at bytes.now }
@@ -179,7 +179,7 @@ pub(crate) fn argument_at(bytes: &[u8]) -> Result<&[u8], UnfinishedWord<'_>>
     rest_or(wanted, rest)
 }
 
-// The unfinished word at the end of some arguments.
+// Finds what the arguments after a name end in.
 fn in_arguments(bytes: &[u8]) -> UnfinishedWord<'_>
     ensures { result ≡ in_arguments MAX_ARGUMENTS bytes.now }
 {
@@ -196,14 +196,14 @@ fn in_arguments(bytes: &[u8]) -> UnfinishedWord<'_>
     nothing()
 }
 
-/// The name of an unfinished head, as far as it is written.
+/// Gives the name of an unfinished head, as far as it is written.
 pub(crate) fn name_of(head: &[u8]) -> &[u8]
     ensures { result.now ≡ name_of head.now }
 {
     ByteClass::Word.front(ByteClass::Space.after(head))
 }
 
-/// The unfinished word at the end of a head.
+/// Finds what an unfinished head ends in.
 pub(crate) fn wanted_of(head: &[u8]) -> UnfinishedWord<'_>
     ensures { result ≡ wanted_of head.now }
 {

@@ -7,21 +7,21 @@ ghost use Rattle.rb_editor.specs.Words.{arguments_of, first_word, is_option, wor
 use crate::offers::unfinished::{argument_at, begins, begins_space};
 use rb_script::{ByteClass, MAX_ARGUMENTS};
 
-/// The bytes after the name of a head.
+/// Gives the bytes after the name of a head.
 pub(crate) fn arguments_of(head: &[u8]) -> &[u8]
     ensures { result.now ≡ arguments_of head.now }
 {
     ByteClass::Word.after(ByteClass::Space.after(head))
 }
 
-// Whether the first argument has a key.
+// Whether the argument at the front has a key.
 fn is_option(bytes: &[u8]) -> bool
     ensures { result ≡ is_option bytes.now }
 {
     begins(b'=', ByteClass::Word.after(bytes))
 }
 
-// 1 if the first argument is a word without a key, else 0.
+// Counts the argument at the front, if it is a word.
 fn word_count(bytes: &[u8]) -> usize
     ensures value { result ≡ word_count bytes.now }
     ensures few { result ≤ 1 }
@@ -29,7 +29,7 @@ fn word_count(bytes: &[u8]) -> usize
     if is_option(bytes) { 0 } else { 1 }
 }
 
-/// The first word among these arguments, as far as it is written; empty if there is none.
+/// Finds the first word among these arguments, as far as it is written; an empty one if there is none.
 pub(crate) fn first_word(bytes: &[u8]) -> &[u8]
     ensures { result.now ≡ first_word MAX_ARGUMENTS bytes.now }
 {
@@ -50,7 +50,7 @@ pub(crate) fn first_word(bytes: &[u8]) -> &[u8]
     b""
 }
 
-/// How many words are before the argument that isn't finished.
+/// Counts the words among these arguments before the one in which they end.
 pub(crate) fn words_before(bytes: &[u8]) -> usize
     ensures { result ≡ words_before MAX_ARGUMENTS bytes.now }
 {

@@ -17,11 +17,10 @@ use crate::server::documents::Documents;
 use crate::server::method::Method;
 use crate::server::outgoing::{OutgoingText, framed_answer};
 use crate::server::phase::Phase;
-use crate::server::question::answer_question;
+use crate::server::question::question_told;
 use crate::server::reach::Reach;
 use crate::server::request::ClientRequest;
 use crate::server::service::Service;
-use crate::server::symbols::answer_symbols;
 use serde_json::Value;
 use std::alloc::{AllocError, Global};
 
@@ -79,7 +78,7 @@ fn running_answer(alloc: Global, method: Method, id: &Value) -> Result<Value, Al
     }
 }
 
-// The answer to a request without a document.
+// The answer to a request of no document.
 fn answer_to(
     alloc: Global,
     phase: Phase,
@@ -96,7 +95,7 @@ fn answer_to(
     }
 }
 
-/// The answer to a request, where these documents are open. What is asked of them is not done if one of the next messages cancels it, and only then.
+/// The answer to a request, where these documents are open. What is asked of one is not done if one of the next messages cancels it, and only then.
 pub(crate) fn answer_told<V: Service>(
     alloc: Global,
     service: &mut V,
@@ -113,12 +112,9 @@ pub(crate) fn answer_told<V: Service>(
     ensures cancelled { IfOk result (λ told. IsCancelled (view request.now.id.now) (waiting request.now.reader.now) → told.out.items ≡ frame (body_in V.meaning (undone told.reach) documents.old phase method (option_map (λ v. view v.now) request.now.params) (view request.now.id.now))) }
 {
     match (phase, method) {
-        (Phase::Running(client), Method::Asks(question)) => answer_question(
+        (Phase::Running(client), Method::Asks(question)) => question_told(
             alloc, service, documents, client, question, request,
         ),
-        (Phase::Running(client), Method::FindsSymbols) => {
-            answer_symbols(alloc, service, documents, client, request)
-        }
         _ => Ok(OutgoingText::whole(own_answer(alloc, phase, method, request.params, request.id)?)),
     }
 }

@@ -3,7 +3,7 @@
 ghost use Rattle.std.specs.Prelude.{◌≡◌, true, false, IfOk, codes, map, option_map};
 ghost use Rattle.serde_json.specs.Find.{as_str, get};
 ghost use Rattle.serde_json.specs.View.{items_of, members_view, view};
-ghost use Rattle.rb_lsp.specs.Beginnings.{capabilities, chosen_encoding, client_commands, client_of, completes, document_capabilities, encoding_name, first_capabilities, for_documents, initialized, is_among, is_object, is_set, is_text, last_capabilities, names_bytes, of_diagnostics, of_items, offered, offers_bytes, pulls, renames, reports, runs_command, says_related, says_setting, says_snippets, synchronizes, takes_related, takes_snippets};
+ghost use Rattle.rb_lsp.specs.Beginnings.{capabilities, chosen_encoding, client_commands, client_of, completes, document_capabilities, encoding_name, first_capabilities, for_documents, initialized, is_among, is_object, is_set, is_text, last_capabilities, names_bytes, of_diagnostics, of_items, offered, offers_bytes, pulls, reports, runs_command, says_related, says_setting, says_snippets, synchronizes, takes_related, takes_snippets};
 
 use crate::document::Encoding;
 use crate::server::client::Client;
@@ -232,14 +232,6 @@ fn completes(alloc: Global) -> Result<Value, AllocError>
     json!(in alloc; {"triggerCharacters": ["=", "(", ","]})
 }
 
-// A client may ask first whether something can be renamed.
-#[tactic(auto, unfolding(crate::specs::Beginnings::renames))]
-fn renames(alloc: Global) -> Result<Value, AllocError>
-    ensures { IfOk result (λ value. view value ≡ renames) }
-{
-    json!(in alloc; {"prepareProvider": true})
-}
-
 // What a client that asks for diagnostics gets: each document's are of its own text alone.
 #[tactic(auto, unfolding(crate::specs::Beginnings::reports))]
 fn reports(alloc: Global) -> Result<Value, AllocError>
@@ -255,15 +247,8 @@ fn last_capabilities(alloc: Global, encoding: Encoding) -> Result<Map<String, Va
 {
     let name = Value::try_from_str(alloc, encoding_name(encoding))?;
     let mut map = Map::new(alloc);
-    put(
-        &mut map,
-        alloc,
-        "workspaceSymbolProvider",
-        Value::Bool(true),
-    )?;
     put(&mut map, alloc, "textDocumentSync", synchronizes(alloc)?)?;
     put(&mut map, alloc, "selectionRangeProvider", Value::Bool(true))?;
-    put(&mut map, alloc, "renameProvider", renames(alloc)?)?;
     put(&mut map, alloc, "referencesProvider", Value::Bool(true))?;
     put(&mut map, alloc, "positionEncoding", name)?;
     put(&mut map, alloc, "inlayHintProvider", Value::Bool(true))?;

@@ -39,13 +39,6 @@ impl<K> OpenDocument<K> {
         self.document.text()
     }
 
-    /// Its URI.
-    pub(crate) fn uri(&self) -> &[u8]
-        ensures { result.now ≡ self.now.uri }
-    {
-        self.uri.as_slice()
-    }
-
     // Whether it has this URI.
     fn is_of(&self, uri: &[u8]) -> bool
         ensures { result ≡ bytes_eq self.now.uri uri.now }
@@ -105,13 +98,6 @@ impl<K: Drop> Documents<K> {
         place_in(self.open.as_slice(), uri)
     }
 
-    /// All of them.
-    pub(crate) fn all(&self) -> &[OpenDocument<K>]
-        ensures { result.now ≡ self.now }
-    {
-        self.open.as_slice()
-    }
-
     /// The text of the document with this URI.
     pub(crate) fn text(&self, uri: &[u8]) -> Option<&[u8]>
         ensures text { option_map (λ text. text.now) result ≡ text_of uri.now self.now }
@@ -157,7 +143,7 @@ impl<K: Drop> Documents<K> {
     }
 
     /// Keeps the document of this version under this URI, if there is one, and room for it.
-    pub(crate) fn insert(
+    pub(crate) fn keep(
         &mut self,
         uri: &[u8],
         version: Option<u64>,

@@ -3,7 +3,7 @@
 ghost use Rattle.rb_lsp.specs.Laws.{ConversationsAreOne, NotificationsHaveNoAnswer, RefusalsAreTold, RequestsHaveOneAnswer, ResultsStandInAnswers, TextsAreAnswered, TextsAreDiagnosed};
 
 /// In every state of the server a request has exactly one answer. It has the request's id, and depends on no other text than that of the
-/// document that the request names, unless it asks for symbols of all open documents.
+/// document that the request names.
 pub fn requests_have_one_answer()
     ensures { RequestsHaveOneAnswer }
 {}
@@ -14,7 +14,7 @@ pub fn notifications_have_no_answer()
 {}
 
 /// Whatever was sent before, and whatever else is open: the answer to a request depends on the state of the server, and on the current text
-/// of the document that the request names; if it asks for symbols of all open documents, on these.
+/// of the document that the request names.
 pub fn texts_are_answered()
     ensures { TextsAreAnswered }
 {}

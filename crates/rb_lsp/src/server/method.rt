@@ -21,8 +21,6 @@ pub(crate) enum Question {
     InlayHint,
     Diagnostic,
     SelectionRange,
-    PrepareRename,
-    Rename,
 }
 
 /// A method.
@@ -39,8 +37,6 @@ pub(crate) enum Method {
     DidClose,
     /// A client asks something about it.
     Asks(Question),
-    /// A client looks for symbols in all open documents.
-    FindsSymbols,
     /// Any other.
     Unknown,
 }
@@ -82,10 +78,6 @@ fn message_method(name: &str) -> Method
         Method::Asks(Question::InlayHint)
     } else if name == "textDocument/selectionRange" {
         Method::Asks(Question::SelectionRange)
-    } else if name == "textDocument/prepareRename" {
-        Method::Asks(Question::PrepareRename)
-    } else if name == "textDocument/rename" {
-        Method::Asks(Question::Rename)
     } else {
         whole_method(name)
     }
@@ -136,8 +128,6 @@ pub(crate) fn method_of(name: &str) -> Method
         Method::Shutdown
     } else if name == "exit" {
         Method::Exit
-    } else if name == "workspace/symbol" {
-        Method::FindsSymbols
     } else {
         document_method(name)
     }

@@ -8,7 +8,7 @@ ghost use Rattle.rb_lsp.specs.Questions.{body_text};
 
 use crate::rpc::text_of;
 use crate::server::reach::Reach;
-use rb_text::{Piece, push_pieces};
+use rb_text::{Piece, add_pieces};
 use serde_json::Value;
 use std::alloc::{AllocError, Global};
 
@@ -40,7 +40,7 @@ pub(crate) fn framed(alloc: Global, body: &[u8]) -> Result<Vec<u8>, AllocError>
 {
     let mut message = Vec::new(alloc);
     message.extend_from_slice(b"Content-Length: ")?;
-    push_pieces(&mut message, &[Piece::Number(body.len() as u64)])?;
+    add_pieces(&mut message, &[Piece::Number(body.len() as u64)])?;
     message.extend_from_slice(b"\r\n\r\n")?;
     message.extend_from_slice(body)?;
     Ok(message)

@@ -10,14 +10,14 @@ use crate::server::client::Client;
 use crate::server::outgoing::{OutgoingText, framed};
 use crate::server::reach::{Reach, reach_of};
 use crate::server::service::Service;
-use rb_text::{Json, Piece, push_pieces};
+use rb_text::{Json, Piece, add_pieces};
 use std::alloc::{AllocError, Global};
 
 #[tactic(auto, unfolding(crate::specs::Notices::head_text))]
-fn push_head(out: &mut Vec<u8>, uri: &[u8]) -> Result<(), AllocError>
+fn add_head(out: &mut Vec<u8>, uri: &[u8]) -> Result<(), AllocError>
     ensures { OnOk result (out.new.items ≡ out.old.items ++ head_text uri.now) }
 {
-    push_pieces(
+    add_pieces(
         out,
         &[
             Piece::Bytes(
@@ -31,11 +31,11 @@ fn push_head(out: &mut Vec<u8>, uri: &[u8]) -> Result<(), AllocError>
 
 // Adds the version, and the beginning of the list.
 #[tactic(auto, unfolding(crate::specs::Notices::middle_text))]
-fn push_version(out: &mut Vec<u8>, version: Option<u64>) -> Result<(), AllocError>
+fn add_middle(out: &mut Vec<u8>, version: Option<u64>) -> Result<(), AllocError>
     ensures { OnOk result (out.new.items ≡ out.old.items ++ middle_text version) }
 {
     match version {
-        Some(n) => push_pieces(
+        Some(n) => add_pieces(
             out,
             &[
                 Piece::Bytes(b",\"version\":"),
@@ -58,8 +58,8 @@ fn with_list(
     ensures { IfOk result (λ out. out.items ≡ frame (list_publication uri.now version list.now)) }
 {
     let mut body = Vec::new(alloc);
-    push_head(&mut body, uri)?;
-    push_version(&mut body, version)?;
+    add_head(&mut body, uri)?;
+    add_middle(&mut body, version)?;
     body.extend_from_slice(list)?;
     body.extend_from_slice(b"}}")?;
     framed(alloc, body.as_slice())
@@ -90,9 +90,9 @@ fn diagnosed<V: Service>(
     ensures reach { IfOk result (λ told. told.reach ≢ Reach.NoMemory) }
 {
     let mut body = Vec::new(alloc);
-    push_head(&mut body, document.uri)?;
-    push_version(&mut body, document.version)?;
-    let stop = service.push_diagnostics(document.client, document.uri, text, kept, &mut body)?;
+    add_head(&mut body, document.uri)?;
+    add_middle(&mut body, document.version)?;
+    let stop = service.add_diagnostics(document.client, document.uri, text, kept, &mut body)?;
     body.extend_from_slice(b"}}")?;
     Ok(OutgoingText {
         out: framed(alloc, body.as_slice())?,

@@ -1,15 +1,13 @@
 //! What a service is asked about a document.
 
-ghost use Rattle.std.specs.Prelude.{◌≡◌, codes};
+ghost use Rattle.std.specs.Prelude.{◌≡◌};
 ghost use Rattle.serde_json.specs.View.{view};
-ghost use Rattle.rb_lsp.specs.Questions.{includes_definition, query_of, rename_of, says_includes};
-ghost use Rattle.rb_lsp.specs.Params.{position_at, text_at};
+ghost use Rattle.rb_lsp.specs.Questions.{includes_definition, query_of, says_includes};
 
 use crate::document::{Position, Range};
-use crate::rpc::{position_at, range_at, text_at};
+use crate::rpc::{position_at, range_at};
 use crate::server::item_span::{ItemSpan, span_of};
 use crate::server::method::Question;
-use rb_text::number_of;
 use serde_json::Value;
 
 /// A request about an open document.
@@ -43,10 +41,6 @@ pub enum Query {
     InlayHint(Range),
     /// What can be selected around a position.
     SelectionRange(Position),
-    /// Whether what is at a position can be renamed.
-    PrepareRename(Position),
-    /// The rename of what is at a position to a number; none if the new name isn't one.
-    Rename(Position, Option<u64>),
 }
 
 // Whether a definition is one of its references: yes, unless the client says no.
@@ -64,15 +58,6 @@ fn says_includes(context: &Value) -> Option<bool>
     ensures { result ≡ says_includes (view context.now) }
 {
     context.get("includeDeclaration").and_then(Value::as_bool)
-}
-
-// A rename, if the parameters give a position and a new name.
-fn rename_of(params: &Value) -> Option<Query>
-    ensures { result ≡ rename_of (position_at (codes "position") (view params.now)) (text_at (codes "newName") (view params.now)) }
-{
-    let position = position_at(params, "position")?;
-    let name = text_at(params, "newName")?;
-    Some(Query::Rename(position, number_of(name.as_bytes())))
 }
 
 /// The query of a service, if it is one, and the method's parameters give it.
@@ -98,8 +83,6 @@ pub(crate) fn query_of(question: Question, params: &Value) -> Option<Query>
         )?)),
         Question::CodeLens => Some(Query::CodeLens),
         Question::InlayHint => Some(Query::InlayHint(range_at(params, "range")?)),
-        Question::PrepareRename => Some(Query::PrepareRename(position_at(params, "position")?)),
-        Question::Rename => rename_of(params),
         Question::Diagnostic | Question::SelectionRange => None,
     }
 }

@@ -25,7 +25,7 @@ use crate::server::report::report;
 use crate::server::request::{ClientRequest, DocumentRequest};
 use crate::server::selection::selected;
 use crate::server::service::{DocumentQuery, Service};
-use rb_text::{Piece, push_pieces};
+use rb_text::{Piece, add_pieces};
 use serde_json::Value;
 use std::alloc::{AllocError, Global};
 
@@ -43,9 +43,9 @@ fn refused(
     framed_answer(alloc, &answer)
 }
 
-/// Refuses parameters that the method doesn't take.
+// Refuses parameters that the method doesn't take.
 #[tactic(auto, unfolding(crate::specs::Questions::unfit))]
-pub(crate) fn unfit(alloc: Global, id: &Value) -> Result<OutgoingText, AllocError>
+fn unfit(alloc: Global, id: &Value) -> Result<OutgoingText, AllocError>
     requires { has_float (view id.now) ≡ false }
     ensures out { IfOk result (λ told. told.out.items ≡ frame (body_text (unfit (view id.now)))) }
     ensures reach { IfOk result (λ told. told.reach ≡ Reach.Whole) }
@@ -67,9 +67,9 @@ fn not_open(alloc: Global, id: &Value) -> Result<OutgoingText, AllocError>
     Ok(OutgoingText::whole(out))
 }
 
-/// Refuses a request for whose answer memory was refused.
+// Refuses a request for whose answer memory was refused.
 #[tactic(auto, unfolding(crate::specs::Questions::no_memory_for))]
-pub(crate) fn no_memory_for(alloc: Global, id: &Value) -> Result<Vec<u8>, AllocError>
+fn no_memory_for(alloc: Global, id: &Value) -> Result<Vec<u8>, AllocError>
     requires { has_float (view id.now) ≡ false }
     ensures { IfOk result (λ out. out.items ≡ frame (body_text (no_memory_for (view id.now)))) }
 {
@@ -87,9 +87,9 @@ pub(crate) fn stopped_for(alloc: Global, id: &Value) -> Result<Vec<u8>, AllocErr
     refused(alloc, id, code, "the run of this script was stopped")
 }
 
-/// Refuses a request that its client has cancelled.
+// Refuses a request that its client has cancelled.
 #[tactic(auto, unfolding(crate::specs::Questions::cancelled_for))]
-pub(crate) fn cancelled_for(alloc: Global, id: &Value) -> Result<OutgoingText, AllocError>
+fn cancelled_for(alloc: Global, id: &Value) -> Result<OutgoingText, AllocError>
     requires { has_float (view id.now) ≡ false }
     ensures out { IfOk result (λ told. told.out.items ≡ frame (body_text (cancelled_for (view id.now)))) }
     ensures reach { IfOk result (λ told. told.reach ≡ Reach.Cancelled) }
@@ -101,23 +101,13 @@ pub(crate) fn cancelled_for(alloc: Global, id: &Value) -> Result<OutgoingText, A
     })
 }
 
-// Refuses a request by a sentence of the service.
-fn refused_for(alloc: Global, id: &Value, sentence: &str) -> Result<OutgoingText, AllocError>
-    requires { has_float (view id.now) ≡ false }
-    ensures out { IfOk result (λ told. told.out.items ≡ frame (body_text (failure (view id.now) ErrorCode.RequestFailed sentence.now))) }
-    ensures reach { IfOk result (λ told. told.reach ≡ Reach.Whole) }
-{
-    let code = ErrorCode::RequestFailed;
-    Ok(OutgoingText::whole(refused(alloc, id, code, sentence)?))
-}
-
 /// Adds the beginning of an answer, up to its result.
-pub(crate) fn push_front(alloc: Global, out: &mut Vec<u8>, id: &Value) -> Result<(), AllocError>
+pub(crate) fn add_front(alloc: Global, out: &mut Vec<u8>, id: &Value) -> Result<(), AllocError>
     requires { has_float (view id.now) ≡ false }
     ensures { OnOk result (out.new.items ≡ out.old.items ++ answer_front (view id.now)) }
 {
     let text = text_of(alloc, id)?;
-    push_pieces(
+    add_pieces(
         out,
         &[
             Piece::Bytes(b"{\"id\":"),
@@ -127,7 +117,7 @@ pub(crate) fn push_front(alloc: Global, out: &mut Vec<u8>, id: &Value) -> Result
     )
 }
 
-// Makes the answer with the service's result, framed, or the error that it refuses the query, or that the run of the text was stopped.
+// Makes the answer with the service's result, framed, or the error that the run of the text was stopped.
 #[tactic(auto, unfolding(crate::specs::Questions::answer_text))]
 fn queried<V: Service>(
     alloc: Global,
@@ -143,9 +133,6 @@ fn queried<V: Service>(
     ensures stops { IfOk result (λ told. can_reach V.meaning (run_by V.meaning query (Some text.now)) told.reach ≡ true) }
     ensures said { IfOk result (λ told. told.out.items ≡ frame (text_by V.meaning told.reach request.now.client (one query) request.now.uri.now (view request.now.id.now) text.now)) }
 {
-    if let Some(sentence) = service.refusal(request.client, query, text, kept)? {
-        return refused_for(alloc, request.id, sentence);
-    }
     let asked = DocumentQuery {
         client: request.client,
         query,
@@ -153,8 +140,8 @@ fn queried<V: Service>(
         text,
     };
     let mut body = Vec::new(alloc);
-    push_front(alloc, &mut body, request.id)?;
-    let stop = service.push_answer(asked, kept, &mut body)?;
+    add_front(alloc, &mut body, request.id)?;
+    let stop = service.add_answer(asked, kept, &mut body)?;
     if let Some(stop) = stop {
         return Ok(OutgoingText {
             out: stopped_for(alloc, request.id)?,
@@ -166,7 +153,7 @@ fn queried<V: Service>(
 }
 
 // Makes the answer about an open document.
-fn answer_inquiry<V: Service>(
+fn answered<V: Service>(
     alloc: Global,
     service: &mut V,
     request: &DocumentRequest<'_>,
@@ -197,7 +184,7 @@ fn unless_cancelled<V: Service>(
     requires plain { has_float (view request.now.id.now) ≡ false }
     requires bounded { length text.now ≤ MAX_TEXT }
     ensures said { IfOk result (λ told. told.out.items ≡ frame (text_by V.meaning told.reach request.now.client (inquiry_of request.now.inquiry) request.now.uri.now (view request.now.id.now) text.now)) }
-    // It is refused as stopped only if it needs a run that may stop there.
+    // It is left undone as stopped only if it needs the run of the text, and that may stop there.
     ensures stops { IfOk result (λ told. can_reach V.meaning (inquiry_run V.meaning (inquiry_of request.now.inquiry) (Some text.now)) told.reach ≡ true) }
     // It isn't done exactly if it is cancelled.
     ensures cancelled { IfOk result (λ told. told.reach ≡ Reach.Cancelled ↔ IsCancelled (view request.now.id.now) (waiting request.now.reader.now)) }
@@ -206,12 +193,12 @@ fn unless_cancelled<V: Service>(
     if request.reader.has_cancel(alloc, id.as_bytes())? {
         return cancelled_for(alloc, request.id);
     }
-    answer_inquiry(alloc, service, request, text, kept)
+    answered(alloc, service, request, text, kept)
 }
 
 // Makes the answer about an open document, or the error that the request was cancelled, or that memory was refused. If that was refused for a report,
 // drops what the service kept of the document first, so that there is memory to say so.
-fn answer_of_text<V: Service>(
+fn of_text<V: Service>(
     alloc: Global,
     service: &mut V,
     request: &DocumentRequest<'_>,
@@ -240,7 +227,7 @@ fn answer_of_text<V: Service>(
 }
 
 // The answer to a request about the document with this URI.
-fn answer_of_document<V: Service>(
+fn of_document<V: Service>(
     alloc: Global,
     service: &mut V,
     documents: &mut Documents<V::Kept>,
@@ -255,7 +242,7 @@ fn answer_of_document<V: Service>(
 {
     let mut kept = documents.take_kept(request.uri, service.nothing());
     let told = match documents.text(request.uri) {
-        Some(text) => answer_of_text(alloc, service, request, text, &mut kept),
+        Some(text) => of_text(alloc, service, request, text, &mut kept),
         None => not_open(alloc, request.id),
     };
     documents.set_kept(request.uri, kept);
@@ -263,7 +250,7 @@ fn answer_of_document<V: Service>(
 }
 
 /// The answer to what is asked of a document, by the method's parameters. It is not done if one of the next messages cancels it, and only then.
-pub(crate) fn answer_question<V: Service>(
+pub(crate) fn question_told<V: Service>(
     alloc: Global,
     service: &mut V,
     documents: &mut Documents<V::Kept>,
@@ -294,5 +281,5 @@ pub(crate) fn answer_question<V: Service>(
         id: request.id,
         reader: request.reader,
     };
-    answer_of_document(alloc, service, documents, &asked)
+    of_document(alloc, service, documents, &asked)
 }

@@ -12,11 +12,11 @@ ghost use Rattle.rb_lsp.specs.Questions.{answer_text, inquiry_run, text_by};
 ghost use Rattle.rb_lsp.specs.Reports.{full_front, full_text, names, result_id, unchanged_text};
 
 use crate::server::outgoing::{OutgoingText, framed};
-use crate::server::question::push_front;
+use crate::server::question::add_front;
 use crate::server::reach::{Reach, reach_of};
 use crate::server::request::DocumentRequest;
 use crate::server::service::Service;
-use rb_text::{Piece, push_pieces};
+use rb_text::{Piece, add_pieces};
 use serde_json::Value;
 use sha2::{Digest, Sha256};
 use std::alloc::{AllocError, Global};
@@ -42,10 +42,10 @@ fn names(known: Option<&str>, id: &str) -> bool
 
 // Adds the report that nothing changed.
 #[tactic(auto, unfolding(crate::specs::Reports::unchanged_text))]
-fn push_unchanged(out: &mut Vec<u8>, id: &str) -> Result<(), AllocError>
+fn add_unchanged(out: &mut Vec<u8>, id: &str) -> Result<(), AllocError>
     ensures { OnOk result (out.new.items ≡ out.old.items ++ unchanged_text id.now) }
 {
-    push_pieces(
+    add_pieces(
         out,
         &[
             Piece::Bytes(b"{\"kind\":\"unchanged\",\"resultId\":\""),
@@ -57,10 +57,10 @@ fn push_unchanged(out: &mut Vec<u8>, id: &str) -> Result<(), AllocError>
 
 // Adds the beginning of a report, up to its list of diagnostics.
 #[tactic(auto, unfolding(crate::specs::Reports::full_front))]
-fn push_full_front(out: &mut Vec<u8>, id: &str) -> Result<(), AllocError>
+fn add_full_front(out: &mut Vec<u8>, id: &str) -> Result<(), AllocError>
     ensures { OnOk result (out.new.items ≡ out.old.items ++ full_front id.now) }
 {
-    push_pieces(
+    add_pieces(
         out,
         &[
             Piece::Bytes(b"{\"kind\":\"full\",\"resultId\":\""),
@@ -77,8 +77,8 @@ fn unchanged(alloc: Global, id: &Value, report: &str) -> Result<Vec<u8>, AllocEr
     ensures { IfOk result (λ out. out.items ≡ frame (answer_text (view id.now) (unchanged_text report.now))) }
 {
     let mut body = Vec::new(alloc);
-    push_front(alloc, &mut body, id)?;
-    push_unchanged(&mut body, report)?;
+    add_front(alloc, &mut body, id)?;
+    add_unchanged(&mut body, report)?;
     body.extend_from_slice(b"}")?;
     framed(alloc, body.as_slice())
 }
@@ -101,9 +101,9 @@ fn reported<V: Service>(
     ensures whole { IfOk result (λ told. told.reach ≢ Reach.NoMemory) }
 {
     let mut body = Vec::new(alloc);
-    push_front(alloc, &mut body, request.id)?;
-    push_full_front(&mut body, report)?;
-    let stop = service.push_diagnostics(request.client, request.uri, text, kept, &mut body)?;
+    add_front(alloc, &mut body, request.id)?;
+    add_full_front(&mut body, report)?;
+    let stop = service.add_diagnostics(request.client, request.uri, text, kept, &mut body)?;
     body.extend_from_slice(b"}}")?;
     Ok(OutgoingText {
         out: framed(alloc, body.as_slice())?,

@@ -15,7 +15,7 @@ use crate::document::Position;
 use crate::rpc::as_position;
 use crate::server::outgoing::{OutgoingText, framed};
 use crate::server::query::Query;
-use crate::server::question::{push_front, stopped_for};
+use crate::server::question::{add_front, stopped_for};
 use crate::server::reach::Reach;
 use crate::server::request::DocumentRequest;
 use crate::server::service::{DocumentQuery, Service};
@@ -24,7 +24,7 @@ use serde_json::Value;
 use std::alloc::{AllocError, Global};
 
 // Appends a position, if there is one.
-fn push_if_some(list: &mut Vec<Position>, position: Option<Position>) -> Result<(), AllocError>
+fn keep(list: &mut Vec<Position>, position: Option<Position>) -> Result<(), AllocError>
     ensures { OnOk result (list.new.items ≡ list.old.items ++ position_list position) }
 {
     if let Some(position) = position {
@@ -39,14 +39,14 @@ fn positions_in(alloc: Global, places: &[Value]) -> Result<Vec<Position>, AllocE
 {
     let mut list = Vec::new(alloc);
     for place in places {
-        push_if_some(&mut list, as_position(place))?;
+        keep(&mut list, as_position(place))?;
     }
     Ok(list)
 }
 
 // Adds what can be selected around each of these positions, and the end of the list. If that needs a run of the text and it stopped, returns where
 // instead.
-fn push_selections<V: Service>(
+fn add_selections<V: Service>(
     service: &mut V,
     request: &DocumentRequest<'_>,
     positions: &[Position],
@@ -67,7 +67,7 @@ fn push_selections<V: Service>(
             text,
         };
         out.extend_from_slice(lead)?;
-        let stop = service.push_answer(asked, kept, out)?;
+        let stop = service.add_answer(asked, kept, out)?;
         match stop {
             Some(stop) => return Ok(Some(stop)),
             None => lead = b",",
@@ -95,9 +95,9 @@ pub(crate) fn selected<V: Service>(
 {
     let positions = positions_in(alloc, places)?;
     let mut body = Vec::new(alloc);
-    push_front(alloc, &mut body, request.id)?;
+    add_front(alloc, &mut body, request.id)?;
     body.extend_from_slice(b"[")?;
-    let stop = push_selections(
+    let stop = add_selections(
         service,
         request,
         positions.as_slice(),

@@ -151,7 +151,7 @@ fn notice<V: Service>(
         old,
     )?;
     let is_crowded = new.is_some() && !documents.has_room();
-    documents.insert(uri, version, new, service.nothing())?;
+    documents.keep(uri, version, new, service.nothing())?;
     let published = Published {
         client: notice.client,
         uri,

@@ -1,6 +1,6 @@
 //! What documents mean, which a server leaves to others.
 
-ghost use Rattle.std.specs.Prelude.{◌≡◌, ◌≤◌, ◌++◌, Bool, None, Some, true, IfOk, OnOk, length, option_map};
+ghost use Rattle.std.specs.Prelude.{◌≡◌, ◌≤◌, ◌++◌, Bool, None, Some, true, IfOk, length};
 ghost use Rattle.rb_lsp.specs.declared.document.limits.TheConstants.{MAX_TEXT};
 ghost use Rattle.rb_lsp.specs.Meanings.{Meaning, can_reach, run_by};
 ghost use Rattle.rb_lsp.specs.Notices.{reach_of};
@@ -25,7 +25,7 @@ pub trait Service {
     /// diagnostics and the results are those of the text alone.
     type Kept: Drop;
 
-    // the diagnostics of a text, the results of requests about it or why they are refused, and its symbols
+    // the diagnostics of a text, and the results of requests about it
     ghost meaning: { Meaning };
 
     // whether nothing is kept
@@ -37,7 +37,7 @@ pub trait Service {
 
     /// Adds the diagnostics of the text of a document, and keeps what it found out about the text. Returns where the run of the text stopped, if
     /// it had done [`crate::server::MAX_WORK`].
-    fn push_diagnostics(
+    fn add_diagnostics(
         &mut self,
         client: Client,
         uri: &[u8],
@@ -50,7 +50,7 @@ pub trait Service {
         ensures stops { IfOk result (λ stop. can_reach (meaning) (Some text.now) (reach_of stop) ≡ true) };
 
     /// Adds the result of a query about a document. If it needs a run of the text and that stopped, returns where instead.
-    fn push_answer(
+    fn add_answer(
         &mut self,
         asked: DocumentQuery<'_, '_>,
         kept: &Self::Kept,
@@ -59,27 +59,4 @@ pub trait Service {
         requires { length asked.text.now ≤ MAX_TEXT }
         ensures added { IfOk result (λ stop. stop ≡ None → out.new.items ≡ out.old.items ++ (meaning).answer asked.entry.client asked.entry.query asked.entry.uri.now asked.entry.text.now) }
         ensures stops { IfOk result (λ stop. can_reach (meaning) (run_by (meaning) asked.entry.query (Some asked.entry.text.now)) (reach_of stop) ≡ true) };
-
-    /// Says in a sentence why a query about a document is refused, if it is.
-    fn refusal(
-        &self,
-        client: Client,
-        asked: Query,
-        text: &[u8],
-        kept: &Self::Kept,
-    ) -> Result<Option<&'static str>, AllocError>
-        requires { length text.now ≤ MAX_TEXT }
-        ensures { IfOk result (λ sentence. option_map (λ s. s.now) sentence ≡ (meaning).refuse client asked text.now) };
-
-    /// Adds the symbols of a document whose names match a text, each after a comma.
-    fn push_found(
-        &self,
-        client: Client,
-        wanted: &[u8],
-        uri: &[u8],
-        text: &[u8],
-        out: &mut Vec<u8>,
-    ) -> Result<(), AllocError>
-        requires { length text.now ≤ MAX_TEXT }
-        ensures { OnOk result (out.new.items ≡ out.old.items ++ (meaning).find client wanted.now uri.now text.now) };
 }

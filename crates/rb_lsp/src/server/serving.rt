@@ -110,7 +110,7 @@ fn respond_to<V: Service, W: Sink>(
     ensures io { W.takes_all sink.old → (result ≢ Err ServeFault.Io) × W.takes_all sink.new }
 {
     let heard = hear(alloc, service, server, reader, message)?;
-    sink.write_all(heard.out.as_slice())?;
+    sink.put(heard.out.as_slice())?;
     Ok(heard.over)
 }
 
@@ -127,6 +127,6 @@ fn refuse<V: Service, W: Sink>(
     ensures io { W.takes_all sink.old → (result ≢ Err ServeFault.Io) × W.takes_all sink.new }
 {
     let out = refused(alloc)?;
-    sink.write_all(out.as_slice())?;
+    sink.put(out.as_slice())?;
     Ok(None)
 }

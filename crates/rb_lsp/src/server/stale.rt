@@ -6,7 +6,7 @@ ghost use Rattle.rb_lsp.specs.Notices.{stale_by, stale_text};
 
 use crate::server::method::Method;
 use crate::server::outgoing::framed;
-use rb_text::{Piece, push_pieces};
+use rb_text::{Piece, add_pieces};
 use std::alloc::{AllocError, Global};
 
 /// Gives the known version and a change's, if the change's isn't after the known one.
@@ -25,7 +25,7 @@ pub(crate) fn refused_change(alloc: Global, known: u64, told: u64) -> Result<Vec
     ensures { IfOk result (λ out. out.items ≡ frame (stale_text known told)) }
 {
     let mut body = Vec::new(alloc);
-    push_pieces(
+    add_pieces(
         &mut body,
         &[
             Piece::Bytes(

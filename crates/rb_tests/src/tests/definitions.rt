@@ -4,7 +4,7 @@ use super::{is, is_text};
 use rb_bench::{Command, command_of};
 use rb_message::{Event, EventKind, WhyNoCampaign};
 use rb_script::{Lines, Through};
-use rb_text::write_number;
+use rb_text::put_number;
 use rb_texts::{DirectiveError, Item, Level, ScriptWord, level_of, put};
 use std::alloc::Global;
 use std::process::Abort;
@@ -24,7 +24,7 @@ fn a_carriage_return_is_of_its_word(rt: HostRuntime) {
 #[test]
 fn the_greatest_number(rt: HostRuntime) {
     let mut out = Through(Vec::new(rt.alloc()));
-    write_number(&mut out, u64::MAX).expect(&rt, "memory");
+    put_number(&mut out, u64::MAX).expect(&rt, "memory");
     is_text(&rt, out.0.as_slice(), b"18446744073709551615");
     drop(out);
 }

@@ -7,7 +7,7 @@ ghost use Rattle.std.specs.Prelude.{◌≡◌, true, Some, option_map, unwrap_or
 
 use super::{is, is_in_row, is_text};
 use rb_files::{FilePlace, PathError, replace};
-use rb_report::Failure;
+use rb_report::check::Failure;
 use std::alloc::Global;
 use std::io;
 use std::io::ErrorKind;
@@ -68,7 +68,7 @@ impl FilePlace for Shelf {
         Ok(())
     }
 
-    fn write_all(&mut self, bytes: &[u8]) -> Result<(), PathError> {
+    fn put(&mut self, bytes: &[u8]) -> Result<(), PathError> {
         if self.fails[1] {
             let error = PathError::alone(Failure::NotWritten);
             self.told = first_told(self.told, error);

@@ -5,28 +5,28 @@ use rb_script::{Block, DirectiveRef, Lines};
 use std::alloc::Global;
 use std::process::Abort;
 
-fn push_bytes(rt: &impl Abort, text: &mut Vec<u8>, bytes: &[u8]) {
+fn add(rt: &impl Abort, text: &mut Vec<u8>, bytes: &[u8]) {
     text.extend_from_slice(bytes).expect(rt, "memory");
 }
 
 /// Adds argument `i`: its key, an `=` where it has one, and each value in brackets.
 fn describe(rt: &impl Abort, text: &mut Vec<u8>, d: &DirectiveRef<'_>, i: usize) {
     is(rt, i < d.args(), "an argument");
-    push_bytes(rt, text, b" ");
-    push_bytes(rt, text, d.key(i));
+    add(rt, text, b" ");
+    add(rt, text, d.key(i));
     if d.has_equals(i) {
-        push_bytes(rt, text, b"=");
+        add(rt, text, b"=");
     }
     for j in 0..d.values(i) {
-        push_bytes(rt, text, b"[");
-        push_bytes(rt, text, d.value(i, j));
-        push_bytes(rt, text, b"]");
+        add(rt, text, b"[");
+        add(rt, text, d.value(i, j));
+        add(rt, text, b"]");
     }
 }
 
 /// Adds the name and the arguments.
 fn describe_all(rt: &impl Abort, text: &mut Vec<u8>, d: &DirectiveRef<'_>) {
-    push_bytes(rt, text, d.name());
+    add(rt, text, d.name());
     for i in 0..d.args() {
         describe(rt, text, d, i);
     }

@@ -18,7 +18,7 @@ fn number(digit: u8) -> u64 {
 }
 
 /// Puts ids into a set, a digit each.
-fn insert_ids(rt: &impl Abort, set: &mut IdSet, digits: &str) {
+fn put(rt: &impl Abort, set: &mut IdSet, digits: &str) {
     for digit in digits.as_bytes() {
         set.insert(number(*digit)).expect(rt, "memory");
     }
@@ -40,8 +40,8 @@ fn are(list: &[u64], digits: &str) -> bool {
 /// A configuration of these voters, and of nobody else.
 fn voting(rt: &impl Abort, alloc: Global, incoming: &str, outgoing: &str) -> Config {
     let mut config = Config::new(alloc);
-    insert_ids(rt, &mut config.incoming, incoming);
-    insert_ids(rt, &mut config.outgoing, outgoing);
+    put(rt, &mut config.incoming, incoming);
+    put(rt, &mut config.outgoing, outgoing);
     config
 }
 

@@ -52,7 +52,7 @@ fn position_at(positions: &[usize], at: usize) -> Option<usize>
 
 impl Arrows {
     ghost use Rattle.std.specs.Prelude.{◌≡◌, IfOk, OnOk, Some, None, slice_get};
-    ghost use Rattle.rb_view.specs.Arrows.{arrow_at, arrow_of, begun, changed, choosing, drawing, end_arrow, no_arrows, on_their_way, resent};
+    ghost use Rattle.rb_view.specs.Arrows.{begun, changed, choosing, drawing, end_arrow, no_arrows, resent};
     ghost use Rattle.rb_view.specs.InFlight.{flying};
     ghost use Rattle.rb_texts.specs.Items.{plain_item};
 
@@ -74,14 +74,11 @@ impl Arrows {
         self.arrows.as_slice()
     }
 
-    /// The messages in flight that have arrows. If nothing is drawn, none have.
-    pub(crate) fn on_their_way(&self) -> &[Message]
-        ensures { result.now ≡ on_their_way self.now }
+    /// The indexes of the arrows of messages in flight.
+    pub(crate) fn positions(&self) -> &[usize]
+        ensures { result.now ≡ self.now.positions }
     {
-        if self.positions.is_empty() {
-            return &[];
-        }
-        self.in_flight.messages()
+        self.positions.as_slice()
     }
 
     /// The next directive chooses these messages.
@@ -100,8 +97,7 @@ impl Arrows {
 
     // Ends the arrow of the message at an index of those in flight. Returns the arrow's own index.
     fn end(&mut self, at: usize, state: DeliveryState) -> Option<usize>
-        ensures arrows { self.new ≡ end_arrow (slice_get self.old.positions at) at state self.old }
-        ensures arrow { result ≡ slice_get self.old.positions at }
+        ensures { self.new ≡ end_arrow (slice_get self.old.positions at) at state self.old }
     {
         let position = position_at(&self.positions, at)?;
         let _ = self.positions.remove(at);
@@ -111,8 +107,7 @@ impl Arrows {
 
     // Draws what happened to a message. Returns the index of its arrow.
     fn change(&mut self, change: MessageChange) -> Result<Option<usize>, AllocError>
-        ensures arrows { OnOk result (self.new ≡ changed change self.old) }
-        ensures arrow { IfOk result (λ arrow. arrow ≡ arrow_of change self.old) }
+        ensures { OnOk result (self.new ≡ changed change self.old) }
     {
         let position = self.arrows.len();
         match change {
@@ -131,10 +126,9 @@ impl Arrows {
     }
 
     /// Draws an item. Returns the index of the arrow that it begins or ends.
-    #[tactic(auto, unfolding(crate::specs::Arrows::drawing, crate::specs::Arrows::arrow_at))]
+    #[tactic(auto, unfolding(crate::specs::Arrows::drawing))]
     pub fn draw(&mut self, item: &Item<'_>) -> Result<Option<usize>, AllocError>
-        ensures arrows { OnOk result (self.new ≡ drawing self.old (plain_item item.now)) }
-        ensures arrow { IfOk result (λ arrow. arrow ≡ arrow_at self.old (plain_item item.now)) }
+        ensures { OnOk result (self.new ≡ drawing self.old (plain_item item.now)) }
     {
         let change = self.in_flight.take(item)?;
         self.change(change)

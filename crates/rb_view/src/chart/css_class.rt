@@ -2,7 +2,7 @@
 
 ghost use Rattle.std.specs.Prelude.{◌≡◌, codes, ◌++◌};
 ghost use Rattle.rb_vocab.specs.MessageTypes.{class_text};
-ghost use Rattle.rb_view.specs.Elements.{delivery_state_text, look_text};
+ghost use Rattle.rb_view.specs.Shapes.{delivery_state_text, look_text};
 
 use rb_vocab::MessageClass;
 

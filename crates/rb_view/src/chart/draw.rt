@@ -1,16 +1,14 @@
 //! The picture of a run.
 
-ghost use Rattle.std.specs.Prelude.{◌≡◌, ◌+◌, ◌<◌, ◌≤◌, ◌^◌, [], Err, IfOk, IfSome, MatchOption, OnOk, false, length, true};
+ghost use Rattle.std.specs.Prelude.{◌≡◌, ◌+◌, ◌<◌, ◌≤◌, ◌^◌, ◌++◌, ◌∷◌, [], Err, IfOk, IfSome, MatchOption, OnOk, false, fold, length, true};
 ghost use Rattle.std.specs.List.{list_all};
 ghost use Rattle.rb_script.specs.declared.limits.TheConstants.{MAX_DIRECTIVES};
 ghost use Rattle.rb_script.specs.Reading.{directive_of};
 ghost use Rattle.rb_machine.specs.Cluster.{empty};
 ghost use Rattle.rb_machine.specs.Outcome.{execution, outcome};
-ghost use Rattle.rb_replay.specs.Run.{outputs, state};
-ghost use Rattle.rb_view.specs.Drawn.{drawn_arrows, fits, has_room, without_places};
-ghost use Rattle.rb_view.specs.Pictures.{drawn_from, ended, picture, picture_of, ran, so_far};
-ghost use Rattle.rb_view.specs.Readable.{is_printable, shown};
-ghost use Rattle.rb_view.specs.Titles.{title_text};
+ghost use Rattle.rb_replay.specs.Run.{outputs};
+ghost use Rattle.rb_view.specs.Drawn.{arrows_of, drawn_arrows, fits, has_room, shown, view_of, views_from, without_places};
+ghost use Rattle.rb_view.specs.Titles.{is_printable, title_text};
 
 use crate::chart::builder::ChartBuilder;
 use crate::chart::chart::Chart;
@@ -37,10 +35,10 @@ pub enum ChartFault {
     OutOfMemory,
 }
 
-/// A script, the lines that it was read from, and the numbers of those on which its heads begin.
+/// A script, the bytes that it was read from, and the lines on which its heads begin.
 #[derive(Clone, Copy)]
 pub struct ChartScript<'a> {
-    pub lines: &'a Lines,
+    pub bytes: &'a [u8],
     pub script: &'a Script,
     pub heads: &'a [usize],
 }
@@ -64,7 +62,7 @@ fn run<L: RaftLog>(
     requires { both.old.first.lines ≡ [] }
     ensures cluster { OnOk result (cluster.new ≡ (outcome cluster.old (directive_of block.now)).cluster) }
     ensures output { IfOk result (λ output. output ≡ (outcome cluster.old (directive_of block.now)).output) }
-    ensures shown { OnOk result (so_far both.new.second ≡ ran (so_far both.old.second) (execution cluster.old (directive_of block.now))) }
+    ensures shown { OnOk result (view_of both.new.second ≡ shown (view_of both.old.second) (execution cluster.old (directive_of block.now))) }
     ensures left { OnOk result (both.new.first.lines ≡ []) }
     ensures counted { meter.old < 2 ^ 63 → OnOk result (meter.new ≡ meter.old + 1) }
     ensures most { meter.old < 2 ^ 63 → meter.new ≤ meter.old + 1 }
@@ -87,8 +85,8 @@ fn draw_directives<L: RaftLog>(
     requires few { length script.now.blocks ≤ MAX_DIRECTIVES }
     requires count { length heads.now ≡ length script.now.blocks }
     requires none { both.old.first.lines ≡ [] }
-    ensures room { IfOk result (λ drawn. let fits = has_room (drawn_from part (so_far both.old.second) empty heads.now script.now.blocks).view in MatchOption drawn (fits ≡ false) (λ _. fits ≡ true)) }
-    ensures drawn { IfOk result (λ drawn. IfSome drawn (λ _. so_far both.new.second ≡ ended (state script.now (length script.now.blocks)).nodes (drawn_from part (so_far both.old.second) empty heads.now script.now.blocks))) }
+    ensures room { IfOk result (λ drawn. let fits = has_room (views_from part (view_of both.old.second) empty heads.now script.now.blocks) in MatchOption drawn (fits ≡ false) (λ _. fits ≡ true)) }
+    ensures drawn { IfOk result (λ drawn. IfSome drawn (λ _. view_of both.new.second ≡ views_from part (view_of both.old.second) empty heads.now script.now.blocks)) }
     ensures outputs { IfOk result (λ drawn. IfSome drawn (λ printed. printed ≡ outputs script.now)) }
     ensures counted { meter.old ≤ 2 ^ 62 → IfOk result (λ drawn. IfSome drawn (λ _. meter.new ≡ meter.old + length script.now.blocks)) }
     ensures most { meter.old ≤ 2 ^ 62 → meter.new ≤ meter.old + length script.now.blocks }
@@ -108,14 +106,15 @@ fn draw_directives<L: RaftLog>(
         both.second.see(cluster.nodes())?;
         printed.push(output)?;
     }
-    if !both.second.has_room() {
-        return Ok(None);
+    if both.second.has_room() {
+        Ok(Some(printed))
+    } else {
+        Ok(None)
     }
-    both.second.end(cluster.nodes())?;
-    Ok(Some(printed))
 }
 
-/// Runs a script, each directive once, and draws its picture, or that of a part of it: this is its name. A table of logs ends it, or doesn't.
+/// Runs a script, each directive once, and draws its picture, or that of a part of it: this is its name. Where things are is not stated:
+/// docs/FORMATS.md has it.
 ///
 /// # Errors
 ///
@@ -125,7 +124,6 @@ pub fn chart_of<L: RaftLog>(
     name: &[u8],
     source: ChartScript<'_>,
     part: ChartPart,
-    has_logs: bool,
     meter: &mut Meter,
 ) -> Result<DrawnRun, ChartFault>
     requires few { length source.script.now.blocks ≤ MAX_DIRECTIVES }
@@ -133,8 +131,6 @@ pub fn chart_of<L: RaftLog>(
     // There is a picture only if it has room, and too little room is the reason only if there is too little.
     ensures room { IfOk result (λ _. fits part source.entry.heads.now source.entry.script.now ≡ true) }
     ensures large { result ≡ Err ChartFault.TooLarge → fits part source.entry.heads.now source.entry.script.now ≡ false }
-    // The picture is the definition's, whole.
-    ensures picture { IfOk result (λ drawn. drawn.chart ≡ picture (title_text (shown name.now) part.from part.until) part has_logs source.entry.lines.now source.entry.heads.now source.entry.script.now) }
     // A name of printable ASCII is the title, with the lines.
     ensures title { IfOk result (λ drawn. list_all is_printable name.now ≡ true → drawn.chart.title ≡ title_text name.now part.from part.until) }
     // Each message has its arrow.
@@ -146,7 +142,7 @@ pub fn chart_of<L: RaftLog>(
 {
     let mut both = Both {
         first: PrintedLines::new(alloc),
-        second: ChartBuilder::new(alloc, source.lines, has_logs, MAX_EVENTS + 1),
+        second: ChartBuilder::new(alloc, source.bytes, MAX_EVENTS + 1),
     };
     let ChartScript { script, heads, .. } = source;
     let Ok(drawn) = draw_directives::<L>(alloc, &mut both, script, heads, part, meter) else {
@@ -169,7 +165,8 @@ fn chart_with(
     part: ChartPart,
     builder: ChartBuilder<'_>,
 ) -> Result<Chart, AllocError>
-    ensures { IfOk result (λ chart. chart ≡ picture_of (title_text (shown name.now) part.from part.until) (so_far builder.entry)) }
+    ensures title { IfOk result (λ chart. list_all is_printable name.now ≡ true → chart.title ≡ title_text name.now part.from part.until) }
+    ensures arrows { IfOk result (λ chart. without_places chart.arrows ≡ arrows_of (view_of builder.entry)) }
 {
     let title = title_of(alloc, name, part)?;
     builder.finish(alloc, title)

@@ -13,15 +13,15 @@ pub(crate) struct Xml;
 impl Escape for Xml {
     ghost text = { λ _. escaped };
 
-    fn write_byte<S: Sink>(&self, sink: &mut S, b: u8) -> Result<(), WriteFault> {
+    fn put<S: Sink>(&self, sink: &mut S, b: u8) -> Result<(), WriteFault> {
         if b == b'&' {
-            sink.write_all(b"&amp;")
+            sink.put(b"&amp;")
         } else if b == b'<' {
-            sink.write_all(b"&lt;")
+            sink.put(b"&lt;")
         } else if b == b'>' {
-            sink.write_all(b"&gt;")
+            sink.put(b"&gt;")
         } else {
-            sink.write_all(&[b])
+            sink.put(&[b])
         }
     }
 }

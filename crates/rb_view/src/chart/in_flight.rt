@@ -103,13 +103,6 @@ impl InFlight {
     }
 
     /// The messages.
-    pub(crate) fn messages(&self) -> &[Message]
-        ensures { result.now ≡ self.now.messages }
-    {
-        self.messages.as_slice()
-    }
-
-    /// The messages alone.
     pub(crate) fn into_messages(self) -> Vec<Message>
         ensures { result.items ≡ self.messages }
     {
@@ -136,7 +129,7 @@ impl InFlight {
     }
 
     // Adds a message.
-    fn push(&mut self, message: &Message) -> Result<MessageChange, AllocError>
+    fn add(&mut self, message: &Message) -> Result<MessageChange, AllocError>
         ensures { IfOk result (λ change. taken self.new change ≡ added self.old message.now) }
     {
         self.messages.push(message.try_copy()?)?;
@@ -183,7 +176,7 @@ impl InFlight {
                 self.is_ready = true;
                 Ok(MessageChange::Nothing)
             }
-            Item::Send(message) | Item::Moved(Verb::Queue, message) => self.push(message),
+            Item::Send(message) | Item::Moved(Verb::Queue, message) => self.add(message),
             Item::Moved(Verb::Deliver, message) => {
                 let at = self.next_met(message.to);
                 Ok(self.end(DeliveryState::Delivered, at))

@@ -1,23 +1,24 @@
 //! The elements of arrows: level along their labels, then straight to their ends.
 
 ghost use Rattle.std.specs.Prelude.{◌≡◌, IsOk};
-ghost use Rattle.std.specs.List.{flat_map};
 ghost use Rattle.rb_script.specs.Writes.{Writes};
-ghost use Rattle.rb_vocab.specs.MessageTypes.{class_of};
-ghost use Rattle.rb_view.specs.Elements.{line_text};
-ghost use Rattle.rb_view.specs.Paths.{bend_of, cross_at, cross_of, end_of, is_left, is_loop, loop_of, path_text, start_of};
-ghost use Rattle.rb_view.specs.Pieces.{piece_text};
-ghost use Rattle.rb_view.specs.Places.{plus};
+ghost use Rattle.rb_view.specs.Paths.{bend_of, cross_at, cross_of, end_of, is_left, is_loop, loop_of, path_text, right_of, start_of};
+ghost use Rattle.rb_view.specs.Shapes.{arrow_text, cross_text, loop_text};
 
 use crate::chart::arrow::{Arrow, ArrowPlace};
 use crate::chart::css_class::DeliveryState;
-use crate::chart::piece::ChartPiece::{self, Bytes, Field};
-use crate::chart::sizes::{HALF_BAND, LEAD, OUT, TO_BAND, WAITING, beside, middle};
+use crate::chart::piece::SvgPiece;
+use crate::chart::sizes::{HALF_BAND, LEAD, OUT, beside, middle};
 use rb_script::{Sink, WriteFault};
-use rb_text::{WrittenPiece, write_pieces};
+use rb_text::{WrittenPiece, put_pieces};
+use rb_vocab::MessageClass;
 
-// How far a cross is from the middle of a band, and from where an arrow bends.
+// How far the end of an arrow is from the middle of a band, or from where it bends.
+const TO_BAND: u64 = HALF_BAND + 1;
+
 const TO_CROSS: u64 = HALF_BAND + 19;
+
+const WAITING: u64 = 26;
 
 const GIVEN_UP: u64 = 14;
 
@@ -80,7 +81,7 @@ impl Arrow {
     }
 
     fn loop_out(self) -> u64
-        ensures { result ≡ plus (loop_of self) 40 }
+        ensures { result ≡ right_of (loop_of self) 40 }
     {
         self.loop_x().saturating_add(OUT)
     }
@@ -97,71 +98,141 @@ impl Arrow {
     }
 }
 
-// Writes the element of an arrow that goes along a path.
-fn write_line<S: Sink>(
-    sink: &mut S,
-    arrow: Arrow,
-    path: &[ChartPiece<'_>],
-) -> Result<(), WriteFault>
-    ensures wrote { Writes result (S.held sink.old) (S.held sink.new) (line_text (class_of arrow.message_type) arrow.state (flat_map piece_text path.now)) }
-    ensures all { S.takes_all sink.old → IsOk result × S.takes_all sink.new }
-{
-    let pieces = [
-        Bytes(b"<path class=\"arrow "),
-        Bytes(arrow.message_type.class().name()),
-        Bytes(b" "),
-        Bytes(arrow.state.name()),
-        Bytes(b"\" d=\""),
-    ];
-    write_pieces(sink, &pieces)?;
-    write_pieces(sink, path)?;
-    sink.write_all(b"\"/>\n")
+// The classes of an arrow's element.
+#[derive(Clone, Copy)]
+struct ArrowLook {
+    class: MessageClass,
+    state: DeliveryState,
 }
 
-// Writes the line of a message: out to the right and back, if it is to the node that sends it.
-fn write_path<S: Sink>(sink: &mut S, arrow: Arrow, place: ArrowPlace) -> Result<(), WriteFault>
+// A position in the picture.
+#[derive(Clone, Copy)]
+struct Point {
+    x: u64,
+    y: u64,
+}
+
+fn put_arrow<S: Sink>(
+    sink: &mut S,
+    look: ArrowLook,
+    from: Point,
+    bend: u64,
+    to: Point,
+) -> Result<(), WriteFault>
+    ensures wrote { Writes result (S.held sink.old) (S.held sink.new) (arrow_text look.class look.state from.x from.y bend to.x to.y) }
+    ensures all { S.takes_all sink.old → IsOk result × S.takes_all sink.new }
+{
+    put_pieces(
+        sink,
+        &[
+            SvgPiece::Bytes(b"<path class=\"arrow "),
+            SvgPiece::Bytes(look.class.name()),
+            SvgPiece::Bytes(b" "),
+            SvgPiece::Bytes(look.state.name()),
+            SvgPiece::Bytes(b"\" d=\"M"),
+            SvgPiece::Number(from.x),
+            SvgPiece::Bytes(b" "),
+            SvgPiece::Number(from.y),
+            SvgPiece::Bytes(b"H"),
+            SvgPiece::Number(bend),
+            SvgPiece::Bytes(b"L"),
+            SvgPiece::Number(to.x),
+            SvgPiece::Bytes(b" "),
+            SvgPiece::Number(to.y),
+            SvgPiece::Bytes(b"\"/>\n"),
+        ],
+    )
+}
+
+fn put_loop<S: Sink>(
+    sink: &mut S,
+    look: ArrowLook,
+    from: Point,
+    out: u64,
+    to_y: u64,
+) -> Result<(), WriteFault>
+    ensures wrote { Writes result (S.held sink.old) (S.held sink.new) (loop_text look.class look.state from.x from.y out to_y) }
+    ensures all { S.takes_all sink.old → IsOk result × S.takes_all sink.new }
+{
+    put_pieces(
+        sink,
+        &[
+            SvgPiece::Bytes(b"<path class=\"arrow "),
+            SvgPiece::Bytes(look.class.name()),
+            SvgPiece::Bytes(b" "),
+            SvgPiece::Bytes(look.state.name()),
+            SvgPiece::Bytes(b"\" d=\"M"),
+            SvgPiece::Number(from.x),
+            SvgPiece::Bytes(b" "),
+            SvgPiece::Number(from.y),
+            SvgPiece::Bytes(b"C"),
+            SvgPiece::Number(out),
+            SvgPiece::Bytes(b" "),
+            SvgPiece::Number(from.y),
+            SvgPiece::Bytes(b" "),
+            SvgPiece::Number(out),
+            SvgPiece::Bytes(b" "),
+            SvgPiece::Number(to_y),
+            SvgPiece::Bytes(b" "),
+            SvgPiece::Number(from.x),
+            SvgPiece::Bytes(b" "),
+            SvgPiece::Number(to_y),
+            SvgPiece::Bytes(b"\"/>\n"),
+        ],
+    )
+}
+
+// Writes the line of a message.
+fn put_path<S: Sink>(sink: &mut S, arrow: Arrow, place: ArrowPlace) -> Result<(), WriteFault>
     ensures wrote { Writes result (S.held sink.old) (S.held sink.new) (path_text arrow place) }
     ensures all { S.takes_all sink.old → IsOk result × S.takes_all sink.new }
 {
-    let (from, to) = (place.y, place.end);
+    let class = arrow.message_type.class();
+    let look = ArrowLook {
+        class,
+        state: arrow.state,
+    };
     if arrow.is_loop() {
-        let (x, out) = (arrow.loop_x(), arrow.loop_out());
-        let path = [
-            Field(b"M", x),
-            Field(b" ", from),
-            Field(b"C", out),
-            Field(b" ", from),
-            Field(b" ", out),
-            Field(b" ", to),
-            Field(b" ", x),
-            Field(b" ", to),
-        ];
-        return write_line(sink, arrow, &path);
+        let x = arrow.loop_x();
+        let out = arrow.loop_out();
+        return put_loop(sink, look, Point { x, y: place.y }, out, place.end);
     }
-    let path = [
-        Field(b"M", arrow.start()),
-        Field(b" ", from),
-        Field(b"H", arrow.bend()),
-        Field(b"L", arrow.end(place.is_short)),
-        Field(b" ", to),
-    ];
-    write_line(sink, arrow, &path)
+    let x = arrow.start();
+    let bend = arrow.bend();
+    let to_x = arrow.end(place.is_short);
+    let end = Point {
+        x: to_x,
+        y: place.end,
+    };
+    put_arrow(sink, look, Point { x, y: place.y }, bend, end)
+}
+
+fn put_mark<S: Sink>(sink: &mut S, x: u64, y: u64) -> Result<(), WriteFault>
+    ensures wrote { Writes result (S.held sink.old) (S.held sink.new) (cross_text x y) }
+    ensures all { S.takes_all sink.old → IsOk result × S.takes_all sink.new }
+{
+    put_pieces(
+        sink,
+        &[
+            SvgPiece::Bytes(b"<path class=\"cross\" d=\"M"),
+            SvgPiece::Number(x),
+            SvgPiece::Bytes(b" "),
+            SvgPiece::Number(y),
+            SvgPiece::Bytes(b"m-4 -4l8 8m0 -8l-8 8\"/>\n"),
+        ],
+    )
 }
 
 // Writes a cross where a message is lost.
-fn write_cross<S: Sink>(sink: &mut S, arrow: Arrow, place: ArrowPlace) -> Result<(), WriteFault>
+fn put_cross<S: Sink>(sink: &mut S, arrow: Arrow, place: ArrowPlace) -> Result<(), WriteFault>
     ensures wrote { Writes result (S.held sink.old) (S.held sink.new) (cross_at arrow.state arrow place) }
     ensures all { S.takes_all sink.old → IsOk result × S.takes_all sink.new }
 {
     let DeliveryState::Lost = arrow.state else {
-        return sink.write_all(b"");
+        return put_pieces(sink, &[SvgPiece::Bytes(b"")]);
     };
-    let pieces = [
-        Field(b"<path class=\"cross\" d=\"M", arrow.cross(place.is_short)),
-        Field(b" ", place.end),
-        Bytes(b"m-4 -4l8 8m0 -8l-8 8\"/>\n"),
-    ];
-    write_pieces(sink, &pieces)
+    let x = arrow.cross(place.is_short);
+    put_mark(sink, x, place.end)
 }
 
 // Its line, and a cross where it is lost.
@@ -170,8 +241,8 @@ impl WrittenPiece for DrawnArrow {
 
     ghost text = { drawn_text };
 
-    fn write_to<S: Sink>(&self, sink: &mut S) -> Result<(), WriteFault> {
-        write_path(sink, self.arrow, self.place)?;
-        write_cross(sink, self.arrow, self.place)
+    fn put<S: Sink>(&self, sink: &mut S) -> Result<(), WriteFault> {
+        put_path(sink, self.arrow, self.place)?;
+        put_cross(sink, self.arrow, self.place)
     }
 }

@@ -1,13 +1,9 @@
 //! Foreign texts in a form that people can read.
 
-ghost use Rattle.std.specs.Prelude.{◌≡◌, ◌∷◌, [], ◌++◌, ◌%◌, IfOk, OnOk};
-ghost use Rattle.std.specs.String.{string_bytes};
-ghost use Rattle.std.specs.List.{flat_map, list_all};
-ghost use Rattle.std.specs.Str.{chars};
-ghost use Rattle.rb_texts.specs.Quoted.{hex_digit};
-ghost use Rattle.rb_view.specs.Readable.{by_number, is_printable, is_unseen, shown, shown_byte, shown_char};
+ghost use Rattle.std.specs.Prelude.{◌≡◌, IfOk, true};
+ghost use Rattle.std.specs.List.{list_all};
+ghost use Rattle.rb_view.specs.Titles.{is_printable};
 
-use rb_text::hex_digit;
 use std::alloc::{AllocError, Global};
 
 fn is_printable(b: u8) -> bool
@@ -25,9 +21,7 @@ fn are_printable(bytes: &[u8]) -> bool
 
 // A character that can't be seen, or turns the text around. (The Unicode Standard, chapter 23: controls, marks of direction and
 // joiners, and U+FFFE and U+FFFF, which no text of XML has.)
-fn is_unseen(c: char) -> bool
-    ensures { result ≡ is_unseen c }
-{
+fn is_unseen(c: char) -> bool {
     matches!(
         c,
         '\0'..='\x1f'
@@ -43,76 +37,55 @@ fn is_unseen(c: char) -> bool
     )
 }
 
-// Adds a hexadecimal digit: the last one of a number.
-fn push_digit(text: &mut String, n: u32) -> Result<(), AllocError>
-    ensures { OnOk result (string_bytes text.new ≡ string_bytes text.old ++ hex_digit (n % 16) ∷ []) }
-{
-    text.push(char::from(hex_digit((n % 16) as u8)))
-}
-
-// Adds a character by its number.
-fn push_number(text: &mut String, code: u32) -> Result<(), AllocError>
-    ensures { OnOk result (string_bytes text.new ≡ string_bytes text.old ++ by_number code) }
-{
-    text.push_str("\\u")?;
-    push_digit(text, code / 4096)?;
-    push_digit(text, code / 256)?;
-    push_digit(text, code / 16)?;
-    push_digit(text, code)
-}
-
-fn push_char(text: &mut String, c: char) -> Result<(), AllocError>
-    ensures { OnOk result (string_bytes text.new ≡ string_bytes text.old ++ shown_char c) }
-{
+fn add_char(shown: &mut String, c: char) -> Result<(), AllocError> {
     if is_unseen(c) {
-        push_number(text, c as u32)
+        let code = c as u32;
+        write!(shown, "\\u{:04x}", code)
     } else {
-        text.push(c)
+        shown.push(c)
     }
 }
 
-fn push_byte(text: &mut String, b: u8) -> Result<(), AllocError>
-    ensures { OnOk result (string_bytes text.new ≡ string_bytes text.old ++ shown_byte b) }
-{
-    if b < 128 {
-        return push_char(text, char::from(b));
-    }
-    text.push_str("\\x")?;
-    push_digit(text, u32::from(b) / 16)?;
-    push_digit(text, u32::from(b))
-}
-
-fn shown_text(alloc: Global, text: &str) -> Result<Vec<u8>, AllocError>
-    ensures { IfOk result (λ shown. shown.items ≡ flat_map shown_char (chars text.now)) }
-{
+fn shown_text(alloc: Global, text: &str) -> Result<String, AllocError> {
     let mut shown = String::new(alloc);
     for c in text.chars() {
-        push_char(&mut shown, c)?;
+        add_char(&mut shown, c)?;
     }
-    Ok(shown.into_bytes())
+    Ok(shown)
+}
+
+fn add_byte(shown: &mut String, b: u8) -> Result<(), AllocError> {
+    if b < 128 {
+        add_char(shown, char::from(b))
+    } else {
+        write!(shown, "\\x{:02x}", b)
+    }
 }
 
 // Bytes past ASCII by their numbers.
-fn shown_bytes(alloc: Global, bytes: &[u8]) -> Result<Vec<u8>, AllocError>
-    ensures { IfOk result (λ shown. shown.items ≡ flat_map shown_byte bytes.now) }
-{
+fn shown_bytes(alloc: Global, bytes: &[u8]) -> Result<String, AllocError> {
     let mut shown = String::new(alloc);
     for b in bytes {
-        push_byte(&mut shown, *b)?;
+        add_byte(&mut shown, *b)?;
     }
-    Ok(shown.into_bytes())
+    Ok(shown)
+}
+
+// Texts that aren't printable ASCII.
+fn shown_anyhow(alloc: Global, bytes: &[u8]) -> Result<Vec<u8>, AllocError> {
+    let shown = match str::from_utf8(bytes) {
+        Ok(text) => shown_text(alloc, text)?,
+        Err(_) => shown_bytes(alloc, bytes)?,
+    };
+    Vec::from_slice(alloc, shown.as_bytes())
 }
 
 /// The bytes in readable form: UTF-8 if they are, else each byte past ASCII by its number; also characters that can't be seen.
-#[tactic(auto, unfolding(crate::specs::Readable::shown))]
 pub(crate) fn shown(alloc: Global, bytes: &[u8]) -> Result<Vec<u8>, AllocError>
-    ensures { IfOk result (λ text. text.items ≡ shown bytes.now) }
+    ensures { IfOk result (λ text. list_all is_printable bytes.now ≡ true → text.items ≡ bytes.now) }
 {
     if are_printable(bytes) {
         return Vec::from_slice(alloc, bytes);
     }
-    match str::from_utf8(bytes) {
-        Ok(text) => shown_text(alloc, text),
-        Err(_) => shown_bytes(alloc, bytes),
-    }
+    shown_anyhow(alloc, bytes)
 }

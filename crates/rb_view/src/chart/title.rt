@@ -1,28 +1,28 @@
 //! The titles of pictures.
 
-ghost use Rattle.std.specs.Prelude.{◌≡◌, ◌++◌, IfOk, OnOk};
-ghost use Rattle.rb_view.specs.Readable.{shown};
-ghost use Rattle.rb_view.specs.Titles.{from_text, title_text, until_text};
+ghost use Rattle.std.specs.Prelude.{◌≡◌, ◌++◌, IfOk, OnOk, true};
+ghost use Rattle.std.specs.List.{list_all};
+ghost use Rattle.rb_view.specs.Titles.{from_text, is_printable, title_text, until_text};
 
 use crate::chart::part::ChartPart;
 use crate::chart::shown::shown;
-use rb_text::{Piece, push_pieces};
+use rb_text::{Piece, add_pieces};
 use std::alloc::{AllocError, Global};
 
-fn push_from(title: &mut Vec<u8>, from: Option<u64>) -> Result<(), AllocError>
+fn add_from(title: &mut Vec<u8>, from: Option<u64>) -> Result<(), AllocError>
     ensures { OnOk result (title.new.items ≡ title.old.items ++ from_text from) }
 {
     match from {
-        Some(line) => push_pieces(title, &[Piece::Bytes(b", from line "), Piece::Number(line)]),
+        Some(line) => add_pieces(title, &[Piece::Bytes(b", from line "), Piece::Number(line)]),
         None => Ok(()),
     }
 }
 
-fn push_until(title: &mut Vec<u8>, until: Option<u64>) -> Result<(), AllocError>
+fn add_until(title: &mut Vec<u8>, until: Option<u64>) -> Result<(), AllocError>
     ensures { OnOk result (title.new.items ≡ title.old.items ++ until_text until) }
 {
     match until {
-        Some(line) => push_pieces(
+        Some(line) => add_pieces(
             title,
             &[Piece::Bytes(b", up to line "), Piece::Number(line)],
         ),
@@ -32,10 +32,10 @@ fn push_until(title: &mut Vec<u8>, until: Option<u64>) -> Result<(), AllocError>
 
 /// The title of the picture of a script with a name.
 pub(crate) fn title_of(alloc: Global, name: &[u8], part: ChartPart) -> Result<Vec<u8>, AllocError>
-    ensures { IfOk result (λ title. title.items ≡ title_text (shown name.now) part.from part.until) }
+    ensures { IfOk result (λ title. list_all is_printable name.now ≡ true → title.items ≡ title_text name.now part.from part.until) }
 {
     let mut title = shown(alloc, name)?;
-    push_from(&mut title, part.from)?;
-    push_until(&mut title, part.until)?;
+    add_from(&mut title, part.from)?;
+    add_until(&mut title, part.until)?;
     Ok(title)
 }

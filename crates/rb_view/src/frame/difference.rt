@@ -8,6 +8,7 @@ pub(crate) const DIFFERENCE: &[u8] = b"\
 \n\
 \n\
 \n\
+\n\
 // Of more than six equal lines in a row the first three and the last three are shown.\n\
 const SHOWN = 3;\n\
 \n\
@@ -70,17 +71,17 @@ function compared(step) {\n\
 \x20 });\n\
 }\n\
 \n\
-function remarksOf(step) {\n\
+function remarksOf(step, events) {\n\
 \x20 const remarks = new Map();\n\
+\x20 const lines = [...events].sort((one, other) => one[1] - other[1]);\n\
 \x20 let below = 0;\n\
-\x20 let line = step.output.length - 1;\n\
 \x20 step.events.forEach((event, at) => {\n\
-\x20   while (step.printers[below] <= at) {\n\
-\x20     line = step.printers[below] >= 0 ? below : line;\n\
+\x20   while (below < lines.length && lines[below][1] <= at) {\n\
 \x20     below += 1;\n\
 \x20   }\n\
 \x20   const texts = [...(event.reasons ?? []).map((text) => `^   ${text}`), ...(event.hints ?? [])];\n\
 \x20   if (texts.length > 0) {\n\
+\x20     const line = below > 0 ? lines[below - 1][0] : step.output.length - 1;\n\
 \x20     const more = texts.map((text) => ({ look: \"reason\", text, event: at, range: (null) }));\n\
 \x20     remarks.set(line, [...(remarks.get(line) ?? []), ...more]);\n\
 \x20   }\n\
@@ -111,12 +112,13 @@ function withFolds(lines, event) {\n\
 }\n\
 \n\
 function linesBelow(step, isFolded, event) {\n\
+\x20 const events = eventsOfLines(step);\n\
 \x20 const lines = compared(step);\n\
 \x20 lines.forEach(({ line, output }) => {\n\
-\x20   line.event = step.printers[output] ?? -1;\n\
+\x20   line.event = events.get(output) ?? -1;\n\
 \x20 });\n\
 \x20 markPairs(lines.map(({ line }) => line));\n\
-\x20 const remarks = remarksOf(step);\n\
+\x20 const remarks = remarksOf(step, events);\n\
 \x20 const all = lines.flatMap(({ line, output }) => [line, ...(remarks.get(output) ?? [])]);\n\
 \x20 return isFolded && step.pieces ? withFolds(all, event) : all;\n\
 }\n\

@@ -6,12 +6,12 @@ use crate::frame::after_style::AFTER_STYLE;
 use crate::frame::describe::DESCRIBE;
 use crate::frame::difference::DIFFERENCE;
 use crate::frame::dom::DOM;
-use crate::frame::events::EVENTS;
 use crate::frame::history::HISTORY;
-use crate::frame::html::{BETWEEN, BODY, END, HEAD, STEPS};
+use crate::frame::html::{BETWEEN, BODY, END, HEAD};
 use crate::frame::keys::KEYS;
 use crate::frame::layout::LAYOUT;
 use crate::frame::legend::LEGEND;
+use crate::frame::lines::LINES;
 use crate::frame::logs::LOGS;
 use crate::frame::logs_style::LOGS_STYLE;
 use crate::frame::mail::MAIL;
@@ -20,7 +20,6 @@ use crate::frame::narrow_style::NARROW_STYLE;
 use crate::frame::page::PAGE;
 use crate::frame::paint::PAINT;
 use crate::frame::paper_style::PAPER_STYLE;
-use crate::frame::part::PART;
 use crate::frame::picture::PICTURE;
 use crate::frame::picture_style::PICTURE_STYLE;
 use crate::frame::play::PLAY;
@@ -40,21 +39,18 @@ use crate::frame::text::TEXT;
 use crate::frame::words::WORDS;
 use crate::frame::wrap::WRAP;
 
-/// The lines between which all directives are.
-pub const WHOLE: &[u8] = b"[0,0]";
-
-/// The parts before the rows: the page's head with its style, its elements, and the lines between which directives are shown.
+/// The parts before the rows: the page's head with its style, and its elements.
 #[rattlefmt::skip]
-pub fn front<'a>(part: &'a [u8]) -> [&'a [u8]; 11]
-    ensures { map (λ piece. piece.now) result ≡ HEAD.now ∷ STYLE.now ∷ SCRIPT_STYLE.now ∷ PICTURE_STYLE.now ∷ LOGS_STYLE.now ∷ AFTER_STYLE.now ∷ NARROW_STYLE.now ∷ PAPER_STYLE.now ∷ BODY.now ∷ part.now ∷ STEPS.now ∷ [] }
+pub fn front() -> [&'static [u8]; 9]
+    ensures { map (λ part. part.now) result ≡ HEAD.now ∷ STYLE.now ∷ SCRIPT_STYLE.now ∷ PICTURE_STYLE.now ∷ LOGS_STYLE.now ∷ AFTER_STYLE.now ∷ NARROW_STYLE.now ∷ PAPER_STYLE.now ∷ BODY.now ∷ [] }
 {
-    [HEAD, STYLE, SCRIPT_STYLE, PICTURE_STYLE, LOGS_STYLE, AFTER_STYLE, NARROW_STYLE, PAPER_STYLE, BODY, part, STEPS]
+    [HEAD, STYLE, SCRIPT_STYLE, PICTURE_STYLE, LOGS_STYLE, AFTER_STYLE, NARROW_STYLE, PAPER_STYLE, BODY]
 }
 
 /// The parts after them: the page's code.
 #[rattlefmt::skip]
-pub fn back() -> [&'static [u8]; 31]
-    ensures { map (λ piece. piece.now) result ≡ BETWEEN.now ∷ DOM.now ∷ HISTORY.now ∷ SIZES.now ∷ EVENTS.now ∷ TEXT.now ∷ WORDS.now ∷ PAINT.now ∷ LEGEND.now ∷ KEYS.now ∷ POSITION.now ∷ LOGS.now ∷ MEASURE.now ∷ ROUTE.now ∷ LAYOUT.now ∷ DESCRIBE.now ∷ PICTURE.now ∷ PLAY.now ∷ DIFFERENCE.now ∷ WRAP.now ∷ PRINT.now ∷ SCRIPT.now ∷ SEARCH.now ∷ STATE.now ∷ PAGE.now ∷ MAIL.now ∷ PART.now ∷ SOURCE.now ∷ ROWS.now ∷ START.now ∷ END.now ∷ [] }
+pub fn back() -> [&'static [u8]; 30]
+    ensures { map (λ part. part.now) result ≡ BETWEEN.now ∷ DOM.now ∷ HISTORY.now ∷ SIZES.now ∷ TEXT.now ∷ WORDS.now ∷ PAINT.now ∷ LEGEND.now ∷ KEYS.now ∷ POSITION.now ∷ LOGS.now ∷ MEASURE.now ∷ ROUTE.now ∷ LAYOUT.now ∷ DESCRIBE.now ∷ PICTURE.now ∷ PLAY.now ∷ LINES.now ∷ DIFFERENCE.now ∷ WRAP.now ∷ PRINT.now ∷ SCRIPT.now ∷ SEARCH.now ∷ STATE.now ∷ PAGE.now ∷ MAIL.now ∷ SOURCE.now ∷ ROWS.now ∷ START.now ∷ END.now ∷ [] }
 {
-    [BETWEEN, DOM, HISTORY, SIZES, EVENTS, TEXT, WORDS, PAINT, LEGEND, KEYS, POSITION, LOGS, MEASURE, ROUTE, LAYOUT, DESCRIBE, PICTURE, PLAY, DIFFERENCE, WRAP, PRINT, SCRIPT, SEARCH, STATE, PAGE, MAIL, PART, SOURCE, ROWS, START, END]
+    [BETWEEN, DOM, HISTORY, SIZES, TEXT, WORDS, PAINT, LEGEND, KEYS, POSITION, LOGS, MEASURE, ROUTE, LAYOUT, DESCRIBE, PICTURE, PLAY, LINES, DIFFERENCE, WRAP, PRINT, SCRIPT, SEARCH, STATE, PAGE, MAIL, SOURCE, ROWS, START, END]
 }

@@ -7,13 +7,13 @@ pub(crate) const HEAD: &[u8] = b"\
 <html lang=\"en\">\n\
 <head>\n\
 <meta charset=\"utf-8\">\n\
-<meta http-equiv=\"Content-Security-Policy\" content=\"default-src 'none'; style-src 'sha256-046fT5OB3MQcJOmuLiMKF8Gl6D3StI5nsFsvVHNOOsg='; script-src 'sha256-Sy87Na+THyNJx8QHrf/OKk1SnxOhuiQUGDQAuDiUgMg='; base-uri 'none'; form-action 'none'\">\n\
+<meta http-equiv=\"Content-Security-Policy\" content=\"default-src 'none'; style-src 'sha256-046fT5OB3MQcJOmuLiMKF8Gl6D3StI5nsFsvVHNOOsg='; script-src 'sha256-bHZskJwBzcM+d8RW4ch4RUaqa0Lif9ck7DLlEmole8M='; base-uri 'none'; form-action 'none'\">\n\
 <meta name=\"viewport\" content=\"width=device-width, initial-scale=1\">\n\
 <meta name=\"referrer\" content=\"no-referrer\">\n\
 <title>raftbench</title>\n\
 <style>";
 
-/// From behind the style up to the lines of the part that is shown.
+/// From behind the style up to the rows.
 #[rattlefmt::skip]
 pub(crate) const BODY: &[u8] = b"\
 </style>\n\
@@ -60,12 +60,6 @@ pub(crate) const BODY: &[u8] = b"\
 </main>\n\
 <dialog id=\"help\" aria-labelledby=\"help-title\"><h2 id=\"help-title\">Keys</h2><table id=\"help-keys\" aria-labelledby=\"help-title\"></table><button type=\"button\" id=\"help-close\">close</button></dialog>\n\
 <div id=\"print\"></div>\n\
-<script type=\"application/json\" id=\"part\">";
-
-/// From behind these up to the rows.
-#[rattlefmt::skip]
-pub(crate) const STEPS: &[u8] = b"\
-</script>\n\
 <script type=\"application/json\" id=\"steps\">";
 
 /// From behind the rows up to the code.

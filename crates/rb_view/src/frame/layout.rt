@@ -136,20 +136,8 @@ class Layout {\n\
 \x20   this.bases = [];\n\
 \x20   this.lasts = [];\n\
 \x20   this.height = 0;\n\
-\x20   this.model.nodes.forEach((node) => this.begin(node, this.model.steps[0]?.before ?? 0));\n\
 \x20   this.model.steps.forEach((step) => this.addRow(step));\n\
 \x20   this.tops.push(this.height);\n\
-\x20 }\n\
-\n\
-\x20 begin(node, moment) {\n\
-\x20   if (node.isThereAt(moment)) {\n\
-\x20     const { role, commit } = node.numbersAt(moment);\n\
-\x20     const { base, last } = node.logAt(moment);\n\
-\x20     this.setRole(node.id, 0, role);\n\
-\x20     this.commits[node.id] = commit;\n\
-\x20     this.bases[node.id] = base;\n\
-\x20     this.lasts[node.id] = last;\n\
-\x20   }\n\
 \x20 }\n\
 \n\
 \x20 addRow(step) {\n\

@@ -195,9 +195,7 @@ function reserveWhere(model) {\n\
 function tellCounts(model) {\n\
 \x20 const counts = byId(\"counts\");\n\
 \x20 const wrong = counted(model.mismatches.length, \"mismatch\", \"mismatches\");\n\
-\x20 const shown = model.steps.filter(({ first }) => first > 0).length;\n\
-\x20 const directives = shown < model.count ? `${shown} of ${counted(model.count, \"directive\", \"directives\")}` : counted(shown, \"directive\", \"directives\");\n\
-\x20 counts.textContent = `${directives}, ${wrong}, ${counted(model.nodes.length, \"node\", \"nodes\")}`;\n\
+\x20 counts.textContent = `${counted(model.steps.length, \"directive\", \"directives\")}, ${wrong}, ${counted(model.nodes.length, \"node\", \"nodes\")}`;\n\
 \x20 counts.classList.toggle(\"bad\", model.mismatches.length > 0);\n\
 \x20 reserveWhere(model);\n\
 \x20 byId(\"next-mismatch\").hidden = model.mismatches.length === 0;\n\

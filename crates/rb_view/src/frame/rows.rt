@@ -53,8 +53,6 @@ class Model {\n\
 \x20   this.name = \"\";\n\
 \x20   this.source = new Source(\"\");\n\
 \x20   this.steps = [];\n\
-\x20   // How many directives the script has: a page may show some of them.\n\
-\x20   this.count = 0;\n\
 \x20   this.messages = [];\n\
 \x20   this.nodes = [];\n\
 \x20   this.mismatches = [];\n\
@@ -82,13 +80,10 @@ class Reader {\n\
 \x20   this.serial = 0;\n\
 \x20   // Whether rows of changes came after the last event.\n\
 \x20   this.hasChanged = false;\n\
-\x20   // Whether the event of this row prints no line.\n\
-\x20   this.isUnprinted = false;\n\
 \x20 }\n\
 \n\
 \x20 read(row) {\n\
-\x20   this.isUnprinted = row[0].startsWith(\"-\");\n\
-\x20   const name = this.isUnprinted ? row[0].slice(1) : row[0];\n\
+\x20   const name = row[0];\n\
 \x20   const cells = row.slice(1);\n\
 \x20   const read = READERS[name];\n\
 \x20   if (read) {\n\
@@ -118,9 +113,6 @@ class Reader {\n\
 \x20     this.hasChanged = false;\n\
 \x20     this.moment += 1;\n\
 \x20     this.step.groups.push({ start: this.step.events.length, moment: this.moment });\n\
-\x20   }\n\
-\x20   if (!this.isUnprinted) {\n\
-\x20     this.step.printers.push(this.step.events.length);\n\
 \x20   }\n\
 \x20   this.step.events.push({ name, id, cells, message });\n\
 \x20   this.serial += 1;\n\
@@ -185,7 +177,7 @@ const READERS = {\n\
 \x20   reader.moment += 1;\n\
 \x20   reader.hasChanged = false;\n\
 \x20   reader.step = {\n\
-\x20     place: steps.length + 1, line, ...source.block(line), output: [], pieces: null, events: [], printers: [], changed: [], stays: new Map(), warnings: [],\n\
+\x20     place: steps.length + 1, line, ...source.block(line), output: [], pieces: null, events: [], changed: [], stays: new Map(), warnings: [],\n\
 \x20     groups: [{ start: 0, moment: reader.moment }], serial: reader.serial, before, moment: reader.moment,\n\
 \x20   };\n\
 \x20   steps.push(reader.step);\n\
@@ -194,9 +186,6 @@ const READERS = {\n\
 \x20 },\n\
 \x20 output({ step }, [text]) {\n\
 \x20   step.output.push(shown(text));\n\
-\x20 },\n\
-\x20 line({ step }) {\n\
-\x20   step.printers.push(-1);\n\
 \x20 },\n\
 \x20 mismatch({ step, model }) {\n\
 \x20   step.pieces = [];\n\
@@ -278,7 +267,6 @@ const READERS = {\n\
 \x20 },\n\
 \x20 end(reader) {\n\
 \x20   const { model } = reader;\n\
-\x20   model.count = model.steps.length;\n\
 \x20   model.tailLine = model.source.next + 1;\n\
 \x20   model.tail = model.source.rest();\n\
 \x20   reader.isWhole = true;\n\

@@ -87,6 +87,7 @@ class Search {\n\
 \x20 foundIn(step) {\n\
 \x20   const { isKept, isFound } = this.tests();\n\
 \x20   const places = placesOf(step);\n\
+\x20   const lines = this.needle ? eventsOfLines(step) : new Map();\n\
 \x20   const kept = places.flatMap((at, before) => (isKept(step.events[at]) ? [{ at, number: before + 1 }] : []));\n\
 \x20   if (!this.needle) {\n\
 \x20     return kept.map(({ number }) => number);\n\
@@ -98,7 +99,7 @@ class Search {\n\
 \x20   for (const { text, of } of this.marksOf(step)) {\n\
 \x20     (textsOf.get(step.events.indexOf(of[0])) ?? others).push(text);\n\
 \x20   }\n\
-\x20   step.output.forEach((line, at) => (textsOf.get(step.printers[at]) ?? others).push(line));\n\
+\x20   step.output.forEach((line, at) => (textsOf.get(lines.get(at)) ?? others).push(line));\n\
 \x20   const found = kept.filter(({ at }) => textsOf.get(at)?.some(isFound)).map(({ number }) => number);\n\
 \x20   return !this.isFiltered() && others.some(isFound) ? [0, ...found] : found;\n\
 \x20 }\n\

@@ -11,12 +11,11 @@ function start() {\n\
 \x20 const notice = byId(\"notice\");\n\
 \x20 try {\n\
 \x20   const model = readRows(JSON.parse(byId(\"steps\").textContent ?? \"\"));\n\
-\x20   leavePart(model, JSON.parse(document.getElementById(\"part\")?.textContent ?? \"[0,0]\"));\n\
 \x20   document.title = `${model.name}: raftbench`;\n\
 \x20   byId(\"name\").textContent = model.name;\n\
 \x20   tellCounts(model);\n\
 \x20   if (model.steps.length === 0) {\n\
-\x20     notice.textContent = model.count > 0 ? \"No directive is between these lines.\" : \"The script has no directives.\";\n\
+\x20     notice.textContent = \"The script has no directives.\";\n\
 \x20     return;\n\
 \x20   }\n\
 \x20   byId(\"panes\").hidden = false;\n\

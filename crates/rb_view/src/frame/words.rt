@@ -84,14 +84,24 @@ function fateText(message) {\n\
 \x20 return message.fate === \"delivered\" ? `delivered at line ${message.met?.line}` : LOST[message.fate];\n\
 }\n\
 \n\
-const markOfCells = ([words, look]) => (cells) => [words.replace(/\\{(\\d)\\}/g, (_, at) => cells[at]), look];\n\
-\n\
-// What a node reports: a sentence, and the look of its mark. Events are here only if their words aren't made of cells alone.\n\
+// What a node reports: a sentence, and the look of its mark.\n\
 const MARKS = {\n\
-\x20 ...Object.fromEntries(Object.entries(EVENT_MARKS).map(([name, made]) => [name, markOfCells(made)])),\n\
+\x20 started: () => [\"started\", \"quiet\"],\n\
+\x20 restarted: ([, term]) => [`\xe2\x86\xbb restarted, t${term}`, \"turn\"],\n\
 \x20 became: ([, role, term]) => (role === \"leader\" ? [`\xe2\x98\x85 leader, t${term}`, \"won\"] : [`${role}, t${term}`, \"turn\"]),\n\
+\x20 \"cannot-campaign\": ([, why]) => [`! can't campaign: ${why}`, \"bad\"],\n\
 \x20 vote: ([id, , granted, from, result]) => [`${from === id ? \"own vote\" : granted ? `vote of ${from}` : `no vote of ${from}`}: ${result}`, \"quiet\"],\n\
 \x20 ignored: ([, type]) => [`ignores ${type.slice(3)}`, \"quiet\"],\n\
+\x20 \"dropped-proposal\": () => [\"! proposal dropped\", \"bad\"],\n\
+\x20 conflict: ([, index, commit]) => [`! conflict at ${index}, commit ${commit}`, \"bad\"],\n\
+\x20 \"appends-nothing\": () => [\"! appends nothing: index limit\", \"bad\"],\n\
+\x20 \"replaced-change\": ([, index, why]) => [`! change ${index} made empty: ${why}`, \"bad\"],\n\
+\x20 switched: ([, config]) => [`\xe2\x97\x86 ${config}`, \"change\"],\n\
+\x20 \"refused-change\": ([, index, fault]) => [`! change ${index} refused: ${fault}`, \"bad\"],\n\
+\x20 restored: ([, term, index]) => [`\xe2\x96\xa3 snapshot ${term}/${index}`, \"installed\"],\n\
+\x20 \"transfer-starts\": ([, to]) => [`hands over to ${to}`, \"change\"],\n\
+\x20 \"transfer-ends\": ([, to]) => [`hand-over to ${to} ends`, \"quiet\"],\n\
+\x20 \"lost-quorum\": () => [\"! lost its quorum\", \"bad\"],\n\
 \x20 \"nothing-ready\": () => [\"nothing ready\", \"quiet\"],\n\
 \x20 committed: ([, index]) => [`\xe2\x9c\x93 commit ${index}`, \"moved\"],\n\
 \x20 saved: ([, first, last]) => [`saves ${first === last ? first : `${first}\xe2\x80\x93${last}`}`, \"quiet\"],\n\

@@ -29,7 +29,7 @@ pub(crate) fn answer<M: Machine>(
     }
 }
 
-/// The text of a directive with `log-level=debug`, so that it prints whatever the cluster's level is.
+/// The text of a directive that prints at each level.
 pub(crate) fn question(alloc: Global, head: &[u8]) -> Result<Vec<u8>, AllocError>
     ensures { IfOk result (λ text. text.items ≡ question head.now) }
 {

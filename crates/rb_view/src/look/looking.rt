@@ -1,4 +1,4 @@
-//! The cluster after a directive, as `raftbench look` prints it.
+//! Shows the state at a place of a script.
 
 ghost use Rattle.std.specs.Prelude.{◌≡◌, ◌+◌, ◌-◌, ◌*◌, ◌<◌, ◌≤◌, ◌++◌, ◌^◌, ℕ, [], length, min, codes, decimal, IfOk, OnOk};
 ghost use Rattle.rb_script.specs.declared.limits.TheConstants.{MAX_DIRECTIVES};
@@ -8,12 +8,9 @@ ghost use Rattle.rb_view.specs.Looks.{answer_in, asked, question, of_node, of_no
 
 use crate::look::answer::{answer, question};
 use crate::look::nodes::Nodes;
-use crate::look::quiet::cluster_at;
-use crate::look::section::push_section;
+use crate::look::section::add_section;
 use itoa::Buffer;
-use rb_cluster::{Cluster, Meter};
 use rb_machine::{Count, Machine};
-use rb_raftlog::RaftLog;
 use rb_replay::Session;
 use rb_script::{Lines, Script};
 use std::alloc::{AllocError, Global};
@@ -66,7 +63,7 @@ pub(crate) fn machine_at<M: Machine>(
     run_between(M::empty(alloc)?, script, 0, place, meter)
 }
 
-/// The machine after the first directives of a session's script. It runs from the last checkpoint.
+/// Gives the machine at a place of a session's script. It runs from the last checkpoint.
 pub fn machine_in_session<M: Machine>(
     session: &Session<M>,
     place: usize,
@@ -89,7 +86,7 @@ pub fn machine_in_session<M: Machine>(
     Ok(machine)
 }
 
-// What a directive with this text would print.
+// What a directive of this text would print.
 fn ask<M: Machine>(
     alloc: Global,
     machine: &M,
@@ -104,8 +101,8 @@ fn ask<M: Machine>(
     answer(alloc, machine, &text, meter)
 }
 
-// Appends a directive's text, and below it what it would print.
-fn push_answer<M: Machine>(
+// Adds the answer to a directive, below the directive's text.
+fn add_answer<M: Machine>(
     alloc: Global,
     machine: &M,
     meter: &mut M::Meter,
@@ -117,11 +114,11 @@ fn push_answer<M: Machine>(
     ensures counted { M.Meter.count_of meter.new ≤ M.Meter.count_of meter.old + 1 }
 {
     let answer = ask(alloc, machine, meter, head)?;
-    push_section(lines, head, &answer, b"")
+    add_section(lines, head, &answer, b"")
 }
 
 // Adds the messages in flight: the answer to a directive that drops them all, each line without the word `drop`.
-fn push_in_flight<M: Machine>(
+fn add_in_flight<M: Machine>(
     alloc: Global,
     machine: &M,
     meter: &mut M::Meter,
@@ -131,7 +128,7 @@ fn push_in_flight<M: Machine>(
     ensures { OnOk result (lines.new ≡ lines.old ++ section (M.meaning machine.now) (codes "on their way") all_dropped (codes "drop ")) }
 {
     let answer = ask(alloc, machine, meter, ALL_DROPPED)?;
-    push_section(lines, b"on their way", &answer, b"drop ")
+    add_section(lines, b"on their way", &answer, b"drop ")
 }
 
 // A directive's text: the word and an id.
@@ -145,8 +142,8 @@ fn head_of(alloc: Global, word: &[u8], id: u64) -> Result<Vec<u8>, AllocError>
     Ok(text)
 }
 
-// Appends a node's log and its status, as directives would print them.
-fn push_node<M: Machine>(
+// Adds a node's log, and its view of others.
+fn add_node<M: Machine>(
     alloc: Global,
     machine: &M,
     meter: &mut M::Meter,
@@ -158,13 +155,12 @@ fn push_node<M: Machine>(
     ensures counted { M.Meter.count_of meter.new ≤ M.Meter.count_of meter.old + 2 }
 {
     let log = head_of(alloc, b"raft-log ", id)?;
-    push_answer(alloc, machine, meter, lines, &log)?;
+    add_answer(alloc, machine, meter, lines, &log)?;
     let status = head_of(alloc, b"status ", id)?;
-    push_answer(alloc, machine, meter, lines, &status)
+    add_answer(alloc, machine, meter, lines, &status)
 }
 
-// Appends the log and the status of each node.
-fn push_nodes<M: Machine>(
+fn add_nodes<M: Machine>(
     alloc: Global,
     machine: &M,
     meter: &mut M::Meter,
@@ -177,7 +173,7 @@ fn push_nodes<M: Machine>(
     ensures counted { M.Meter.count_of meter.new ≤ M.Meter.count_of meter.old + 2 * count }
 {
     for i in 0..count {
-        push_node(alloc, machine, meter, lines, i as u64 + 1)?;
+        add_node(alloc, machine, meter, lines, i as u64 + 1)?;
     }
     Ok(())
 }
@@ -192,26 +188,26 @@ pub fn look_in<M: Nodes>(
     ensures { IfOk result (λ lines. lines ≡ looked_in (M.meaning machine.now)) }
 {
     let mut lines = Lines::new(alloc);
-    push_answer(alloc, machine, meter, &mut lines, b"raft-state")?;
+    add_answer(alloc, machine, meter, &mut lines, b"raft-state")?;
     let count = machine.count().min(MOST_NODES);
-    push_nodes(alloc, machine, meter, &mut lines, count)?;
-    push_in_flight(alloc, machine, meter, &mut lines)?;
+    add_nodes(alloc, machine, meter, &mut lines, count)?;
+    add_in_flight(alloc, machine, meter, &mut lines)?;
     Ok(lines)
 }
 
-/// Shows the cluster after the first directives of a script, as [`look_in`] does. What they print is not kept.
+/// Shows the machine after the first directives of a script, as [`look_in`] does. The meter rises by the directives that are run for it.
 #[tactic(auto, unfolding(crate::specs::Looks::looked))]
-pub fn look<L: RaftLog>(
+pub fn look<M: Nodes>(
     alloc: Global,
     script: &Script,
     place: usize,
-    meter: &mut Meter,
+    meter: &mut M::Meter,
 ) -> Result<Lines, AllocError>
     requires there { place ≤ length script.now.blocks }
     requires few { place ≤ MAX_DIRECTIVES }
-    requires meter { meter.old ≤ 2 ^ 62 }
+    requires meter { M.Meter.count_of meter.old ≤ 2 ^ 62 }
     ensures { IfOk result (λ lines. lines ≡ looked script.now place) }
 {
-    let cluster: Cluster<L> = cluster_at(alloc, script, place, meter)?;
-    look_in(alloc, &cluster, meter)
+    let machine: M = machine_at(alloc, script, place, meter)?;
+    look_in(alloc, &machine, meter)
 }

@@ -1,4 +1,4 @@
-//! An answer with its title above it.
+//! An answer below its title.
 
 ghost use Rattle.std.specs.Prelude.{◌≡◌, ◌∷◌, ◌++◌, [], map, OnOk};
 ghost use Rattle.rb_view.specs.Looks.{without, shown};
@@ -16,8 +16,7 @@ fn without<'a>(line: &'a [u8], word: &[u8]) -> &'a [u8]
     }
 }
 
-// Appends a line, indented, and without the word if it begins with it.
-fn push_shown(lines: &mut Lines, line: &[u8], word: &[u8]) -> Result<(), AllocError>
+fn add_shown(lines: &mut Lines, line: &[u8], word: &[u8]) -> Result<(), AllocError>
     ensures { OnOk result (lines.new ≡ lines.old ++ shown word.now line.now ∷ []) }
 {
     let mut text = lines.new_text(line.len().saturating_add(2))?;
@@ -26,8 +25,8 @@ fn push_shown(lines: &mut Lines, line: &[u8], word: &[u8]) -> Result<(), AllocEr
     lines.push(&text)
 }
 
-/// Appends a title, and below it the lines of an answer, indented, and without the word if they begin with it.
-pub(crate) fn push_section(
+/// Adds a title, and below it the lines of an answer, each without its first word.
+pub(crate) fn add_section(
     lines: &mut Lines,
     title: &[u8],
     answer: &Lines,
@@ -37,7 +36,7 @@ pub(crate) fn push_section(
 {
     lines.push(title)?;
     for i in 0..answer.len() {
-        push_shown(lines, answer.line(i), word)?;
+        add_shown(lines, answer.line(i), word)?;
     }
     Ok(())
 }

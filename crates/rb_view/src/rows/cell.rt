@@ -10,9 +10,9 @@ ghost use Rattle.rb_texts.specs.Quoted.{quoted};
 ghost use Rattle.rb_view.specs.Rows.{cell_text, plain_cell, text};
 ghost use Rattle.rb_view.specs.Spans.{spans_text};
 
-use crate::rows::number::write_number;
-use crate::rows::plain::write_in_page;
-use crate::rows::span::{TextSpan, write_parts};
+use crate::rows::number::put_number;
+use crate::rows::plain::put_in_page;
+use crate::rows::span::{TextSpan, put_parts};
 use rb_raftlog::Body;
 use rb_script::{Sink, WriteFault};
 use rb_text::WrittenPiece;
@@ -44,14 +44,14 @@ pub enum Cell<'a> {
 impl WrittenPiece for Cell<'_> {
     ghost text = { λ c. cell_text (plain_cell c) };
 
-    fn write_to<S: Sink>(&self, sink: &mut S) -> Result<(), WriteFault> {
+    fn put<S: Sink>(&self, sink: &mut S) -> Result<(), WriteFault> {
         match *self {
-            Cell::Number(n) => write_number(sink, n),
-            Cell::Text(bytes) => write_bytes(sink, bytes),
-            Cell::Body(body) => write_body(sink, body),
-            Cell::Config(config) => write_config(sink, config),
-            Cell::Quoting(front, word) => write_quoting(sink, front, word),
-            Cell::Counting(front, n) => write_text(
+            Cell::Number(n) => put_number(sink, n),
+            Cell::Text(bytes) => put_bytes(sink, bytes),
+            Cell::Body(body) => put_body(sink, body),
+            Cell::Config(config) => put_config(sink, config),
+            Cell::Quoting(front, word) => put_quoting(sink, front, word),
+            Cell::Counting(front, n) => put_text(
                 sink,
                 &[TextSpan::Bytes(front), TextSpan::Number(n)],
             ),
@@ -59,37 +59,32 @@ impl WrittenPiece for Cell<'_> {
     }
 }
 
-// Writes a cell whose text is these bytes.
-fn write_bytes<S: Sink>(sink: &mut S, bytes: &[u8]) -> Result<(), WriteFault>
+// Writes a cell of these bytes.
+fn put_bytes<S: Sink>(sink: &mut S, bytes: &[u8]) -> Result<(), WriteFault>
     ensures wrote { Writes result (S.held sink.old) (S.held sink.new) (cell_text (text bytes.now)) }
     ensures all { S.takes_all sink.old → IsOk result × S.takes_all sink.new }
 {
-    sink.write_all(b",\"")?;
-    write_in_page(sink, bytes)?;
-    sink.write_all(b"\"")
+    sink.put(b",\"")?;
+    put_in_page(sink, bytes)?;
+    sink.put(b"\"")
 }
 
-// Writes a cell whose text consists of these parts.
-fn write_text<S: Sink>(sink: &mut S, spans: &[TextSpan<'_>]) -> Result<(), WriteFault>
+// Writes a cell whose text these parts make.
+fn put_text<S: Sink>(sink: &mut S, spans: &[TextSpan<'_>]) -> Result<(), WriteFault>
     ensures wrote { Writes result (S.held sink.old) (S.held sink.new) (cell_text (text (spans_text spans.now))) }
     ensures all { S.takes_all sink.old → IsOk result × S.takes_all sink.new }
 {
-    sink.write_all(b",\"")?;
-    write_parts(sink, spans)?;
-    sink.write_all(b"\"")
+    sink.put(b",\"")?;
+    put_parts(sink, spans)?;
+    sink.put(b"\"")
 }
 
-// Writes a cell with a text and the beginning of a word in quotes.
-fn write_quoting<'a, S: Sink>(
-    sink: &mut S,
-    front: &'a [u8],
-    word: &'a [u8],
-) -> Result<(), WriteFault>
+fn put_quoting<'a, S: Sink>(sink: &mut S, front: &'a [u8], word: &'a [u8]) -> Result<(), WriteFault>
     ensures wrote { Writes result (S.held sink.old) (S.held sink.new) (cell_text (text (front.now ++ word_text word.now))) }
     ensures all { S.takes_all sink.old → IsOk result × S.takes_all sink.new }
 {
     let shown = &word[..word.len().min(WORD_SHOWN)];
-    write_text(
+    put_text(
         sink,
         &[
             TextSpan::Bytes(front),
@@ -100,25 +95,23 @@ fn write_quoting<'a, S: Sink>(
     )
 }
 
-// Writes the cell of an entry's body.
 #[tactic(auto, unfolding(rb_texts::specs::Entries::body_text))]
-fn write_body<S: Sink>(sink: &mut S, body: &Body) -> Result<(), WriteFault>
+fn put_body<S: Sink>(sink: &mut S, body: &Body) -> Result<(), WriteFault>
     ensures wrote { Writes result (S.held sink.old) (S.held sink.new) (cell_text (text (body_text body.now))) }
     ensures all { S.takes_all sink.old → IsOk result × S.takes_all sink.new }
 {
     match body {
-        Body::Payload(bytes) => write_payload(sink, bytes.as_slice()),
-        Body::Change { transition, words } => write_change(sink, *transition, words.as_slice()),
+        Body::Payload(bytes) => put_payload(sink, bytes.as_slice()),
+        Body::Change { transition, words } => put_change(sink, *transition, words.as_slice()),
     }
 }
 
-// Writes the cell of a payload.
 #[tactic(auto, unfolding(rb_texts::specs::Quoted::quoted))]
-fn write_payload<S: Sink>(sink: &mut S, bytes: &[u8]) -> Result<(), WriteFault>
+fn put_payload<S: Sink>(sink: &mut S, bytes: &[u8]) -> Result<(), WriteFault>
     ensures wrote { Writes result (S.held sink.old) (S.held sink.new) (cell_text (text (quoted bytes.now))) }
     ensures all { S.takes_all sink.old → IsOk result × S.takes_all sink.new }
 {
-    write_text(
+    put_text(
         sink,
         &[
             TextSpan::Bytes(b"\""),
@@ -128,8 +121,7 @@ fn write_payload<S: Sink>(sink: &mut S, bytes: &[u8]) -> Result<(), WriteFault>
     )
 }
 
-// Writes the cell of a change: its transition and its words.
-fn write_change<S: Sink>(
+fn put_change<S: Sink>(
     sink: &mut S,
     transition: Transition,
     words: &[Word],
@@ -137,7 +129,7 @@ fn write_change<S: Sink>(
     ensures wrote { Writes result (S.held sink.old) (S.held sink.new) (cell_text (text (codes "change " ++ transition_text transition ++ flat_map change_word words.now))) }
     ensures all { S.takes_all sink.old → IsOk result × S.takes_all sink.new }
 {
-    write_text(
+    put_text(
         sink,
         &[
             TextSpan::Bytes(b"change "),
@@ -154,13 +146,12 @@ fn auto_name(auto: bool) -> &'static [u8]
     if auto { b" auto" } else { b"" }
 }
 
-// Writes the cell of a configuration.
 #[tactic(auto, unfolding(rb_texts::specs::Configs::config_text))]
-fn write_config<S: Sink>(sink: &mut S, config: &Config) -> Result<(), WriteFault>
+fn put_config<S: Sink>(sink: &mut S, config: &Config) -> Result<(), WriteFault>
     ensures wrote { Writes result (S.held sink.old) (S.held sink.new) (cell_text (text (config_text config.now))) }
     ensures all { S.takes_all sink.old → IsOk result × S.takes_all sink.new }
 {
-    write_text(
+    put_text(
         sink,
         &[
             TextSpan::Bytes(b"voters=("),

@@ -1,16 +1,14 @@
 //! Laws of the JSON text.
 
-ghost use Rattle.std.specs.Prelude.{◌≡◌, ◌≤◌, ◌+◌, ◌*◌, ◌∷◌, ℕ, List, false, length, true};
+ghost use Rattle.std.specs.Prelude.{◌≡◌, ◌≤◌, ◌+◌, ◌*◌, ◌∷◌, ℕ, List, length, true};
 ghost use Rattle.std.specs.List.{flat_map, list_all, sum_by};
 ghost use Rattle.rb_texts.specs.Items.{PlainItem};
-ghost use Rattle.rb_texts.specs.Texts.{is_shown};
 ghost use Rattle.rb_text.specs.Json.{in_page};
 ghost use Rattle.rb_view.specs.Escapes.{is_inert};
 ghost use Rattle.rb_view.specs.ItemRows.{item_rows};
 ghost use Rattle.rb_view.specs.Json.{AreRows, has_bytes};
 ghost use Rattle.rb_view.specs.Rows.{Row, rows_text};
-ghost use Rattle.rb_view.specs.Sizes.{count_of, is_view, row_size};
-ghost use Rattle.rb_vocab.specs.declared.level.Level.{Level};
+ghost use Rattle.rb_view.specs.Sizes.{count_of, row_size};
 
 /// Whatever rows there are, no byte of their text is `<`, `>` or `&`, or past ASCII: the text ends no element, begins none, and is the
 /// same in every encoding that holds ASCII.
@@ -34,9 +32,7 @@ pub fn rows_grow_with_what_they_say()
     ensures { (first : Row) (rest : List Row) → length (rows_text first rest) ≤ 1 + sum_by row_size (first ∷ rest) }
 {}
 
-/// An item that happened has one row, and one that shows a node's state has none. So what prints a line at some level has one row, unless it shows a
-/// state.
+/// An item that happened has one row, and one that shows a node's state has none.
 pub fn what_happens_has_a_row()
-    ensures rows { (item : PlainItem) → length (item_rows item) ≡ count_of item }
-    ensures printed { (level : Level) (item : PlainItem) → is_shown level item ≡ true → is_view item ≡ false → length (item_rows item) ≡ 1 }
+    ensures { (item : PlainItem) → length (item_rows item) ≡ count_of item }
 {}

@@ -7,7 +7,7 @@ ghost use Rattle.rb_view.specs.MessageRows.{field_text, flag, message_row, said}
 ghost use Rattle.rb_view.specs.Rows.{cell_text, next_text, plain_cell, row};
 
 use crate::rows::cell::Cell;
-use crate::rows::row::{RowPlace, write_cells, write_front};
+use crate::rows::row::{RowPlace, put_cells, put_front};
 use rb_message::{Message, MessageKind};
 use rb_script::{Sink, WriteFault};
 use rb_texts::{MessageField, kind_fields};
@@ -20,7 +20,7 @@ pub fn flag(yes: bool) -> u64
 }
 
 /// Writes a message as a row of this name.
-pub(crate) fn write_message<S: Sink>(
+pub(crate) fn put_message<S: Sink>(
     sink: &mut S,
     name: &[u8],
     message: &Message,
@@ -34,48 +34,47 @@ pub(crate) fn write_message<S: Sink>(
         Cell::Text(message.kind.message_type().text()),
         Cell::Number(message.term),
     ];
-    write_content(sink, name, &cells, &message.kind)
+    put_said(sink, name, &cells, &message.kind)
 }
 
 // Writes the cells of a message's field.
-fn write_field<S: Sink>(sink: &mut S, field: MessageField<'_>) -> Result<(), WriteFault>
+fn put_field<S: Sink>(sink: &mut S, field: MessageField<'_>) -> Result<(), WriteFault>
     ensures wrote { Writes result (S.held sink.old) (S.held sink.new) (field_text field.entry) }
     ensures all { S.takes_all sink.old → IsOk result × S.takes_all sink.new }
 {
     match field {
-        MessageField::Nothing => write_cells(sink, &[]),
-        MessageField::Number(_, n) => write_cells(sink, &[Cell::Number(n)]),
+        MessageField::Nothing => put_cells(sink, &[]),
+        MessageField::Number(_, n) => put_cells(sink, &[Cell::Number(n)]),
         MessageField::Place(_, term, index) => {
-            write_cells(sink, &[Cell::Number(term), Cell::Number(index)])
+            put_cells(sink, &[Cell::Number(term), Cell::Number(index)])
         }
         MessageField::Answer(yes) | MessageField::Flag(_, yes) | MessageField::Refused(yes) => {
-            write_cells(sink, &[Cell::Number(flag(yes))])
+            put_cells(sink, &[Cell::Number(flag(yes))])
         }
-        MessageField::Body(body) => write_cells(sink, &[Cell::Body(body)]),
+        MessageField::Body(body) => put_cells(sink, &[Cell::Body(body)]),
     }
 }
 
-// Writes the cells of a message's fields.
-fn write_fields<S: Sink>(sink: &mut S, fields: &[MessageField<'_>]) -> Result<(), WriteFault>
+fn put_fields<S: Sink>(sink: &mut S, fields: &[MessageField<'_>]) -> Result<(), WriteFault>
     ensures wrote { Writes result (S.held sink.old) (S.held sink.new) (flat_map field_text fields.now) }
     ensures all { S.takes_all sink.old → IsOk result × S.takes_all sink.new }
 {
     for field in fields {
-        write_field(sink, *field)?;
+        put_field(sink, *field)?;
     }
     Ok(())
 }
 
-// Writes the cells of a message's content.
-fn write_kind<S: Sink>(sink: &mut S, kind: &MessageKind) -> Result<(), WriteFault>
+// Writes the cells of what a message says.
+fn put_kind<S: Sink>(sink: &mut S, kind: &MessageKind) -> Result<(), WriteFault>
     ensures wrote { Writes result (S.held sink.old) (S.held sink.new) (flat_map cell_text (said kind.now)) }
     ensures all { S.takes_all sink.old → IsOk result × S.takes_all sink.new }
 {
-    write_fields(sink, &kind_fields(kind))
+    put_fields(sink, &kind_fields(kind))
 }
 
-// Writes a row: these cells, and then those of a message's content.
-fn write_content<S: Sink>(
+// Writes a row with these cells, and a message's fields.
+fn put_said<S: Sink>(
     sink: &mut S,
     name: &[u8],
     cells: &[Cell<'_>],
@@ -84,8 +83,8 @@ fn write_content<S: Sink>(
     ensures wrote { Writes result (S.held sink.old) (S.held sink.new) (next_text (row name.now (map plain_cell cells.now ++ said kind.now))) }
     ensures all { S.takes_all sink.old → IsOk result × S.takes_all sink.new }
 {
-    write_front(sink, RowPlace::Next, name)?;
-    write_cells(sink, cells)?;
-    write_kind(sink, kind)?;
-    sink.write_all(b"]")
+    put_front(sink, RowPlace::Next, name)?;
+    put_cells(sink, cells)?;
+    put_kind(sink, kind)?;
+    sink.put(b"]")
 }

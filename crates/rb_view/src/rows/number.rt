@@ -5,7 +5,7 @@ ghost use Rattle.rb_script.specs.Writes.{Writes};
 ghost use Rattle.rb_view.specs.Rows.{cell_text, number};
 
 use rb_script::{Sink, WriteFault};
-use rb_text::{Piece, write_pieces};
+use rb_text::{Piece, put_pieces};
 
 // The last digit of a number.
 fn last_digit(n: u64) -> u8
@@ -15,21 +15,21 @@ fn last_digit(n: u64) -> u8
 }
 
 /// Writes a number, with the comma before it.
-pub(crate) fn write_number<S: Sink>(sink: &mut S, n: u64) -> Result<(), WriteFault>
+pub(crate) fn put_number<S: Sink>(sink: &mut S, n: u64) -> Result<(), WriteFault>
     ensures wrote { Writes result (S.held sink.old) (S.held sink.new) (cell_text (number n)) }
     ensures all { S.takes_all sink.old → IsOk result × S.takes_all sink.new }
 {
     if n < 10 {
-        return sink.write_all(&[b',', b'0' + n as u8]);
+        return sink.put(&[b',', b'0' + n as u8]);
     }
     if n < 10_000 {
-        return write_short(sink, n);
+        return put_short(sink, n);
     }
-    write_long(sink, n)
+    put_long(sink, n)
 }
 
 // Writes a number of two to four digits.
-fn write_short<S: Sink>(sink: &mut S, n: u64) -> Result<(), WriteFault>
+fn put_short<S: Sink>(sink: &mut S, n: u64) -> Result<(), WriteFault>
     requires least { 10 ≤ n }
     requires most { n < 10000 }
     ensures wrote { Writes result (S.held sink.old) (S.held sink.new) (cell_text (number n)) }
@@ -38,20 +38,20 @@ fn write_short<S: Sink>(sink: &mut S, n: u64) -> Result<(), WriteFault>
     let ones = last_digit(n);
     let tens = last_digit(n / 10);
     if n < 100 {
-        return sink.write_all(&[b',', tens, ones]);
+        return sink.put(&[b',', tens, ones]);
     }
     let hundreds = last_digit(n / 100);
     if n < 1000 {
-        return sink.write_all(&[b',', hundreds, tens, ones]);
+        return sink.put(&[b',', hundreds, tens, ones]);
     }
-    sink.write_all(&[b',', last_digit(n / 1000), hundreds, tens, ones])
+    sink.put(&[b',', last_digit(n / 1000), hundreds, tens, ones])
 }
 
-// Writes a number of five digits or more. Apart from `write_number`, since it clears a buffer first, and short numbers need none.
+// A function of its own, since it clears a buffer when it begins, and short numbers need none.
 #[inline(never)]
-fn write_long<S: Sink>(sink: &mut S, n: u64) -> Result<(), WriteFault>
+fn put_long<S: Sink>(sink: &mut S, n: u64) -> Result<(), WriteFault>
     ensures wrote { Writes result (S.held sink.old) (S.held sink.new) (cell_text (number n)) }
     ensures all { S.takes_all sink.old → IsOk result × S.takes_all sink.new }
 {
-    write_pieces(sink, &[Piece::Bytes(b","), Piece::Number(n)])
+    put_pieces(sink, &[Piece::Bytes(b","), Piece::Number(n)])
 }

@@ -6,9 +6,9 @@ ghost use Rattle.rb_script.specs.Writes.{Writes};
 ghost use Rattle.rb_view.specs.Rows.{cell_text, front_text, next_text, plain_cell, row_text, row, before};
 
 use crate::rows::cell::Cell;
-use crate::rows::plain::write_in_page;
+use crate::rows::plain::put_in_page;
 use rb_script::{Sink, WriteFault};
-use rb_text::write_pieces;
+use rb_text::put_pieces;
 
 /// The place of a row.
 #[derive(Clone, Copy, Debug, PartialEq, Eq)]
@@ -19,7 +19,7 @@ pub enum RowPlace {
     Next,
 }
 
-// The separator before a row, and the row up to its name.
+// The text before a row, and the row up to its name.
 fn opening(place: RowPlace) -> &'static [u8]
     ensures { result.now ≡ before place ++ codes "[\"" }
 {
@@ -30,7 +30,7 @@ fn opening(place: RowPlace) -> &'static [u8]
 }
 
 /// Writes a row of this name, with these cells.
-pub fn write_row<S: Sink>(
+pub fn put_row<S: Sink>(
     sink: &mut S,
     place: RowPlace,
     name: &[u8],
@@ -39,13 +39,13 @@ pub fn write_row<S: Sink>(
     ensures wrote { Writes result (S.held sink.old) (S.held sink.new) (before place ++ row_text (row name.now (map plain_cell cells.now))) }
     ensures all { S.takes_all sink.old → IsOk result × S.takes_all sink.new }
 {
-    write_front(sink, place, name)?;
-    write_cells(sink, cells)?;
-    sink.write_all(b"]")
+    put_front(sink, place, name)?;
+    put_cells(sink, cells)?;
+    sink.put(b"]")
 }
 
 /// Writes a row up to its name.
-pub(crate) fn write_front<S: Sink>(
+pub(crate) fn put_front<S: Sink>(
     sink: &mut S,
     place: RowPlace,
     name: &[u8],
@@ -53,22 +53,22 @@ pub(crate) fn write_front<S: Sink>(
     ensures wrote { Writes result (S.held sink.old) (S.held sink.new) (before place ++ front_text name.now) }
     ensures all { S.takes_all sink.old → IsOk result × S.takes_all sink.new }
 {
-    sink.write_all(opening(place))?;
-    write_in_page(sink, name)?;
-    sink.write_all(b"\"")
+    sink.put(opening(place))?;
+    put_in_page(sink, name)?;
+    sink.put(b"\"")
 }
 
 /// Writes cells, each after a comma.
-pub(crate) fn write_cells<S: Sink>(sink: &mut S, cells: &[Cell<'_>]) -> Result<(), WriteFault>
+pub(crate) fn put_cells<S: Sink>(sink: &mut S, cells: &[Cell<'_>]) -> Result<(), WriteFault>
     ensures wrote { Writes result (S.held sink.old) (S.held sink.new) (flat_map cell_text (map plain_cell cells.now)) }
     ensures all { S.takes_all sink.old → IsOk result × S.takes_all sink.new }
 {
-    write_pieces(sink, cells)
+    put_pieces(sink, cells)
 }
 
 /// Writes a row that follows another.
 #[tactic(auto, unfolding(crate::specs::Rows::next_text))]
-pub(crate) fn write_next<S: Sink>(
+pub(crate) fn put_next<S: Sink>(
     sink: &mut S,
     name: &[u8],
     cells: &[Cell<'_>],
@@ -76,13 +76,13 @@ pub(crate) fn write_next<S: Sink>(
     ensures wrote { Writes result (S.held sink.old) (S.held sink.new) (next_text (row name.now (map plain_cell cells.now))) }
     ensures all { S.takes_all sink.old → IsOk result × S.takes_all sink.new }
 {
-    write_row(sink, RowPlace::Next, name, cells)
+    put_row(sink, RowPlace::Next, name, cells)
 }
 
 /// Writes the text after the last row.
-pub fn write_end<S: Sink>(sink: &mut S) -> Result<(), WriteFault>
+pub fn put_end<S: Sink>(sink: &mut S) -> Result<(), WriteFault>
     ensures wrote { Writes result (S.held sink.old) (S.held sink.new) (codes "]\n") }
     ensures all { S.takes_all sink.old → IsOk result × S.takes_all sink.new }
 {
-    sink.write_all(b"]\n")
+    sink.put(b"]\n")
 }

@@ -13,7 +13,7 @@ ghost use Rattle.rb_text.specs.Json.{in_page};
 ghost use Rattle.rb_view.specs.Commas.{comma_before};
 ghost use Rattle.rb_view.specs.Spans.{span_text};
 
-use crate::rows::plain::{are_plain, write_in_page};
+use crate::rows::plain::{are_plain, put_in_page};
 use itoa::Buffer;
 use rb_script::{Sink, WriteFault};
 use rb_text::hex_digit;
@@ -41,18 +41,18 @@ pub(crate) trait TextPart {
     ghost text: { Self → List ℕ };
 
     /// Writes the part, as it is between quotes. On a failure a beginning of that was written.
-    fn write_to<S: Sink>(&self, sink: &mut S) -> Result<(), WriteFault>
+    fn put<S: Sink>(&self, sink: &mut S) -> Result<(), WriteFault>
         ensures wrote { Writes result (S.held sink.old) (S.held sink.new) (flat_map in_page (text self.now)) }
         ensures all { S.takes_all sink.old → IsOk result × S.takes_all sink.new };
 }
 
-/// Writes parts of a cell's text, each as a page has it between quotes.
-pub(crate) fn write_parts<S: Sink, P: TextPart>(sink: &mut S, parts: &[P]) -> Result<(), WriteFault>
+/// Writes the parts, each as it is between quotes.
+pub(crate) fn put_parts<S: Sink, P: TextPart>(sink: &mut S, parts: &[P]) -> Result<(), WriteFault>
     ensures wrote { Writes result (S.held sink.old) (S.held sink.new) (flat_map in_page (flat_map P.text parts.now)) }
     ensures all { S.takes_all sink.old → IsOk result × S.takes_all sink.new }
 {
     for part in parts {
-        part.write_to(sink)?;
+        part.put(sink)?;
     }
     Ok(())
 }
@@ -60,25 +60,24 @@ pub(crate) fn write_parts<S: Sink, P: TextPart>(sink: &mut S, parts: &[P]) -> Re
 impl TextPart for TextSpan<'_> {
     ghost text = { span_text };
 
-    fn write_to<S: Sink>(&self, sink: &mut S) -> Result<(), WriteFault> {
+    fn put<S: Sink>(&self, sink: &mut S) -> Result<(), WriteFault> {
         match *self {
-            TextSpan::Bytes(bytes) => write_in_page(sink, bytes),
-            TextSpan::Number(n) => write_digits(sink, n),
-            TextSpan::Inside(bytes) => write_quoted(sink, bytes),
-            TextSpan::Ids(ids) => write_ids(sink, ids),
-            TextSpan::Part(name, ids) => write_config_part(sink, name, ids),
-            TextSpan::Words(words) => write_parts(sink, words),
+            TextSpan::Bytes(bytes) => put_in_page(sink, bytes),
+            TextSpan::Number(n) => put_digits(sink, n),
+            TextSpan::Inside(bytes) => put_inside(sink, bytes),
+            TextSpan::Ids(ids) => put_ids(sink, ids),
+            TextSpan::Part(name, ids) => put_part(sink, name, ids),
+            TextSpan::Words(words) => put_parts(sink, words),
         }
     }
 }
 
-// Writes a number in decimal digits.
-fn write_digits<S: Sink>(sink: &mut S, n: u64) -> Result<(), WriteFault>
+fn put_digits<S: Sink>(sink: &mut S, n: u64) -> Result<(), WriteFault>
     ensures wrote { Writes result (S.held sink.old) (S.held sink.new) (flat_map in_page (decimal n)) }
     ensures all { S.takes_all sink.old → IsOk result × S.takes_all sink.new }
 {
     let mut digits = Buffer::new();
-    write_in_page(sink, digits.format(n).as_bytes())
+    put_in_page(sink, digits.format(n).as_bytes())
 }
 
 // ---- bytes inside double quotes
@@ -97,26 +96,26 @@ fn numbered(b: u8) -> [u8; 4]
     [b'\\', b'x', hex_digit(b / 16), hex_digit(b % 16)]
 }
 
-// Writes bytes as an output line has them between double quotes.
-fn write_quoted<S: Sink>(sink: &mut S, bytes: &[u8]) -> Result<(), WriteFault>
+// Writes bytes as a line shows them inside double quotes. Most are shown as they are.
+fn put_inside<S: Sink>(sink: &mut S, bytes: &[u8]) -> Result<(), WriteFault>
     ensures wrote { Writes result (S.held sink.old) (S.held sink.new) (flat_map in_page (flat_map quotes.escaped bytes.now)) }
     ensures all { S.takes_all sink.old → IsOk result × S.takes_all sink.new }
 {
     if are_plain(bytes) {
-        sink.write_all(bytes)
+        sink.put(bytes)
     } else {
-        write_parts(sink, bytes)
+        put_parts(sink, bytes)
     }
 }
 
 impl TextPart for u8 {
     ghost text = { quotes.escaped };
 
-    fn write_to<S: Sink>(&self, sink: &mut S) -> Result<(), WriteFault> {
+    fn put<S: Sink>(&self, sink: &mut S) -> Result<(), WriteFault> {
         if is_plain(*self) {
-            write_in_page(sink, &[*self])
+            put_in_page(sink, &[*self])
         } else {
-            write_in_page(sink, &numbered(*self))
+            put_in_page(sink, &numbered(*self))
         }
     }
 }
@@ -127,35 +126,33 @@ impl TextPart for u8 {
 impl TextPart for u64 {
     ghost text = { comma_before };
 
-    fn write_to<S: Sink>(&self, sink: &mut S) -> Result<(), WriteFault> {
-        write_in_page(sink, b",")?;
-        write_digits(sink, *self)
+    fn put<S: Sink>(&self, sink: &mut S) -> Result<(), WriteFault> {
+        put_in_page(sink, b",")?;
+        put_digits(sink, *self)
     }
 }
 
-// Writes ids, separated by commas.
-fn write_ids<S: Sink>(sink: &mut S, ids: &[u64]) -> Result<(), WriteFault>
+fn put_ids<S: Sink>(sink: &mut S, ids: &[u64]) -> Result<(), WriteFault>
     ensures wrote { Writes result (S.held sink.old) (S.held sink.new) (flat_map in_page (ids_text ids.now)) }
     ensures all { S.takes_all sink.old → IsOk result × S.takes_all sink.new }
 {
     let Some((first, rest)) = ids.split_first() else {
         return Ok(());
     };
-    write_digits(sink, *first)?;
-    write_parts(sink, rest)
+    put_digits(sink, *first)?;
+    put_parts(sink, rest)
 }
 
-// Writes a part of a configuration, such as its learners, unless it is empty.
-fn write_config_part<S: Sink>(sink: &mut S, name: &[u8], ids: &[u64]) -> Result<(), WriteFault>
+fn put_part<S: Sink>(sink: &mut S, name: &[u8], ids: &[u64]) -> Result<(), WriteFault>
     ensures wrote { Writes result (S.held sink.old) (S.held sink.new) (flat_map in_page (part_text name.now ids.now)) }
     ensures all { S.takes_all sink.old → IsOk result × S.takes_all sink.new }
 {
     if ids.is_empty() {
         return Ok(());
     }
-    write_in_page(sink, name)?;
-    write_ids(sink, ids)?;
-    write_in_page(sink, b")")
+    put_in_page(sink, name)?;
+    put_ids(sink, ids)?;
+    put_in_page(sink, b")")
 }
 
 // ---- words of a change
@@ -175,8 +172,8 @@ fn letter(kind: WordKind) -> &'static [u8]
 impl TextPart for Word {
     ghost text = { change_word };
 
-    fn write_to<S: Sink>(&self, sink: &mut S) -> Result<(), WriteFault> {
-        write_in_page(sink, letter(self.kind))?;
-        write_digits(sink, self.id)
+    fn put<S: Sink>(&self, sink: &mut S) -> Result<(), WriteFault> {
+        put_in_page(sink, letter(self.kind))?;
+        put_digits(sink, self.id)
     }
 }

@@ -15,7 +15,6 @@ use rb_node::State;
 use rb_raftlog::RaftLog;
 use rb_script::{Block, DirectiveRef};
 
-// Whether a request restarts nodes.
 fn is_restart(request: &Request<'_>) -> bool
     ensures { result ≡ is_restart request.now }
 {
@@ -47,7 +46,6 @@ fn is_sound<L: RaftLog>(state: &State<L>) -> bool
         && state.commit <= last
 }
 
-// Whether the indexes of each node are in order.
 fn are_sound<L: RaftLog>(nodes: &[SharedNode<L>]) -> bool
     ensures { result ≡ list_all is_sound nodes.now }
 {

@@ -1,4 +1,4 @@
-//! Rows that weren't there before a directive.
+//! Rows that weren't there before.
 
 ghost use Rattle.std.specs.Prelude.{◌≡◌, ◌++◌, OnOk};
 ghost use Rattle.std.specs.Str.{bytes_eq};
@@ -14,7 +14,7 @@ pub(crate) fn is_same(text: &[u8], other: &[u8]) -> bool
     text == other
 }
 
-// Whether a text is among the old ones.
+// Whether the text is one of these.
 fn has_text(olds: &Lines, text: &[u8]) -> bool
     ensures { result ≡ has_text olds.now text.now }
 {
@@ -26,8 +26,8 @@ fn has_text(olds: &Lines, text: &[u8]) -> bool
     false
 }
 
-// Appends a text, if it isn't among the old ones.
-fn push_if_new(texts: &mut Lines, olds: &Lines, text: &[u8]) -> Result<(), AllocError>
+// Adds the text if it isn't one of these.
+fn keep_if_new(texts: &mut Lines, olds: &Lines, text: &[u8]) -> Result<(), AllocError>
     ensures { OnOk result (texts.new ≡ texts.old ++ new_of olds.now text.now) }
 {
     if has_text(olds, text) {
@@ -36,12 +36,12 @@ fn push_if_new(texts: &mut Lines, olds: &Lines, text: &[u8]) -> Result<(), Alloc
     texts.push(text)
 }
 
-/// Appends the texts that aren't among the old ones.
-pub(crate) fn push_new(texts: &mut Lines, olds: &Lines, news: &Lines) -> Result<(), AllocError>
+/// Adds those texts that aren't among the old ones.
+pub(crate) fn keep_new(texts: &mut Lines, olds: &Lines, news: &Lines) -> Result<(), AllocError>
     ensures { OnOk result (texts.new ≡ texts.old ++ new_texts olds.now news.now) }
 {
     for i in 0..news.len() {
-        push_if_new(texts, olds, news.line(i))?;
+        keep_if_new(texts, olds, news.line(i))?;
     }
     Ok(())
 }

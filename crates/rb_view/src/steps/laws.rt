@@ -10,7 +10,7 @@ ghost use Rattle.rb_raftlog.specs.Log.{LogValue, entries_after};
 ghost use Rattle.rb_tracker.specs.Progresses.{PlainProgress};
 ghost use Rattle.rb_tracker.specs.Trackers.{has_view};
 ghost use Rattle.rb_node.specs.Node.{PlainNode};
-ghost use Rattle.rb_report.specs.declared.table.TheConstants.{MAX_CELLS};
+ghost use Rattle.rb_report.specs.declared.check.table.TheConstants.{MAX_CELLS};
 ghost use Rattle.rb_texts.specs.Items.{PlainItem};
 ghost use Rattle.rb_machine.specs.Cluster.{Cluster, empty};
 ghost use Rattle.rb_machine.specs.Outcome.{outcome};
@@ -34,7 +34,6 @@ ghost use Rattle.rb_view.specs.NewRows.{has_text};
 ghost use Rattle.rb_view.specs.States.{changed_rows, no_view_row, standing, state_rows};
 ghost use Rattle.rb_view.specs.Steps.{end_row, source_row, step_texts, steps, steps_texts, warning_rows};
 ghost use Rattle.rb_view.specs.Values.{GoOnShowingBytes, all_rows};
-ghost use Rattle.rb_vocab.specs.declared.level.Level.{Level};
 
 /// The text of a script's steps is a list of rows, the first of which names the script.
 pub fn steps_are_rows()
@@ -74,7 +73,7 @@ pub fn changes_grow_with_what_differs()
 /// happened and what changed, and its warnings. Items that show how a node stands say nothing.
 pub fn pages_grow_with_what_happens()
     ensures text { (name bytes heads : List ℕ) (s : PlainScript) → length (steps_text name bytes heads s) ≤ around_size name bytes s + sum_by step_size (steps heads s) + sum_by row_size (warning_rows bytes heads s) }
-    ensures views { (level : Level) (i : PlainItem) → is_view i ≡ true → item_size level i ≡ 0 }
+    ensures views { (i : PlainItem) → is_view i ≡ true → item_size i ≡ 0 }
 {}
 
 /// The text is a text of JSON, by its grammar, and its value is the rows: the script's bytes; for each directive where it stands, what it printed,

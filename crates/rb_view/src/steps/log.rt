@@ -12,12 +12,11 @@ ghost use Rattle.rb_view.specs.Kept.{texts_of};
 ghost use Rattle.rb_view.specs.Rows.{next_text};
 ghost use Rattle.rb_view.specs.Logs.{entry_rows, is_same_to, log_changes_to, log_from, nearest, same_entry, same_up_to, stays_since};
 
-use crate::rows::{Cell, push_row};
+use crate::rows::{Cell, keep_row};
 use rb_raftlog::{Entry, RaftLog, held_entry};
 use rb_script::Lines;
 use std::alloc::AllocError;
 
-// Whether two entries differ.
 fn is_other(entry: &Entry, other: &Entry) -> bool
     ensures { result ≡ not (same_entry entry.now other.now) }
 {
@@ -33,7 +32,7 @@ fn entry_at<L: RaftLog>(log: &L, index: u64) -> &Entry
     held_entry(log, index)
 }
 
-// The index itself, or the nearest one that the log has.
+// The index, or the nearest one that the log has.
 fn nearest<L: RaftLog>(log: &L, index: u64) -> u64
     ensures value { result ≡ nearest (L.plain log.now) index }
     ensures above { (L.plain log.now).base ≤ result }
@@ -43,7 +42,7 @@ fn nearest<L: RaftLog>(log: &L, index: u64) -> u64
     base.max(index.min(log.last_index()))
 }
 
-// The last index up to which both logs have the same entries, from an index on that both have.
+// Up to which index the entries past an index are those of before, where both logs may have entries past it.
 fn stays_past<L: RaftLog>(old: &L, new: &L, from: u64) -> u64
     requires held { (L.plain old.now).base ≤ from }
     requires above { (L.plain new.now).base ≤ from }
@@ -61,7 +60,7 @@ fn stays_past<L: RaftLog>(old: &L, new: &L, from: u64) -> u64
     from.max(last)
 }
 
-// The last index up to which both logs have the same entries. Those up to `known` are known to be the same, and aren't compared.
+// Up to which index the entries of a log are those of before, where those up to an index are known to be: they aren't compared.
 fn stays<L: RaftLog>(old: &L, new: &L, known: u64) -> u64
     ensures value { result ≡ stays_since (L.plain old.now) (L.plain new.now) known }
     ensures above { (L.plain new.now).base ≤ result }
@@ -74,7 +73,7 @@ fn stays<L: RaftLog>(old: &L, new: &L, known: u64) -> u64
     stays_past(old, new, from)
 }
 
-// Whether two logs are the same, given that they are up to the index `kept`.
+// Whether nothing was dropped and nothing added.
 fn is_same_log<L: RaftLog>(old: &L, new: &L, kept: u64) -> bool
     ensures { result ≡ is_same_to (L.plain old.now) (L.plain new.now) kept }
 {
@@ -84,8 +83,8 @@ fn is_same_log<L: RaftLog>(old: &L, new: &L, kept: u64) -> bool
         && kept == new.last_index()
 }
 
-/// Appends the rows of a log: its base, and its entries past the index `kept`. The others stayed.
-pub(crate) fn push_log_from<L: RaftLog>(
+/// Adds the rows of a log whose entries up to an index are those of before.
+pub(crate) fn keep_log_from<L: RaftLog>(
     texts: &mut Lines,
     id: u64,
     log: &L,
@@ -101,25 +100,24 @@ pub(crate) fn push_log_from<L: RaftLog>(
         Cell::Number(log.first_index() - 1),
         Cell::Number(kept),
     ];
-    push_row(texts, b"log", &cells)?;
-    push_entries(texts, log, kept)
+    keep_row(texts, b"log", &cells)?;
+    keep_entries(texts, log, kept)
 }
 
-// Appends the rows of the entries past the index `kept`.
-fn push_entries<L: RaftLog>(texts: &mut Lines, log: &L, kept: u64) -> Result<(), AllocError>
+// Adds the rows of the entries past an index.
+fn keep_entries<L: RaftLog>(texts: &mut Lines, log: &L, kept: u64) -> Result<(), AllocError>
     requires above { (L.plain log.now).base ≤ kept }
     requires within { kept ≤ last (L.plain log.now) }
     ensures { OnOk result (texts.new ≡ texts.old ++ texts_of (entry_rows (kept + 1) (entries_after (L.plain log.now) kept))) }
 {
     let last = log.last_index();
     for index in kept + 1..last + 1 {
-        push_entry(texts, index, entry_at(log, index))?;
+        keep_entry(texts, index, entry_at(log, index))?;
     }
     Ok(())
 }
 
-// Appends the row of an entry.
-fn push_entry(texts: &mut Lines, index: u64, entry: &Entry) -> Result<(), AllocError>
+fn keep_entry(texts: &mut Lines, index: u64, entry: &Entry) -> Result<(), AllocError>
     ensures { OnOk result (texts.new ≡ texts.old ++ next_text (entry_row (codes "entry") index entry.now) ∷ []) }
 {
     let cells = [
@@ -127,11 +125,11 @@ fn push_entry(texts: &mut Lines, index: u64, entry: &Entry) -> Result<(), AllocE
         Cell::Number(entry.term),
         Cell::Body(&entry.body),
     ];
-    push_row(texts, b"entry", &cells)
+    keep_row(texts, b"entry", &cells)
 }
 
-/// Appends the rows of a log, if it has changed. Entries up to the index `known` are known to be the same.
-pub(crate) fn push_log<L: RaftLog>(
+/// Adds the rows of a log, where it is not as it was. The entries up to an index are known to be those of before.
+pub(crate) fn keep_log<L: RaftLog>(
     texts: &mut Lines,
     id: u64,
     old: &L,
@@ -144,5 +142,5 @@ pub(crate) fn push_log<L: RaftLog>(
     if is_same_log(old, new, stays) {
         return Ok(());
     }
-    push_log_from(texts, id, new, stays)
+    keep_log_from(texts, id, new, stays)
 }

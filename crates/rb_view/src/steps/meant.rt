@@ -5,16 +5,15 @@ ghost use Rattle.rb_report.specs.Hints.{meant, plain_hint};
 ghost use Rattle.rb_view.specs.Kept.{texts_of};
 ghost use Rattle.rb_view.specs.Meant.{IsOfBytes, hint_rows};
 
-use crate::rows::{Cell, push_row};
+use crate::rows::{Cell, keep_row};
 use crate::steps::node::as_bytes;
-use rb_report::Hint;
+use rb_report::check::Hint;
 use rb_script::Lines;
 use std::alloc::AllocError;
 
 // Most words are shorter, and one that is longer takes more room.
 const ROOM: usize = 60;
 
-// The question whether a word was meant.
 fn question(lines: &Lines, word: &[u8]) -> Result<Vec<u8>, AllocError>
     ensures { IfOk result (λ text. text.items ≡ codes "did you mean \"" ++ (word.now ++ codes "\"?")) }
 {
@@ -25,22 +24,22 @@ fn question(lines: &Lines, word: &[u8]) -> Result<Vec<u8>, AllocError>
     Ok(text)
 }
 
-// Appends a hint's row that asks whether a word was meant.
-fn push_question(texts: &mut Lines, word: &[u8]) -> Result<(), AllocError>
+// Adds a question whether this word was meant.
+fn keep_question(texts: &mut Lines, word: &[u8]) -> Result<(), AllocError>
     ensures { OnOk result (texts.new ≡ texts.old ++ texts_of (hint_rows (meant word.now))) }
 {
     let text = question(texts, word)?;
-    push_row(texts, b"hint", &[Cell::Text(text.as_slice())])
+    keep_row(texts, b"hint", &[Cell::Text(text.as_slice())])
 }
 
-/// Appends the row of a hint, if there is one. Its text is bytes by its type.
-pub(crate) fn push_hint(texts: &mut Lines, hint: Hint<'_>) -> Result<(), AllocError>
+/// Adds what was probably meant, which is bytes by its type.
+pub(crate) fn keep_hint(texts: &mut Lines, hint: Hint<'_>) -> Result<(), AllocError>
     ensures texts { OnOk result (texts.new ≡ texts.old ++ texts_of (hint_rows (plain_hint hint.entry))) }
     ensures bytes { IsOfBytes (plain_hint hint.entry) }
 {
     match hint {
         Hint::Unknown => Ok(()),
-        Hint::Meant(word) => push_question(texts, as_bytes(word)),
-        Hint::Sentence(text) => push_row(texts, b"hint", &[Cell::Text(as_bytes(text))]),
+        Hint::Meant(word) => keep_question(texts, as_bytes(word)),
+        Hint::Sentence(text) => keep_row(texts, b"hint", &[Cell::Text(as_bytes(text))]),
     }
 }

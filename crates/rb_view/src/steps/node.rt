@@ -12,10 +12,10 @@ ghost use Rattle.rb_view.specs.SameRows.{ShowSameNumbers};
 ghost use Rattle.rb_view.specs.States.{added_rows, changed_since, config_row, gone_of, gone_rows, no_view_row, node_row, node_since, standing, state_rows, view_row, view_rows};
 ghost use Rattle.rb_view.specs.Values.{ShowBytes};
 
-use crate::rows::{Cell, flag, push_row, role_name};
-use crate::steps::fresh::push_new;
-use crate::steps::log::{push_log, push_log_from};
-use crate::steps::views::{has_same_digits, push_new_views};
+use crate::rows::{Cell, flag, keep_row, role_name};
+use crate::steps::fresh::keep_new;
+use crate::steps::log::{keep_log, keep_log_from};
+use crate::steps::views::{has_same_digits, keep_new_views};
 use crate::steps::written::WrittenNode;
 use rb_cluster::SharedNode;
 use rb_node::{Node, State};
@@ -30,8 +30,7 @@ const SHORT_LOG: u64 = 64;
 
 // ---- what stands
 
-// Appends the row of a node's numbers.
-fn push_node<L: RaftLog>(texts: &mut Lines, state: &State<L>) -> Result<(), AllocError>
+fn keep_node<L: RaftLog>(texts: &mut Lines, state: &State<L>) -> Result<(), AllocError>
     ensures { OnOk result (texts.new ≡ texts.old ++ texts_of (node_row state.now ∷ [])) }
 {
     let cells = [
@@ -46,19 +45,18 @@ fn push_node<L: RaftLog>(texts: &mut Lines, state: &State<L>) -> Result<(), Allo
         Cell::Number(state.content.len() as u64),
         Cell::Text(state.content.end()),
     ];
-    push_row(texts, b"node", &cells)
+    keep_row(texts, b"node", &cells)
 }
 
-// Appends the row of a node's configuration.
-fn push_config<L: RaftLog>(texts: &mut Lines, state: &State<L>) -> Result<(), AllocError>
+fn keep_config<L: RaftLog>(texts: &mut Lines, state: &State<L>) -> Result<(), AllocError>
     ensures { OnOk result (texts.new ≡ texts.old ++ texts_of (config_row state.now ∷ [])) }
 {
     let cells = [Cell::Number(state.id), Cell::Config(state.tracker.config())];
-    push_row(texts, b"config", &cells)
+    keep_row(texts, b"config", &cells)
 }
 
-/// Appends the row of what a node knows of a member.
-pub(crate) fn push_view(
+/// Adds the row of a view.
+pub(crate) fn keep_view(
     texts: &mut Lines,
     id: u64,
     member: u64,
@@ -77,43 +75,41 @@ pub(crate) fn push_view(
         Cell::Number(view.pending()),
         Cell::Number(flag(view.active())),
     ];
-    push_row(texts, b"view", &cells)
+    keep_row(texts, b"view", &cells)
 }
 
-// Appends the rows of a node's views.
-fn push_views(texts: &mut Lines, id: u64, tracker: &Tracker) -> Result<(), AllocError>
+fn keep_views(texts: &mut Lines, id: u64, tracker: &Tracker) -> Result<(), AllocError>
     ensures { OnOk result (texts.new ≡ texts.old ++ texts_of (view_rows id tracker.now.views)) }
 {
     for i in 0..tracker.len() {
         let (member, view) = tracker.view(i);
-        push_view(texts, id, member, view)?;
+        keep_view(texts, id, member, view)?;
     }
     Ok(())
 }
 
-// Appends all rows of a node but those of its log.
-fn push_all_but_log<L: RaftLog>(texts: &mut Lines, state: &State<L>) -> Result<(), AllocError>
+// Adds the rows of all of a node but its log.
+fn keep_standing<L: RaftLog>(texts: &mut Lines, state: &State<L>) -> Result<(), AllocError>
     ensures { OnOk result (texts.new ≡ texts.old ++ texts_of (standing state.now)) }
 {
-    push_node(texts, state)?;
-    push_config(texts, state)?;
-    push_own_views(texts, state)
+    keep_node(texts, state)?;
+    keep_config(texts, state)?;
+    keep_own_views(texts, state)
 }
 
-// Appends the rows of the views of a state.
-fn push_own_views<L: RaftLog>(texts: &mut Lines, state: &State<L>) -> Result<(), AllocError>
+// Adds the rows of a node's views.
+fn keep_own_views<L: RaftLog>(texts: &mut Lines, state: &State<L>) -> Result<(), AllocError>
     ensures { OnOk result (texts.new ≡ texts.old ++ texts_of (view_rows state.now.id state.now.tracker.views)) }
 {
-    push_views(texts, state.id, &state.tracker)
+    keep_views(texts, state.id, &state.tracker)
 }
 
 // ---- changes
 
-// Appends the row that says that a node no longer has a view of a member.
-fn push_no_view(texts: &mut Lines, id: u64, member: u64) -> Result<(), AllocError>
+fn keep_no_view(texts: &mut Lines, id: u64, member: u64) -> Result<(), AllocError>
     ensures { OnOk result (texts.new ≡ texts.old ++ texts_of (no_view_row id member ∷ [])) }
 {
-    push_row(texts, b"no-view", &[Cell::Number(id), Cell::Number(member)])
+    keep_row(texts, b"no-view", &[Cell::Number(id), Cell::Number(member)])
 }
 
 // Whether a member's view is at a place.
@@ -124,8 +120,8 @@ fn has_view_at(tracker: &Tracker, place: usize, member: u64) -> bool
     place < tracker.len() && tracker.view(place).0 == member
 }
 
-// Appends the row that a view is gone, if it is. Most are still there, at the same place.
-fn push_if_gone(
+// Adds a row for a member that no longer has a view. Most still have it, at the same place.
+fn keep_if_gone(
     texts: &mut Lines,
     id: u64,
     member: u64,
@@ -140,26 +136,26 @@ fn push_if_gone(
     if new.has_view(member) {
         return Ok(());
     }
-    push_no_view(texts, id, member)
+    keep_no_view(texts, id, member)
 }
 
-// Appends a row for each view that is gone.
-fn push_gone(texts: &mut Lines, id: u64, old: &Tracker, new: &Tracker) -> Result<(), AllocError>
+// Adds rows for the members that no longer have a view.
+fn keep_gone(texts: &mut Lines, id: u64, old: &Tracker, new: &Tracker) -> Result<(), AllocError>
     ensures { OnOk result (texts.new ≡ texts.old ++ texts_of (gone_rows id old.now.views new.now.views)) }
 {
     for i in 0..old.len() {
         let (member, _) = old.view(i);
-        push_if_gone(texts, id, member, i, new)?;
+        keep_if_gone(texts, id, member, i, new)?;
     }
     Ok(())
 }
 
-// Appends all rows of a new node.
-fn push_added<L: RaftLog>(texts: &mut Lines, new: &State<L>) -> Result<(), AllocError>
+// Adds all of a node that wasn't there.
+fn keep_added<L: RaftLog>(texts: &mut Lines, new: &State<L>) -> Result<(), AllocError>
     ensures { OnOk result (texts.new ≡ texts.old ++ texts_of (added_rows new.now)) }
 {
-    push_all_but_log(texts, new)?;
-    push_log_from(texts, new.id, &new.log, new.log.first_index() - 1)
+    keep_standing(texts, new)?;
+    keep_log_from(texts, new.id, &new.log, new.log.first_index() - 1)
 }
 
 // Whether both have the same role.
@@ -190,8 +186,8 @@ fn has_same_end<L: RaftLog>(old: &State<L>, new: &State<L>) -> bool
     old.content.end() == new.content.end()
 }
 
-// Appends the row of a node's numbers, if it is another than before.
-fn push_other_numbers<L: RaftLog>(
+// Adds a node's numbers, if their row is not the one of before.
+fn keep_other_numbers<L: RaftLog>(
     alloc: Global,
     texts: &mut Lines,
     old: &State<L>,
@@ -200,14 +196,14 @@ fn push_other_numbers<L: RaftLog>(
     ensures { OnOk result (texts.new ≡ texts.old ++ texts_of (new_row (texts_of (standing old.now)) (node_row new.now))) }
 {
     let mut olds = Lines::new(alloc);
-    push_node(&mut olds, old)?;
+    keep_node(&mut olds, old)?;
     let mut news = Lines::new(alloc);
-    push_node(&mut news, new)?;
-    push_new(texts, &olds, &news)
+    keep_node(&mut news, new)?;
+    keep_new(texts, &olds, &news)
 }
 
-// Appends the row of a node's numbers, if they have changed. The rows are compared only if the role or the end of the content has changed.
-fn push_new_numbers<L: RaftLog>(
+// Adds a node's numbers, if they have changed. Rows are compared only if the role or the last bytes of the content have changed.
+fn keep_new_numbers<L: RaftLog>(
     alloc: Global,
     texts: &mut Lines,
     old: &State<L>,
@@ -216,13 +212,13 @@ fn push_new_numbers<L: RaftLog>(
     ensures { OnOk result (texts.new ≡ texts.old ++ texts_of (new_row (texts_of (standing old.now)) (node_row new.now))) }
 {
     if !has_same_role(old, new) {
-        return push_other_numbers(alloc, texts, old, new);
+        return keep_other_numbers(alloc, texts, old, new);
     }
     if !has_same_numbers(old, new) {
-        return push_node(texts, new);
+        return keep_node(texts, new);
     }
     if !has_same_end(old, new) {
-        return push_other_numbers(alloc, texts, old, new);
+        return keep_other_numbers(alloc, texts, old, new);
     }
     Ok(())
 }
@@ -243,8 +239,8 @@ fn has_same_tracker<L: RaftLog>(old: &State<L>, new: &State<L>) -> bool
     old.id == new.id && old.tracker.same(&new.tracker)
 }
 
-// Appends the row of a node's configuration, if it has changed.
-fn push_new_config<L: RaftLog>(
+// Adds a node's configuration, if it has changed.
+fn keep_new_config<L: RaftLog>(
     alloc: Global,
     texts: &mut Lines,
     old: &State<L>,
@@ -256,14 +252,14 @@ fn push_new_config<L: RaftLog>(
         return Ok(());
     }
     let mut olds = Lines::new(alloc);
-    push_config(&mut olds, old)?;
+    keep_config(&mut olds, old)?;
     let mut news = Lines::new(alloc);
-    push_config(&mut news, new)?;
-    push_new(texts, &olds, &news)
+    keep_config(&mut news, new)?;
+    keep_new(texts, &olds, &news)
 }
 
-// Appends the rows of a node's configuration and views that have changed.
-fn push_new_tracker<L: RaftLog>(
+// Adds a node's configuration and views, where they have changed.
+fn keep_new_tracker<L: RaftLog>(
     alloc: Global,
     texts: &mut Lines,
     old: &State<L>,
@@ -274,12 +270,12 @@ fn push_new_tracker<L: RaftLog>(
     if has_same_tracker(old, new) {
         return Ok(());
     }
-    push_new_config(alloc, texts, old, new)?;
-    push_new_views(texts, old, new)
+    keep_new_config(alloc, texts, old, new)?;
+    keep_new_views(texts, old, new)
 }
 
-// Appends the rows of a node's numbers, configuration and views that have changed.
-fn push_changes_but_log<L: RaftLog>(
+// Adds the rows of a node's numbers, configuration and views that have changed.
+fn keep_restated<L: RaftLog>(
     alloc: Global,
     texts: &mut Lines,
     old: &State<L>,
@@ -287,12 +283,12 @@ fn push_changes_but_log<L: RaftLog>(
 ) -> Result<(), AllocError>
     ensures { OnOk result (texts.new ≡ texts.old ++ texts_of (new_rows (standing old.now) (standing new.now))) }
 {
-    push_new_numbers(alloc, texts, old, new)?;
-    push_new_tracker(alloc, texts, old, new)
+    keep_new_numbers(alloc, texts, old, new)?;
+    keep_new_tracker(alloc, texts, old, new)
 }
 
-// Appends the rows of a node that have changed. Entries up to the index `known` aren't compared.
-fn push_changed<L: RaftLog>(
+// Adds what of a node is not as it was. Entries up to an index aren't compared.
+fn keep_changed<L: RaftLog>(
     alloc: Global,
     texts: &mut Lines,
     old: &State<L>,
@@ -301,25 +297,25 @@ fn push_changed<L: RaftLog>(
 ) -> Result<(), AllocError>
     ensures { OnOk result (texts.new ≡ texts.old ++ texts_of (changed_since known old.now new.now)) }
 {
-    push_changes_but_log(alloc, texts, old, new)?;
-    push_gone(texts, new.id, &old.tracker, &new.tracker)?;
-    push_log(texts, new.id, &old.log, &new.log, known)
+    keep_restated(alloc, texts, old, new)?;
+    keep_gone(texts, new.id, &old.tracker, &new.tracker)?;
+    keep_log(texts, new.id, &old.log, &new.log, known)
 }
 
-// Whether comparing all entries of the log costs less than making the node's rows.
+// Whether a comparison with all entries of the log costs less than the rows of the node.
 fn has_short_log<L: RaftLog>(state: &State<L>) -> bool {
     state.log.last_index() < state.log.first_index().saturating_add(SHORT_LOG)
 }
 
-// Whether a node is quickly seen to be unchanged.
+// Whether a node is as it was, where that is quick to see.
 fn is_seen_same<L: RaftLog>(old: &State<L>, new: &State<L>) -> bool
     ensures { IsTrue result → new.now ≡ old.now }
 {
     has_short_log(new) && new.same(old)
 }
 
-// Appends the rows of a node that have changed. A node that is quickly seen to be unchanged makes no rows.
-fn push_if_changed<L: RaftLog>(
+// Adds what of a node is not as it was. Usually it is, and then its rows aren't put together to be compared.
+fn keep_if_changed<L: RaftLog>(
     alloc: Global,
     texts: &mut Lines,
     old: &State<L>,
@@ -331,7 +327,7 @@ fn push_if_changed<L: RaftLog>(
     if is_seen_same(old, new) {
         return Ok(());
     }
-    push_changed(alloc, texts, old, new, known)
+    keep_changed(alloc, texts, old, new, known)
 }
 
 // The node at an index, if there is one.
@@ -344,14 +340,14 @@ fn old_at<L: RaftLog>(olds: &[WrittenNode<L>], index: usize) -> Option<&State<L>
     }
 }
 
-// The index up to which a node's entries are known to stay: its commit, if committed entries stay.
+// The index up to which a node's entries are known to stay, if what is committed does.
 fn known<L: RaftLog>(state: &State<L>, keeps: bool) -> u64
     ensures { result ≡ known keeps state.now }
 {
     if keeps { state.commit } else { 0 }
 }
 
-/// The same list, known to consist of bytes.
+/// The same bytes, each of which is one by its type.
 pub(crate) fn as_bytes(bytes: &[u8]) -> &[u8]
     ensures same { result.now ≡ bytes.now }
     ensures bytes { list_all is_byte bytes.now ≡ true }
@@ -359,14 +355,14 @@ pub(crate) fn as_bytes(bytes: &[u8]) -> &[u8]
     bytes
 }
 
-/// The end of a node's content consists of bytes.
+/// What is shown of a node's content is bytes.
 pub(crate) fn content_is_bytes<L: RaftLog>(node: &Node<L>)
     ensures { list_all is_byte (content_end node.now.content) ≡ true }
 {
     as_bytes(node.status().content.end());
 }
 
-// The node at an index. The end of its content consists of bytes.
+// The node at an index. Its visible content is bytes.
 fn node_at<L: RaftLog>(nodes: &[SharedNode<L>], index: usize) -> &Node<L>
     requires { index < length nodes.now }
     ensures node { slice_get nodes.now index ≡ Some result.now }
@@ -377,9 +373,9 @@ fn node_at<L: RaftLog>(nodes: &[SharedNode<L>], index: usize) -> &Node<L>
     node
 }
 
-/// Appends the rows of the node at an index that have changed, or all of them if it is new. If `keeps`, committed entries stay, and aren't
-/// compared.
-pub(crate) fn push_node_at<L: RaftLog>(
+/// Adds what of the node at an index is not as it was, or all of it where it wasn't there. The entries that it knew to be committed aren't
+/// compared, if they stay.
+pub(crate) fn keep_node_at<L: RaftLog>(
     alloc: Global,
     texts: &mut Lines,
     olds: &[WrittenNode<L>],
@@ -390,13 +386,14 @@ pub(crate) fn push_node_at<L: RaftLog>(
     ensures { OnOk result (texts.new ≡ texts.old ++ texts_of (node_since keeps (slice_get olds.now index) new.now)) }
 {
     match old_at(olds, index) {
-        Some(old) => push_if_changed(alloc, texts, old, new.status(), known(old, keeps)),
-        None => push_added(texts, new.status()),
+        Some(old) => keep_if_changed(alloc, texts, old, new.status(), known(old, keeps)),
+        None => keep_added(texts, new.status()),
     }
 }
 
-/// Appends rows for what has changed since `olds`. If `keeps`, each node still has its committed entries, and they aren't compared.
-pub(crate) fn push_states<L: RaftLog>(
+/// Adds what of the nodes is not as it was, where these were before, and each has what it knew to be committed, if that is said. What is shown of
+/// their contents is bytes.
+pub(crate) fn keep_states<L: RaftLog>(
     alloc: Global,
     texts: &mut Lines,
     olds: &[WrittenNode<L>],
@@ -408,7 +405,7 @@ pub(crate) fn push_states<L: RaftLog>(
     ensures bytes { OnOk result (ShowBytes news.now) }
 {
     for i in 0..news.len() {
-        push_node_at(alloc, texts, olds, i, node_at(news, i), keeps)?;
+        keep_node_at(alloc, texts, olds, i, node_at(news, i), keeps)?;
     }
     Ok(())
 }

@@ -1,4 +1,4 @@
-//! How much a page has room for.
+//! What a page has room for.
 
 ghost use Rattle.std.specs.Prelude.{◌≡◌};
 ghost use Rattle.rb_view.specs.PageRoom.{has_room, held};

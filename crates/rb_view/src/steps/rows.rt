@@ -5,8 +5,8 @@ ghost use Rattle.rb_view.specs.Kept.{texts_of};
 ghost use Rattle.rb_view.specs.Watching.{reason_rows, shown_texts};
 ghost use Rattle.rb_texts.specs.Items.{plain_item};
 
-use crate::rows::{Cell, past, push_item_at, push_row, reason_line};
-use crate::steps::node::{content_is_bytes, push_node_at};
+use crate::rows::{Cell, keep_item, keep_row, past, reason_line};
+use crate::steps::node::{content_is_bytes, keep_node_at};
 use crate::steps::room::has_room;
 use crate::steps::written::{WrittenNode, written_nodes};
 use rb_cluster::Cluster;
@@ -21,12 +21,10 @@ use std::alloc::{AllocError, Global};
 // The blanks that a reason's line begins with.
 const INDENTATION: usize = 2;
 
-/// The rows of what a directive does, whatever the level is: a text an item, and one a row of what changed at a node that has settled. The names of
-/// rows say whether their items print a line.
+/// The rows of what a directive does, whatever the level is: a text an item, and one a row of what changed at a node that has settled.
 #[derive(Drop)]
 pub(crate) struct EventRows<L: RaftLog> {
     alloc: Global,
-    pub(crate) level: Level,
     /// None is kept where a page has no room for all.
     pub(crate) texts: Option<Lines>,
     /// The nodes as they were written last.
@@ -35,7 +33,7 @@ pub(crate) struct EventRows<L: RaftLog> {
     pub(crate) keeps: bool,
 }
 
-// Replaces the node at an index by its present state, if there is such an index.
+// Puts a node at an index, if there is one.
 fn rewrite<L: RaftLog>(
     nodes: &mut Vec<WrittenNode<L>>,
     index: usize,
@@ -49,21 +47,16 @@ fn rewrite<L: RaftLog>(
     }
 }
 
-// Appends the rows of an item, and the row of its reason.
-fn push_item_and_reason(
-    alloc: Global,
-    texts: &mut Lines,
-    level: Level,
-    item: &Item<'_>,
-) -> Result<(), AllocError>
-    ensures { OnOk result (texts.new ≡ texts.old ++ shown_texts level (plain_item item.now)) }
+// Adds what happened, and why.
+fn keep_shown(alloc: Global, texts: &mut Lines, item: &Item<'_>) -> Result<(), AllocError>
+    ensures { OnOk result (texts.new ≡ texts.old ++ shown_texts (plain_item item.now)) }
 {
-    push_item_at(texts, level, item)?;
-    push_reason(alloc, texts, reason_of(item)?)
+    keep_item(texts, item)?;
+    keep_reason(alloc, texts, reason_of(item)?)
 }
 
-// Appends the row of a reason, if there is one.
-fn push_reason(alloc: Global, texts: &mut Lines, reason: Option<Reason>) -> Result<(), AllocError>
+// Adds why nothing came of a message, why a vote was refused, or which entries give way.
+fn keep_reason(alloc: Global, texts: &mut Lines, reason: Option<Reason>) -> Result<(), AllocError>
     ensures { OnOk result (texts.new ≡ texts.old ++ texts_of (reason_rows reason)) }
 {
     let Some(reason) = reason else {
@@ -71,7 +64,7 @@ fn push_reason(alloc: Global, texts: &mut Lines, reason: Option<Reason>) -> Resu
     };
     let lines = reason_line(alloc, &reason)?;
     let said = past(lines.line(0), INDENTATION);
-    push_row(texts, b"reason", &[Cell::Text(said)])
+    keep_row(texts, b"reason", &[Cell::Text(said)])
 }
 
 impl<L: RaftLog> EventRows<L> {
@@ -90,24 +83,22 @@ impl<L: RaftLog> EventRows<L> {
     {
         Ok(EventRows {
             alloc,
-            level: Level::Debug,
             texts: Some(Lines::new(alloc)),
             nodes: written_nodes(alloc, cluster.nodes())?,
             keeps,
         })
     }
 
-    // Appends the rows of the node at an index that have changed since it was written.
-    fn push_changes(&mut self, index: usize, node: &Node<L>) -> Result<(), AllocError>
+    // Adds what of the node at an index is not as it was.
+    fn keep_changes(&mut self, index: usize, node: &Node<L>) -> Result<(), AllocError>
         ensures texts { OnOk result (self.new.texts ≡ held_with self.old.texts (texts_of (node_since self.old.keeps (slice_get self.old.nodes.items index) node.now))) }
         ensures nodes { OnOk result (self.new.nodes ≡ self.old.nodes) }
         ensures keeps { OnOk result (self.new.keeps ≡ self.old.keeps) }
-        ensures level { OnOk result (self.new.level ≡ self.old.level) }
     {
         let Some(texts) = &mut self.texts else {
             return Ok(());
         };
-        push_node_at(self.alloc, texts, &self.nodes, index, node, self.keeps)?;
+        keep_node_at(self.alloc, texts, &self.nodes, index, node, self.keeps)?;
         if !has_room(texts) {
             self.texts = None;
         }
@@ -121,7 +112,6 @@ impl<L: RaftLog> EventRows<L> {
     {
         let EventRows {
             alloc: _,
-            level: _,
             texts,
             nodes,
             keeps: _,
@@ -132,27 +122,25 @@ impl<L: RaftLog> EventRows<L> {
 
 impl<L: RaftLog> Observer<L> for EventRows<L> {
     ghost use Rattle.std.specs.Prelude.{true};
-    ghost use Rattle.rb_view.specs.Watching.{Watching, watching_at, with_item, with_node};
+    ghost use Rattle.rb_view.specs.Watching.{Watching, with_item, with_node};
 
     ghost Meaning = { Watching };
 
-    ghost meaning = { λ rows. record { level = rows.level; texts = rows.texts; nodes = rows.nodes.items; keeps = rows.keeps; of_bytes = true } };
+    ghost meaning = { λ rows. record { texts = rows.texts; nodes = rows.nodes.items; keeps = rows.keeps; of_bytes = true } };
 
-    ghost starting = { watching_at };
+    ghost starting = { λ w level. w };
 
     ghost taking = { with_item };
 
     ghost settling = { with_node };
 
-    fn start(&mut self, level: Level) {
-        self.level = level;
-    }
+    fn start(&mut self, _level: Level) {}
 
     fn observe(&mut self, item: &Item<'_>) -> Result<(), AllocError> {
         let Some(texts) = &mut self.texts else {
             return Ok(());
         };
-        push_item_and_reason(self.alloc, texts, self.level, item)?;
+        keep_shown(self.alloc, texts, item)?;
         if !has_room(texts) {
             self.texts = None;
         }
@@ -162,7 +150,7 @@ impl<L: RaftLog> Observer<L> for EventRows<L> {
     fn settle(&mut self, id: u64, node: &Node<L>) -> Result<(), AllocError> {
         let index = id.saturating_sub(1) as usize;
         content_is_bytes(node);
-        self.push_changes(index, node)?;
+        self.keep_changes(index, node)?;
         rewrite(&mut self.nodes, index, node)
     }
 }

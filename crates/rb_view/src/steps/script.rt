@@ -5,9 +5,9 @@ ghost use Rattle.rb_replay.specs.Report.{same_lines};
 ghost use Rattle.rb_view.specs.Kept.{texts_of};
 ghost use Rattle.rb_view.specs.Steps.{left_next, mismatch_rows, script_rows};
 
-use crate::rows::{Cell, push_lines, push_row, push_texts};
+use crate::rows::{Cell, keep_lines, keep_row, keep_texts};
 use crate::steps::stretch::StretchTexts;
-use rb_report::{Table, show_diff};
+use rb_report::check::{Table, show_diff};
 use rb_script::Lines;
 use std::alloc::{AllocError, Global};
 
@@ -18,8 +18,8 @@ pub(crate) fn is_same(lines: &Lines, other: &Lines) -> bool
     lines.same(other)
 }
 
-// Appends the rows of an output's differences from the expectation, if it differs.
-fn push_mismatch(
+// Adds where the output differs from what was expected, where it does.
+fn keep_mismatch(
     alloc: Global,
     texts: &mut Lines,
     table: &mut Table,
@@ -32,14 +32,14 @@ fn push_mismatch(
     if is_same(expected, output) {
         return Ok(());
     }
-    push_row(texts, b"mismatch", &[])?;
+    keep_row(texts, b"mismatch", &[])?;
     let mut stretches = StretchTexts::new(alloc);
     show_diff(&mut stretches, table, expected, output)?;
-    push_texts(texts, &stretches.texts)
+    keep_texts(texts, &stretches.texts)
 }
 
-/// Appends the rows of a directive: its line, its output, and the differences from the expectation.
-pub(crate) fn push_script(
+/// Adds where a directive's head is, what it printed, and where that differs from what was expected.
+pub(crate) fn keep_script(
     alloc: Global,
     texts: &mut Lines,
     table: &mut Table,
@@ -50,8 +50,8 @@ pub(crate) fn push_script(
     ensures texts { OnOk result (texts.new ≡ texts.old ++ texts_of (script_rows table.old.left line expected.now output.now)) }
     ensures left { OnOk result (table.new.left ≡ left_next table.old.left expected.now output.now) }
 {
-    push_row(texts, b"step", &[Cell::Number(line as u64)])?;
-    push_lines(texts, b"output", output)?;
-    push_mismatch(alloc, texts, table, expected, output)?;
+    keep_row(texts, b"step", &[Cell::Number(line as u64)])?;
+    keep_lines(texts, b"output", output)?;
+    keep_mismatch(alloc, texts, table, expected, output)?;
     Ok(())
 }

@@ -12,7 +12,7 @@ use rb_machine::Machine;
 use rb_script::{Block, Lines};
 use std::alloc::{AllocError, Global};
 
-/// One run of a directive: the machine after it, and, if a page has room for them, what it printed and the rows of what it did and of what changed.
+/// One run of a directive: the machine after it, what it printed, and the rows of what it did and of what changed, if a page has room for them.
 #[derive(Drop)]
 pub struct DirectiveRun<M> {
     pub machine: M,
@@ -30,7 +30,7 @@ pub trait StepMachine: Machine {
         meter: &mut Meter,
     ) -> Result<DirectiveRun<Self>, AllocError>
         ensures machine { IfOk result (λ ran. Self.meaning ran.machine ≡ (outcome (Self.meaning self.now) (directive_of block.now)).cluster) }
-        ensures output { IfOk result (λ ran. IfSome ran.rows (λ _. ran.output ≡ (outcome (Self.meaning self.now) (directive_of block.now)).output)) }
+        ensures output { IfOk result (λ ran. ran.output ≡ (outcome (Self.meaning self.now) (directive_of block.now)).output) }
         ensures rows { IfOk result (λ ran. ran.rows ≡ held (done_texts (Self.meaning self.now) (directive_of block.now))) }
         ensures bytes { IfOk result (λ ran. IfSome ran.rows (λ _. DoneShowsBytes (Self.meaning self.now) (directive_of block.now))) }
         ensures counted { meter.old < 2 ^ 63 → OnOk result (meter.new ≡ meter.old + 1) }

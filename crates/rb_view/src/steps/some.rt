@@ -12,17 +12,17 @@ ghost use Rattle.rb_view.specs.PageRoom.{has_room, held};
 ghost use Rattle.rb_view.specs.SomeSteps.{cells_row, left_at, left_in, some_steps, some_texts, texts_after};
 ghost use Rattle.rb_view.specs.Steps.{left_next, step_texts};
 
-use crate::rows::{Cell, push_row};
+use crate::rows::{Cell, keep_row};
 use crate::steps::cells::cells_left;
 use crate::steps::room::held;
 use crate::steps::script::is_same;
 use crate::steps::shown::StepMachine;
-use crate::steps::step::{StepPlace, StepRun, push_step};
-use crate::steps::steps::{push_end, push_warnings};
+use crate::steps::step::{StepPlace, StepRun, keep_step};
+use crate::steps::steps::{keep_end, keep_warnings};
 use rb_cluster::Meter;
 use rb_machine::Machine;
 use rb_replay::Session;
-use rb_report::{MAX_SCRIPT_CELLS, Table};
+use rb_report::check::{MAX_SCRIPT_CELLS, Table};
 use rb_script::Lines;
 use rb_script_report::{Warning, number_at};
 use std::alloc::{AllocError, Global};
@@ -40,7 +40,7 @@ pub struct SomeDirectives<'a> {
     pub to: usize,
 }
 
-// How many cells are left after one more output.
+// How many cells are left after one output.
 fn left_next(left: usize, expected: &Lines, output: &Lines) -> usize
     ensures { result ≡ left_next left expected.now output.now }
 {
@@ -63,8 +63,8 @@ fn left_at<M: Machine>(session: &Session<M>, place: usize) -> usize
     left
 }
 
-// Runs directives, each once, from the machine before them, and appends their rows. Stops and returns false once a page has no room for them.
-fn push_directives<N: Machine, M: StepMachine>(
+// Runs directives, each once, from the machine before them, and adds their rows. Says whether a page has room for them. If it hasn't, no other is run.
+fn keep_some<N: Machine, M: StepMachine>(
     alloc: Global,
     texts: &mut Lines,
     session: &Session<N>,
@@ -89,7 +89,7 @@ fn push_directives<N: Machine, M: StepMachine>(
         let block = session.block_at(i);
         let line = number_at(some.heads, i);
         let place = StepPlace { block, line };
-        let Some(ran) = push_step(alloc, texts, &mut table, &machine, place, meter)? else {
+        let Some(ran) = keep_step(alloc, texts, &mut table, &machine, place, meter)? else {
             return Ok(false);
         };
         let StepRun {
@@ -101,15 +101,15 @@ fn push_directives<N: Machine, M: StepMachine>(
     Ok(true)
 }
 
-// Appends the row that says how many cells are left.
-fn push_cells(texts: &mut Lines, left: usize) -> Result<(), AllocError>
+// Adds how many cells are left.
+fn keep_cells(texts: &mut Lines, left: usize) -> Result<(), AllocError>
     ensures { OnOk result (texts.new ≡ texts.old ++ texts_of (cells_row left ∷ [])) }
 {
-    push_row(texts, b"cells", &[Cell::Number(left as u64)])
+    keep_row(texts, b"cells", &[Cell::Number(left as u64)])
 }
 
-// Appends the rows after the directives: the cells that are left, the warnings, the end.
-fn push_after<M: Machine>(
+// Adds what follows the directives, where so many cells are left after all of them.
+fn keep_after<M: Machine>(
     texts: &mut Lines,
     session: &Session<M>,
     left: usize,
@@ -118,9 +118,9 @@ fn push_after<M: Machine>(
     requires { left ≡ left_in session.now.script }
     ensures { OnOk result (texts.new ≡ texts.old ++ texts_after warnings.now session.now.script) }
 {
-    push_cells(texts, left)?;
-    push_warnings(texts, warnings)?;
-    push_end(texts, session)
+    keep_cells(texts, left)?;
+    keep_warnings(texts, warnings)?;
+    keep_end(texts, session)
 }
 
 /// Gives the rows that a page of a session's script has of some directives, from the machine before them
@@ -144,10 +144,10 @@ pub fn rows_of_some<N: Machine, M: StepMachine>(
 {
     let left = left_at(session, session.len());
     let mut texts = Lines::new(alloc);
-    let fits = push_directives(alloc, &mut texts, session, some, machine, meter)?;
+    let fits = keep_some(alloc, &mut texts, session, some, machine, meter)?;
     if !fits {
         return Ok(None);
     }
-    push_after(&mut texts, session, left, some.warnings)?;
+    keep_after(&mut texts, session, left, some.warnings)?;
     Ok(held(texts))
 }

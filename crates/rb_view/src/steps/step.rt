@@ -13,20 +13,19 @@ ghost use Rattle.rb_view.specs.Steps.{done_texts, left_next, script_rows, step, 
 ghost use Rattle.rb_view.specs.Values.{BlockShowsBytes, ShowBytes};
 ghost use Rattle.rb_view.specs.Watching.{observed_texts, shows_bytes, written_last};
 
-use crate::rows::push_texts;
+use crate::rows::keep_texts;
 use crate::steps::committed::keeps_commits;
-use crate::steps::meant::push_hint;
-use crate::steps::node::push_states;
-use crate::steps::page_observer::PageObserver;
+use crate::steps::meant::keep_hint;
+use crate::steps::node::keep_states;
 use crate::steps::room::{has_room, held};
 use crate::steps::rows::EventRows;
-use crate::steps::script::push_script;
+use crate::steps::script::keep_script;
 use crate::steps::shown::{DirectiveRun, StepMachine};
 use crate::steps::written::WrittenNode;
 use rb_cluster::{Cluster, Meter};
-use rb_machine::{Machine, PrintedLines};
+use rb_machine::{Both, Machine, PrintedLines};
 use rb_raftlog::RaftLog;
-use rb_report::Table;
+use rb_report::check::Table;
 use rb_script::{Block, Lines};
 use rb_script_report::hint_of;
 use std::alloc::{AllocError, Global};
@@ -49,7 +48,7 @@ struct WatchedRun<L: RaftLog> {
     keeps: bool,
 }
 
-// Runs a directive on a copy. Its output is whole only if a page has room for its rows.
+// Runs a directive on a copy, with two observers: of its lines, and of its rows.
 #[tactic(auto, unfolding(rb_machine::specs::Outcome::outcome))]
 fn run<L: RaftLog>(
     alloc: Global,
@@ -58,8 +57,8 @@ fn run<L: RaftLog>(
     meter: &mut Meter,
 ) -> Result<WatchedRun<L>, AllocError>
     ensures cluster { IfOk result (λ ran. ran.cluster ≡ (outcome cluster.now (directive_of block.now)).cluster) }
-    ensures output { IfOk result (λ ran. IfSome ran.texts (λ _. ran.output ≡ (outcome cluster.now (directive_of block.now)).output)) }
-    ensures texts { IfOk result (λ ran. ran.texts ≡ held (observed_texts (execution cluster.now (directive_of block.now)).level cluster.now.nodes (execution cluster.now (directive_of block.now)).observed)) }
+    ensures output { IfOk result (λ ran. ran.output ≡ (outcome cluster.now (directive_of block.now)).output) }
+    ensures texts { IfOk result (λ ran. ran.texts ≡ held (observed_texts cluster.now.nodes (execution cluster.now (directive_of block.now)).observed)) }
     ensures nodes { IfOk result (λ ran. ran.nodes.items ≡ written_last cluster.now.nodes (execution cluster.now (directive_of block.now)).observed) }
     ensures keeps { IfOk result (λ ran. ran.keeps ≡ keeps_commits cluster.now.nodes (directive_of block.now)) }
     ensures bytes { IfOk result (λ ran. shows_bytes (execution cluster.now (directive_of block.now)).observed ≡ true) }
@@ -70,11 +69,14 @@ fn run<L: RaftLog>(
     let printed = PrintedLines::new(alloc);
     let keeps = keeps_commits(cluster, block);
     let rows = EventRows::new(alloc, cluster, keeps)?;
-    let mut observer = PageObserver { printed, rows };
-    after.run_counted(&block.directive(), &mut observer, meter)?;
-    let PageObserver { printed, rows } = observer;
-    let output = printed.or_ok()?;
-    let (texts, nodes) = rows.into_parts();
+    let mut both = Both {
+        first: printed,
+        second: rows,
+    };
+    after.run_counted(&block.directive(), &mut both, meter)?;
+    let Both { first, second } = both;
+    let output = first.or_ok()?;
+    let (texts, nodes) = second.into_parts();
     Ok(WatchedRun {
         cluster: after,
         output,
@@ -84,8 +86,8 @@ fn run<L: RaftLog>(
     })
 }
 
-// Appends rows for what has changed in a cluster since its nodes were written.
-fn push_changes<L: RaftLog>(
+// Adds what is in a cluster that wasn't written.
+fn keep_changes<L: RaftLog>(
     alloc: Global,
     texts: &mut Lines,
     written: &[WrittenNode<L>],
@@ -96,11 +98,11 @@ fn push_changes<L: RaftLog>(
     ensures texts { OnOk result (texts.new ≡ texts.old ++ texts_of (state_rows written.now after.now.nodes)) }
     ensures bytes { OnOk result (ShowBytes after.now.nodes) }
 {
-    push_states(alloc, texts, written, after.nodes(), keeps)?;
+    keep_states(alloc, texts, written, after.nodes(), keeps)?;
     Ok(())
 }
 
-// The rows, followed by those of what has changed since the nodes were written; none once there is no room.
+// The rows with what is in a cluster that wasn't written, as long as there is room.
 fn with_changes<L: RaftLog>(
     alloc: Global,
     texts: Option<Lines>,
@@ -116,7 +118,7 @@ fn with_changes<L: RaftLog>(
         return Ok(None);
     };
     let mut rows = texts;
-    push_changes(alloc, &mut rows, written, after, keeps)?;
+    keep_changes(alloc, &mut rows, written, after, keeps)?;
     Ok(held(rows))
 }
 
@@ -151,8 +153,8 @@ pub(crate) struct StepRun<M> {
     pub(crate) output: Lines,
 }
 
-// Appends the rows of a directive that ran. Returns whether a page has room for all rows.
-fn push_rows_of_run(
+// Adds the rows of a directive that ran. Says whether a page has room for all.
+fn keep_ran(
     alloc: Global,
     texts: &mut Lines,
     table: &mut Table,
@@ -165,7 +167,7 @@ fn push_rows_of_run(
     ensures left { OnOk result (table.new.left ≡ left_next table.old.left place.entry.block.now.expected output.now) }
     ensures bytes { OnOk result (IsOfBytes (meant_by place.entry.block.now output.now)) }
 {
-    push_script(
+    keep_script(
         alloc,
         texts,
         table,
@@ -173,13 +175,13 @@ fn push_rows_of_run(
         place.block.expected(),
         output,
     )?;
-    push_texts(texts, rows)?;
-    push_hint(texts, hint_of(place.block, output))?;
+    keep_texts(texts, rows)?;
+    keep_hint(texts, hint_of(place.block, output))?;
     Ok(has_room(texts))
 }
 
-/// Runs a directive on a copy, and appends its rows; returns none if a page has no room for them.
-pub(crate) fn push_step<M: StepMachine>(
+/// Runs a directive on a copy, and adds its rows; none if a page has no room for them.
+pub(crate) fn keep_step<M: StepMachine>(
     alloc: Global,
     texts: &mut Lines,
     table: &mut Table,
@@ -205,7 +207,7 @@ pub(crate) fn push_step<M: StepMachine>(
     let Some(rows) = rows else {
         return Ok(None);
     };
-    let fits = push_rows_of_run(alloc, texts, table, place, &output, &rows)?;
+    let fits = keep_ran(alloc, texts, table, place, &output, &rows)?;
     if !fits {
         return Ok(None);
     }

@@ -13,20 +13,21 @@ ghost use Rattle.rb_view.specs.Steps.{end_row, source_row, step_texts, steps, st
 ghost use Rattle.rb_view.specs.Values.{GoOnShowingBytes};
 ghost use Rattle.rb_script_report.specs.Doubts.{all_warnings};
 
-use crate::rows::{Cell, push_row};
+use crate::rows::{Cell, keep_row};
 use crate::steps::room::has_room;
 use crate::steps::shown::StepMachine;
-use crate::steps::step::{StepPlace, push_step};
+use crate::steps::step::{StepPlace, keep_step};
 use rb_cluster::Meter;
 use rb_machine::Machine;
 use rb_replay::{Outputs, Session, block_at};
-use rb_report::{Table, warning_sentence};
+use rb_report::check::{Table, warning_sentence};
 use rb_script::{Lines, Script, ScriptWithLines};
 use rb_script_report::{Layout, Warning, number_at, warnings};
 use std::alloc::{AllocError, Global};
 
-// Runs the directives, each once, and appends their rows. Returns their outputs; stops and returns none once a page has no room for the rows.
-fn push_directives<M: StepMachine>(
+// Runs the directives, each once, and adds their rows. What they printed is given back; nothing once a page has no room for their rows, and then no
+// other is run.
+fn keep_directives<M: StepMachine>(
     alloc: Global,
     texts: &mut Lines,
     script: &Script,
@@ -49,7 +50,7 @@ fn push_directives<M: StepMachine>(
         let block = block_at(script, i);
         let line = number_at(heads, i);
         let place = StepPlace { block, line };
-        let Some(ran) = push_step(alloc, texts, &mut table, &machine, place, meter)? else {
+        let Some(ran) = keep_step(alloc, texts, &mut table, &machine, place, meter)? else {
             return Ok(None);
         };
         printed.push(ran.output)?;
@@ -66,29 +67,29 @@ fn warning_at(found: &[Warning], index: usize) -> &Warning
     &found[index]
 }
 
-// Appends the row of a warning.
-fn push_warning(texts: &mut Lines, warning: &Warning) -> Result<(), AllocError>
+// Adds a line that is probably a mistake.
+fn keep_warning(texts: &mut Lines, warning: &Warning) -> Result<(), AllocError>
     ensures { OnOk result (texts.new ≡ texts.old ++ next_text (warning_row warning.now) ∷ []) }
 {
     let cells = [
         Cell::Number(warning.line as u64),
         Cell::Text(warning_sentence(warning.doubt)),
     ];
-    push_row(texts, b"warning", &cells)
+    keep_row(texts, b"warning", &cells)
 }
 
-/// Appends the rows of warnings.
-pub(crate) fn push_warnings(texts: &mut Lines, found: &[Warning]) -> Result<(), AllocError>
+/// Adds the lines that are probably a mistake.
+pub(crate) fn keep_warnings(texts: &mut Lines, found: &[Warning]) -> Result<(), AllocError>
     ensures { OnOk result (texts.new ≡ texts.old ++ texts_of (map warning_row found.now)) }
 {
     for i in 0..found.len() {
-        push_warning(texts, warning_at(found, i))?;
+        keep_warning(texts, warning_at(found, i))?;
     }
     Ok(())
 }
 
-/// Appends the last row: how many directives and mismatches there are.
-pub(crate) fn push_end<M: Machine>(
+/// Adds how many directives and mismatches there are.
+pub(crate) fn keep_end<M: Machine>(
     texts: &mut Lines,
     session: &Session<M>,
 ) -> Result<(), AllocError>
@@ -98,19 +99,19 @@ pub(crate) fn push_end<M: Machine>(
         Cell::Number(session.len() as u64),
         Cell::Number(session.mismatches().len() as u64),
     ];
-    push_row(texts, b"end", &cells)?;
+    keep_row(texts, b"end", &cells)?;
     Ok(())
 }
 
-// Appends the row with a script's bytes.
-fn push_source(texts: &mut Lines, bytes: &[u8]) -> Result<(), AllocError>
+// Adds the bytes of a script.
+fn keep_source(texts: &mut Lines, bytes: &[u8]) -> Result<(), AllocError>
     ensures { OnOk result (texts.new ≡ texts.old ++ texts_of (source_row bytes.now ∷ [])) }
 {
-    push_row(texts, b"text", &[Cell::Text(bytes)])
+    keep_row(texts, b"text", &[Cell::Text(bytes)])
 }
 
-// Appends the rows after the directives: the warnings, and the end.
-fn push_rest<M: Machine>(
+// Adds what is after the directives: the lines that are probably a mistake, and how many directives and mismatches there are.
+fn keep_rest<M: Machine>(
     alloc: Global,
     texts: &mut Lines,
     session: &Session<M>,
@@ -120,8 +121,8 @@ fn push_rest<M: Machine>(
     ensures { OnOk result (texts.new ≡ texts.old ++ (texts_of (map warning_row (all_warnings layout.now.text layout.now.heads.items session.now.script.blocks (outputs session.now.script))) ++ texts_of (end_row session.now.script ∷ []))) }
 {
     let found = warnings(alloc, session, layout)?;
-    push_warnings(texts, found.as_slice())?;
-    push_end(texts, session)
+    keep_warnings(texts, found.as_slice())?;
+    keep_end(texts, session)
 }
 
 /// Runs a script that was read from these bytes, each directive once, and gives a session on it and the rows after the first, each as a text; none
@@ -150,14 +151,14 @@ pub fn steps_of<M: StepMachine>(
     } = read;
     let layout = Layout { text, heads };
     let mut texts = Lines::new(alloc);
-    push_source(&mut texts, bytes)?;
+    keep_source(&mut texts, bytes)?;
     let heads = layout.heads.as_slice();
-    let ran = push_directives::<M>(alloc, &mut texts, &script, heads, meter)?;
+    let ran = keep_directives::<M>(alloc, &mut texts, &script, heads, meter)?;
     let Some(printed) = ran else {
         return Ok(None);
     };
     let session = Session::from_outputs(alloc, script, printed)?;
-    push_rest(alloc, &mut texts, &session, &layout)?;
+    keep_rest(alloc, &mut texts, &session, &layout)?;
     if !has_room(&texts) {
         return Ok(None);
     }

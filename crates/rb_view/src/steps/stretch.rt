@@ -5,8 +5,8 @@ ghost use Rattle.rb_report.specs.LineRanges.{in_range};
 ghost use Rattle.rb_view.specs.Kept.{line_rows, texts_of};
 ghost use Rattle.rb_view.specs.Steps.{count_rows};
 
-use crate::rows::{Cell, push_row};
-use rb_report::{LineRange, StretchObserver};
+use crate::rows::{Cell, keep_row};
+use rb_report::check::{LineRange, StretchObserver};
 use rb_script::Lines;
 use std::alloc::{AllocError, Global};
 
@@ -27,22 +27,22 @@ impl StretchTexts {
     }
 }
 
-// Appends a row with a count of lines, unless it is 0.
-fn push_count(texts: &mut Lines, name: &[u8], count: usize) -> Result<(), AllocError>
+// Adds how many lines there are, where there are some.
+fn keep_count(texts: &mut Lines, name: &[u8], count: usize) -> Result<(), AllocError>
     ensures { OnOk result (texts.new ≡ texts.old ++ texts_of (count_rows name.now count)) }
 {
     if count == 0 {
         return Ok(());
     }
-    push_row(texts, name, &[Cell::Number(count as u64)])
+    keep_row(texts, name, &[Cell::Number(count as u64)])
 }
 
-// Appends a row of this name for each line of a range.
-fn push_range(texts: &mut Lines, name: &[u8], lines: LineRange<'_>) -> Result<(), AllocError>
+// Adds a row of this name for each line.
+fn keep_range(texts: &mut Lines, name: &[u8], lines: LineRange<'_>) -> Result<(), AllocError>
     ensures { OnOk result (texts.new ≡ texts.old ++ texts_of (line_rows name.now (in_range lines.entry))) }
 {
     for i in 0..lines.len() {
-        push_row(texts, name, &[Cell::Text(lines.line(i))])?;
+        keep_row(texts, name, &[Cell::Text(lines.line(i))])?;
     }
     Ok(())
 }
@@ -65,9 +65,9 @@ impl StretchObserver for StretchTexts {
         expected: LineRange<'_>,
         output: LineRange<'_>,
     ) -> Result<(), AllocError> {
-        push_count(&mut self.texts, b"same", same.len())?;
-        push_range(&mut self.texts, b"expected", expected)?;
-        push_count(&mut self.texts, b"actual", output.len())?;
+        keep_count(&mut self.texts, b"same", same.len())?;
+        keep_range(&mut self.texts, b"expected", expected)?;
+        keep_count(&mut self.texts, b"actual", output.len())?;
         Ok(())
     }
 }

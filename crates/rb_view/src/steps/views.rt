@@ -8,7 +8,7 @@ ghost use Rattle.rb_view.specs.SameRows.{ShowSameView, ShowSameProgress};
 ghost use Rattle.rb_view.specs.States.{standing, view_row, view_rows};
 
 use crate::rows::flag;
-use crate::steps::node::push_view;
+use crate::steps::node::keep_view;
 use rb_node::State;
 use rb_raftlog::RaftLog;
 use rb_script::Lines;
@@ -73,8 +73,8 @@ fn has_row_among(own: OwnView<'_>, id: u64, tracker: &Tracker) -> bool
     false
 }
 
-// Appends the row of a view, if no view before had the same row.
-fn push_new_view(
+// Adds a view, if none of before has its row.
+fn keep_new_view(
     texts: &mut Lines,
     own: OwnView<'_>,
     id: u64,
@@ -85,11 +85,11 @@ fn push_new_view(
     if has_row_among(own, id, old) {
         return Ok(());
     }
-    push_view(texts, own.id, own.member, own.view)
+    keep_view(texts, own.id, own.member, own.view)
 }
 
-// Appends the rows of the views that a tracker didn't have before.
-fn push_views_since(
+// Adds the views of a node that have changed.
+fn keep_views_since(
     texts: &mut Lines,
     old_id: u64,
     old: &Tracker,
@@ -100,29 +100,29 @@ fn push_views_since(
 {
     for i in 0..new.len() {
         let (member, view) = new.view(i);
-        push_new_view(texts, OwnView { id, member, view }, old_id, old)?;
+        keep_new_view(texts, OwnView { id, member, view }, old_id, old)?;
     }
     Ok(())
 }
 
-// Appends the rows of a state's views that have changed since another state.
-fn push_own_views_since<L: RaftLog>(
+// Adds the views of a state that have changed since another.
+fn keep_own_views_since<L: RaftLog>(
     texts: &mut Lines,
     old: &State<L>,
     new: &State<L>,
 ) -> Result<(), AllocError>
     ensures { OnOk result (texts.new ≡ texts.old ++ texts_of (new_rows_among (texts_of (view_rows old.now.id old.now.tracker.views)) (view_rows new.now.id new.now.tracker.views))) }
 {
-    push_views_since(texts, old.id, &old.tracker, new.id, &new.tracker)
+    keep_views_since(texts, old.id, &old.tracker, new.id, &new.tracker)
 }
 
-/// Appends the rows of a state's views that have changed. Each is compared with all of before.
-pub(crate) fn push_new_views<L: RaftLog>(
+/// Adds the views that have changed. Each is compared with all of before.
+pub(crate) fn keep_new_views<L: RaftLog>(
     texts: &mut Lines,
     old: &State<L>,
     new: &State<L>,
 ) -> Result<(), AllocError>
     ensures { OnOk result (texts.new ≡ texts.old ++ texts_of (new_rows_among (texts_of (standing old.now)) (view_rows new.now.id new.now.tracker.views))) }
 {
-    push_own_views_since(texts, old, new)
+    keep_own_views_since(texts, old, new)
 }

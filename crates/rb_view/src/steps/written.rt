@@ -116,7 +116,7 @@ impl<L: RaftLog> WrittenNode<L> {
         }
     }
 
-    /// Takes over the state that was written now.
+    /// Takes the state that was written now.
     pub(crate) fn rewrite(&mut self, node: &Node<L>) -> Result<(), AllocError>
         ensures { OnOk result (self.new ≡ node.now) }
     {

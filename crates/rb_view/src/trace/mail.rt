@@ -34,7 +34,7 @@ impl OnWay {
     }
 }
 
-// The index of the first message with this text; the number of messages if there is none.
+// The index of the first message that is shown so; the number of messages if there is none.
 fn place_in(on_way: &[OnWay], text: &[u8]) -> usize
     ensures place { result ≡ place_of text.now on_way.now }
     ensures within { result ≤ length on_way.now }
@@ -89,7 +89,7 @@ impl SentMessages {
         place_in(self.on_way.as_slice(), text)
     }
 
-    /// Removes the first message with this text, and returns its number; 0 if there is none.
+    /// Removes the first message that is shown so, and returns its number, or 0 if there is none.
     pub(crate) fn take(&mut self, text: &[u8]) -> u64
         ensures number { result ≡ number_of text.now self.old }
         ensures rest { self.new ≡ without text.now self.old }
@@ -124,7 +124,7 @@ impl SentMessages {
         self.take_at(MAX_PENDING)
     }
 
-    /// Adds a message with its number and its text.
+    /// Adds a message of this number, which is shown so.
     pub(crate) fn push(&mut self, number: u64, text: &[u8]) -> Result<(), AllocError>
         ensures { OnOk result (self.new ≡ joined_by number text.now self.old) }
     {

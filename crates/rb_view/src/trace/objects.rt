@@ -8,10 +8,10 @@ ghost use Rattle.rb_texts.specs.Texts as texts;
 ghost use Rattle.rb_view.specs.ItemRows as rows;
 ghost use Rattle.rb_view.specs.Objects.{about, first_object, front, kind_members, message_members, message_of, moved_node, node_member, node_of, number_member, object, reason_member, row_member, said, text_member, way_members};
 
-use crate::rows::{past, push_item, reason_line};
+use crate::rows::{keep_item, past, reason_line};
 use rb_message::Message;
 use rb_script::Lines;
-use rb_text::{Json, Piece, push_pieces};
+use rb_text::{Json, Piece, add_pieces};
 use rb_texts::{Item, Reason, Verb, reason_front, reason_of};
 use std::alloc::{AllocError, Global};
 
@@ -23,7 +23,6 @@ const ROW_FRONT: usize = 2;
 
 // ---- the node and the message of an item
 
-// The node of a moved message: the receiver of a delivery, the sender of a queued message or of one without room; 0 if it is dropped.
 fn moved_node(verb: Verb, message: &Message) -> u64
     ensures { result ≡ moved_node verb message.now }
 {
@@ -70,8 +69,7 @@ fn message_of<'a>(item: &'a Item<'_>) -> Option<&'a Message>
 
 // ---- members
 
-// Appends a member that is a number.
-fn push_number(text: &mut Vec<u8>, name: &[u8], n: u64) -> Result<(), AllocError>
+fn add_number(text: &mut Vec<u8>, name: &[u8], n: u64) -> Result<(), AllocError>
     ensures { OnOk result (text.new.items ≡ text.old.items ++ number_member name.now n) }
 {
     let pieces = [
@@ -80,11 +78,10 @@ fn push_number(text: &mut Vec<u8>, name: &[u8], n: u64) -> Result<(), AllocError
         Piece::Bytes(b"\":"),
         Piece::Number(n),
     ];
-    push_pieces(text, &pieces)
+    add_pieces(text, &pieces)
 }
 
-// Appends a member that is a text.
-fn push_text<'a>(text: &mut Vec<u8>, name: &'a [u8], bytes: &'a [u8]) -> Result<(), AllocError>
+fn add_text<'a>(text: &mut Vec<u8>, name: &'a [u8], bytes: &'a [u8]) -> Result<(), AllocError>
     ensures { OnOk result (text.new.items ≡ text.old.items ++ text_member name.now bytes.now) }
 {
     let pieces = [
@@ -94,57 +91,51 @@ fn push_text<'a>(text: &mut Vec<u8>, name: &'a [u8], bytes: &'a [u8]) -> Result<
         Piece::Escaped(Json::Page, bytes),
         Piece::Bytes(b"\""),
     ];
-    push_pieces(text, &pieces)
+    add_pieces(text, &pieces)
 }
 
-// Appends the member `node`, unless it is 0.
-fn push_node(text: &mut Vec<u8>, node: u64) -> Result<(), AllocError>
+fn add_node(text: &mut Vec<u8>, node: u64) -> Result<(), AllocError>
     ensures { OnOk result (text.new.items ≡ text.old.items ++ node_member node) }
 {
     if node == 0 {
         return Ok(());
     }
-    push_number(text, b"node", node)
+    add_number(text, b"node", node)
 }
 
-// Appends the member with a message's type.
-fn push_type(text: &mut Vec<u8>, message: &Message) -> Result<(), AllocError>
+fn add_type(text: &mut Vec<u8>, message: &Message) -> Result<(), AllocError>
     ensures { OnOk result (text.new.items ≡ text.old.items ++ text_member (codes "type") (type_text (type_of message.now.kind))) }
 {
-    push_text(text, b"type", message.kind.message_type().text())
+    add_text(text, b"type", message.kind.message_type().text())
 }
 
-// Appends a message's number and type.
-fn push_kind(text: &mut Vec<u8>, number: u64, message: &Message) -> Result<(), AllocError>
+fn add_kind(text: &mut Vec<u8>, number: u64, message: &Message) -> Result<(), AllocError>
     ensures { OnOk result (text.new.items ≡ text.old.items ++ kind_members number message.now) }
 {
-    push_number(text, b"message", number)?;
-    push_type(text, message)
+    add_number(text, b"message", number)?;
+    add_type(text, message)
 }
 
-// Appends a message's sender, receiver and term.
-fn push_route(text: &mut Vec<u8>, message: &Message) -> Result<(), AllocError>
+fn add_way(text: &mut Vec<u8>, message: &Message) -> Result<(), AllocError>
     ensures { OnOk result (text.new.items ≡ text.old.items ++ way_members message.now) }
 {
-    push_number(text, b"from", message.from)?;
-    push_number(text, b"to", message.to)?;
-    push_number(text, b"term", message.term)
+    add_number(text, b"from", message.from)?;
+    add_number(text, b"to", message.to)?;
+    add_number(text, b"term", message.term)
 }
 
-// Appends the members about a message.
-fn push_message(text: &mut Vec<u8>, number: u64, message: &Message) -> Result<(), AllocError>
+fn add_message(text: &mut Vec<u8>, number: u64, message: &Message) -> Result<(), AllocError>
     ensures { OnOk result (text.new.items ≡ text.old.items ++ message_members number (Some message.now)) }
 {
-    push_kind(text, number, message)?;
-    push_route(text, message)
+    add_kind(text, number, message)?;
+    add_way(text, message)
 }
 
-// Appends the members about an item's message, if it has one.
-fn push_message_of(text: &mut Vec<u8>, number: u64, item: &Item<'_>) -> Result<(), AllocError>
+fn add_message_of(text: &mut Vec<u8>, number: u64, item: &Item<'_>) -> Result<(), AllocError>
     ensures { OnOk result (text.new.items ≡ text.old.items ++ message_members number (message_of (plain_item item.now))) }
 {
     match message_of(item) {
-        Some(message) => push_message(text, number, message),
+        Some(message) => add_message(text, number, message),
         None => Ok(()),
     }
 }
@@ -158,22 +149,20 @@ fn line_of(alloc: Global, item: &Item<'_>) -> Result<Lines, AllocError>
     Ok(lines)
 }
 
-// Appends the member with an item's output line.
-fn push_line(alloc: Global, text: &mut Vec<u8>, item: &Item<'_>) -> Result<(), AllocError>
+fn add_line(alloc: Global, text: &mut Vec<u8>, item: &Item<'_>) -> Result<(), AllocError>
     ensures { OnOk result (text.new.items ≡ text.old.items ++ text_member (codes "text") (texts.item_text (plain_item item.now))) }
 {
     let lines = line_of(alloc, item)?;
-    push_text(text, b"text", lines.line(0))
+    add_text(text, b"text", lines.line(0))
 }
 
-// Appends the member with a reason, if there is one.
-fn push_reason(alloc: Global, text: &mut Vec<u8>, reason: Option<Reason>) -> Result<(), AllocError>
+fn add_reason(alloc: Global, text: &mut Vec<u8>, reason: Option<Reason>) -> Result<(), AllocError>
     ensures { OnOk result (text.new.items ≡ text.old.items ++ reason_member reason) }
 {
     match reason {
         Some(reason) => {
             let lines = reason_line(alloc, &reason)?;
-            push_text(text, b"reason", past(lines.line(0), reason_front(&reason)))
+            add_text(text, b"reason", past(lines.line(0), reason_front(&reason)))
         }
         None => Ok(()),
     }
@@ -184,12 +173,11 @@ fn row_of(alloc: Global, item: &Item<'_>) -> Result<Lines, AllocError>
     ensures { IfOk result (λ lines. lines ≡ rows.item_text (plain_item item.now) ∷ []) }
 {
     let mut lines = Lines::new(alloc);
-    push_item(&mut lines, item)?;
+    keep_item(&mut lines, item)?;
     Ok(lines)
 }
 
-// Appends the member with the text of a row.
-fn push_row_text(text: &mut Vec<u8>, row: &[u8]) -> Result<(), AllocError>
+fn add_row_text(text: &mut Vec<u8>, row: &[u8]) -> Result<(), AllocError>
     ensures { OnOk result (text.new.items ≡ text.old.items ++ row_member row.now) }
 {
     if row.is_empty() {
@@ -199,15 +187,14 @@ fn push_row_text(text: &mut Vec<u8>, row: &[u8]) -> Result<(), AllocError>
         Piece::Bytes(b",\"row\":"),
         Piece::Bytes(past(row, ROW_FRONT)),
     ];
-    push_pieces(text, &pieces)
+    add_pieces(text, &pieces)
 }
 
-// Appends the member with an item's row.
-fn push_row(alloc: Global, text: &mut Vec<u8>, item: &Item<'_>) -> Result<(), AllocError>
+fn add_row(alloc: Global, text: &mut Vec<u8>, item: &Item<'_>) -> Result<(), AllocError>
     ensures { OnOk result (text.new.items ≡ text.old.items ++ row_member (rows.item_text (plain_item item.now))) }
 {
     let lines = row_of(alloc, item)?;
-    push_row_text(text, lines.line(0))
+    add_row_text(text, lines.line(0))
 }
 
 // ---- objects
@@ -219,17 +206,15 @@ pub(crate) struct Standing {
     pub(crate) line: u64,
 }
 
-// Appends the beginning of an object: the directive's number and line.
-fn push_front(text: &mut Vec<u8>, at: Standing) -> Result<(), AllocError>
+fn add_front(text: &mut Vec<u8>, at: Standing) -> Result<(), AllocError>
     ensures { OnOk result (text.new.items ≡ text.old.items ++ front at.place at.line) }
 {
     let pieces = [Piece::Bytes(b"{\"directive\":"), Piece::Number(at.place)];
-    push_pieces(text, &pieces)?;
-    push_number(text, b"line", at.line)
+    add_pieces(text, &pieces)?;
+    add_number(text, b"line", at.line)
 }
 
-// Appends the beginning of an object: the directive, the node, and the message.
-fn push_about(
+fn add_about(
     text: &mut Vec<u8>,
     at: Standing,
     node: u64,
@@ -238,18 +223,17 @@ fn push_about(
 ) -> Result<(), AllocError>
     ensures { OnOk result (text.new.items ≡ text.old.items ++ about at.place at.line node number (plain_item item.now)) }
 {
-    push_front(text, at)?;
-    push_node(text, node)?;
-    push_message_of(text, number, item)
+    add_front(text, at)?;
+    add_node(text, node)?;
+    add_message_of(text, number, item)
 }
 
-// Appends an item's output line, its reason, and its row.
-fn push_texts(alloc: Global, text: &mut Vec<u8>, item: &Item<'_>) -> Result<(), AllocError>
+fn add_said(alloc: Global, text: &mut Vec<u8>, item: &Item<'_>) -> Result<(), AllocError>
     ensures { OnOk result (text.new.items ≡ text.old.items ++ said (plain_item item.now)) }
 {
-    push_line(alloc, text, item)?;
-    push_reason(alloc, text, reason_of(item)?)?;
-    push_row(alloc, text, item)
+    add_line(alloc, text, item)?;
+    add_reason(alloc, text, reason_of(item)?)?;
+    add_row(alloc, text, item)
 }
 
 /// The object of an item, at a directive that is there: it is of this node, and its message has this number.
@@ -263,9 +247,9 @@ pub(crate) fn object(
     ensures { IfOk result (λ text. text.items ≡ object at.place at.line node number (plain_item item.now)) }
 {
     let mut text = Vec::with_capacity(alloc, ROOM)?;
-    push_about(&mut text, at, node, number, item)?;
-    push_texts(alloc, &mut text, item)?;
-    push_pieces(&mut text, &[Piece::Bytes(b"}")])?;
+    add_about(&mut text, at, node, number, item)?;
+    add_said(alloc, &mut text, item)?;
+    add_pieces(&mut text, &[Piece::Bytes(b"}")])?;
     Ok(text)
 }
 
@@ -274,9 +258,9 @@ pub(crate) fn first_object(alloc: Global, format: u64, name: &[u8]) -> Result<Ve
     ensures { IfOk result (λ text. text.items ≡ first_object format name.now) }
 {
     let mut text = Vec::with_capacity(alloc, ROOM)?;
-    push_pieces(&mut text, &[Piece::Bytes(b"{\"raftbench\":\"trace\"")])?;
-    push_number(&mut text, b"format", format)?;
-    push_text(&mut text, b"script", name)?;
-    push_pieces(&mut text, &[Piece::Bytes(b"}")])?;
+    add_pieces(&mut text, &[Piece::Bytes(b"{\"raftbench\":\"trace\"")])?;
+    add_number(&mut text, b"format", format)?;
+    add_text(&mut text, b"script", name)?;
+    add_pieces(&mut text, &[Piece::Bytes(b"}")])?;
     Ok(text)
 }

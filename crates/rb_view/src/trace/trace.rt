@@ -1,35 +1,28 @@
 //! The trace of a script.
 
-ghost use Rattle.std.specs.Prelude.{◌≡◌, ◌≢◌, ◌⊎◌, ◌+◌, ◌<◌, ◌≤◌, ◌^◌, ◌++◌, ◌∷◌, ◌↔◌, ◌&&◌, [], Err, IfErr, IfOk, IsTrue, OnOk, fold, length};
-ghost use Rattle.std.specs.Io.KnownBytes.{Appends};
+ghost use Rattle.std.specs.Prelude.{◌≡◌, ◌+◌, ◌<◌, ◌∷◌, ◌≤◌, ◌^◌, IfOk, OnOk, fold, length};
 ghost use Rattle.rb_script.specs.declared.limits.TheConstants.{MAX_DIRECTIVES};
-ghost use Rattle.rb_script.specs.Lines.{text_of};
 ghost use Rattle.rb_script.specs.Reading.{directive_of};
-ghost use Rattle.rb_script.specs.Writes.{AppendsFront};
+ghost use Rattle.rb_machine.specs.Cluster.{empty};
 ghost use Rattle.rb_machine.specs.Outcome.{execution, shown_items, outcome};
-ghost use Rattle.rb_replay.specs.Report.{mismatches, same_lines};
-ghost use Rattle.rb_view.specs.declared.trace.directive_trace.TheConstants.{MAX_TRACE};
-ghost use Rattle.rb_view.specs.Objects.{first_object as plain_first_object};
-ghost use Rattle.rb_view.specs.TraceFaults.{IsTooLarge};
-ghost use Rattle.rb_view.specs.Traces.{objects, size_of, trace_lines, with_item};
+ghost use Rattle.rb_replay.specs.Run.{outputs};
+ghost use Rattle.rb_view.specs.Traces.{objects, trace_lines, with_item};
 
-use crate::trace::directive_trace::{DirectiveTrace, MAX_TRACE};
-use crate::trace::fault::TraceFault;
+use crate::rows::keep_texts;
 use crate::trace::objects::first_object;
 use crate::trace::tracer::Tracer;
 use rb_cluster::{Cluster, Meter};
-use rb_machine::{Machine, PrintedLines};
+use rb_machine::{Both, Machine, PrintedLines};
 use rb_raftlog::RaftLog;
-use rb_replay::block_at;
-use rb_script::{Block, Lines, Script, Sink};
-use rb_script_report::{is_same, number_at};
-use rb_text::{Piece, push_pieces};
+use rb_replay::{Outputs, Session, block_at};
+use rb_script::{Block, Lines, Script};
+use rb_script_report::number_at;
 use std::alloc::{AllocError, Global};
 
 /// The format of the objects.
 pub const FORMAT: u64 = 1;
 
-// One run of a directive: the cluster after it, what it printed, and the trace with its objects.
+// One run of a directive: the cluster after it, what it printed, and the trace so far.
 #[derive(Drop)]
 struct TracedRun<L: RaftLog> {
     machine: Cluster<L>,
@@ -37,7 +30,7 @@ struct TracedRun<L: RaftLog> {
     tracer: Tracer,
 }
 
-// Runs a directive. If the trace has too many bytes then, the output and the objects are not whole.
+// Runs a directive, with two observers: of its lines, and of its objects.
 #[tactic(auto, unfolding(rb_machine::specs::Outcome::outcome))]
 fn run<L: RaftLog>(
     alloc: Global,
@@ -47,113 +40,81 @@ fn run<L: RaftLog>(
     meter: &mut Meter,
 ) -> Result<TracedRun<L>, AllocError>
     ensures machine { IfOk result (λ ran. ran.machine ≡ (outcome cluster (directive_of block.now)).cluster) }
-    ensures output { IfOk result (λ ran. ran.tracer.size ≤ MAX_TRACE → ran.output ≡ (outcome cluster (directive_of block.now)).output) }
-    ensures tracer { IfOk result (λ ran. ran.tracer.size ≤ MAX_TRACE → ran.tracer ≡ fold with_item tracer (shown_items (execution cluster (directive_of block.now)))) }
-    ensures past { IfOk result (λ ran. MAX_TRACE < ran.tracer.size → MAX_TRACE < (fold with_item tracer (shown_items (execution cluster (directive_of block.now)))).size) }
+    ensures output { IfOk result (λ ran. ran.output ≡ (outcome cluster (directive_of block.now)).output) }
+    ensures tracer { IfOk result (λ ran. ran.tracer ≡ fold with_item tracer (shown_items (execution cluster (directive_of block.now)))) }
     ensures counted { meter.old < 2 ^ 63 → OnOk result (meter.new ≡ meter.old + 1) }
     ensures most { meter.old < 2 ^ 63 → meter.new ≤ meter.old + 1 }
 {
     let mut machine = cluster;
-    let mut collected = DirectiveTrace {
-        printed: PrintedLines::new(alloc),
-        tracer,
+    let mut both = Both {
+        first: PrintedLines::new(alloc),
+        second: tracer,
     };
-    machine.run_counted(&block.directive(), &mut collected, meter)?;
-    let DirectiveTrace { printed, tracer } = collected;
+    machine.run_counted(&block.directive(), &mut both, meter)?;
+    let Both { first, second } = both;
     Ok(TracedRun {
         machine,
-        output: printed.or_ok()?,
-        tracer,
+        output: first.or_ok()?,
+        tracer: second,
     })
 }
 
-// Whether the output is the expected one, too.
-fn are_expected(before: bool, block: &Block, output: &Lines) -> bool
-    ensures { result ≡ before && same_lines block.now.expected output.now }
-{
-    before && is_same(block.expected(), output)
-}
-
-// Runs the directives, each once, and writes the objects of each before the next runs. Returns whether all outputs are the expected ones.
-fn trace_directives<L: RaftLog, S: Sink>(
+// Runs the directives, each once. What they printed is given back, and what happened.
+fn trace_directives<L: RaftLog>(
     alloc: Global,
-    sink: &mut S,
     script: &Script,
     heads: &[usize],
     meter: &mut Meter,
-) -> Result<bool, TraceFault>
+) -> Result<(Outputs, Lines), AllocError>
     requires few { length script.now.blocks ≤ MAX_DIRECTIVES }
     requires count { length heads.now ≡ length script.now.blocks }
-    ensures written { OnOk result (Appends (S.held sink.old) (S.held sink.new) (text_of (objects heads.now script.now))) }
-    ensures room { OnOk result (size_of heads.now script.now ≤ MAX_TRACE) }
-    ensures expected { IfOk result (λ expected. IsTrue expected ↔ (mismatches script.now ≡ [])) }
-    ensures front { IfErr result (λ _. AppendsFront (S.held sink.old) (S.held sink.new) (text_of (objects heads.now script.now))) }
-    ensures too_large { IfErr result (IsTooLarge heads.now script.now) }
-    ensures io { S.takes_all sink.old → result ≢ Err TraceFault.Io }
-    ensures all { S.takes_all sink.old → S.takes_all sink.new }
+    ensures outputs { IfOk result (λ ran. ran.0 ≡ outputs script.now) }
+    ensures objects { IfOk result (λ ran. ran.1 ≡ objects heads.now script.now) }
     ensures counted { meter.old ≤ 2 ^ 62 → OnOk result (meter.new ≡ meter.old + length script.now.blocks) }
     ensures most { meter.old ≤ 2 ^ 62 → meter.new ≤ meter.old + length script.now.blocks }
 {
+    let mut printed = Outputs::new(alloc);
     let mut machine: Cluster<L> = Machine::empty(alloc)?;
     let mut tracer = Tracer::new(alloc);
-    let mut expected = true;
     for i in 0..script.len() {
-        let line = number_at(heads, i);
-        let block = block_at(script, i);
-        tracer.begin(i as u64 + 1, line as u64);
-        let ran = run(alloc, machine, tracer, block, meter)?;
-        if ran.tracer.size > MAX_TRACE {
-            return Err(TraceFault::TooLarge(line));
-        }
-        sink.write_all(ran.tracer.lines.text())?;
-        expected = are_expected(expected, block, &ran.output);
+        tracer.begin(i as u64 + 1, number_at(heads, i) as u64);
+        let ran = run(alloc, machine, tracer, block_at(script, i), meter)?;
+        printed.push(ran.output)?;
         machine = ran.machine;
         tracer = ran.tracer;
     }
-    Ok(expected)
+    Ok((printed, tracer.lines))
 }
 
-// Writes the first object, with an end of line.
-fn write_first<S: Sink>(alloc: Global, sink: &mut S, name: &[u8]) -> Result<(), TraceFault>
-    ensures written { OnOk result (Appends (S.held sink.old) (S.held sink.new) (plain_first_object FORMAT name.now ++ 10 ∷ [])) }
-    ensures front { IfErr result (λ _. AppendsFront (S.held sink.old) (S.held sink.new) (plain_first_object FORMAT name.now ++ 10 ∷ [])) }
-    ensures small { IfErr result (λ fault. fault ≡ TraceFault.Io ⊎ fault ≡ TraceFault.OutOfMemory) }
-    ensures io { S.takes_all sink.old → result ≢ Err TraceFault.Io }
-    ensures all { S.takes_all sink.old → S.takes_all sink.new }
+// A line, and others below it.
+fn below(alloc: Global, first: &[u8], rest: &Lines) -> Result<Lines, AllocError>
+    ensures { IfOk result (λ all. all ≡ first.now ∷ rest.now) }
 {
-    let mut first = first_object(alloc, FORMAT, name)?;
-    push_pieces(&mut first, &[Piece::Bytes(b"\n")])?;
-    sink.write_all(first.as_slice())?;
-    Ok(())
+    let mut all = Lines::new(alloc);
+    all.push(first)?;
+    keep_texts(&mut all, rest)?;
+    Ok(all)
 }
 
-/// Runs a script, each directive once, and writes its trace under this name: these are the lines on which its heads begin. Returns whether all
-/// outputs are the expected ones.
-///
-/// # Errors
-///
-/// `Io` if the sink fails, `TooLarge` if the trace has more bytes than it may have, and `OutOfMemory`. A beginning of the trace was written then.
-pub fn write_trace<L: RaftLog, S: Sink>(
+/// Runs a script, each directive once, and gives a session on it and its trace: these are the lines on which its heads begin.
+pub fn trace_of<L: RaftLog>(
     alloc: Global,
-    sink: &mut S,
     name: &[u8],
-    script: &Script,
+    script: Script,
     heads: &[usize],
     meter: &mut Meter,
-) -> Result<bool, TraceFault>
-    requires few { length script.now.blocks ≤ MAX_DIRECTIVES }
-    requires count { length heads.now ≡ length script.now.blocks }
-    ensures written { OnOk result (Appends (S.held sink.old) (S.held sink.new) (text_of (trace_lines name.now heads.now script.now))) }
-    ensures room { OnOk result (size_of heads.now script.now ≤ MAX_TRACE) }
-    ensures expected { IfOk result (λ expected. IsTrue expected ↔ (mismatches script.now ≡ [])) }
-    ensures front { IfErr result (λ _. AppendsFront (S.held sink.old) (S.held sink.new) (text_of (trace_lines name.now heads.now script.now))) }
-    ensures too_large { IfErr result (IsTooLarge heads.now script.now) }
-    ensures io { S.takes_all sink.old → result ≢ Err TraceFault.Io }
-    ensures all { S.takes_all sink.old → S.takes_all sink.new }
-    // Each directive is run once; if the trace ends early, none is run twice.
-    ensures counted { meter.old ≤ 2 ^ 62 → OnOk result (meter.new ≡ meter.old + length script.now.blocks) }
-    ensures most { meter.old ≤ 2 ^ 62 → meter.new ≤ meter.old + length script.now.blocks }
+) -> Result<(Session<Cluster<L>>, Lines), AllocError>
+    requires few { length script.blocks ≤ MAX_DIRECTIVES }
+    requires count { length heads.now ≡ length script.blocks }
+    ensures script { IfOk result (λ ran. ran.0.script ≡ script) }
+    ensures lines { IfOk result (λ ran. ran.1 ≡ trace_lines name.now heads.now script) }
+    // Each directive is run once; if memory is refused, none is run twice.
+    ensures counted { meter.old ≤ 2 ^ 62 → OnOk result (meter.new ≡ meter.old + length script.blocks) }
+    ensures most { meter.old ≤ 2 ^ 62 → meter.new ≤ meter.old + length script.blocks }
 {
-    write_first(alloc, sink, name)?;
-    trace_directives::<L, S>(alloc, sink, script, heads, meter)
+    let (printed, objects) = trace_directives::<L>(alloc, &script, heads, meter)?;
+    let first = first_object(alloc, FORMAT, name)?;
+    let lines = below(alloc, first.as_slice(), &objects)?;
+    let session = Session::from_outputs(alloc, script, printed)?;
+    Ok((session, lines))
 }

@@ -1,34 +1,36 @@
-//! An observer that makes an object of each thing that happens.
+//! Who makes an object of each thing that happens.
 
-ghost use Rattle.std.specs.Prelude.{◌≡◌, ◌+◌, ◌∷◌, [], IfOk, OnOk, length};
+ghost use Rattle.std.specs.Prelude.{◌≡◌, ◌+◌, ◌∷◌, [], IfOk, OnOk};
 ghost use Rattle.rb_texts.specs.Items.{plain_item};
-ghost use Rattle.rb_view.specs.Traces.{begun, counted, given_up, meeting, moving, nothing, numbered, ready_after, sending, shown, with_item, with_line, with_object};
+ghost use Rattle.rb_view.specs.Traces.{begun, counted, given_up, meeting, moving, nothing, numbered, ready_after, sending, shown, with_object};
 
 use crate::trace::mail::SentMessages;
 use crate::trace::objects::{Standing, node_of, object};
+use rb_machine::Observer;
 use rb_message::Message;
+use rb_node::Node;
+use rb_raftlog::RaftLog;
 use rb_script::Lines;
 use rb_texts::{Item, Verb};
+use rb_vocab::Level;
 use std::alloc::{AllocError, Global};
 
-/// A trace so far.
+/// The trace so far.
 #[derive(Drop)]
-pub(crate) struct Tracer {
+pub struct Tracer {
     /// The place of the directive that runs, from 1, and the line of its head.
-    pub(crate) place: u64,
-    pub(crate) line: u64,
+    pub place: u64,
+    pub line: u64,
     /// The node whose ready is shown.
-    pub(crate) ready: u64,
+    pub ready: u64,
     /// How many messages were sent, and those that are in flight.
-    pub(crate) sent: u64,
-    pub(crate) mail: SentMessages,
-    /// The objects of the directive.
-    pub(crate) lines: Lines,
-    /// How many bytes the objects of all directives have, with the ends of their lines.
-    pub(crate) size: usize,
+    pub sent: u64,
+    pub mail: SentMessages,
+    /// The objects.
+    pub lines: Lines,
 }
 
-// The text of a message, by which it is found again when it arrives or is lost.
+// A message as it is shown, by which it is known again.
 fn shown(alloc: Global, message: &Message) -> Result<Lines, AllocError>
     ensures { IfOk result (λ lines. lines ≡ shown message.now ∷ []) }
 {
@@ -37,7 +39,6 @@ fn shown(alloc: Global, message: &Message) -> Result<Lines, AllocError>
     Ok(lines)
 }
 
-// The node whose ready is shown after an item; 0 for none.
 fn ready_after(ready: u64, item: &Item<'_>) -> u64
     ensures { result ≡ ready_after ready (plain_item item.now) }
 {
@@ -59,7 +60,6 @@ impl Tracer {
             sent: 0,
             mail: SentMessages::new(alloc),
             lines: Lines::new(alloc),
-            size: 0,
         }
     }
 
@@ -69,7 +69,6 @@ impl Tracer {
     {
         self.place = place;
         self.line = line;
-        self.lines = Lines::new(self.mail.allocator());
     }
 
     // The number of the next message that is sent.
@@ -94,7 +93,7 @@ impl Tracer {
         Ok(number)
     }
 
-    // Takes a message out of those in flight, and returns its number.
+    // A message is in flight no longer. Gives its number.
     fn meet(&mut self, message: &Message) -> Result<u64, AllocError>
         ensures number { IfOk result (λ number. number ≡ (meeting self.old message.now).number) }
         ensures counted { OnOk result (self.new ≡ counted self.old (meeting self.old message.now)) }
@@ -103,7 +102,7 @@ impl Tracer {
         Ok(self.mail.take(lines.line(0)))
     }
 
-    // The number of the message for which there was no room: it is taken out if it was sent, and else gets a new number.
+    // A message finds no room. Gives its number.
     fn give_up(&mut self) -> Result<u64, AllocError>
         ensures number { IfOk result (λ number. number ≡ (given_up self.old).number) }
         ensures counted { OnOk result (self.new ≡ counted self.old (given_up self.old)) }
@@ -117,7 +116,6 @@ impl Tracer {
         }
     }
 
-    // The number of a message that is queued, delivered or dropped, or for which there is no room.
     fn move_on(&mut self, verb: Verb, message: &Message) -> Result<u64, AllocError>
         ensures number { IfOk result (λ number. number ≡ (moving self.old verb message.now).number) }
         ensures counted { OnOk result (self.new ≡ counted self.old (moving self.old verb message.now)) }
@@ -141,8 +139,8 @@ impl Tracer {
         }
     }
 
-    // Appends the object of an item. `number` is that of its message.
-    fn push_object(&mut self, number: u64, item: &Item<'_>) -> Result<(), AllocError>
+    // Adds the object of an item, whose message has this number.
+    fn add_object(&mut self, number: u64, item: &Item<'_>) -> Result<(), AllocError>
         ensures { OnOk result (self.new ≡ with_object self.old number (plain_item item.now)) }
     {
         let at = Standing {
@@ -152,36 +150,33 @@ impl Tracer {
         let node = node_of(self.ready, item);
         let text = object(self.mail.allocator(), at, node, number, item)?;
         self.ready = ready_after(self.ready, item);
-        self.push(text.as_slice())
-    }
-
-    // Adds a line.
-    fn push(&mut self, line: &[u8]) -> Result<(), AllocError>
-        ensures { OnOk result (self.new ≡ with_line self.old line.now) }
-    {
-        self.lines.push(line)?;
-        self.size = size_with(self.size, line)?;
-        Ok(())
-    }
-
-    /// Adds the object of an item.
-    pub(crate) fn observe(&mut self, item: &Item<'_>) -> Result<(), AllocError>
-        ensures { OnOk result (self.new ≡ with_item self.old (plain_item item.now)) }
-    {
-        let number = self.number(item)?;
-        self.push_object(number, item)
+        self.lines.push(text.as_slice())
     }
 }
 
-// The size with that of a line and its end.
-fn size_with(size: usize, line: &[u8]) -> Result<usize, AllocError>
-    ensures { IfOk result (λ n. n ≡ size + (length line.now + 1)) }
-{
-    let Some(before) = size.checked_add(line.len()) else {
-        return Err(AllocError);
-    };
-    match before.checked_add(1) {
-        Some(after) => Ok(after),
-        None => Err(AllocError),
+impl<L: RaftLog> Observer<L> for Tracer {
+    ghost use Rattle.rb_view.specs.declared.trace.tracer.Tracer.{Tracer};
+    ghost use Rattle.rb_machine.specs.Observations.{passing};
+    ghost use Rattle.rb_view.specs.Traces.{at_level, with_item};
+
+    ghost Meaning = { Tracer };
+
+    ghost meaning = { λ t. t };
+
+    ghost starting = { at_level };
+
+    ghost taking = { with_item };
+
+    ghost settling = { passing };
+
+    fn start(&mut self, _level: Level) {}
+
+    fn observe(&mut self, item: &Item<'_>) -> Result<(), AllocError> {
+        let number = self.number(item)?;
+        self.add_object(number, item)
+    }
+
+    fn settle(&mut self, _id: u64, _node: &Node<L>) -> Result<(), AllocError> {
+        Ok(())
     }
 }

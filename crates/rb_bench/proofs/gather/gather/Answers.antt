@@ -27,7 +27,7 @@ pub loop-taken-preserved : goal.loop-taken-preserved
 loop-taken-preserved g c =
     let given = rw c.in-Line.is at c.in_ok-next.ensures.given in record {
       within = omega arith;
-      takes = takes_more _ _ _ c.loop-taken.taken c.loop-taken.given c.push.new.self c.line.result.now _ c.loop-taken.invariant.takes given.0 given.1 c.line.ensures c.push.ensures;
+      takes = takes_more _ _ _ c.loop-taken.taken c.loop-taken.given c.add.new.self c.line.result.now _ c.loop-taken.invariant.takes given.0 given.1 c.line.ensures c.add.ensures;
       whole = takes_then _ _ _ _ _ _ c.loop-taken.invariant.whole (rw c.in-Line.is at c.in_ok-next.ensures.takes);
       goes = goes_then _ _ _ _ _ _ _ _ _ c.loop-taken.invariant.goes c.in_ok-next.ensures.goes;
       all = λ gives has. (c.in_ok-next.ensures.all (c.loop-taken.invariant.all gives has) (goes_enough _ _ _ _ _ _ c.loop-taken.invariant.goes has)).1;

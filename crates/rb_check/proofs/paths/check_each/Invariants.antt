@@ -6,7 +6,7 @@ use Rattle.rb_check.proofs.paths.check_each.Given as goal
 abbrev pub invariant-reports : goal.invariant-reports
 invariant-reports g l = record {
   within : l.done ≤ length l.scripts;
-  so_far : AreDone g.W.Sink.held l.asked l.scripts l.count l.fn.check l.done l.reviewer.point l.check;
+  so_far : AreDone g.W.Sink.held l.asked l.scripts l.fn.check l.done l.reviewer.review l.check;
 }
 
 abbrev pub decreases-reports : goal.decreases-reports

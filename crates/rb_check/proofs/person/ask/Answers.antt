@@ -30,7 +30,7 @@ loop-turns-preserved g c =
         so_far.0 ++ keys ∷ [],
         omega (arith, length-append so_far.0 (keys ∷ []), so_far.1),
         along (ap (λ (l : List ℕ). flat_map (missed_text question) so_far.0 ++ ((question ++ echo_of keys) ++ l)) c.help.ensures ∙ asked_again question so_far.0 keys)
-            (goes_on (λ (f : ReportForm). (question ++ echo_of keys) ++ c.help.result.now) so_far.2 (goes_on (λ (f : ReportForm). c.help.result.now) c.ask.ensures.shown.1 c.say.ensures.shown)),
+            (goes_on (λ (f : ReportForm). (question ++ echo_of keys) ++ c.help.result.now) so_far.2 (goes_on (λ (f : ReportForm). c.help.result.now) c.ask.ensures.shown.1 c.put.ensures.shown)),
       );
     }
 

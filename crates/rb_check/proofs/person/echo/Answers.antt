@@ -9,4 +9,4 @@ returns-then-is_empty g c = (None, goes_nothing _ _)
 
 pub returns : goal.returns
 returns g c =
-    (Some c.args.keys.now, along (ap (λ (l : List ℕ). l ++ codes "\n") c.visible_key.ensures) (goes_on (λ (f : ReportForm). codes "\n") c.say.ensures.shown c.say-2.ensures.shown))
+    (Some c.args.keys.now, along (ap (λ (l : List ℕ). l ++ codes "\n") c.visible_key.ensures) (goes_on (λ (f : ReportForm). codes "\n") c.put.ensures.shown c.put-2.ensures.shown))

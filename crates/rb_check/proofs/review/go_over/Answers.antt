@@ -1,7 +1,6 @@
-use Rattle.std.proofs.Common.{◌≡◌, ◌∙◌, ◌++◌, [], take, refl, ap, arith}
+use Rattle.std.proofs.Common.{◌≡◌, ◌∙◌, [], ◌++◌, take, refl, ap, arith}
 use Rattle.std.proofs.lemmas.List.{take_all}
 use Rattle.rb_check.specs.declared.report_state.ReportForm.{ReportForm}
-use Rattle.rb_check.specs.declared.review.ReviewPoint.{ReviewPoint}
 use Rattle.rb_check.specs.Reviews.{review_so_far, reviewed_all}
 use Rattle.rb_check.specs.Subjects.{plain_of}
 use Rattle.rb_check.proofs.AskingLaws.{gone_all, gone_on, none_gone}
@@ -10,13 +9,10 @@ use Rattle.rb_check.proofs.ShownLaws.{goes_nothing, goes_on, on_err, part_then}
 use Rattle.rb_check.proofs.review.go_over.Goals as goal
 
 pub loop-i-init : goal.loop-i-init
-loop-i-init g c =
-    let point = c.args.reviewer.now.point in
-    record {
-      heard = record { known = λ k. k; few = λ k f. omega arith; so = λ k f. refl };
-      point = refl;
-      shown = ([], none_gone (plain_of c.args.subject.now) point.count point.passed c.args.questions.now point.review, goes_nothing _ _);
-    }
+loop-i-init g c = record {
+  heard = record { known = λ k. k; few = λ k f. omega arith; so = λ k f. refl };
+  shown = ([], none_gone (plain_of c.args.subject.now) c.args.questions.now c.args.reviewer.now.review, goes_nothing _ _);
+}
 
 pub review_one-requires-clause-within : goal.review_one-requires-clause-within
 review_one-requires-clause-within g c = c.requires.within c.loop-i.i c.question_at-question.result c.question_at-question.ensures
@@ -27,21 +23,18 @@ loop-i-preserved g c =
     let questions = c.args.questions.now in
     let i = c.loop-i.i in
     let question = c.question_at-question.result in
-    let first = c.args.reviewer.now.point in
     let now = c.loop-i.reviewer in
     let one = c.in_ok-review_one.ensures in
     let next = c.review_one.new.reviewer in
     let had = c.loop-i.invariant.shown in
-    let same = c.loop-i.invariant.point in
-    let more = rw (ap (λ (p : ReviewPoint). p.count) same, ap (λ (p : ReviewPoint). p.passed) same) at one.shown in
+    let more = one.shown in
     let got = c.question_at-question.ensures in
     record {
       heard = hears_on g.P.Person.is_known left c.args.reviewer.now.person now.person next.person _ _ _ c.loop-i.invariant.heard one.heard
           (λ so_far this. reviewed_more (review_so_far left c.args.reviewer.now) (review_so_far left now) (review_so_far left next) questions i question got so_far this);
-      point = one.point ∙ ap (λ (p : ReviewPoint). record p { review = next.point.review }) same;
       shown = (
         had.0 ++ more.0,
-        gone_on (plain_of c.args.subject.now) first.count first.passed questions first.review i question had.0 more.0 now.point.review next.point.review had.1 got one.each one.over more.1,
+        gone_on (plain_of c.args.subject.now) questions c.args.reviewer.now.review i question had.0 more.0 now.review next.review had.1 got one.each one.over more.1,
         goes_on (λ (f : ReportForm). more.0) had.2 more.2,
       );
     }
@@ -55,8 +48,7 @@ returns-clause-heard g c =
 pub returns-clause-shown : goal.returns-clause-shown
 returns-clause-shown g c =
     let had = c.loop-i.invariant.shown in
-    let first = c.args.reviewer.now.point in
-    (had.0, gone_all (plain_of c.args.subject.now) first.count first.passed c.args.questions.now first.review c.loop-i.reviewer.point.review c.loop-i.i had.0 had.1 (omega (arith, c.loop-i-test.false)), had.2)
+    (had.0, gone_all (plain_of c.args.subject.now) c.args.questions.now c.args.reviewer.now.review c.loop-i.reviewer.review c.loop-i.i had.0 had.1 (omega (arith, c.loop-i-test.false)), had.2)
 
 pub returns-in_err-review_one-clause-part : goal.returns-in_err-review_one-clause-part
 returns-in_err-review_one-clause-part g c = on_err c.from_residual.result (part_then c.loop-i.invariant.shown.2 c.in_err-review_one.ensures.part)

@@ -9,9 +9,7 @@ use Rattle.rb_check.proofs.review.go_over.Given as goal
 abbrev pub invariant-loop-i : goal.invariant-loop-i
 invariant-loop-i g l =
     let left = g.P.Person.left in
-    let first = l.fn.reviewer.point in
     record {
       heard : Hears g.P.Person.is_known left l.fn.reviewer.person l.reviewer.person (review_so_far left l.reviewer ≡ reviewed_all (review_so_far left l.fn.reviewer) (take l.i l.questions));
-      point : l.reviewer.point ≡ record first { review = l.reviewer.point.review };
-      shown : (text : List ℕ) × Gone (plain_of l.subject) first.count first.passed l.questions first.review l.reviewer.point.review l.i text × Prints g.W.Sink.held l.fn.report l.report text;
+      shown : (text : List ℕ) × Gone (plain_of l.subject) l.questions l.fn.reviewer.review l.reviewer.review l.i text × Prints g.W.Sink.held l.fn.report l.report text;
     }

@@ -1,22 +1,19 @@
-use Rattle.std.proofs.Common.{ℕ, List, ap, arith}
-use Rattle.rb_script_report.specs.declared.warning.Warning.{Warning}
-use Rattle.rb_check.specs.declared.remark.Remark.TheVariants as remarks
-use Rattle.rb_check.specs.Shown.{remark_text, warnings_text}
-use Rattle.rb_check.proofs.ExtendLaws.{extends_all, extends_along, extends_more, extends_none}
+use Rattle.std.proofs.Common.{◌∙◌, ℕ, Bool, List, [], ap, sym}
+use Rattle.std.specs.Prelude.{if◌then◌else◌}
+use Rattle.rb_check.specs.Shown.{warnings_text}
+use Rattle.rb_check.specs.Subjects.{plain_of, warnings_in}
+use Rattle.rb_check.proofs.ShownLaws.{along, goes_nothing}
 use Rattle.rb_check.proofs.showing.warn.Goals as goal
 
-pub loop-i-init : goal.loop-i-init
-loop-i-init c = extends_none _
-
-pub loop-i-preserved : goal.loop-i-preserved
-loop-i-preserved c =
+pub returns-then-warns : goal.returns-then-warns
+returns-then-warns g c =
     let subject = c.args.subject.now in
-    let warning = c.warning_at.result in
-    extends_more (λ (w : Warning). remark_text subject.form subject.path.now (remarks.Warning w)) c.as_slice-warnings.result.now c.loop-i.i warning c.warning_at.ensures c.loop-i.invariant
-    (extends_along (ap (λ (p : List ℕ). remark_text subject.form p (remarks.Warning warning)) c.as_bytes.ensures.value) c.remark.ensures)
+    let text = warnings_text c.args.report.now.state.form in
+    let ws = warnings_in (plain_of subject) in
+    along (ap (λ (p : List ℕ). text p subject.warnings.now) c.as_bytes.ensures.value ∙ ap (text subject.path.now) c.requires.warnings ∙ sym (ap (λ (b : Bool). if b then text subject.path.now ws else []) (sym c.warns.ensures ∙ c.if-warns.true))) c.warn.ensures
 
-pub returns : goal.returns
-returns c =
+pub returns-else-warns : goal.returns-else-warns
+returns-else-warns g c =
     let subject = c.args.subject.now in
-    extends_along (ap (λ (ws : List Warning). warnings_text subject.form subject.path.now ws) c.as_slice-warnings.ensures.value)
-    (extends_all (λ (w : Warning). remark_text subject.form subject.path.now (remarks.Warning w)) c.as_slice-warnings.result.now c.loop-i.i (omega (arith, c.loop-i-test.false)) c.loop-i.invariant)
+    let text = warnings_text c.args.report.now.state.form subject.path.now (warnings_in (plain_of subject)) in
+    along (sym (ap (λ (b : Bool). if b then text else []) (sym c.warns.ensures ∙ c.if-warns.false))) (goes_nothing _ _)

@@ -10,6 +10,6 @@ loop-part-preserved c =
     let none : Bor (List ℕ) = record { ref_ptr = (0, 0); now = [] } in
     let name = (get_or parts i none).now in
     record {
-      names = c.in_ok-push.ensures.names ∙ ap (λ (ns : List (List ℕ)). ns ++ text_names (name ∷ [])) c.loop-part.invariant.names ∙ sym (text_more parts i none c.loop-part-test.true);
-      strange = c.in_ok-push.ensures.strange ∙ ap (λ (ns : List (List ℕ)). ns ++ strange_names (name ∷ [])) c.loop-part.invariant.strange ∙ sym (strange_more parts i none c.loop-part-test.true);
+      names = c.in_ok-add.ensures.names ∙ ap (λ (ns : List (List ℕ)). ns ++ text_names (name ∷ [])) c.loop-part.invariant.names ∙ sym (text_more parts i none c.loop-part-test.true);
+      strange = c.in_ok-add.ensures.strange ∙ ap (λ (ns : List (List ℕ)). ns ++ strange_names (name ∷ [])) c.loop-part.invariant.strange ∙ sym (strange_more parts i none c.loop-part-test.true);
     }

@@ -7,8 +7,8 @@ pub returns : goal.returns
 returns c =
     let parts : map (λ (p : Bor (List ℕ)). p.now) c.as_slice.result.now ≡ parts_of c.args.bytes.now = ap (map (λ (p : Bor (List ℕ)). p.now)) c.as_slice.ensures.value ∙ c.in_ok-parts.ensures in
     record {
-      order = c.sort_names.ensures.order;
-      names = λ name. listed_names c.in_ok-listing.listing.names.items c.sort_names.new.names.items (text_names (parts_of c.args.bytes.now)) name
-          (c.in_ok-listing.ensures.names ∙ ap text_names parts) (c.sort_names.ensures.same name);
+      order = c.put_in_order.ensures.order;
+      names = λ name. listed_names c.in_ok-listing.listing.names.items c.put_in_order.new.names.items (text_names (parts_of c.args.bytes.now)) name
+          (c.in_ok-listing.ensures.names ∙ ap text_names parts) (c.put_in_order.ensures.same name);
       strange = c.in_ok-listing.ensures.strange ∙ ap strange_names parts;
     }

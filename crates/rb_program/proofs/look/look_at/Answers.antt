@@ -11,4 +11,4 @@ returns-in_err-bytes g c =
 pub returns : goal.returns
 returns g c =
     let read = subst (λ (bytes : List ℕ). AreRead g.row.R-File.Denot g.R.File.Read.remaining bytes) (sym c.as_slice-text.ensures.value) c.in_ok-bytes.ensures.read in
-    inr (c.in-Some.path.now, c.in-Some.line, sym c.in-Some.ensures, inr (c.as_slice-text.result.now, read, c.write_look.ensures))
+    inr (c.in-Some.path.now, c.in-Some.line, sym c.in-Some.ensures, inr (c.as_slice-text.result.now, read, c.show.ensures))

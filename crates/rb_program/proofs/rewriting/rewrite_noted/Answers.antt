@@ -4,4 +4,4 @@ use Rattle.rb_program.proofs.EndLaws.{ends_as}
 use Rattle.rb_program.proofs.rewriting.rewrite_noted.Goals as goal
 
 pub returns : goal.returns
-returns g c = rw (c.to_program_result.ensures, c.write_notes.ensures) (ends_as (Answers modes.Rewrite c.args.bytes.now) _ _ _ c.rewrite_bytes-rewritten.ensures.answered)
+returns g c = rw (c.ended.ensures, c.put_notes.ensures) (ends_as (Answers modes.Rewrite c.args.bytes.now) _ _ _ c.rewrite_bytes-rewritten.ensures.answered)

@@ -1,28 +1,21 @@
-use Rattle.std.proofs.Common.{◌≡◌, ℕ, ◌+◌, ◌<◌, ◌++◌, List, length, map, ap, sym, ◌∙◌, append-nil}
-use Rattle.std.proofs.lemmas.List.Elements.{All-rest, All-same, All-weaker}
-use Rattle.memchr.specs.Find.{Passes, is_byte, places}
-use Rattle.memchr.proofs.lemmas.CallerLemmas.{All-places}
-use Rattle.rb_script.proofs.WholeLaws.{ends_are, one_more_end}
+use Rattle.std.proofs.Common.{◌+◌, ◌++◌, ◌∷◌, [], ap, ◌∙◌}
+use Rattle.std.proofs.lemmas.List.{take_rest}
+use Rattle.rb_script.specs.Lines.{lines}
+use Rattle.rb_script.specs.Flat.{ends_of}
+use Rattle.rb_script.proofs.WholeLaws.{next_line, ends_more, ends_done, left_less, none_left}
 use Rattle.rb_script.proofs.flat.line_ends.Goals as goal
 
-pub loop-feed-init : goal.loop-feed-init
-loop-feed-init c =
-    let bytes = c.args.bytes.now in
-    let within = λ (k : ℕ). k < length bytes in
-    let feeds : c.into_iter-feed-iterator.result ≡ places (is_byte 10) bytes = c.into_iter-feed-iterator.ensures.into_iter_gives ∙ c.memchr_iter-feed-items.ensures.value in
-    record {
-      ends = ap (λ (l : List ℕ). l ++ map (λ (k : ℕ). k + 1) c.into_iter-feed-iterator.result) c.new-ends.ensures.items
-          ∙ ap (λ (l : List ℕ). map (λ (k : ℕ). k + 1) l) feeds ∙ ends_are bytes c.requires;
-      within = All-same within _ _ feeds (All-weaker (λ (k : ℕ). within k × Passes (is_byte 10) bytes k) within (λ k h. h.0) _ (All-places (is_byte 10) bytes));
-    }
-
 pub loop-feed-preserved : goal.loop-feed-preserved
-loop-feed-preserved c = record {
-  ends = one_more_end c.loop-feed.ends.items c.push.new.self.items c.loop-feed.feed-iterator c.next.new.self _ c.in-Some.feed c.in_ok-push.ensures.items c.in-Some.ensures.steps c.loop-feed.invariant.ends;
-  within = All-rest (λ (k : ℕ). k < length c.args.bytes.now) c.in-Some.feed c.next.new.self c.loop-feed.feed-iterator c.in-Some.ensures.steps c.loop-feed.invariant.within;
-}
+loop-feed-preserved c =
+    let bytes = c.loop-feed.rest.now in
+    let ls = lines bytes in
+    let next = next_line bytes c.in-Some.feed _ (take_rest bytes (c.in-Some.feed + 1)) c.loop-feed.invariant.clean c.in-Some.ensures.found.0 c.in-Some.ensures.found.1 c.in-Some.ensures.first in
+    record {
+      ends = ends_more c.loop-feed.ends.items c.push.new.self.items c.loop-feed.end c.in-Some.feed ls next.parts next.len (ends_of 0 (lines c.args.bytes.now)) c.in_ok-push.ensures.items c.loop-feed.invariant.ends;
+      clean = next.clean;
+      total = left_less ls next.parts next.len c.loop-feed.end _ c.loop-feed.invariant.total;
+    }
 
 pub returns : goal.returns
 returns c =
-    sym (append-nil c.loop-feed.ends.items) ∙ ap (λ (l : List ℕ). c.loop-feed.ends.items ++ map (λ (k : ℕ). k + 1) l) (sym c.in-None.ensures.steps.0)
-    ∙ c.loop-feed.invariant.ends
+    ends_done c.loop-feed.ends.items (ends_of 0 (lines c.args.bytes.now)) c.loop-feed.end c.loop-feed.rest.now (none_left c.loop-feed.rest.now c.loop-feed.invariant.clean c.in_default.ensures.none) c.loop-feed.invariant.ends

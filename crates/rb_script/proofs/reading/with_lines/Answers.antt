@@ -16,8 +16,8 @@ returns-in_err-all-clause-early c =
 pub whole-requires : goal.whole-requires
 whole-requires c =
     script_valid c.args.bytes.now (parts_view c.in_ok-parts.parts) c.in_ok-parts.parts.text_len
-    (c.in_ok-all.ensures.parts ∙ (rw c.new-table.ensures at c.in_ok-parts.ensures.gives)) c.in_ok-parts.ensures.len (omega arith)
+    (c.in_ok-all.ensures.parts ∙ c.in_ok-parts.ensures.gives) c.in_ok-parts.ensures.len (omega arith)
 
 pub returns-clause-heads : goal.returns-clause-heads
 returns-clause-heads c =
-    rw (c.in_ok-script.ensures, ← c.in_ok-all.ensures.lines) (rw c.new-table.ensures at c.in_ok-parts.ensures.heads)
+    rw (c.in_ok-script.ensures, ← c.in_ok-all.ensures.lines) c.in_ok-parts.ensures.heads

@@ -46,7 +46,7 @@ loop-alloc-preserved c =
     let gives = c.in_ok-argument-in-Some.ensures.gives in
     let same = c.skip.ensures.head ∙ c.loop-alloc.invariant.3 in (
       so_far ++ gives.0 ∷ [],
-      c.in_ok-push_argument-in-Some.ensures c.args.at.now.head so_far gives.0 c.loop-alloc.invariant.1 (rw same at gives.2),
+      c.in_ok-found-in-Some.ensures c.args.at.now.head so_far gives.0 c.loop-alloc.invariant.1 (rw same at gives.2),
       arguments_more so_far at c.skip.new.self.left _ c.skip.ensures.left c.loop-alloc.invariant.2 gives.0 c.argument.new.at.left (ap is_some (sym c.peek.ensures) ∙ c.if-is_none.ensures) space gives.1,
       c.argument.ensures.head ∙ same,
     )

@@ -10,8 +10,8 @@ use Rattle.rb_script.proofs.tokens.tokens_of.Goals as goal
 pub returns-in-Ok-Some : goal.returns-in-Ok-Some
 returns-in-Ok-Some c =
     let head = between c.args.start c.args.end c.args.all.now in
-    let same = c.skip.ensures.head ∙ c.new-at.ensures.head ∙ c.new-head.ensures in
-    let gap = c.skip.ensures.left ∙ ap (after_while is_space) (c.new-at.ensures.left ∙ ap joined c.new-head.ensures) in
+    let same = c.skip.ensures.head ∙ c.new-at.ensures.head ∙ c.in_ok-head.ensures in
+    let gap = c.skip.ensures.left ∙ ap (after_while is_space) (c.new-at.ensures.left ∙ ap joined c.in_ok-head.ensures) in
     record {
       gives = head_found head c.args.number (joined head) c.skip.new.self.left c.take-name.new.self.left c.take-name.result gap (rw same at c.take-name.ensures.token) c.take-name.ensures.left (rw same at c.take-name.ensures.part) c.if-name.false c.in-Ok-Some.args
           (rw (c.in-Ok-Some.field-0-is, c.take-name.ensures.head, same) at c.in-Ok-Some.ensures.gives);
@@ -20,8 +20,8 @@ returns-in-Ok-Some c =
 pub returns-in-Ok-None : goal.returns-in-Ok-None
 returns-in-Ok-None c =
     let head = between c.args.start c.args.end c.args.all.now in
-    let same = c.skip.ensures.head ∙ c.new-at.ensures.head ∙ c.new-head.ensures in
-    let gap = c.skip.ensures.left ∙ ap (after_while is_space) (c.new-at.ensures.left ∙ ap joined c.new-head.ensures) in
+    let same = c.skip.ensures.head ∙ c.new-at.ensures.head ∙ c.in_ok-head.ensures in
+    let gap = c.skip.ensures.left ∙ ap (after_while is_space) (c.new-at.ensures.left ∙ ap joined c.in_ok-head.ensures) in
     record {
       gives = head_too_long head c.args.number (joined head) c.skip.new.self.left c.take-name.new.self.left c.take-name.result gap (rw same at c.take-name.ensures.token) c.take-name.ensures.left (rw same at c.take-name.ensures.part) c.if-name.false
           (rw c.in-Ok-None.field-0-is at c.in-Ok-None.ensures.gives);
@@ -29,8 +29,8 @@ returns-in-Ok-None c =
 
 pub new-at-requires-clause-there : goal.new-at-requires-clause-there
 new-at-requires-clause-there c =
-    omega (arith, c.requires.there, ap length c.new-head.ensures, length-between c.args.start c.args.end c.args.all.now c.requires.within)
+    omega (arith, c.requires.there, ap length c.in_ok-head.ensures, length-between c.args.start c.args.end c.args.all.now c.requires.within)
 
 pub new-at-requires-clause-few : goal.new-at-requires-clause-few
 new-at-requires-clause-few c =
-    omega (arith, c.requires.few, ap length c.new-head.ensures, length-between c.args.start c.args.end c.args.all.now c.requires.within)
+    omega (arith, c.requires.few, ap length c.in_ok-head.ensures, length-between c.args.start c.args.end c.args.all.now c.requires.within)

@@ -7,7 +7,7 @@ ghost use Rattle.rb_bench.specs.declared.limits.TheConstants.{MAX_READS};
 
 use crate::tests::{is, is_text};
 use rb_bench::{BenchFault, MAX_READS, Mode, NoProgress, Outlet, run_over, serve};
-use rb_report::Status;
+use rb_report::check::Status;
 use rb_script::{Sink, WriteFault};
 use rb_text::{InputFault, Source};
 use std::alloc::Global;
@@ -62,7 +62,7 @@ impl<R: Abort> Sink for InMemory<'_, R> {
 
     ghost takes_all = { λ _. Unit {0} };
 
-    fn write_all(&mut self, bytes: &[u8]) -> Result<(), WriteFault> {
+    fn put(&mut self, bytes: &[u8]) -> Result<(), WriteFault> {
         self.text
             .extend_from_slice(bytes)
             .expect(self.rt, "memory for the text");

@@ -4,7 +4,7 @@ use super::fakes::repeated;
 use super::streams::{Answer, WHOLE, runs, talks};
 use crate::tests::is_in_row;
 use rb_bench::{BenchFault, Mode};
-use rb_report::Status;
+use rb_report::check::Status;
 use rb_script::ScriptFault;
 use std::alloc::Global;
 use std::process::Abort;

@@ -13,7 +13,7 @@ fn line_reader(rt: &impl Abort, alloc: Global, calls: u64) -> LineReader {
 }
 
 /// Keeps lines, up to what comes in place of one more.
-fn push_lines<R: Source>(
+fn keep_lines<R: Source>(
     rt: &impl Abort,
     input: &mut LineReader,
     reader: &mut R,
@@ -38,7 +38,7 @@ fn lines_of<R: Source>(
 ) -> (Lines, Result<Next, InputFault>) {
     let mut input = line_reader(rt, alloc, calls);
     let mut lines = Lines::new(alloc);
-    let stop = push_lines(rt, &mut input, reader, &mut lines);
+    let stop = keep_lines(rt, &mut input, reader, &mut lines);
     drop(input);
     (lines, stop)
 }

@@ -3,7 +3,7 @@
 use super::fakes::{REFUSED_EDITS, Room};
 use crate::tests::is;
 use rb_bench::{BenchFault, Mode, NoProgress, run_over, serve};
-use rb_report::Status;
+use rb_report::check::Status;
 use rb_script::Through;
 use std::alloc::Global;
 use std::process::Abort;

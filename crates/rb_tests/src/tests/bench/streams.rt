@@ -4,7 +4,7 @@
 use super::fakes::{FailingReader, FailingWriter, REFUSED_EDITS};
 use crate::tests::is_in_row;
 use rb_bench::{BenchFault, Mode, NoProgress, run_over, serve};
-use rb_report::Status;
+use rb_report::check::Status;
 use rb_script::{ScriptFault, Through};
 use std::alloc::Global;
 

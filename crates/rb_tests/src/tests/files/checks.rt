@@ -1,9 +1,9 @@
 //! What a check shows, and no script leads to: lines of outputs that are empty or end in blanks, and a time that is known.
 
 use crate::tests::is_text;
-use rb_report::{
-    Colors, Failure, FileLine, Hint, MismatchView, Outcome, Refusal, Sides, Table, Totals, Why,
-    write_directive, write_mismatch, write_totals,
+use rb_report::check::{
+    Colors, Failure, FileLine, Hint, MismatchView, Outcome, Sides, Table, Totals, Why,
+    put_directive, put_mismatch, put_totals,
 };
 use rb_script::{Block, Lines, ScriptFault, Through};
 use std::alloc::Global;
@@ -27,7 +27,7 @@ fn block(rt: &impl Abort, alloc: Global, text: &[u8]) -> Block {
 }
 
 // Shows the mismatch of a directive.
-fn write_differing(
+fn put_differing(
     rt: &impl Abort,
     alloc: Global,
     out: &mut Through<Vec<u8>>,
@@ -44,7 +44,7 @@ fn write_differing(
         why: Why::Unasked,
         hint: Hint::Unknown,
     };
-    write_mismatch(out, &mut table, PLACE, &block.directive(), sides, view).expect(rt, "memory");
+    put_mismatch(out, &mut table, PLACE, &block.directive(), sides, view).expect(rt, "memory");
     drop(table);
     drop(block);
 }
@@ -61,7 +61,7 @@ fn is_shown(
     let expected = lines(rt, alloc, expected);
     let output = lines(rt, alloc, output);
     let mut out = Through(Vec::new(alloc));
-    write_differing(rt, alloc, &mut out, &expected, &output, colors);
+    put_differing(rt, alloc, &mut out, &expected, &output, colors);
     is_text(rt, out.0.as_slice(), want);
     drop(out);
     drop(output);
@@ -97,7 +97,7 @@ fn shows_a_directive(rt: HostRuntime) {
     let output = lines(&rt, rt.alloc(), &[b"ok", b""]);
     let block = block(&rt, rt.alloc(), b"log-level info\n----\n");
     let mut out = Through(Vec::new(rt.alloc()));
-    write_directive(&mut out, PLACE, &block.directive(), &output, Hint::Unknown).expect(
+    put_directive(&mut out, PLACE, &block.directive(), &output, Hint::Unknown).expect(
         &rt, "memory",
     );
     is_text(
@@ -135,12 +135,12 @@ fn counts_what_came_of_paths(rt: HostRuntime) {
             errors: 0,
             warnings: 1,
         },
-        Outcome::Refused(Refusal::Script(ScriptFault::BadLine(3))),
+        Outcome::Refused(ScriptFault::BadLine(3)),
         Outcome::Failed(Failure::NotFound),
     ]);
     let mut out = Through(Vec::new(rt.alloc()));
-    write_totals(&mut out, &all, 61_045).expect(&rt, "memory");
-    write_totals(&mut out, &Totals::new(), 7).expect(&rt, "memory");
+    put_totals(&mut out, &all, 61_045).expect(&rt, "memory");
+    put_totals(&mut out, &Totals::new(), 7).expect(&rt, "memory");
     let want =
         b"3 scripts, 19 directives, 1 mismatch, 1 refused, 3 errors, 2 warnings, 2 accepted, 1 failed, 61.045 s\n0 scripts, 0 directives, 0 mismatches, 0 refused, 0.007 s\n";
     is_text(&rt, out.0.as_slice(), want);

@@ -129,7 +129,7 @@ fn follows<T: Tested>(rt: &impl Abort, alloc: Global) {
     answers(rt, alloc, &mut log);
     compares(rt, &log);
     has_ends(rt, &log);
-    log.push(rt, change(rt, alloc, 3, 4));
+    log.put(rt, change(rt, alloc, 3, 4));
     has_change(rt, &log);
     drop(log);
 }

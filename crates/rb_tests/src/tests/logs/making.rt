@@ -55,7 +55,7 @@ pub fn take_items<T: Tested>(
 
 /// Appends a payload of one byte.
 pub fn push<T: Tested>(rt: &impl Abort, alloc: Global, log: &mut T, item: Item) {
-    log.push(rt, payload(rt, alloc, item.0, item.1));
+    log.put(rt, payload(rt, alloc, item.0, item.1));
 }
 
 /// The payload of a filled log at a place.

@@ -27,7 +27,7 @@ pub trait Tested: Drop {
     fn numbers(&self) -> Numbers;
 
     /// Appends an entry, where there is room.
-    fn push(&mut self, rt: &impl Abort, entry: Entry);
+    fn put(&mut self, rt: &impl Abort, entry: Entry);
 
     fn save(&mut self, rt: &impl Abort);
 
@@ -105,7 +105,7 @@ impl<L: RaftLog> Tested for L {
         )
     }
 
-    fn push(&mut self, rt: &impl Abort, entry: Entry) {
+    fn put(&mut self, rt: &impl Abort, entry: Entry) {
         if self.last_index() < MAX_INDEX {
             self.push_own(entry).expect(rt, "memory");
         } else {

@@ -243,7 +243,7 @@ trait Written: Drop {
 fn log_of<L: RaftLog>(rt: &impl Abort, alloc: Global, log: LogOf) -> L {
     let LogOf(base, base_term, term, byte, saved) = log;
     let mut made = <L as Tested>::begin(rt, alloc, base, base_term);
-    Tested::push(&mut made, rt, payload(rt, alloc, term, byte));
+    Tested::put(&mut made, rt, payload(rt, alloc, term, byte));
     if saved {
         Tested::save(&mut made, rt);
     }
@@ -252,7 +252,7 @@ fn log_of<L: RaftLog>(rt: &impl Abort, alloc: Global, log: LogOf) -> L {
 
 fn log_of_change<L: RaftLog>(rt: &impl Abort, alloc: Global, id: u64) -> L {
     let mut made = <L as Tested>::begin(rt, alloc, 10, 1);
-    Tested::push(&mut made, rt, change(rt, alloc, 1, id));
+    Tested::put(&mut made, rt, change(rt, alloc, 1, id));
     made
 }
 
@@ -310,7 +310,7 @@ fn view_of(rt: &impl Abort, alloc: Global, view: View) -> Progress {
 }
 
 /// Puts in a view of node 2.
-fn insert_view(rt: &impl Abort, alloc: Global, tracker: &mut Tracker, view: View) {
+fn put_view(rt: &impl Abort, alloc: Global, tracker: &mut Tracker, view: View) {
     if !tracker.has_view(2) {
         let made = view_of(rt, alloc, view);
         tracker.add(2, made).expect(rt, "memory");
@@ -371,7 +371,7 @@ fn write_members<L: RaftLog>(rt: &impl Abort, alloc: Global, state: &mut State<L
     match field {
         Field::Member(set, id) => add_member(rt, &mut state.tracker, set, id),
         Field::Auto => set_auto(rt, &mut state.tracker),
-        Field::View(view) => insert_view(rt, alloc, &mut state.tracker, view),
+        Field::View(view) => put_view(rt, alloc, &mut state.tracker, view),
         Field::Answer(id, granted) => state.votes.answer(id, granted).expect(rt, "memory"),
         _ => write_value(state, field),
     }

@@ -64,7 +64,7 @@ fn snapshot_of(
 }
 
 /// One more entry of a term, a payload of one byte.
-fn push_entry(rt: &impl Abort, alloc: Global, term: u64, entries: &mut Vec<Entry>) {
+fn add_entry(rt: &impl Abort, alloc: Global, term: u64, entries: &mut Vec<Entry>) {
     let body = Body::Payload(payload(rt, alloc, b'e'));
     entries.push(Entry { term, body }).expect(rt, "memory");
 }
@@ -73,7 +73,7 @@ fn push_entry(rt: &impl Abort, alloc: Global, term: u64, entries: &mut Vec<Entry
 fn entries_of(rt: &impl Abort, alloc: Global, term: u64, count: u64) -> Entries {
     let mut entries = Vec::new(alloc);
     for _ in 0..count {
-        push_entry(rt, alloc, term, &mut entries);
+        add_entry(rt, alloc, term, &mut entries);
     }
     is(rt, entries.len() <= 1_000, "few entries");
     Entries::from_vec(entries).expect(rt, "memory")

@@ -75,7 +75,7 @@ fn windows_under_refusals(rt: HostRuntime) {
 }
 
 /// Puts in the view of a member.
-fn add_view(alloc: Global, tracker: &mut Tracker, id: u64) -> Option<()> {
+fn add(alloc: Global, tracker: &mut Tracker, id: u64) -> Option<()> {
     let view = Progress::own(alloc, 1, 3, 4).ok()?;
     if tracker.has_view(id) {
         drop(view);
@@ -96,7 +96,7 @@ fn tracker_of(alloc: Global) -> Option<Tracker> {
     let config = config_of(alloc)?;
     let mut tracker = Tracker::new(alloc, config);
     for id in 1..4 {
-        add_view(alloc, &mut tracker, id)?;
+        add(alloc, &mut tracker, id)?;
     }
     Some(tracker)
 }

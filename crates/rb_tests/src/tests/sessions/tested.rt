@@ -6,7 +6,7 @@ use rb_cluster::Meter;
 use rb_machine::{Count, Machine};
 use rb_replay::{Changed, Session, StartFault};
 use rb_script::{Block, DirectiveRef, Edit, EditFault, Lines, Sink, Through, WriteFault};
-use rb_text::write_number;
+use rb_text::put_number;
 use std::alloc::Global;
 use std::io;
 use std::io::Write;
@@ -98,15 +98,15 @@ impl Write for Matching<'_> {
     }
 }
 
-fn write_numbers<S: Sink>(sink: &mut S, numbers: &[usize]) -> Result<(), WriteFault> {
+fn put_numbers<S: Sink>(sink: &mut S, numbers: &[usize]) -> Result<(), WriteFault> {
     for number in numbers {
-        write_number(sink, *number as u64)?;
-        sink.write_all(b" ")?;
+        put_number(sink, *number as u64)?;
+        sink.put(b" ")?;
     }
-    sink.write_all(b"\n")
+    sink.put(b"\n")
 }
 
-fn write_argument<S: Sink>(
+fn put_argument<S: Sink>(
     sink: &mut S,
     directive: &DirectiveRef<'_>,
     i: usize,
@@ -114,58 +114,58 @@ fn write_argument<S: Sink>(
     if i >= directive.args() {
         return Ok(());
     }
-    sink.write_all(directive.key(i))?;
+    sink.put(directive.key(i))?;
     if directive.has_equals(i) {
-        sink.write_all(b"=")?;
+        sink.put(b"=")?;
     }
     for j in 0..directive.values(i) {
-        sink.write_all(directive.value(i, j))?;
+        sink.put(directive.value(i, j))?;
     }
     Ok(())
 }
 
-fn write_inputs<S: Sink>(sink: &mut S, directive: &DirectiveRef<'_>) -> Result<(), WriteFault> {
+fn put_inputs<S: Sink>(sink: &mut S, directive: &DirectiveRef<'_>) -> Result<(), WriteFault> {
     for i in 0..directive.inputs() {
-        sink.write_all(directive.input(i))?;
+        sink.put(directive.input(i))?;
     }
     Ok(())
 }
 
-fn write_directive<S: Sink>(sink: &mut S, directive: &DirectiveRef<'_>) -> Result<(), WriteFault> {
-    sink.write_all(directive.name())?;
+fn put_directive<S: Sink>(sink: &mut S, directive: &DirectiveRef<'_>) -> Result<(), WriteFault> {
+    sink.put(directive.name())?;
     for i in 0..directive.args() {
-        write_argument(sink, directive, i)?;
+        put_argument(sink, directive, i)?;
     }
-    write_inputs(sink, directive)
+    put_inputs(sink, directive)
 }
 
-fn write_block<S: Sink>(sink: &mut S, block: Option<&Block>) -> Result<(), WriteFault> {
+fn put_block<S: Sink>(sink: &mut S, block: Option<&Block>) -> Result<(), WriteFault> {
     match block {
-        Some(block) => write_directive(sink, &block.directive()),
-        None => sink.write_all(b"no block"),
+        Some(block) => put_directive(sink, &block.directive()),
+        None => sink.put(b"no block"),
     }
 }
 
-fn write_output<S: Sink>(sink: &mut S, output: Option<&Lines>) -> Result<(), WriteFault> {
+fn put_output<S: Sink>(sink: &mut S, output: Option<&Lines>) -> Result<(), WriteFault> {
     match output {
-        Some(lines) => sink.write_all(lines.text()),
-        None => sink.write_all(b"no output"),
+        Some(lines) => sink.put(lines.text()),
+        None => sink.put(b"no output"),
     }
 }
 
 /// Writes what is at each position, and at the ones before and after.
-fn write_places<M: Machine, S: Sink>(session: &Session<M>, sink: &mut S) -> Result<(), WriteFault> {
+fn put_places<M: Machine, S: Sink>(session: &Session<M>, sink: &mut S) -> Result<(), WriteFault> {
     for place in 0..session.len().saturating_add(2) {
-        write_block(sink, session.block(place))?;
-        write_output(sink, session.output(place))?;
+        put_block(sink, session.block(place))?;
+        put_output(sink, session.output(place))?;
     }
     Ok(())
 }
 
-fn write_all<M: Machine, S: Sink>(session: &Session<M>, sink: &mut S) -> Result<(), WriteFault> {
-    write_numbers(sink, session.mismatches())?;
-    write_numbers(sink, session.checkpoints())?;
-    write_places(session, sink)?;
+fn put_all<M: Machine, S: Sink>(session: &Session<M>, sink: &mut S) -> Result<(), WriteFault> {
+    put_numbers(sink, session.mismatches())?;
+    put_numbers(sink, session.checkpoints())?;
+    put_places(session, sink)?;
     session.write_report(sink)?;
     session.write_script(sink)?;
     session.write_rewritten(sink)
@@ -205,7 +205,7 @@ impl<M: Machine<Meter = Meter>> Tested for Session<M> {
 
     fn record(&self, alloc: Global) -> Option<Vec<u8>> {
         let mut all = Through(Vec::new(alloc));
-        match write_all(self, &mut all) {
+        match put_all(self, &mut all) {
             Ok(()) => Some(all.0),
             Err(_) => None,
         }
@@ -216,6 +216,6 @@ impl<M: Machine<Meter = Meter>> Tested for Session<M> {
             rest: all,
             differs: false,
         };
-        write_all(self, &mut Through(&mut matching)).is_ok() && matching.is_met()
+        put_all(self, &mut Through(&mut matching)).is_ok() && matching.is_met()
     }
 }

@@ -1,6 +1,6 @@
 //! Changes of a configuration, worked out by hand: what each word does, each fault, and which of several faults is told.
 
-use super::{are, insert_ids, number, voting};
+use super::{are, number, put, voting};
 use crate::tests::{is, is_in_row};
 use Ask::{Enter, Entry, Leave, Simple};
 use rb_tracker::ChangeFault::{
@@ -129,8 +129,8 @@ fn words(rt: &impl Abort, alloc: Global, text: &str) -> Vec<Word> {
 
 fn config(rt: &impl Abort, alloc: Global, sets: Sets) -> Config {
     let mut config = voting(rt, alloc, sets.0, sets.1);
-    insert_ids(rt, &mut config.learners, sets.2);
-    insert_ids(rt, &mut config.next, sets.3);
+    put(rt, &mut config.learners, sets.2);
+    put(rt, &mut config.next, sets.3);
     config.auto = sets.4;
     config
 }

@@ -9,7 +9,7 @@ returns-then-not-self-clause-told g c = told_uncleared _ c.args.self.now.shows_p
 pub returns-clause-told : goal.returns-clause-told
 returns-clause-told g c =
     told_cleared _ _ c.args.self.now.shows_progress c.if-not-self.false
-    (told_one _ _ _ c.write_acting.result c.flush.result clearing c.write_acting.ensures.all c.flush.ensures.all c.write_acting.ensures.wrote c.flush.ensures.held)
+    (told_one _ _ _ c.put_acting.result c.flush.result clearing c.put_acting.ensures.all c.flush.ensures.all c.put_acting.ensures.wrote c.flush.ensures.held)
 
 pub returns-clause-kept : goal.returns-clause-kept
 returns-clause-kept g c = λ none. let no : true ≡ false = sym c.if-not-self.false ∙ none in absurd cc

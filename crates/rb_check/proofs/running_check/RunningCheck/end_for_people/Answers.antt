@@ -5,4 +5,4 @@ use Rattle.rb_check.proofs.running_check.RunningCheck.end_for_people.Goals as go
 
 pub returns-clause-shown : goal.returns-clause-shown
 returns-clause-shown g c =
-    goes_heeded c.heed.ensures.state c.heed.ensures.held (goes_on (λ (f : ReportForm). totals_text c.args.totals c.args.milliseconds) c.list_differing.ensures.shown c.write.ensures.shown)
+    goes_heeded c.heed.ensures.state c.heed.ensures.held (goes_on (λ (f : ReportForm). totals_text c.args.totals c.args.milliseconds) c.list_differing.ensures.shown c.show.ensures.shown)

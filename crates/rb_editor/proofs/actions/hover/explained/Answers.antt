@@ -7,7 +7,7 @@ pub loop-i-preserved : goal.loop-i-preserved
 loop-i-preserved c =
     let why = c.args.reasons.now in
     let rest = explained why (c.loop-i.i + 1) (drop (c.loop-i.i + 1) c.args.output.now) in
-    ap (λ (l : List ℕ). l ++ rest) c.in_ok-push_explained.ensures
+    ap (λ (l : List ℕ). l ++ rest) c.in_ok-add_explained.ensures
     ∙ append_assoc c.loop-i.out.items (explained_line why c.loop-i.i c.line.result.now) rest
     ∙ ap (λ (l : List ℕ). c.loop-i.out.items ++ l) (sym (explained_more why c.args.output.now c.loop-i.i c.line.result.now c.line.ensures))
     ∙ c.loop-i.invariant

@@ -21,7 +21,7 @@ loop-i-preserved g c =
     let l = leadership (state s (c.loop-i.i + 1)).nodes in
     record {
       said =
-          hint_more (lines text) s c.args.span (heads_of text s) s.blocks c.loop-i.i c.number_at-head.result c.block_at.result.now c.loop-i.list.items c.push_hint_at.new.list.items _
+          hint_more (lines text) s c.args.span (heads_of text s) s.blocks c.loop-i.i c.number_at-head.result c.block_at.result.now c.loop-i.list.items c.add_hint_at.new.list.items _
           (subst (λ (ns : List ℕ). slice_get ns c.loop-i.i ≡ Some c.number_at-head.result) (c.as_slice.ensures.value ∙ c.requires.layout.heads_are) c.number_at-head.ensures)
           c.block_at.ensures
           (c.in_ok-last.ensures.added ∙ ap (λ (n : Option ℕ). c.loop-i.list.items ++ hint_at (lines text) n l) (c.line_within.ensures ∙ ap (line_within c.args.span) (c.of_block-at.ensures ∙ ap (λ (ls : List Line). block_lines ls c.number_at-head.result c.block_at.result.now) c.requires.layout.lines_are)))

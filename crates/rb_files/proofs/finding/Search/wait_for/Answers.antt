@@ -1,7 +1,7 @@
 use Rattle.std.proofs.Common.{◌≡◌, ◌∙◌, ℕ, ◌++◌, ◌∷◌, [], List, String, Vec, IfOk, ap, get_or, subst}
 use Rattle.std.proofs.lemmas.List.{take_all}
 use Rattle.std.specs.declared.alloc.Global.{Global}
-use Rattle.rb_report.specs.declared.failure.Failure.TheVariants as failures
+use Rattle.rb_report.specs.declared.check.failure.Failure.TheVariants as failures
 use Rattle.rb_files.specs.Finds.{WaitsFor, losses, undecodable, waiting_of}
 use Rattle.rb_files.specs.Ignored.{slash}
 use Rattle.rb_files.specs.PathErrors.{without_cause}

@@ -8,13 +8,13 @@ use Rattle.rb_lsp.proofs.server.serving.refuse.Goals as goal
 pub returns-in_err-out-clause-failed : goal.returns-in_err-out-clause-failed
 returns-in_err-out-clause-failed g c = none_err c.from_residual.result g.V.Service.meaning c.args.server.now None (waiting c.args.reader.now) (g.W.Sink.held c.args.sink.now)
 
-pub returns-in_err-write_all-clause-failed : goal.returns-in_err-write_all-clause-failed
-returns-in_err-write_all-clause-failed g c =
-    starts_err c.from_residual-in_err-write_all.result g.V.Service.meaning Whole c.args.server.now None (waiting c.args.reader.now)
-    (g.W.Sink.held c.args.sink.now) (g.W.Sink.held c.write_all.new.self) c.as_slice.result.now (may_whole g.V.Service.meaning c.args.server.now None (waiting c.args.reader.now)) (c.as_slice.ensures.value ∙ c.in_ok-out.ensures) c.in_err-write_all.ensures.wrote
+pub returns-in_err-put-clause-failed : goal.returns-in_err-put-clause-failed
+returns-in_err-put-clause-failed g c =
+    starts_err c.from_residual-in_err-put.result g.V.Service.meaning Whole c.args.server.now None (waiting c.args.reader.now)
+    (g.W.Sink.held c.args.sink.now) (g.W.Sink.held c.put.new.self) c.as_slice.result.now (may_whole g.V.Service.meaning c.args.server.now None (waiting c.args.reader.now)) (c.as_slice.ensures.value ∙ c.in_ok-out.ensures) c.in_err-put.ensures.wrote
 
 pub returns-clause-tells : goal.returns-clause-tells
 returns-clause-tells g c =
     tells_by g.V.Service.meaning Whole c.args.server.now None (waiting c.args.reader.now)
-    (g.W.Sink.held c.args.sink.now) (g.W.Sink.held c.write_all.new.self) c.as_slice.result.now (may_whole g.V.Service.meaning c.args.server.now None (waiting c.args.reader.now))
-    (none_heeds g.V.Service.meaning c.args.server.now (waiting c.args.reader.now) Whole c.as_slice.result.now) (c.as_slice.ensures.value ∙ c.in_ok-out.ensures) c.in_ok-write_all.ensures.wrote
+    (g.W.Sink.held c.args.sink.now) (g.W.Sink.held c.put.new.self) c.as_slice.result.now (may_whole g.V.Service.meaning c.args.server.now None (waiting c.args.reader.now))
+    (none_heeds g.V.Service.meaning c.args.server.now (waiting c.args.reader.now) Whole c.as_slice.result.now) (c.as_slice.ensures.value ∙ c.in_ok-out.ensures) c.in_ok-put.ensures.wrote

@@ -9,14 +9,14 @@ use Rattle.rb_lsp.proofs.server.serving.respond_to.Goals as goal
 pub returns-in_err-heard-clause-failed : goal.returns-in_err-heard-clause-failed
 returns-in_err-heard-clause-failed g c = none_err c.from_residual.result g.V.Service.meaning c.args.server.now (Some (said (view c.args.message.now))) (waiting c.args.reader.now) (g.W.Sink.held c.args.sink.now)
 
-pub returns-in_err-write_all-clause-failed : goal.returns-in_err-write_all-clause-failed
-returns-in_err-write_all-clause-failed g c =
-    starts_err c.from_residual-in_err-write_all.result g.V.Service.meaning c.in_ok-heard.heard.reach c.args.server.now (Some (said (view c.args.message.now))) (waiting c.args.reader.now)
-    (g.W.Sink.held c.args.sink.now) (g.W.Sink.held c.write_all.new.self) c.as_slice.result.now c.in_ok-heard.ensures.only (c.as_slice.ensures.value ∙ c.in_ok-heard.ensures.out) c.in_err-write_all.ensures.wrote
+pub returns-in_err-put-clause-failed : goal.returns-in_err-put-clause-failed
+returns-in_err-put-clause-failed g c =
+    starts_err c.from_residual-in_err-put.result g.V.Service.meaning c.in_ok-heard.heard.reach c.args.server.now (Some (said (view c.args.message.now))) (waiting c.args.reader.now)
+    (g.W.Sink.held c.args.sink.now) (g.W.Sink.held c.put.new.self) c.as_slice.result.now c.in_ok-heard.ensures.only (c.as_slice.ensures.value ∙ c.in_ok-heard.ensures.out) c.in_err-put.ensures.wrote
 
 pub returns-clause-tells : goal.returns-clause-tells
 returns-clause-tells g c =
     tells_by g.V.Service.meaning c.in_ok-heard.heard.reach c.args.server.now (Some (said (view c.args.message.now))) (waiting c.args.reader.now)
-    (g.W.Sink.held c.args.sink.now) (g.W.Sink.held c.write_all.new.self) c.as_slice.result.now c.in_ok-heard.ensures.only
+    (g.W.Sink.held c.args.sink.now) (g.W.Sink.held c.put.new.self) c.as_slice.result.now c.in_ok-heard.ensures.only
     (subst (λ (l : List ℕ). Heeds g.V.Service.meaning c.args.server.now (Some (said (view c.args.message.now))) (waiting c.args.reader.now) c.in_ok-heard.heard.reach l) (sym c.as_slice.ensures.value) c.in_ok-heard.ensures.cancelled)
-    (c.as_slice.ensures.value ∙ c.in_ok-heard.ensures.out) c.in_ok-write_all.ensures.wrote
+    (c.as_slice.ensures.value ∙ c.in_ok-heard.ensures.out) c.in_ok-put.ensures.wrote

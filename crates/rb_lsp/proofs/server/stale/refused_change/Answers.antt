@@ -7,5 +7,5 @@ pub returns : goal.returns
 unfolding stale_text
 returns c =
     let text = stale_text c.args.known c.args.told in
-    let is : c.as_slice.result.now ≡ text = c.as_slice.ensures.value ∙ c.in_ok-push_pieces.ensures ∙ ap (λ (l : List ℕ). l ++ text) c.new-body.ensures.items in
+    let is : c.as_slice.result.now ≡ text = c.as_slice.ensures.value ∙ c.in_ok-add_pieces.ensures ∙ ap (λ (l : List ℕ). l ++ text) c.new-body.ensures.items in
     subst (λ (l : List ℕ). IfOk c.framed.result (λ out. out.items ≡ frame l)) is c.framed.ensures

@@ -18,23 +18,23 @@ step : (f : ℕ → List Line) (ms rest : List ℕ) (p : ℕ) (total : List Line
 step f ms rest p total e =
     ap (λ (l : List ℕ). text_of (flat_map f l ++ total)) e ∙ ap text_of (append_assoc (f p) (flat_map f rest) total) ∙ flat_map-append line_text (f p) (flat_map f rest ++ total)
 
-pub write_mismatch_at-requires-clause-first : goal.write_mismatch_at-requires-clause-first
-write_mismatch_at-requires-clause-first g c =
+pub put_mismatch_at-requires-clause-first : goal.put_mismatch_at-requires-clause-first
+put_mismatch_at-requires-clause-first g c =
     let held : c.deref-place-items.result.now ≡ mismatches c.args.self.now.script = c.deref-place-items.ensures.value ∙ held-mismatches c.self.view_is c.self.invariant in
     let lt : c.loop-place.place-index < length (mismatches c.args.self.now.script) = rw held at c.loop-place-test.true in
     rw held (rising-first 1 c.loop-place.place-index 0 (mismatches c.args.self.now.script)
     (differing-rising 1 c.args.self.now.script.blocks (outputs c.args.self.now.script)) lt)
 
-pub write_mismatch_at-requires-clause-within : goal.write_mismatch_at-requires-clause-within
-write_mismatch_at-requires-clause-within g c =
+pub put_mismatch_at-requires-clause-within : goal.put_mismatch_at-requires-clause-within
+put_mismatch_at-requires-clause-within g c =
     let held : c.deref-place-items.result.now ≡ mismatches c.args.self.now.script = c.deref-place-items.ensures.value ∙ held-mismatches c.self.view_is c.self.invariant in
     let lt : c.loop-place.place-index < length (mismatches c.args.self.now.script) = rw held at c.loop-place-test.true in
     rw held (All-from_recursion (λ (p : ℕ). p ≤ length c.args.self.now.script.blocks) (mismatches c.args.self.now.script)
     (mismatches-within (length c.args.self.now.script.blocks) c.args.self.now.script (omega arith)) c.loop-place.place-index 0 lt)
 
-pub returns-in_err-write_mismatch_at-clause-wrote : goal.returns-in_err-write_mismatch_at-clause-wrote
+pub returns-in_err-put_mismatch_at-clause-wrote : goal.returns-in_err-put_mismatch_at-clause-wrote
 unfolding report
-returns-in_err-write_mismatch_at-clause-wrote g c =
+returns-in_err-put_mismatch_at-clause-wrote g c =
     let s = c.args.self.now.script in
     let i = c.loop-place.place-index in
     let total = total_line (length s.blocks) (length (mismatches s)) ∷ [] in
@@ -43,8 +43,8 @@ returns-in_err-write_mismatch_at-clause-wrote g c =
     let next : drop c.loop-place.place-index (mismatches c.args.self.now.script) ≡ get_or c.deref-place-items.result.now c.loop-place.place-index 0 ∷ drop (c.loop-place.place-index + 1) (mismatches c.args.self.now.script) =
     drop_more (mismatches c.args.self.now.script) c.loop-place.place-index 0 lt ∙ ap (λ (ms : List ℕ). get_or ms c.loop-place.place-index 0 ∷ drop (c.loop-place.place-index + 1) (mismatches c.args.self.now.script)) (sym held) in
     let more = step (mismatch_lines s) (drop i (mismatches s)) (drop (i + 1) (mismatches s)) (get_or c.deref-place-items.result.now i 0) total next in
-    piece_exit c.from_residual.result (g.S.Sink.held c.write_mismatch_at.new.sink) (text_of (mismatch_lines s (get_or c.deref-place-items.result.now i 0))) (text_of (flat_map (mismatch_lines s) (drop (i + 1) (mismatches s)) ++ total))
-    c.from_residual.ensures.0 (sent_along more c.loop-place.invariant.sent) c.in_err-write_mismatch_at.ensures.wrote
+    piece_exit c.from_residual.result (g.S.Sink.held c.put_mismatch_at.new.sink) (text_of (mismatch_lines s (get_or c.deref-place-items.result.now i 0))) (text_of (flat_map (mismatch_lines s) (drop (i + 1) (mismatches s)) ++ total))
+    c.from_residual.ensures.0 (sent_along more c.loop-place.invariant.sent) c.in_err-put_mismatch_at.ensures.wrote
 
 pub loop-place-preserved : goal.loop-place-preserved
 loop-place-preserved g c =
@@ -57,9 +57,9 @@ loop-place-preserved g c =
     drop_more (mismatches c.args.self.now.script) c.loop-place.place-index 0 lt ∙ ap (λ (ms : List ℕ). get_or ms c.loop-place.place-index 0 ∷ drop (c.loop-place.place-index + 1) (mismatches c.args.self.now.script)) (sym held) in
     let more = step (mismatch_lines s) (drop i (mismatches s)) (drop (i + 1) (mismatches s)) (get_or c.deref-place-items.result.now i 0) total next in
     record {
-      sent = sent_piece (g.S.Sink.held c.write_mismatch_at.new.sink) (text_of (mismatch_lines s (get_or c.deref-place-items.result.now i 0))) (text_of (flat_map (mismatch_lines s) (drop (i + 1) (mismatches s)) ++ total))
-          (sent_along more c.loop-place.invariant.sent) c.in_ok-write_mismatch_at.ensures.wrote;
-      takes = λ t. (c.in_ok-write_mismatch_at.ensures.all (c.loop-place.invariant.takes t)).1;
+      sent = sent_piece (g.S.Sink.held c.put_mismatch_at.new.sink) (text_of (mismatch_lines s (get_or c.deref-place-items.result.now i 0))) (text_of (flat_map (mismatch_lines s) (drop (i + 1) (mismatches s)) ++ total))
+          (sent_along more c.loop-place.invariant.sent) c.in_ok-put_mismatch_at.ensures.wrote;
+      takes = λ t. (c.in_ok-put_mismatch_at.ensures.all (c.loop-place.invariant.takes t)).1;
     }
 
 pub returns-clause-wrote : goal.returns-clause-wrote
@@ -75,4 +75,4 @@ returns-clause-wrote g c =
     let last : text_of (flat_map (mismatch_lines c.args.self.now.script) (drop c.loop-place.place-index (mismatches c.args.self.now.script)) ++ total_line (length c.args.self.now.script.blocks) (length (mismatches c.args.self.now.script)) ∷ []) ≡ line_text (total_line c.len.result c.len-2.result) =
     ap (λ (ms : List ℕ). text_of (flat_map (mismatch_lines c.args.self.now.script) ms ++ total_line (length c.args.self.now.script.blocks) (length (mismatches c.args.self.now.script)) ∷ [])) none
     ∙ ap₂ (λ (n m : ℕ). text_of (total_line n m ∷ [])) (sym few) (sym many) ∙ append-nil (line_text (total_line c.len.result c.len-2.result)) in
-    piece_last c.write_total.result (g.S.Sink.held c.write_total.new.sink) (line_text (total_line c.len.result c.len-2.result)) (sent_along last c.loop-place.invariant.sent) c.write_total.ensures.wrote
+    piece_last c.put_total.result (g.S.Sink.held c.put_total.new.sink) (line_text (total_line c.len.result c.len-2.result)) (sent_along last c.loop-place.invariant.sent) c.put_total.ensures.wrote

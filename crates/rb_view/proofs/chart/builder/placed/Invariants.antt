@@ -1,7 +1,7 @@
 -- The arrows so far, and those that are left.
 use Rattle.std.proofs.Common.{◌≡◌, ◌++◌, drop}
-use Rattle.rb_view.specs.Pictures.{placed}
+use Rattle.rb_view.specs.Drawn.{without_places}
 use Rattle.rb_view.proofs.chart.builder.placed.Given as goal
 
-abbrev pub invariant-loop-at : goal.invariant-loop-at
-invariant-loop-at l = l.drawn.items ++ placed (drop l.at l.arrows) (drop l.at l.places) ≡ placed l.arrows l.places
+abbrev pub invariant-loop-arrow : goal.invariant-loop-arrow
+invariant-loop-arrow l = without_places l.drawn.items ++ drop l.arrow-index l.arrows ≡ l.arrows

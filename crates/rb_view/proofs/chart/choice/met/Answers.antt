@@ -1,4 +1,4 @@
-use Rattle.std.proofs.Common.{◌∙◌, ◌+◌, ℕ, List, drop, ap, sym, eq-eqb, ne_eqb, arith}
+use Rattle.std.proofs.Common.{◌∙◌, ◌-◌, ◌+◌, ℕ, List, drop, ap, sym, eq-eqb, ne_eqb, arith}
 use Rattle.std.proofs.lemmas.List.{drop_all}
 use Rattle.rb_message.specs.declared.message.Message.{Message}
 use Rattle.rb_machine.specs.Pending.{is_meant}

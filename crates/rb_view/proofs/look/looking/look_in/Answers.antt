@@ -11,7 +11,7 @@ returns g c =
     let m = g.M.Machine.meaning c.args.machine.now in
     let count : c.min-count.result ≡ min (length m.nodes) MOST_NODES = c.min-count.ensures ∙ ap (λ (n : ℕ). min n MOST_NODES) c.count.ensures in
     three_parts (asked m (codes "raft-state")) (of_nodes m 1 (min (length m.nodes) MOST_NODES)) (section m (codes "on their way") all_dropped (codes "drop "))
-    c.push_answer.new.lines c.push_nodes.new.lines c.push_in_flight.new.lines
-    (c.in_ok-push_answer.ensures.added ∙ ap (λ (ls : List Line). ls ++ asked m (codes "raft-state")) c.new-lines.ensures)
-    (c.in_ok-push_nodes.ensures.added ∙ ap (λ (n : ℕ). c.push_answer.new.lines ++ of_nodes m 1 n) count)
-    c.in_ok-push_in_flight.ensures
+    c.add_answer.new.lines c.add_nodes.new.lines c.add_in_flight.new.lines
+    (c.in_ok-add_answer.ensures.added ∙ ap (λ (ls : List Line). ls ++ asked m (codes "raft-state")) c.new-lines.ensures)
+    (c.in_ok-add_nodes.ensures.added ∙ ap (λ (n : ℕ). c.add_answer.new.lines ++ of_nodes m 1 n) count)
+    c.in_ok-add_in_flight.ensures

@@ -1,4 +1,4 @@
-use Rattle.std.proofs.Common.{◌∙◌, ◌<◌, ap, sym, arith}
+use Rattle.std.proofs.Common.{◌≡◌, ◌∙◌, ◌<◌, ap, sym, arith}
 use Rattle.rb_view.specs.Logs.{same_up_to}
 use Rattle.rb_view.proofs.LogLaws.{past_none}
 use Rattle.rb_view.proofs.steps.log.stays.Goals as goal

@@ -20,4 +20,4 @@ returns-clause-rows g c =
     let after = texts_after some.warnings.now s in
     let mid = flat_map step_texts (some_steps some.heads.now s some.from (some.to - some.from)) in
     c.held.ensures
-    ∙ ap held (c.in_ok-push_after.ensures ∙ ap (λ (ls : List Line). ls ++ after) (c.in_ok-fits.ensures.texts c.if-not-fits.false ∙ ap (λ (ls : List Line). ls ++ mid) c.new-texts.ensures))
+    ∙ ap held (c.in_ok-keep_after.ensures ∙ ap (λ (ls : List Line). ls ++ after) (c.in_ok-fits.ensures.texts c.if-not-fits.false ∙ ap (λ (ls : List Line). ls ++ mid) c.new-texts.ensures))

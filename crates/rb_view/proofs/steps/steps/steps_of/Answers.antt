@@ -14,7 +14,7 @@ returns-in_default-clause-room g c =
     let heads = c.args.read.heads.items in
     let source = texts_of (source_row c.args.bytes.now ∷ []) in
     let rest = texts_of (warning_rows c.args.bytes.now heads s) ++ texts_of (end_row s ∷ []) in
-    let began = c.in_ok-push_source.ensures ∙ ap (λ (t : List Line). t ++ source) c.new-texts.ensures in
+    let began = c.in_ok-keep_source.ensures ∙ ap (λ (t : List Line). t ++ source) c.new-texts.ensures in
     front_full source (flat_map step_texts (steps heads s)) rest
     (ap (λ (t : List Line). has_room (t ++ flat_map step_texts (steps heads s))) (sym began)
-    ∙ ap (λ (hs : List ℕ). has_room (c.push_source.new.texts ++ flat_map step_texts (steps hs s))) (sym c.as_slice-heads.ensures.value) ∙ in_none _ _ _ c.in_default.is c.in_ok-ran.ensures.room)
+    ∙ ap (λ (hs : List ℕ). has_room (c.keep_source.new.texts ++ flat_map step_texts (steps hs s))) (sym c.as_slice-heads.ensures.value) ∙ in_none _ _ _ c.in_default.is c.in_ok-ran.ensures.room)

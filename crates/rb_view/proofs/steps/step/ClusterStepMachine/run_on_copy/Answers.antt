@@ -1,5 +1,4 @@
-use Rattle.std.proofs.Common.{◌≡◌, ◌∙◌, List, Option, Some, None, ap₂, subst, sym, rules}
-use Rattle.std.specs.Prelude.{IfSome}
+use Rattle.std.proofs.Common.{◌≡◌, ◌∙◌, List, Option, ap₂, subst, sym, rules}
 use Rattle.std.proofs.lemmas.Option.{IfSome_then}
 use Rattle.rb_script.specs.Lines.{Line}
 use Rattle.rb_script.specs.Reading.{directive_of}
@@ -18,16 +17,6 @@ use Rattle.rb_view.proofs.GoneOnLaws.{kept_after}
 use Rattle.rb_view.proofs.PageRoomLaws.{held_more}
 use Rattle.rb_view.proofs.steps.step.ClusterStepMachine.run_on_copy.Goals as goal
 
--- there are more rows only if there were some
-only_some : (ts rows : Option (List Line)) (more : List Line) (P : Type 0) → rows ≡ held_with ts more → IfSome ts (λ _. P) → IfSome rows (λ _. P)
-only_some None None more P is p = tt
-only_some None (Some r) more P is p = absurd cc
-only_some (Some t) None more P is p = tt
-only_some (Some t) (Some r) more P is p = p
-
-pub returns-clause-output : goal.returns-clause-output
-returns-clause-output g c = only_some c.in_ok-ran.ran.texts c.in_ok-rows.rows _ _ c.in_ok-rows.ensures.texts c.in_ok-ran.ensures.output
-
 pub returns-clause-rows : goal.returns-clause-rows
 returns-clause-rows g c =
     let before = c.args.self.now in
@@ -36,7 +25,7 @@ returns-clause-rows g c =
     c.in_ok-rows.ensures.texts
     ∙ ap₂ (λ (ts : Option (List Line)) (rs : List Row). held_with ts (texts_of rs)) c.in_ok-ran.ensures.texts
     (ap₂ (λ (olds : List PlainNode) (x : Cluster). state_rows olds x.nodes) (written ∙ c.in_ok-ran.ensures.nodes) c.in_ok-ran.ensures.cluster)
-    ∙ held_more (observed_texts (execution before d).level before.nodes (execution before d).observed) (texts_of (changes_left before d))
+    ∙ held_more (observed_texts before.nodes (execution before d).observed) (texts_of (changes_left before d))
 
 pub returns-clause-bytes : goal.returns-clause-bytes
 returns-clause-bytes g c =

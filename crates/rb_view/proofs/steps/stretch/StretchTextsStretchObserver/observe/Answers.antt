@@ -4,5 +4,5 @@ use Rattle.rb_view.proofs.steps.stretch.StretchTextsStretchObserver.observe.Goal
 
 pub returns : goal.returns
 returns c =
-    stretch_kept c.args.self.now.texts c.push_count.new.texts c.push_range.new.texts c.push_count-2.new.texts (in_range c.args.same) (in_range c.args.expected) (in_range c.args.output) c.len.result c.len-2.result
-    c.len.ensures c.len-2.ensures c.in_ok-push_count.ensures c.in_ok-push_range.ensures c.in_ok-push_count-2.ensures
+    stretch_kept c.args.self.now.texts c.keep_count.new.texts c.keep_range.new.texts c.keep_count-2.new.texts (in_range c.args.same) (in_range c.args.expected) (in_range c.args.output) c.len.result c.len-2.result
+    c.len.ensures c.len-2.ensures c.in_ok-keep_count.ensures c.in_ok-keep_range.ensures c.in_ok-keep_count-2.ensures

@@ -1,0 +1,15 @@
+use Rattle.std.proofs.Common.{◌+◌, ℕ, List, ap}
+use Rattle.rb_check.specs.ScriptTexts.{alone_text}
+use Rattle.rb_check.specs.Subjects.{plain_of}
+use Rattle.rb_check.proofs.ShownLaws.{goes_nowhere_at, goes_showed, if_along}
+use Rattle.rb_check.proofs.alone.show_directive.Goals as goal
+
+pub returns-then-not-is_open-clause-shown : goal.returns-then-not-is_open-clause-shown
+returns-then-not-is_open-clause-shown g c = goes_nowhere_at _ _ _ _ _ c.is_open.result c.is_open.ensures.state (ap g.W.Sink.held c.is_open.ensures.output) c.is_open.ensures.value c.if-not-is_open.true
+
+pub returns-clause-shown : goal.returns-clause-shown
+returns-clause-shown g c =
+    let subject = c.args.subject.now in
+    if_along c.showed.result _ _ _ _ _ _ (ap (λ (p : List ℕ). alone_text (record (plain_of subject) { path = p }) (c.args.index + 1)) c.as_bytes.ensures.value)
+    (goes_showed _ _ _ _ _ _ _ _ c.put_alone-shown.result c.showed.result c.is_open.result c.is_open.ensures.state (ap g.W.Sink.held c.is_open.ensures.output) c.is_open.ensures.value
+    c.if-not-is_open.false c.put_alone-shown.ensures.wrote c.showed.ensures.shown)

@@ -1,7 +1,0 @@
--- None of the blocks so far has the line.
-use Rattle.std.proofs.Common.{◌≡◌, drop}
-use Rattle.rb_editor.specs.BlockLines.{block_with}
-use Rattle.rb_editor.proofs.offers.block_lines.block_with.Given as goal
-
-abbrev pub invariant-loop-block : goal.invariant-loop-block
-invariant-loop-block l = block_with l.n (drop l.block-index l.blocks) ≡ block_with l.n l.blocks

@@ -1,9 +1,0 @@
--- What went out so far, and what is left.
-use Rattle.std.proofs.Common.{◌≡◌, ◌++◌, [], drop}
-use Rattle.rb_editor.specs.Symbols.{symbol_text}
-use Rattle.rb_editor.specs.Texts.{listed}
-use Rattle.rb_editor.proofs.offers.symbols.push_each_symbol.Given as goal
-
-abbrev pub invariant-loop-block : goal.invariant-loop-block
-invariant-loop-block l =
-    l.out.items ++ listed (symbol_text l.encoding l.text) l.lead (drop l.block-index l.blocks) ≡ l.initial.out.items ++ listed (symbol_text l.encoding l.text) [] l.blocks

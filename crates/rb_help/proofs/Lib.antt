@@ -1,3 +1,0 @@
-pub mod DistanceLaws
-pub mod NearLaws
-pub mod FormLaws

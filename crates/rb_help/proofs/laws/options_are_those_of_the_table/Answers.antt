@@ -1,8 +1,0 @@
-use Rattle.std.proofs.Common.{refl}
-use Rattle.rb_directive.specs.Table.{options}
-use Rattle.rb_help.specs.Manual.{keys}
-use Rattle.rb_help.proofs.laws.options_are_those_of_the_table.Goals as goal
-
-pub returns : goal.returns
-unfolding keys options
-returns c = refl

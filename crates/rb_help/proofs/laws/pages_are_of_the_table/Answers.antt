@@ -1,8 +1,0 @@
-use Rattle.std.proofs.Common.{refl}
-use Rattle.rb_directive.specs.Table.{directives}
-use Rattle.rb_help.specs.Manual.{pages}
-use Rattle.rb_help.proofs.laws.pages_are_of_the_table.Goals as goal
-
-pub returns : goal.returns
-unfolding pages directives
-returns c = refl

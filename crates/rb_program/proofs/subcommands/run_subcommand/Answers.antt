@@ -1,7 +1,0 @@
-use Rattle.rb_program.specs.Done.{IsDone}
-use Rattle.rb_program.proofs.subcommands.run_subcommand.Goals as goal
-
-pub returns-in-Chart-clause-done : goal.returns-in-Chart-clause-done
-unfolding IsDone
-returns-in-Chart-clause-done g c =
-    rw (c.in-Chart.is, ← c.as_deref-in-Chart.ensures.value, ← c.as_deref-in-Chart-2.ensures.value, ← c.as_deref-format.ensures.value) c.chart.ensures

@@ -1,8 +1,0 @@
-use Rattle.rb_text.proofs.SentLaws.{and_then, no_more}
-use Rattle.rb_report.proofs.file_line.write_heading.Goals as goal
-
-pub returns-in_err-write_pieces-clause-wrote : goal.returns-in_err-write_pieces-clause-wrote
-returns-in_err-write_pieces-clause-wrote g c = no_more _ _ _ _ _ c.from_residual.ensures.0 c.in_err-write_pieces.ensures.wrote
-
-pub returns-clause-wrote : goal.returns-clause-wrote
-returns-clause-wrote g c = and_then _ _ _ _ _ _ c.in_ok-write_pieces.ensures.wrote c.write_head.ensures.wrote

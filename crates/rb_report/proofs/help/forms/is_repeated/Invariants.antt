@@ -1,0 +1,8 @@
+-- What is left decides.
+use Rattle.std.proofs.Common.{◌≡◌, drop}
+use Rattle.rb_script.specs.Tokens.{plain}
+use Rattle.rb_report.specs.Forms.{is_repeated}
+use Rattle.rb_report.proofs.help.forms.is_repeated.Given as goal
+
+abbrev pub invariant-loop-i : goal.invariant-loop-i
+invariant-loop-i l = is_repeated l.key (plain l.directive).args ≡ is_repeated l.key (drop l.i (plain l.directive).args)

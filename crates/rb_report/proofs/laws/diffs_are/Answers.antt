@@ -1,5 +1,0 @@
-use Rattle.rb_report.proofs.DiffLaws.{diff-is}
-use Rattle.rb_report.proofs.laws.diffs_are.Goals as goal
-
-pub returns : goal.returns
-returns c = diff-is

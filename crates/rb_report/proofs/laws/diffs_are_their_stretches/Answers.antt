@@ -1,5 +1,0 @@
-use Rattle.rb_report.proofs.AddedLaws.{plain-diff}
-use Rattle.rb_report.proofs.laws.diffs_are_their_stretches.Goals as goal
-
-pub returns : goal.returns
-returns c = plain-diff

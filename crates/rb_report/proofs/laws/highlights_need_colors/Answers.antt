@@ -1,5 +1,0 @@
-use Rattle.std.proofs.Common.{refl}
-use Rattle.rb_report.proofs.laws.highlights_need_colors.Goals as goal
-
-pub returns : goal.returns
-returns c = λ side ls others. refl

@@ -1,5 +1,0 @@
-use Rattle.rb_report.proofs.DiffLaws.{diff-same}
-use Rattle.rb_report.proofs.laws.same_lines_are_plain.Goals as goal
-
-pub returns : goal.returns
-returns c = diff-same

@@ -1,5 +1,0 @@
-use Rattle.rb_report.proofs.CountLaws.{code-greatest}
-use Rattle.rb_report.proofs.laws.statuses_are_greatest.Goals as goal
-
-pub returns : goal.returns
-returns c = code-greatest

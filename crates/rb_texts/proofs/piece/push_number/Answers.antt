@@ -1,7 +1,0 @@
-use Rattle.std.proofs.Common.{◌++◌, ap, sym, ◌∙◌}
-use Rattle.std.proofs.lemmas.Fmt.{decimal_digit}
-use Rattle.std.proofs.lemmas.Result.{on_ok_weaker}
-use Rattle.rb_texts.proofs.piece.push_number.Goals as goal
-
-pub returns-then-n-lt10 : goal.returns-then-n-lt10
-returns-then-n-lt10 c = on_ok_weaker c.push_byte.result (λ e. e ∙ ap (λ l. c.args.line.now ++ l) (sym (decimal_digit c.args.n c.if-n-lt10.true))) c.push_byte.ensures

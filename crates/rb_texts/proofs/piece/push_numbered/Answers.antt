@@ -1,9 +1,0 @@
-use Rattle.std.proofs.Common.{decimal}
-use Rattle.std.proofs.lemmas.Result.{on_ok_weaker}
-use Rattle.rb_texts.proofs.PieceLaws.{added_twice}
-use Rattle.rb_texts.proofs.piece.push_numbered.Goals as goal
-
-pub returns : goal.returns
-returns c =
-    on_ok_weaker c.push_bytes.result
-    (added_twice c.args.line.now c.push_number.new.line c.push_bytes.new.line (decimal c.args.n) c.args.bytes.now c.in_ok-push_number.ensures) c.push_bytes.ensures

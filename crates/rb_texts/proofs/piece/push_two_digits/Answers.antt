@@ -1,7 +1,0 @@
-use Rattle.std.proofs.Common.{◌++◌, ap, sym, ◌∙◌}
-use Rattle.std.proofs.lemmas.Result.{on_ok_weaker}
-use Rattle.rb_texts.proofs.PieceLaws.{two_digits}
-use Rattle.rb_texts.proofs.piece.push_two_digits.Goals as goal
-
-pub returns : goal.returns
-returns c = on_ok_weaker c.push_bytes.result (λ e. e ∙ ap (λ l. c.args.line.now ++ l) (sym (two_digits c.args.n c.requires.least c.requires.most))) c.push_bytes.ensures

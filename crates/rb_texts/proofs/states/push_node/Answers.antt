@@ -1,8 +1,0 @@
-use Rattle.std.proofs.Common.{◌++◌, ◌∙◌, ap, append_assoc, append-nil}
-use Rattle.std.proofs.lemmas.Result.{on_ok_weaker}
-use Rattle.rb_texts.specs.States.{node_text}
-use Rattle.rb_texts.proofs.states.push_node.Goals as goal
-
-pub returns : goal.returns
-unfolding node_text
-returns c = on_ok_weaker c.push_pieces.result (λ e. e ∙ ap (λ l. c.args.line.now ++ l) (simp (append_assoc, append-nil, c.role_name.ensures))) c.push_pieces.ensures

@@ -1,0 +1,6 @@
+use Rattle.std.proofs.lemmas.Result.{on_ok_weaker}
+use Rattle.rb_texts.proofs.PieceLaws.{added_twice}
+use Rattle.rb_texts.proofs.texts.add_entry_after.Goals as goal
+
+pub returns : goal.returns
+returns c = on_ok_weaker c.add_entry.result (λ e. added_twice c.args.line.now c.add_bytes.new.line c.add_entry.new.line _ _ c.in_ok-add_bytes.ensures e) c.add_entry.ensures

@@ -1,6 +1,0 @@
-use Rattle.std.proofs.lemmas.Result.{on_ok_weaker}
-use Rattle.rb_texts.proofs.PieceLaws.{added_twice}
-use Rattle.rb_texts.proofs.texts.push_entry_after.Goals as goal
-
-pub returns : goal.returns
-returns c = on_ok_weaker c.push_entry.result (λ e. added_twice c.args.line.now c.push_bytes.new.line c.push_entry.new.line _ _ c.in_ok-push_bytes.ensures e) c.push_entry.ensures
